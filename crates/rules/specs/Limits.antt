@@ -1,0 +1,44 @@
+-- The limits of document 01, section 'Sheets', each in this one place.
+-- Assumes nothing.
+use Prim.Native.Nat.{ℕ, _^_}
+use mathlib.Core.Bool.{Bool, _&&_}
+use lib.Dec.{leb}
+
+-- "Levels, written m, is one digit from 2 to 9."
+unfoldable pub fewestLevels : ℕ
+fewestLevels = 2
+
+unfoldable pub mostLevels : ℕ
+mostLevels = 9
+
+-- "Inputs, written n, is 2 to 11"
+unfoldable pub fewestInputs : ℕ
+fewestInputs = 2
+
+unfoldable pub mostInputs : ℕ
+mostInputs = 11
+
+-- "m to the power n, the number of cells, is at most 2,187."
+unfoldable pub mostCells : ℕ
+mostCells = 2_187
+
+unfoldable pub levelsFit : ℕ → Bool
+levelsFit m = leb fewestLevels m && leb m mostLevels
+
+unfoldable pub inputsFit : ℕ → Bool
+inputsFit n = leb fewestInputs n && leb n mostInputs
+
+unfoldable pub cellsFit : ℕ → ℕ → Bool
+cellsFit m n = leb (m ^ n) mostCells
+
+-- m, n and the cell count are within a sheet's bounds
+unfoldable pub sizeFits : ℕ → ℕ → Bool
+sizeFits m n = levelsFit m && inputsFit n && cellsFit m n
+
+-- "the settled sheet's length, which is never over 512"
+unfoldable pub mostSettled : ℕ
+mostSettled = 512
+
+-- "at most its first 65,536 bytes, which are then the sheet"
+unfoldable pub mostRead : ℕ
+mostRead = 65_536

@@ -1,0 +1,48 @@
+-- A few functions on lists that the definitions share. Nothing here is of document 01.
+-- A test's arm waits for the test (`elim`), so that a long list is left at the first element that decides.
+-- Assumes nothing.
+use Prim.Native.Nat.{ℕ, zero, suc, _+_}
+use mathlib.Core.Bool.{Bool, true, false}
+use mathlib.Core.Option.{Option, none, some}
+use mathlib.Core.List.{List, [], _∷_, _++_}
+use lib.Dec.{eqb}
+
+-- `count` numbers from `from` on
+unfoldable pub range : ℕ → ℕ → List ℕ
+range from zero = []
+range from (suc count) = from ∷ range (suc from) count
+
+unfoldable pub all : {A : Type 0} → (A → Bool) → List A → Bool
+all test [] = true
+all test (x ∷ xs) = elim (test x) [ true ↦ all test xs | false ↦ false ]
+
+unfoldable pub any : {A : Type 0} → (A → Bool) → List A → Bool
+any test [] = false
+any test (x ∷ xs) = elim (test x) [ true ↦ true | false ↦ any test xs ]
+
+-- the place of the first element that passes, or the length where there is none
+unfoldable pub firstPlace : {A : Type 0} → (A → Bool) → List A → ℕ
+firstPlace test [] = zero
+firstPlace test (x ∷ xs) = elim (test x) [ true ↦ zero | false ↦ suc (firstPlace test xs) ]
+
+-- the elements that pass, in their order
+unfoldable pub those : {A : Type 0} → (A → Bool) → List A → List A
+those test [] = []
+those test (x ∷ xs) = elim (test x) [ true ↦ x ∷ those test xs | false ↦ those test xs ]
+
+-- all that the elements give, one after the other
+unfoldable pub concatMap : {A B : Type 0} → (A → List B) → List A → List B
+concatMap f [] = []
+concatMap f (x ∷ xs) = f x ++ concatMap f xs
+
+-- the same numbers in the same order
+unfoldable pub same : List ℕ → List ℕ → Bool
+same [] [] = true
+same [] (y ∷ ys) = false
+same (x ∷ xs) [] = false
+same (x ∷ xs) (y ∷ ys) = elim (eqb x y) [ true ↦ same xs ys | false ↦ false ]
+
+-- the first element that passes
+unfoldable pub find : {A : Type 0} → (A → Bool) → List A → Option A
+find test [] = none
+find test (x ∷ xs) = elim (test x) [ true ↦ some x | false ↦ find test xs ]

@@ -1,0 +1,167 @@
+-- Document 01, section 'Sheets': what a sheet is read as, field by field, with the number and the place of every refusal.
+-- Assumes nothing.
+use Prim.Native.Nat.{ℕ, zero, suc, _+_, _-_, _*_, _/_, _%_, _^_}
+use mathlib.Core.Bool.{Bool, true, false, not, _&&_, _||_}
+use mathlib.Core.Option.{Option, none, some}
+use mathlib.Core.List.{List, [], _∷_, _++_, map}
+use lib.ListN.{length, getD}
+use lib.Dec.{eqb, leb, ltb}
+use Rattle.rules.specs.Lists.{range, all, any, find, same}
+use Rattle.rules.specs.Text.{space, newline, text, digitByte, isDigit, decimal}
+use Rattle.rules.specs.Limits.{levelsFit, cellsFit, fewestInputs, mostInputs}
+use Rattle.rules.specs.Fields.{Read, read, turnedBack, Reader, _>>=_, give, Judged, good, bad, Judge, judged, field, theWord, closed}
+
+-- ---- the two header lines and the names
+
+pub record Header : Type 0 where
+  pub levels : ℕ
+  pub inputs : ℕ
+  pub names : List (List ℕ)
+
+-- "Levels, written m, is one digit from 2 to 9." 2: levels field
+unfoldable pub levelsField : Judge ℕ
+levelsField [] = bad 2
+levelsField (b ∷ []) = judged (isDigit 10 b && levelsFit (b - 48)) (b - 48) 2
+levelsField (b ∷ c ∷ w) = bad 2
+
+-- the number from 2 to 11 of which the field is the decimal value
+unfoldable pub inputsOf : List ℕ → Option ℕ
+inputsOf w = find (λ n. same w (decimal n)) (range fewestInputs (mostInputs + 1 - fewestInputs))
+
+-- "Inputs, written n, is 2 to 11 without leading zero. m to the power n, the number of cells, is at most 2,187."
+-- 3: inputs field, or over 2,187 cells
+unfoldable pub inputsField : ℕ → Judge ℕ
+inputsField m w = elim (inputsOf w) [ none ↦ bad 3 | some n ↦ judged (cellsFit m n) n 3 ]
+
+unfoldable pub isLetter : ℕ → Bool
+isLetter b = leb 97 b && leb b 122
+
+unfoldable pub letterFirst : List ℕ → Bool
+letterFirst [] = false
+letterFirst (b ∷ w) = isLetter b
+
+-- "A name has 1 to 8 bytes, lowercase letters and digits, letter first. It isn't `ink`"
+unfoldable pub isName : List ℕ → Bool
+isName w = leb (length w) 8 && letterFirst w && all (λ b. isLetter b || isDigit 10 b) w && not (same w (text "ink"))
+
+-- "no two inputs share one." 4: name malformed, `ink`, or repeated
+unfoldable pub nameField : List (List ℕ) → Judge (List ℕ)
+nameField earlier w = judged (isName w && not (any (same w) earlier)) w 4
+
+-- `count` names after those read before; `last` is the separator that is due after the last one
+unfoldable pub nameFields : ℕ → ℕ → List (List ℕ) → Reader (List (List ℕ))
+nameFields last zero earlier = give earlier
+nameFields last (suc zero) earlier = field (nameField earlier) last >>= λ w. give (earlier ++ (w ∷ []))
+nameFields last (suc (suc count)) earlier =
+    field (nameField earlier) space >>= λ w. nameFields last (suc count) (earlier ++ (w ∷ []))
+
+-- "Both kinds of sheet start with the line `levels inputs`, then a line of two decimal values." Line 3 has the names.
+unfoldable pub headerLines : ℕ → Reader Header
+headerLines last = do
+  _ ← field (theWord "levels") space
+  _ ← field (theWord "inputs") newline
+  m ← field levelsField space
+  n ← field (inputsField m) newline
+  names ← nameFields last n []
+  give (record { levels = m; inputs = n; names = names })
+
+-- ---- net sheet
+
+-- References are numbered: input i is i, from 0, and gate k, numbered from 1, is n + k − 1.
+pub record Gate : Type 0 where
+  pub left : ℕ
+  pub right : ℕ
+  pub digits : List ℕ
+
+-- "Left and right are each an input name or the decimal number, without leading zero, of an earlier gate."
+unfoldable pub referenceText : List (List ℕ) → ℕ → List ℕ
+referenceText names r = elim (ltb r (length names)) [ true ↦ getD names r [] | false ↦ decimal (r + 1 - length names) ]
+
+-- what a field of a gate line refers to, with `earlier` gates before it
+unfoldable pub referenceOf : List (List ℕ) → ℕ → List ℕ → Option ℕ
+referenceOf names earlier w = find (λ r. same w (referenceText names r)) (range 0 (length names + earlier))
+
+-- "No input or gate is referred to twice." 7: reference to no input and no earlier gate; 8: reference used before
+unfoldable pub referenceField : List (List ℕ) → ℕ → List ℕ → Judge ℕ
+referenceField names earlier used w =
+    elim (referenceOf names earlier w) [ none ↦ bad 7 | some r ↦ judged (not (any (eqb r) used)) r 8 ]
+
+-- "Table is m·m digits below m, left's level slowest." 6: a gate's table field
+unfoldable pub digitsField : ℕ → Judge (List ℕ)
+digitsField m w = judged (eqb (length w) (m * m) && all (isDigit m) w) (map (λ b. b - 48) w) 6
+
+-- the references that some gates use
+unfoldable pub usedBy : List Gate → List ℕ
+usedBy [] = []
+usedBy (g ∷ gates) = g .left ∷ g .right ∷ usedBy gates
+
+unfoldable pub gateLine : ℕ → List (List ℕ) → List Gate → Reader Gate
+gateLine m names earlier = do
+  left ← field (referenceField names (length earlier) (usedBy earlier)) space
+  right ← field (referenceField names (length earlier) (left ∷ usedBy earlier)) space
+  digits ← field (digitsField m) newline
+  give (record { left = left; right = right; digits = digits })
+
+-- "Then n − 1 gate lines, numbered from 1."
+unfoldable pub gateLines : ℕ → List (List ℕ) → ℕ → List Gate → Reader (List Gate)
+gateLines m names zero earlier = give earlier
+gateLines m names (suc count) earlier =
+    gateLine m names earlier >>= λ g. gateLines m names count (earlier ++ (g ∷ []))
+
+pub record Net : Type 0 where
+  pub header : Header
+  pub gates : List Gate
+
+-- "Line 3 has the n input names. Line 4 is `left right table`. Then n − 1 gate lines". Nothing stands after the last line.
+unfoldable pub netSheet : Reader Net
+netSheet = do
+  h ← headerLines newline
+  _ ← field (theWord "left") space
+  _ ← field (theWord "right") space
+  _ ← field (theWord "table") newline
+  gates ← gateLines (h .levels) (h .names) (h .inputs - 1) []
+  _ ← closed
+  give (record { header = h; gates = gates })
+
+-- ---- table sheet
+
+-- "The input levels count upward from all zeros, last input fastest. A cell's index is its line's place in that count, from
+-- 0." The level of input i at index p:
+unfoldable pub level : ℕ → ℕ → ℕ → ℕ → ℕ
+level m n p i = p / m ^ (n - 1 - i) % m
+
+unfoldable pub levelsAt : ℕ → ℕ → ℕ → List ℕ
+levelsAt m n p = map (level m n p) (range 0 n)
+
+-- 5: row's input level isn't the next in the count
+unfoldable pub levelField : ℕ → Judge (Unit {0})
+levelField due w = judged (same w (digitByte due ∷ [])) tt 5
+
+-- "the ink level". 6: ink field
+unfoldable pub inkField : ℕ → Judge ℕ
+inkField m [] = bad 6
+inkField m (b ∷ []) = judged (isDigit m b) (b - 48) 6
+inkField m (b ∷ c ∷ w) = bad 6
+
+unfoldable pub levelFields : List ℕ → Reader (Unit {0})
+levelFields [] = give tt
+levelFields (l ∷ ls) = field (levelField l) space >>= λ _. levelFields ls
+
+-- "Then one line for each cell: n input levels and the ink level." `count` lines from index p on, after the inks before.
+unfoldable pub rowLines : ℕ → ℕ → ℕ → ℕ → List ℕ → Reader (List ℕ)
+rowLines m n p zero inks = give inks
+rowLines m n p (suc count) inks =
+    levelFields (levelsAt m n p) >>= λ _. field (inkField m) newline >>= λ ink. rowLines m n (suc p) count (inks ++ (ink ∷ []))
+
+pub record Table : Type 0 where
+  pub header : Header
+  pub inks : List ℕ
+
+-- "Line 3 has the n input names and then `ink`. Then one line for each cell". Nothing stands after the last line.
+unfoldable pub tableSheet : Reader Table
+tableSheet = do
+  h ← headerLines space
+  _ ← field (theWord "ink") newline
+  inks ← rowLines (h .levels) (h .inputs) 0 (h .levels ^ h .inputs) []
+  _ ← closed
+  give (record { header = h; inks = inks })

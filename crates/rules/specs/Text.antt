@@ -1,0 +1,36 @@
+-- Bytes: the ones that the formats name, quoted text, and decimal values.
+-- Assumes nothing.
+use Prim.Native.Nat.{ℕ, zero, suc, _+_, _-_, _/_, _%_}
+use Prim.Native.Char.{Char, code}
+use Prim.Native.String.{String, [] as no-text, _∷_ as _then_}
+use mathlib.Core.Bool.{Bool, true, false, _&&_}
+use mathlib.Core.List.{List, [], _∷_, _++_}
+use lib.Dec.{leb, ltb}
+
+unfoldable pub space : ℕ
+space = 32
+
+unfoldable pub newline : ℕ
+newline = 10
+
+-- a quoted text as its bytes (the texts here are ASCII)
+unfoldable pub text : String → List ℕ
+text no-text = []
+text (c then s) = code c ∷ text s
+
+-- a digit's byte
+unfoldable pub digitByte : ℕ → ℕ
+digitByte d = 48 + d
+
+-- is `b` the byte of a digit below `m`? (m is at most 10)
+unfoldable pub isDigit : ℕ → ℕ → Bool
+isDigit m b = leb 48 b && ltb b (48 + m)
+
+-- "No decimal value has a needless leading zero." `fuel` is at least the number of digits.
+unfoldable pub decimalF : ℕ → ℕ → List ℕ
+decimalF zero n = digitByte (n % 10) ∷ []
+decimalF (suc fuel) n =
+    elim (ltb n 10) [ true ↦ digitByte n ∷ [] | false ↦ decimalF fuel (n / 10) ++ (digitByte (n % 10) ∷ []) ]
+
+unfoldable pub decimal : ℕ → List ℕ
+decimal n = decimalF n n
