@@ -1,6 +1,7 @@
 -- Theorems about the definitions of `rules`. docs/PROMISES.md lists them beside the sentences that they prove.
 -- Assumes nothing.
 pub mod Trees
+pub mod Ranges
 pub mod Members
 pub mod Levels
 pub mod Points
