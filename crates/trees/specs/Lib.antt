@@ -7,6 +7,9 @@ pub mod Levels
 pub mod Points
 pub mod Alike
 pub mod Classes
+pub mod Distinct
+pub mod Forest
+pub mod Homes
 pub mod NetTree
 pub mod Wirings
 pub mod GateLists
