@@ -7,6 +7,9 @@ pub mod Points
 pub mod Alike
 pub mod Classes
 pub mod NetTree
+pub mod Rows
+pub mod Digits
+pub mod Joins
 pub mod Wirings
 pub mod GateLists
 pub mod MarkTwo
