@@ -11,6 +11,9 @@ pub mod Distinct
 pub mod Forest
 pub mod Homes
 pub mod NetTree
+pub mod Rows
+pub mod Digits
+pub mod Joins
 pub mod Wirings
 pub mod GateLists
 pub mod MarkTwo
