@@ -8,5 +8,7 @@ pub mod Alike
 pub mod Classes
 pub mod NetTree
 pub mod Wirings
+pub mod Times
+pub mod JoinedLists
 pub mod GateLists
 pub mod MarkTwo
