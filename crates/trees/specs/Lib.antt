@@ -15,5 +15,7 @@ pub mod Rows
 pub mod Digits
 pub mod Joins
 pub mod Wirings
+pub mod Times
+pub mod JoinedLists
 pub mod GateLists
 pub mod MarkTwo
