@@ -1,6 +1,6 @@
 -- Document 01 ("Shade nets: tables, groups and settled trees") as definitions that compute, in the document's own order.
 -- Each definition's comment quotes the sentence that it states. `Lists`, `Text` and `Fields` are the means; the rest follows
--- the document's sections: Sheets (`Limits`, `Sheets`, `Printed`), `Value`, `Groups`, `Marks`, `Settled`, then the calls with
+-- the document's sections: Sheets (`Limits`, `Sheets`, `Printed`, `Kept`), `Value`, `Groups`, `Marks`, `Settled`, then the calls with
 -- what they turn back (`Calls`, `Lister`), and the starred cases (`Cases`).
 -- Assumes nothing.
 pub mod Lists
@@ -9,6 +9,7 @@ pub mod Limits
 pub mod Fields
 pub mod Sheets
 pub mod Printed
+pub mod Kept
 pub mod Value
 pub mod Groups
 pub mod Marks

@@ -1,0 +1,2 @@
+pub mod Concat
+pub mod Ranges

@@ -1,0 +1,1 @@
+// Laws of the list functions that the definitions use, in specs/. This crate has no code.
