@@ -10,7 +10,7 @@ use lib.ListN.{length}
 use lib.Dec.{eqb}
 use borrow.Author.Tests.{eqb-true, eqb-false, ne-eqb}
 use Rattle.rules.specs.Lists.{any, range}
-use Rattle.trees.specs.Trees.{Distinct}
+use Rattle.rules.specs.Kept.{Distinct}
 
 -- x stands in the list
 abbrev pub In : ℕ → List ℕ → Type 0

@@ -10,7 +10,8 @@ use lib.ListN.{length, getD, length-map, length-append}
 use Rattle.rules.specs.Lists.{range}
 use Rattle.rules.specs.Sheets.{Gate, level, levelsAt}
 use Rattle.rules.specs.Value.{gateValue, withGates, value}
-use Rattle.trees.specs.Trees.{Tree, leaf, node, treeValue, RefersBack}
+use Rattle.rules.specs.Kept.{RefersBack}
+use Rattle.trees.specs.Trees.{Tree, leaf, node, treeValue}
 use Rattle.trees.specs.Distinct.{range-length}
 
 -- the tree of a reference

@@ -14,7 +14,8 @@ use Rattle.rules.specs.Sheets.{Gate, usedBy, level, levelsAt}
 use Rattle.rules.specs.Value.{value, gateValue, withGates}
 use Rattle.rules.specs.Groups.{member, size, wholeGroup}
 use Rattle.rules.specs.Settled.{Wiring, input, gate, groupOf, gatesIn, referenceTo, gateList, gateDigits}
-use Rattle.trees.specs.Trees.{EachOnce, Filled, RefersBack, Tables, GateRules, IsNet, treeValue, fill}
+use Rattle.rules.specs.Kept.{RefersBack, Tables, GateRules, IsNet}
+use Rattle.trees.specs.Trees.{EachOnce, Filled, treeValue, fill}
 use Rattle.trees.specs.Members.{member-single, member-join, size-single, size-join, size-whole}
 use Rattle.trees.specs.Wirings.{group-below}
 use Rattle.trees.specs.Times.{oneIf, one-if-le, one-if-or, is, times, is-other, times-append, times-distinct, times-range-add, times-range}

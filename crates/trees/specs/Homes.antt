@@ -15,7 +15,8 @@ use Rattle.rules.specs.Lists.{any}
 use Rattle.rules.specs.Sheets.{Gate, usedBy}
 use Rattle.rules.specs.Groups.{member}
 use Rattle.rules.specs.Settled.{groupOf}
-use Rattle.trees.specs.Trees.{Tree, leaf, wiringIn, Apart, EachOnce, Filled, GateTable, RefersBack, Distinct, Tables}
+use Rattle.rules.specs.Kept.{GateTable, RefersBack, Distinct, Tables}
+use Rattle.trees.specs.Trees.{Tree, leaf, wiringIn, Apart, EachOnce, Filled}
 use Rattle.trees.specs.Members.{member-single, member-join}
 use Rattle.trees.specs.Wirings.{group-below}
 use Rattle.trees.specs.Distinct.{NotIn, or-false-both, not-in-two, two-not-in, not-in-cons, not-in-append, distinct-before}

@@ -9,7 +9,7 @@ use lib.ListN.{length, getD, length-append, List·getD-append}
 use lib.Seq.{getD-append-seam}
 use Rattle.rules.specs.Sheets.{Gate, usedBy}
 use Rattle.rules.specs.Value.{gateValue, withGates}
-use Rattle.trees.specs.Trees.{RefersBack, Tables}
+use Rattle.rules.specs.Kept.{RefersBack, Tables}
 
 -- the references that the two use
 pub used-append : (xs ys : List Gate) → usedBy (xs ++ ys) ≡ usedBy xs ++ usedBy ys

@@ -19,3 +19,4 @@ pub mod Times
 pub mod JoinedLists
 pub mod GateLists
 pub mod MarkTwo
+pub mod Existence

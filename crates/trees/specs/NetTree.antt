@@ -15,7 +15,8 @@ use Rattle.rules.specs.Sheets.{Gate, usedBy}
 use Rattle.rules.specs.Value.{value}
 use Rattle.rules.specs.Groups.{member, wholeGroup}
 use Rattle.rules.specs.Settled.{groupOf}
-use Rattle.trees.specs.Trees.{Tree, wiringIn, treeValue, EachOnce, Filled, RefersBack, GateRules, EarlierUsed, IsNet}
+use Rattle.rules.specs.Kept.{RefersBack, GateRules, EarlierUsed, IsNet}
+use Rattle.trees.specs.Trees.{Tree, wiringIn, treeValue, EachOnce, Filled}
 use Rattle.trees.specs.Members.{member-ext, member-single, member-whole, whole-below}
 use Rattle.trees.specs.Wirings.{group-below}
 use Rattle.trees.specs.Distinct.{In, NotIn, cons-not-in, not-false-true, all-stand}

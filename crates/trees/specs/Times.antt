@@ -11,7 +11,7 @@ use mathlib.Core.List.{List, [], _∷_, _++_}
 use lib.Dec.{eqb}
 use borrow.Author.Tests.{eq-eqb, ne-eqb}
 use Rattle.rules.specs.Lists.{range, any}
-use Rattle.trees.specs.Trees.{Distinct}
+use Rattle.rules.specs.Kept.{Distinct}
 
 -- a test as a count
 abbrev pub oneIf : Bool → ℕ

@@ -1,13 +1,12 @@
--- What the theorems speak of: wirings of a group, trees, gate lists that keep a net sheet's rules.
+-- What the theorems speak of: wirings of a group, trees, alike as a statement. (A net sheet's rules are in `rules`, `Kept`.)
 -- Assumes nothing.
-use Prim.Native.Nat.{ℕ, zero, suc, _+_, _*_, _^_, _≤_, _<_}
+use Prim.Native.Nat.{ℕ, _+_, _*_, _^_, _<_}
 use mathlib.Core.Path.{_≡_}
 use mathlib.Core.Bool.{Bool, true, false, _&&_}
-use mathlib.Core.List.{List, [], _∷_}
-use lib.ListN.{length, getD}
-use lib.Dec.{eqb}
-use Rattle.rules.specs.Lists.{any}
-use Rattle.rules.specs.Sheets.{Gate, level, usedBy}
+use mathlib.Core.List.{List}
+use lib.ListN.{getD}
+use Rattle.rules.specs.Sheets.{Gate, level}
+use Rattle.rules.specs.Kept.{GateTable}
 use Rattle.rules.specs.Value.{value}
 use Rattle.rules.specs.Groups.{member, part, others}
 use Rattle.rules.specs.Settled.{Wiring, input, gate, groupOf, gateDigits}
@@ -48,11 +47,6 @@ unfoldable pub treeValue : ℕ → ℕ → Tree → ℕ → ℕ
 treeValue m n (leaf i) p = level m n p i
 treeValue m n (node digits a b) p = getD digits (treeValue m n a p * m + treeValue m n b p) 0
 
--- "Table is m·m digits below m"
-pub record GateTable (m : ℕ) (digits : List ℕ) : Type 0 where
-  pub count : length digits ≡ m * m
-  pub below : (k : ℕ) → k < length digits → getD digits k 0 < m
-
 abbrev pub Filled : ℕ → Tree → Type 0
 Filled m (leaf i) = Unit {0}
 Filled m (node digits a b) = GateTable m digits × Filled m a × Filled m b
@@ -77,36 +71,6 @@ abbrev pub Tells : ℕ → ℕ → (ℕ → ℕ) → ℕ → (ℕ → ℕ) → T
 Tells m n f g v = (p q : ℕ) → v p ≡ v q → Alike m n f g p q
 
 -- ---- gate lists
-
--- each reference is to an input or an earlier gate; `k` references stand before the list
-abbrev pub RefersBack : ℕ → List Gate → Type 0
-RefersBack k [] = Unit {0}
-RefersBack k (g ∷ gates) = (g .left < k) × (g .right < k) × RefersBack (suc k) gates
-
--- no number stands twice
-abbrev pub Distinct : List ℕ → Type 0
-Distinct [] = Unit {0}
-Distinct (x ∷ xs) = (any (eqb x) xs ≡ false) × Distinct xs
-
-abbrev pub Tables : ℕ → List Gate → Type 0
-Tables m [] = Unit {0}
-Tables m (g ∷ gates) = GateTable m (g .digits) × Tables m gates
-
--- The rules that a net sheet's gate lines keep, however many there are: references to inputs and earlier gates, none twice,
--- and every table m·m digits below m.
-pub record GateRules (m n : ℕ) (gates : List Gate) : Type 0 where
-  pub back : RefersBack n gates
-  pub once : Distinct (usedBy gates)
-  pub tables : Tables m gates
-
--- every gate but the last is used
-abbrev pub EarlierUsed : ℕ → List Gate → Type 0
-EarlierUsed n gates = (k : ℕ) → suc k < length gates → any (eqb (n + k)) (usedBy gates) ≡ true
-
--- "Then n − 1 gate lines": a net of m levels and n inputs
-pub record IsNet (m n : ℕ) (gates : List Gate) : Type 0 where
-  pub count : suc (length gates) ≡ n
-  pub rules : GateRules m n gates
 
 -- the table `f` is the one that the gate list computes
 abbrev pub Computes : ℕ → ℕ → List Gate → (ℕ → ℕ) → Type 0

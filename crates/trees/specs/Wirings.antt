@@ -12,7 +12,8 @@ use lib.ListN.{getD}
 use Rattle.rules.specs.Groups.{part, points, multiplicity, wholeGroup}
 use Rattle.rules.specs.Sheets.{level}
 use Rattle.rules.specs.Settled.{Wiring, input, gate, groupOf, carried, gateDigits}
-use Rattle.trees.specs.Trees.{Tree, leaf, node, wiringIn, treeValue, EachOnce, EachGate, Filled, GateTable, Alike, Tells, fill}
+use Rattle.rules.specs.Kept.{GateTable}
+use Rattle.trees.specs.Trees.{Tree, leaf, node, wiringIn, treeValue, EachOnce, EachGate, Filled, Alike, Tells, fill}
 use Rattle.trees.specs.Members.{member-single, single-below, join-below}
 use Rattle.trees.specs.Levels.{level-below, part-below, level-part-in, part-part, part-whole, part-ext, mix-zero}
 use Rattle.trees.specs.Points.{part-in-points}
