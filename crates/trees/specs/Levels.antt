@@ -3,14 +3,14 @@
 use Prim.Native.Nat.{ℕ, zero, suc, _+_, _-_, _*_, _/_, _%_, _^_, _<_}
 use mathlib.Core.Path.{_≡_, refl, sym, ap, _∙_}
 use mathlib.Core.Logic.{_⊎_, inl, inr}
-use mathlib.Core.Bool.{Bool, true, false, not, cond}
+use mathlib.Core.Bool.{Bool, true, false, not, cond, _&&_, _||_, true≢false}
 use native.Mathlib.Nat.{pow-zero, pow-suc, pow-succ', div-one, div-div-eq-div-mul, div-lt-iff-lt-mul, div-add-mod', mod-lt, zero-div, zero-mod, zero-mul, add-zero, zero-add, eq-or-lt-of-le, le-of-suc-le-suc, not-suc-le-zero, one-le-pow, le-step, le-refl}
 use native.Mathlib.Omega.{arith}
 use lib.Arith.{digits-lt, digits-div, digits-mod, lt-one}
 use Rattle.rules.specs.Sheets.{level}
 use Rattle.rules.specs.Groups.{member, part, others, wholeGroup}
-use Rattle.trees.specs.Trees.{mix}
-use Rattle.trees.specs.Members.{member-whole, whole-below, member-others}
+use Rattle.trees.specs.Trees.{Apart, mix}
+use Rattle.trees.specs.Members.{member-whole, whole-below, member-others, member-join, join-below}
 
 -- ---- levels by the digits of an index
 
@@ -176,3 +176,33 @@ module _ (m n : ℕ) (pos : 0 < m) where
   pub mix-zero : (g p : ℕ) → mix m n g p 0 ≡ part m n g p
   unfolding mix
   mix-zero g p = rw (part-zero, add-zero)
+
+  -- two mixes with the same levels are one
+  mix-ext : (a b p q y z : ℕ) → a < 2 ^ n → b < 2 ^ n → ((i : ℕ) → i < n → level m n (mix m n a p y) i ≡ level m n (mix m n b q z) i)
+      → mix m n a p y ≡ mix m n b q z
+  mix-ext a b p q y z a< b< = level-ext m n pos (mix m n a p y) (mix m n b q z) (mix-below a p y a<) (mix-below b q z b<)
+
+  module _ (a b : ℕ) (a< : a < 2 ^ n) (b< : b < 2 ^ n) (apart : Apart n a b) where
+    -- to set the levels of a joined group is to set those of its two parts, ..
+    pub mix-join : (p y : ℕ) → mix m n (a + b) p y ≡ mix m n a p (mix m n b p y)
+    mix-join p y = mix-ext (a + b) a p p y (mix m n b p y) (join-below n a b a< b< apart) a< go
+      where
+        either : (c d : Bool) (x z : ℕ) → cond (c || d) x z ≡ cond c x (cond d x z)
+        either true d x z = refl
+        either false d x z = refl
+
+        go : (i : ℕ) → i < n → level m n (mix m n (a + b) p y) i ≡ level m n (mix m n a p (mix m n b p y)) i
+        go i h = simp (level-mix, join-below, member-join i n a b a< b< apart h) (either (member i a) (member i b) (level m n p i) (level m n y i))
+
+    -- .. in either order
+    pub mix-swap : (p q y : ℕ) → mix m n a p (mix m n b q y) ≡ mix m n b q (mix m n a p y)
+    mix-swap p q y = mix-ext a b p q (mix m n b q y) (mix m n a p y) a< b< go
+      where
+        one : (c d : Bool) → (c && d) ≡ false → (x y z : ℕ) → cond c x (cond d y z) ≡ cond d y (cond c x z)
+        one true true e x y z = absurd (true≢false e)
+        one true false e x y z = refl
+        one false true e x y z = refl
+        one false false e x y z = refl
+
+        go : (i : ℕ) → i < n → level m n (mix m n a p (mix m n b q y)) i ≡ level m n (mix m n b q (mix m n a p y)) i
+        go i h = simp level-mix (one (member i a) (member i b) (apart i h) (level m n p i) (level m n q i) (level m n y i))

@@ -2,9 +2,12 @@
 -- Assumes nothing.
 pub mod Trees
 pub mod Members
+pub mod ListLaws
 pub mod Levels
 pub mod Points
 pub mod Alike
+pub mod Firsts
+pub mod Pigeonhole
 pub mod Classes
 pub mod NetTree
 pub mod Wirings
