@@ -3,9 +3,12 @@
 pub mod Trees
 pub mod Ranges
 pub mod Members
+pub mod ListLaws
 pub mod Levels
 pub mod Points
 pub mod Alike
+pub mod Firsts
+pub mod Pigeonhole
 pub mod Classes
 pub mod Distinct
 pub mod Forest
