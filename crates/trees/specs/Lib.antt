@@ -9,4 +9,7 @@ pub mod Classes
 pub mod NetTree
 pub mod Wirings
 pub mod GateLists
+pub mod Searches
+pub mod MarkRule
 pub mod MarkTwo
+pub mod NoTree
