@@ -21,5 +21,8 @@ pub mod Wirings
 pub mod Times
 pub mod JoinedLists
 pub mod GateLists
+pub mod Searches
+pub mod MarkRule
 pub mod MarkTwo
+pub mod NoTree
 pub mod Existence
