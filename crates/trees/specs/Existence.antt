@@ -6,13 +6,14 @@ use mathlib.Core.Path.{_≡_, refl, sym, ap, _∙_, subst}
 use mathlib.Core.Logic.{_↔_}
 use mathlib.Core.Bool.{Bool, true, false}
 use mathlib.Core.List.{List, [], _∷_}
+use native.Mathlib.Nat.{le-of-eq}
 use native.Mathlib.Omega.{arith}
 use lib.ListN.{length, getD}
 use Rattle.rules.specs.Sheets.{Gate}
 use Rattle.rules.specs.Value.{value}
 use Rattle.rules.specs.Groups.{part, size, wholeGroup}
 use Rattle.rules.specs.Marks.{markIn, marksOf}
-use Rattle.rules.specs.Settled.{Wiring, input, gate, groupOf, settledWiring, settledGates, wiringBy}
+use Rattle.rules.specs.Settled.{Wiring, input, gate, groupOf, gateList, settledWiring, settledGates, wiringBy}
 use Rattle.rules.specs.Kept.{IsNet}
 use Rattle.trees.specs.Trees.{Tree, wiringIn, treeValue, mix, Alike, Tells, EachOnce, EachGate, WiringOf, Computes, fill}
 use Rattle.trees.specs.Members.{whole-below, size-single, size-whole}
@@ -20,7 +21,8 @@ use Rattle.trees.specs.Levels.{mix-below, part-mix}
 use Rattle.trees.specs.NetTree.{TreeOf, net-tree, net-whole}
 use Rattle.trees.specs.Wirings.{Few, tree-part, necessity, fill-filled, fill-computes}
 use Rattle.trees.specs.GateLists.{gate-list-net, gate-list-value}
-use Rattle.trees.specs.MarkTwo.{marked, wiring-mark, wiring-of}
+use Rattle.trees.specs.MarkRule.{marked}
+use Rattle.trees.specs.MarkTwo.{wiring-mark, wiring-of}
 
 -- some net of m levels and n inputs has the table
 abbrev pub TreeExists : ℕ → ℕ → (ℕ → ℕ) → Type 0
@@ -46,19 +48,27 @@ module _ (m n : ℕ) (pos : 0 < m) (several : 1 < n) (f : ℕ → ℕ) where
       let t : TreeOf m n gates = net-tree m n gates several net in
       let whole : groupOf (wiringIn (t .tree)) ≡ wholeGroup n = net-whole m n gates several net in
       subst (λ (g : ℕ). marked m n pos f g ≡ 2) whole
-        (wiring-mark m n pos f (wiringIn (t .tree)) (t .once)
-          (necessity m n pos f (t .tree) (t .once) (t .filled)
-            (subst (λ (g : ℕ). Tells m n f g (treeValue m n (t .tree))) (sym whole)
-              (tells-whole (t .tree) (t .once) whole (λ p h. sym (t .same p) ∙ has p h)))))
+      (wiring-mark m n pos f (wiringIn (t .tree)) (t .once)
+      (necessity m n pos f (t .tree) (t .once) (t .filled)
+      (subst (λ (g : ℕ). Tells m n f g (treeValue m n (t .tree))) (sym whole)
+      (tells-whole (t .tree) (t .once) whole (λ p h. sym (t .same p) ∙ has p h)))))
 
   -- Mark 2 at the whole group: the settled net is a net, and has the table.
   settled-of : (w : Wiring) → WiringOf n (wholeGroup n) w → EachGate (Few m n f) w → ((p : ℕ) → p < m ^ n → f p < m)
-      → IsNet m n (Rattle.rules.specs.Settled.gateList m n f true 0 w) × Computes m n (Rattle.rules.specs.Settled.gateList m n f true 0 w) f
-  settled-of w of few inks = ?
+      → IsNet m n (gateList m n f true 0 w) × Computes m n (gateList m n f true 0 w) f
+  unfolding groupOf
+  settled-of (input i) of few inks = absurd (omega (arith, size-single i n (of .0), size-whole n, ap (size n) (of .1)))
+  settled-of (gate a b) of few inks = (
+    gate-list-net m n f (gate a b) (of .0) (of .1) (fill-filled m n pos f (gate a b) (of .0) few inks true),
+    λ p h. gate-list-value m n f a b (of .0) p ∙ fill-computes m n pos f a b (of .0) (of .1) few p h,
+  )
 
   pub settled-net : ((p : ℕ) → p < m ^ n → f p < m) → marked m n pos f (wholeGroup n) ≡ 2
       → IsNet m n (settledGates m n f (marksOf m n f)) × Computes m n (settledGates m n f (marksOf m n f)) f
-  settled-net inks two = ?
+  unfolding settledGates settledWiring
+  settled-net inks two =
+      let w = wiring-of m n pos f n (wholeGroup n) (whole-below n) (le-of-eq (size-whole n)) two in
+      settled-of (wiringBy n (marksOf m n f) n (wholeGroup n)) (w .0) (w .1) inks
 
   -- "A tree exists exactly when the whole group has mark 2."
   pub tree-exists : ((p : ℕ) → p < m ^ n → f p < m) → TreeExists m n f ↔ (markIn (marksOf m n f) (wholeGroup n) ≡ 2)
