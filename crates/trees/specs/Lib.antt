@@ -26,3 +26,5 @@ pub mod MarkRule
 pub mod MarkTwo
 pub mod NoTree
 pub mod Existence
+pub mod Uniqueness
+pub mod DistinctInks
