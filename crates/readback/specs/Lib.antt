@@ -1,4 +1,9 @@
 -- Theorems about sheets: what was printed is read back, what was accepted is what would be printed, and how long a net sheet is.
 -- Assumes nothing.
+pub mod Tests
+pub mod Spells
+pub mod Fields
+pub mod Decimals
+pub mod Judges
 pub mod ReadBack
 pub mod Length
