@@ -78,14 +78,14 @@ module _ (print : ℕ → List ℕ) (from count : ℕ) (test : ℕ → Bool) (u 
   unfoldable pub looking : Judge ℕ
   looking w = verdict (find (λ n. same w (print n)) (range from count))
 
-  pub looking-passes : ((m n : ℕ) → m < from + count → n < from + count → print m ≡ print n → m ≡ n)
+  pub looking-passes : ((m n : ℕ) → print m ≡ print n → m ≡ n)
       → (n : ℕ) → from ≤ n → n < from + count → test n ≡ true → looking (print n) ≡ good n
   unfolding looking verdict
   looking-passes different n h k t =
       rw (find-only (λ m. same (print n) (print m)) n from count h k (same-refl (print n)) only, t) refl
     where
-      only : (m : ℕ) → m < from + count → same (print n) (print m) ≡ true → m ≡ n
-      only m l e = different m n l k (sym (same-true (print n) (print m) e))
+      only : (m : ℕ) → same (print n) (print m) ≡ true → m ≡ n
+      only m e = different m n (sym (same-true (print n) (print m) e))
 
   pub looking-only : (w : List ℕ) (n : ℕ) → looking w ≡ good n → (from ≤ n) × (n < from + count) × (test n ≡ true) × (w ≡ print n)
   unfolding looking verdict
@@ -106,7 +106,7 @@ judges-inputs m = record { passes = λ x. passes (x .0) (x .1) (x .2); word = λ
     passes : (n : ℕ) → inputsFit n ≡ true → cellsFit m n ≡ true → inputsField m (decimal n) ≡ good n
     passes n h k =
         let (i, j) = inputs-fit n .0 h in
-        looking-passes decimal 2 10 (cellsFit m) 3 3 (λ m n _ _. decimal-injective m n) n i (omega arith) k
+        looking-passes decimal 2 10 (cellsFit m) 3 3 decimal-injective n i (omega arith) k
 
     only : (w : List ℕ) (a : ℕ) → inputsField m w ≡ good a → (x : (n : ℕ) × (inputsFit n ≡ true) × (cellsFit m n ≡ true)) × (a ≡ x .0) × (w ≡ decimal (x .0))
     only w a e =

@@ -5,5 +5,9 @@ pub mod Spells
 pub mod Fields
 pub mod Decimals
 pub mod Judges
+pub mod Fresh
+pub mod Names
+pub mod References
+pub mod Header
 pub mod ReadBack
 pub mod Length

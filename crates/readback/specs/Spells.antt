@@ -3,8 +3,9 @@
 -- Assumes nothing.
 use Prim.Native.Nat.{ℕ}
 use mathlib.Core.Path.{_≡_, refl, sym, _∙_, ap}
-use mathlib.Core.List.{List, [], _∷_, _++_, append-assoc}
+use mathlib.Core.List.{List, [], _∷_, _++_, append-assoc, append-nil}
 use native.Mathlib.Omega.{arith}
+use lib.ListN.{length}
 use Rattle.rules.specs.Fields.{Read, read, turnedBack, Reader, then, _>>=_, give}
 
 -- `r` reads the texts `print x`, of value `value x`, and no others; what stands after such a text keeps `After`
@@ -77,3 +78,12 @@ spells-as spells to from = record {
         let (y, i, j) = to x in
         (y, d ∙ i, c ∙ ap (λ t. t ++ rest) j, h)
   }
+
+-- a list of things read, to which no more are due
+pub spells-no-more : {A : Type 0} (Rule : List A → Type 0) (print : List A → List ℕ) (earlier : List A) → Rule [] → print [] ≡ []
+    → Spells (give earlier) ((xs : List A) × (length xs ≡ 0) × Rule xs) (λ x. earlier ++ x .0) (λ x. print (x .0))
+spells-no-more {A} Rule print earlier h e = spells-as (spells-give earlier) (λ x. (([], refl, h), sym (append-nil earlier), sym e)) none
+  where
+    none : (y : (xs : List A) × (length xs ≡ 0) × Rule xs) → (x : Unit {0}) × (earlier ++ y .0 ≡ earlier) × (print (y .0) ≡ [])
+    none ([], l, g) = (tt, append-nil earlier, e)
+    none (x ∷ xs, l, g) = absurd (omega arith)

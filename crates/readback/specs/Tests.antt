@@ -13,6 +13,11 @@ use lib.Arith.{lt-of-le-ne}
 use borrow.Author.Tests.{eqb-true, eq-eqb}
 use Rattle.rules.specs.Lists.{range, all, any, same, find}
 
+-- neither passes
+pub or-false-iff : (a b : Bool) → ((a || b) ≡ false) ↔ ((a ≡ false) × (b ≡ false))
+or-false-iff true b = (λ e. absurd (true≢false e), λ k. absurd (true≢false (k .0)))
+or-false-iff false b = (λ e. (refl, e), λ k. k .1)
+
 module _ {A : Type 0} (test : A → Bool) where
   pub all-cons : (x : A) (xs : List A) → all test (x ∷ xs) ≡ (test x && all test xs)
   unfolding all
@@ -22,10 +27,19 @@ module _ {A : Type 0} (test : A → Bool) where
   unfolding any
   any-cons x xs = elim (test x) as (λ t. elim t [ true ↦ true | false ↦ any test xs ] ≡ (t || any test xs)) [ true ↦ refl | false ↦ refl ]
 
+  pub any-iff : (x : A) (xs : List A) → (any test (x ∷ xs) ≡ false) ↔ ((test x ≡ false) × (any test xs ≡ false))
+  any-iff x xs = rw any-cons (or-false-iff (test x) (any test xs))
+
   pub any-append : (xs ys : List A) → any test (xs ++ ys) ≡ (any test xs || any test ys)
   unfolding any
   any-append [] ys = refl
   any-append (x ∷ xs) ys = rw (any-cons x (xs ++ ys), any-cons x xs, any-append xs ys) (sym (or-assoc (test x) (any test xs) (any test ys)))
+
+  -- where none passes, each fails
+  pub any-at : (xs : List A) → any test xs ≡ false → (k : ℕ) (d : A) → k < length xs → test (getD xs k d) ≡ false
+  any-at [] e k d h = absurd (omega arith)
+  any-at (x ∷ xs) e zero d h = any-iff x xs .0 e .0
+  any-at (x ∷ xs) e (suc k) d h = any-at xs (any-iff x xs .0 e .1) k d (omega arith)
 
   pub all-iff : (x : A) (xs : List A) → (all test (x ∷ xs) ≡ true) ↔ ((test x ≡ true) × (all test xs ≡ true))
   all-iff x xs = rw all-cons (and-eq-true-iff (test x) (all test xs))
@@ -103,13 +117,13 @@ module _ (test : ℕ → Bool) where
 
   -- the only number of a range that passes is found
   pub find-only : (x from count : ℕ) → from ≤ x → x < from + count → test x ≡ true
-      → ((y : ℕ) → y < from + count → test y ≡ true → y ≡ x) → find test (range from count) ≡ some x
+      → ((y : ℕ) → test y ≡ true → y ≡ x) → find test (range from count) ≡ some x
   unfolding range
   find-only x from zero h k e u = absurd (omega arith)
-  find-only x from (suc count) h k e u = go (test from) refl (λ l. find-only x (suc from) count l (omega arith) e (λ y i. u y (omega arith)))
+  find-only x from (suc count) h k e u = go (test from) refl (λ l. find-only x (suc from) count l (omega arith) e u)
     where
       go : (t : Bool) → test from ≡ t → (suc from ≤ x → find test (range (suc from) count) ≡ some x) → find test (range from (suc count)) ≡ some x
-      go true d r = find-hit from (range (suc from) count) d ∙ ap some (u from (omega arith) d)
+      go true d r = find-hit from (range (suc from) count) d ∙ ap some (u from d)
       go false d r = find-miss from (range (suc from) count) d ∙ r (lt-of-le-ne h (λ q. true≢false (sym e ∙ ap test (sym q) ∙ d)))
 
   -- what is found is of the range and passes
