@@ -11,8 +11,8 @@ use lib.Seq.{append-snoc}
 use lib.Dec.{eqb}
 use borrow.Author.Tests.{eqb-true, eq-eqb, not-true}
 use Rattle.rules.specs.Lists.{all, same}
-use Rattle.rules.specs.Text.{text}
-use Rattle.rules.specs.Fields.{Read, read, turnedBack, Reader, Judged, good, bad, Judge, judged, isSeparator, run, past, separator, afterField, fieldOf, field, theWord, closed}
+use Rattle.rules.specs.Text.{space, newline, text}
+use Rattle.rules.specs.Fields.{Read, read, turnedBack, Reader, then, _>>=_, give, Judged, good, bad, Judge, judged, isSeparator, run, past, separator, afterField, fieldOf, field, theWord, closed}
 use Rattle.readback.specs.Tests.{all-iff, same-refl, same-true}
 use Rattle.readback.specs.Spells.{SpellsTo, Spells, not-read}
 
@@ -24,6 +24,14 @@ plain b = not (isSeparator b)
 unfoldable pub isWord : List ℕ → Bool
 isWord [] = false
 isWord (b ∷ w) = all plain (b ∷ w)
+
+pub parts-space : isSeparator space ≡ true
+unfolding isSeparator space newline
+parts-space = refl
+
+pub parts-newline : isSeparator newline ≡ true
+unfolding isSeparator space newline
+parts-newline = refl
 
 -- ---- the longest run of bytes other than separators
 
@@ -150,11 +158,15 @@ judges-word word h = record {
 -- ---- the end of a sheet
 
 -- nothing stands after the last line
-pub spells-closed : SpellsTo (λ rest. rest ≡ []) closed (Unit {0}) (λ _. tt) (λ _. [])
-unfolding closed
-spells-closed = record { back = λ x rest at h. (at, rw h); only = closed-read }
-  where
-    closed-read : (s : List ℕ) (at : ℕ) (a : Unit {0}) (rest : List ℕ) (place : ℕ) → closed s at ≡ read a rest place
-        → (x : Unit {0}) × (a ≡ tt) × (s ≡ rest) × (rest ≡ [])
-    closed-read [] at a rest place e = (tt, refl, (cc), (cc))
-    closed-read (b ∷ s) at a rest place e = absurd (not-read 1 at a rest place e)
+pub Ended : List ℕ → Type 0
+Ended rest = rest ≡ []
+
+closed-read : {A : Type 0} (a : A) (s : List ℕ) (at : ℕ) (b : A) (rest : List ℕ) (place : ℕ) → (closed >>= λ _. give a) s at ≡ read b rest place
+    → (x : Unit {0}) × (b ≡ a) × (s ≡ rest) × (rest ≡ [])
+unfolding closed then
+closed-read a [] at b rest place e = (tt, (cc), (cc), (cc))
+closed-read a (c ∷ s) at b rest place e = absurd (not-read 1 at b rest place e)
+
+pub spells-end : {A : Type 0} (a : A) → SpellsTo Ended (closed >>= λ _. give a) (Unit {0}) (λ _. a) (λ _. [])
+unfolding closed then Ended
+spells-end a = record { back = λ x rest at h. (at, rw h); only = closed-read a }

@@ -9,5 +9,7 @@ pub mod Fresh
 pub mod Names
 pub mod References
 pub mod Header
+pub mod Gates
+pub mod NetSheets
 pub mod ReadBack
 pub mod Length
