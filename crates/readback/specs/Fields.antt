@@ -158,7 +158,7 @@ judges-word word h = record {
 -- ---- the end of a sheet
 
 -- nothing stands after the last line
-pub Ended : List ℕ → Type 0
+abbrev pub Ended : List ℕ → Type 0
 Ended rest = rest ≡ []
 
 closed-read : {A : Type 0} (a : A) (s : List ℕ) (at : ℕ) (b : A) (rest : List ℕ) (place : ℕ) → (closed >>= λ _. give a) s at ≡ read b rest place
@@ -168,5 +168,5 @@ closed-read a [] at b rest place e = (tt, (cc), (cc), (cc))
 closed-read a (c ∷ s) at b rest place e = absurd (not-read 1 at b rest place e)
 
 pub spells-end : {A : Type 0} (a : A) → SpellsTo Ended (closed >>= λ _. give a) (Unit {0}) (λ _. a) (λ _. [])
-unfolding closed then Ended
+unfolding closed then
 spells-end a = record { back = λ x rest at h. (at, rw h); only = closed-read a }

@@ -11,5 +11,6 @@ pub mod References
 pub mod Header
 pub mod Gates
 pub mod NetSheets
+pub mod TableSheets
 pub mod ReadBack
 pub mod Length

@@ -74,12 +74,12 @@ module _ (last sep count : ℕ) (earlier : List (List ℕ))
       → Spells (field (nameField earlier) sep >>= k) (Names (suc count) earlier) (λ x. earlier ++ x .0) (λ x. ended last (x .0))
   names-step h k next = spells-as (spells-then k (spells-field sep h (judges-name earlier)) next) (λ x. names-to (x .0 .0) (x .0 .1) (x .0 .2) (x .1)) names-from
 
-ended-one : (last : ℕ) (w : List ℕ) (ws : List (List ℕ)) → length ws ≡ 0 → w ++ last ∷ [] ++ ended last ws ≡ ended last (w ∷ ws)
+pub ended-one : (last : ℕ) (w : List ℕ) (ws : List (List ℕ)) → length ws ≡ 0 → w ++ last ∷ [] ++ ended last ws ≡ ended last (w ∷ ws)
 unfolding ended
 ended-one last w [] l = append-nil (w ++ last ∷ [])
 ended-one last w (v ∷ ws) l = absurd (omega arith)
 
-ended-more : (last count : ℕ) (w : List ℕ) (ws : List (List ℕ)) → length ws ≡ suc count → w ++ space ∷ [] ++ ended last ws ≡ ended last (w ∷ ws)
+pub ended-more : (last count : ℕ) (w : List ℕ) (ws : List (List ℕ)) → length ws ≡ suc count → w ++ space ∷ [] ++ ended last ws ≡ ended last (w ∷ ws)
 unfolding ended
 ended-more last count w [] l = absurd (omega arith)
 ended-more last count w (v ∷ ws) l = refl
