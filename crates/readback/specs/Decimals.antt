@@ -1,13 +1,13 @@
 -- Decimal values and digits: what their bytes are, and that different numbers have different decimal values.
 -- Assumes nothing.
 use Prim.Native.Nat.{ℕ, zero, suc, _+_, _-_, _*_, _/_, _%_, _≤_, _<_}
-use mathlib.Core.Path.{_≡_, refl, sym, _∙_, ap, ap₂}
-use mathlib.Core.Bool.{Bool, true, false, not, _&&_, _||_, and-eq-true-iff, false≢true}
+use mathlib.Core.Path.{_≡_, refl, sym, _∙_, ap}
+use mathlib.Core.Bool.{Bool, true, false, and-eq-true-iff}
 use mathlib.Core.Logic.{_↔_}
 use mathlib.Core.List.{List, [], _∷_, _++_}
 use native.Mathlib.Omega.{arith}
 use lib.ListN.{length, length-append}
-use lib.Dec.{eqb, leb, ltb}
+use lib.Dec.{leb, ltb}
 use borrow.Author.Tests.{leb-true, le-leb, ltb-true, ltb-false, lt-ltb, ne-eqb}
 use Rattle.rules.specs.Lists.{all}
 use Rattle.rules.specs.Text.{space, newline, digitByte, isDigit, decimalF, decimal}
@@ -30,8 +30,10 @@ high-word p h (b ∷ w) e l = all-weaker p plain (λ b d. high-plain b (h b d)) 
 
 pub digit-iff : (m b : ℕ) → (isDigit m b ≡ true) ↔ ((48 ≤ b) × (b < 48 + m))
 unfolding isDigit
-digit-iff m b = (λ e. let (i, j) = and-eq-true-iff (leb 48 b) (ltb b (48 + m)) .0 e in (leb-true 48 b i, ltb-true b (48 + m) j),
-    λ h. and-eq-true-iff (leb 48 b) (ltb b (48 + m)) .1 (le-leb 48 b (h .0), lt-ltb b (48 + m) (h .1)))
+digit-iff m b = (
+  λ e. let (i, j) = and-eq-true-iff (leb 48 b) (ltb b (48 + m)) .0 e in (leb-true 48 b i, ltb-true b (48 + m) j),
+  λ h. and-eq-true-iff (leb 48 b) (ltb b (48 + m)) .1 (le-leb 48 b (h .0), lt-ltb b (48 + m) (h .1)),
+)
 
 -- the byte of a level below m
 pub digit-byte : (m d : ℕ) → d < m → isDigit m (digitByte d) ≡ true
@@ -46,7 +48,6 @@ digits-word m = high-word (isDigit m) (λ b e. digit-iff m b .0 e .0)
 -- A decimal value is one digit, or the decimal value of n / 10 and one more digit.
 module _ (P : ℕ → List ℕ → Type 0) (one : (n : ℕ) → n < 10 → P n (digitByte n ∷ []))
     (more : (n : ℕ) (w : List ℕ) → 10 ≤ n → P (n / 10) w → P n (w ++ (digitByte (n % 10) ∷ []))) where
-
   by-digits : (fuel n : ℕ) → n ≤ fuel → P n (decimalF fuel n)
   unfolding decimalF
   by-digits zero n h =

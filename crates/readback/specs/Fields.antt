@@ -3,16 +3,15 @@
 use Prim.Native.Nat.{ℕ, suc, _+_}
 use Prim.Native.String.{String}
 use mathlib.Core.Path.{_≡_, refl, sym, _∙_, ap, ap₂}
-use mathlib.Core.Bool.{Bool, true, false, not, true≢false, false≢true}
-use mathlib.Core.List.{List, [], _∷_, _++_, append-assoc}
-use native.Mathlib.Omega.{arith}
+use mathlib.Core.Bool.{Bool, true, false, not, false≢true}
+use mathlib.Core.List.{List, [], _∷_, _++_}
 use lib.ListN.{length}
 use lib.Seq.{append-snoc}
 use lib.Dec.{eqb}
 use borrow.Author.Tests.{eqb-true, eq-eqb, not-true}
 use Rattle.rules.specs.Lists.{all, same}
 use Rattle.rules.specs.Text.{space, newline, text}
-use Rattle.rules.specs.Fields.{Read, read, turnedBack, Reader, then, _>>=_, give, Judged, good, bad, Judge, judged, isSeparator, run, past, separator, afterField, fieldOf, field, theWord, closed}
+use Rattle.rules.specs.Fields.{Read, read, turnedBack, then, _>>=_, give, Judged, good, bad, Judge, judged, isSeparator, run, past, separator, afterField, fieldOf, field, theWord, closed}
 use Rattle.readback.specs.Tests.{all-iff, same-refl, same-true}
 use Rattle.readback.specs.Spells.{SpellsTo, Spells, not-read}
 
@@ -139,21 +138,21 @@ pub spells-field : {A : Type 0} {judge : Judge A} {X : Type 0} {f : X → A} {p 
     → Judges judge X f p → Spells (field judge due) X f (λ x. p x ++ due ∷ [])
 unfolding field
 spells-field {judge = judge} {f = f} {p = p} due d judges = record {
-    back = λ x rest at _. field-back judge due (p x) (f x) rest at d (judges .word x) (judges .passes x);
-    only = λ s at a rest place e.
-        let (i, j) = field-read judge due (run s) (past s) at a rest place e in
-        let (x, h, k) = judges .only (run s) a i in
-        (x, h, run-past s ∙ ap₂ _++_ k j ∙ sym (append-snoc (p x) due rest), tt)
-  }
+  back = λ x rest at _. field-back judge due (p x) (f x) rest at d (judges .word x) (judges .passes x);
+  only = λ s at a rest place e.
+      let (i, j) = field-read judge due (run s) (past s) at a rest place e in
+      let (x, h, k) = judges .only (run s) a i in
+      (x, h, run-past s ∙ ap₂ _++_ k j ∙ sym (append-snoc (p x) due rest), tt);
+}
 
 -- a fixed word
 pub judges-word : (word : String) → isWord (text word) ≡ true → Judges (theWord word) (Unit {0}) (λ _. tt) (λ _. text word)
 unfolding theWord
 judges-word word h = record {
-    passes = λ _. rw same-refl;
-    word = λ _. h;
-    only = λ w a e. (tt, refl, same-true w (text word) (judged-good (same w (text word)) tt 1 a e .0))
-  }
+  passes = λ _. rw same-refl;
+  word = λ _. h;
+  only = λ w a e. (tt, refl, same-true w (text word) (judged-good (same w (text word)) tt 1 a e .0));
+}
 
 -- ---- the end of a sheet
 

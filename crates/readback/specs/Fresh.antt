@@ -1,7 +1,7 @@
 -- Things that are read one after another, each unlike those before it.
 -- Assumes nothing.
-use mathlib.Core.Path.{_≡_, refl, sym, _∙_, ap}
-use mathlib.Core.Bool.{Bool, true, false, _||_, or-false}
+use mathlib.Core.Path.{_≡_, refl, _∙_}
+use mathlib.Core.Bool.{Bool, false, or-false}
 use mathlib.Core.Logic.{_↔_}
 use mathlib.Core.List.{List, [], _∷_, _++_}
 use Rattle.rules.specs.Lists.{any}
@@ -28,11 +28,11 @@ module _ {A : Type 0} (alike : A → A → Bool) where
     unfolding any
     fresh-last earlier x [] = (λ h. (refl, tt), λ h. tt)
     fresh-last earlier x (y ∷ ys) = (
-        λ h.
-            let (i, j) = any-last y x earlier .0 (h .0) in
-            let (k, l) = fresh-last earlier x ys .0 (h .1) in
-            (any-iff (alike x) y ys .1 (turned x y ∙ j, k), (i, l)),
-        λ h.
-            let (i, j) = any-iff (alike x) y ys .0 (h .0) in
-            (any-last y x earlier .1 (h .1 .0, turned y x ∙ i), fresh-last earlier x ys .1 (j, h .1 .1))
-      )
+      λ h.
+          let (i, j) = any-last y x earlier .0 (h .0) in
+          let (k, l) = fresh-last earlier x ys .0 (h .1) in
+          (any-iff (alike x) y ys .1 (turned x y ∙ j, k), (i, l)),
+      λ h.
+          let (i, j) = any-iff (alike x) y ys .0 (h .0) in
+          (any-last y x earlier .1 (h .1 .0, turned y x ∙ i), fresh-last earlier x ys .1 (j, h .1 .1)),
+    )

@@ -1,9 +1,8 @@
 -- Gate lines: each refers back, to what no earlier line refers to.
 -- Assumes nothing.
 use Prim.Native.Nat.{ℕ, zero, suc, _+_, _<_}
-use mathlib.Core.Path.{_≡_, refl, sym, _∙_, ap, ap₂}
-use mathlib.Core.Bool.{Bool, true, false}
-use mathlib.Core.Logic.{_↔_}
+use mathlib.Core.Path.{_≡_, refl, sym, _∙_, ap}
+use mathlib.Core.Bool.{false}
 use mathlib.Core.List.{List, [], _∷_, _++_, map, append-assoc, append-nil}
 use native.Mathlib.Omega.{arith}
 use lib.ListN.{length, length-append}
@@ -49,25 +48,27 @@ module _ (m k : ℕ) (used : List ℕ) (g : Gate) (gates : List Gate) where
         back = (a .left, a .right, b .back);
         once = (any-iff (eqb (g .left)) (g .right) (usedBy gates) .1 (eqb-comm (g .left) (g .right) ∙ d, l), (r, b .once));
         fresh = (a .left-new, (e, j));
-        tables = (a .table, b .tables)
+        tables = (a .table, b .tables);
       }
 
   gates-from : GatesAfter m k used (g ∷ gates) → GateAfter m k used g × GatesAfter m (suc k) (used ++ (g .left ∷ []) ++ (g .right ∷ [])) gates
   unfolding usedBy
-  gates-from b = 
-      let (d, l) = any-iff (eqb (g .left)) (g .right) (usedBy gates) .0 (b .once .0) in
-      (record {
-        left = b .back .0;
-        right = b .back .1;
-        left-new = b .fresh .0;
-        right-new = any-iff (eqb (g .right)) (g .left) used .1 (eqb-comm (g .right) (g .left) ∙ d, b .fresh .1 .0);
-        table = b .tables .0
-      }, record {
-        back = b .back .2;
-        once = b .once .1 .1;
-        fresh = fresh-last eqb eqb-comm (used ++ (g .left ∷ [])) (g .right) (usedBy gates) .1 (b .once .1 .0, fresh-last eqb eqb-comm used (g .left) (usedBy gates) .1 (l, b .fresh .1 .1));
-        tables = b .tables .1
-      })
+  gates-from b =
+      let (d, l) = any-iff (eqb (g .left)) (g .right) (usedBy gates) .0 (b .once .0) in (
+        record {
+          left = b .back .0;
+          right = b .back .1;
+          left-new = b .fresh .0;
+          right-new = any-iff (eqb (g .right)) (g .left) used .1 (eqb-comm (g .right) (g .left) ∙ d, b .fresh .1 .0);
+          table = b .tables .0;
+        },
+        record {
+          back = b .back .2;
+          once = b .once .1 .1;
+          fresh = fresh-last eqb eqb-comm (used ++ (g .left ∷ [])) (g .right) (usedBy gates) .1 (b .once .1 .0, fresh-last eqb eqb-comm used (g .left) (usedBy gates) .1 (l, b .fresh .1 .1));
+          tables = b .tables .1;
+        },
+      )
 
 -- ---- reading gate lines
 
@@ -93,11 +94,16 @@ module _ (m : ℕ) (positive : 0 < m) (names : List (List ℕ)) (good-names : Go
       (spells-then _ (spells-field space parts-space (judges-reference names good-names (length earlier) (usedBy earlier))) (λ l.
       spells-then _ (spells-field space parts-space (judges-reference names good-names (length earlier) (l .0 ∷ usedBy earlier))) (λ r.
       spells-then _ (spells-field newline parts-newline (judges-digits m positive)) (λ ds. spells-give (record { left = l .0; right = r .0; digits = ds .0 })))))
-      (λ ((l, h, e), ((r, k, f), ((ds, t), _))).
-          ((record { left = l; right = r; digits = ds }, record { left = h; right = k; left-new = e; right-new = f; table = t }), refl,
-          gate-text (referenceText names l) (referenceText names r) (map digitByte ds)))
-      (λ (g, a). (((g .left, a .left, a .left-new), ((g .right, a .right, a .right-new), ((g .digits, a .table), tt))), refl, 
-          sym (gate-text (referenceText names (g .left)) (referenceText names (g .right)) (map digitByte (g .digits)))))
+      (λ ((l, h, e), ((r, k, f), ((ds, t), _))). (
+        (record { left = l; right = r; digits = ds }, record { left = h; right = k; left-new = e; right-new = f; table = t }),
+        refl,
+        gate-text (referenceText names l) (referenceText names r) (map digitByte ds),
+      ))
+      (λ (g, a). (
+        ((g .left, a .left, a .left-new), ((g .right, a .right, a .right-new), ((g .digits, a .table), tt))),
+        refl,
+        sym (gate-text (referenceText names (g .left)) (referenceText names (g .right)) (map digitByte (g .digits))),
+      ))
 
   refs-last : (earlier : List Gate) (g : Gate) → length names + length (earlier ++ (g ∷ [])) ≡ suc (length names + length earlier)
   refs-last earlier g = rw length-append (omega arith)
@@ -107,9 +113,11 @@ module _ (m : ℕ) (positive : 0 < m) (names : List (List ℕ)) (good-names : Go
       → (y : Gates (suc count) earlier) × (earlier ++ (g ∷ []) ++ x .0 ≡ earlier ++ y .0)
       × (printedGate names g ++ concatMap (printedGate names) (x .0) ≡ concatMap (printedGate names) (y .0))
   unfolding concatMap
-  more-to count earlier g a (gs, l, b) =
-      ((g ∷ gs, ap suc l, gates-to m (length names + length earlier) (usedBy earlier) g gs a (rw (refs-last earlier g, used-last earlier g) at b)),
-      append-snoc earlier g gs, refl)
+  more-to count earlier g a (gs, l, b) = (
+    (g ∷ gs, ap suc l, gates-to m (length names + length earlier) (usedBy earlier) g gs a (rw (refs-last earlier g, used-last earlier g) at b)),
+    append-snoc earlier g gs,
+    refl,
+  )
 
   more-from : (count : ℕ) (earlier : List Gate) (y : Gates (suc count) earlier)
       → (x : (g : (g : Gate) × GateAfter m (length names + length earlier) (usedBy earlier) g) × Gates count (earlier ++ (g .0 ∷ [])))

@@ -1,22 +1,20 @@
 -- The first three lines of a sheet.
 -- Assumes nothing.
-use Prim.Native.Nat.{ℕ, zero, suc, _≤_}
-use mathlib.Core.Path.{_≡_, refl, sym, _∙_, ap}
-use mathlib.Core.Bool.{Bool, true, false}
+use Prim.Native.Nat.{ℕ, _≤_}
+use mathlib.Core.Path.{_≡_, refl, sym}
+use mathlib.Core.Bool.{true}
 use mathlib.Core.List.{List, [], _∷_, _++_, append-assoc, append-nil}
-use native.Mathlib.Omega.{arith}
-use lib.ListN.{length}
 use Rattle.rules.specs.Lists.{all, same}
 use Rattle.rules.specs.Text.{space, newline, text, decimal}
 use Rattle.rules.specs.Fields.{isSeparator}
 use Rattle.rules.specs.Sheets.{Header, headerLines}
-use Rattle.rules.specs.Printed.{line, firstLines}
+use Rattle.rules.specs.Printed.{line}
 use Rattle.rules.specs.Kept.{KeptHeader}
 use Rattle.readback.specs.Spells.{Spells, spells-give, spells-then, spells-as}
 use Rattle.readback.specs.Fields.{plain, isWord, spells-field, judges-word}
 use Rattle.readback.specs.Judges.{levels-fit, inputs-fit, judges-levels, judges-inputs}
-use Rattle.readback.specs.Fresh.{Fresh, fresh-first}
-use Rattle.readback.specs.Names.{Names, ended, spells-names}
+use Rattle.readback.specs.Fresh.{fresh-first}
+use Rattle.readback.specs.Names.{ended, spells-names}
 
 -- the bounds on levels and inputs
 pub record Size (h : Header) : Type 0 where
@@ -51,6 +49,9 @@ spells-header last h = spells-as
     spells-then _ (spells-field newline refl (judges-inputs (m .0))) (λ n.
     spells-then _ (spells-names last h (n .0) []) (λ names. spells-give (record { levels = m .0; inputs = n .0; names = names .0 })))))))
     (λ (_, (_, ((m, f), ((n, g, c), ((names, l, (k, _)), _))))).
-        ((record { levels = m; inputs = n; names = names }, record { levels = f; inputs = g; cells = c; count = l; names = k }), refl, head-text last m n names))
-    (λ (r, k). ((tt, (tt, ((r .levels, k .levels), ((r .inputs, k .inputs, k .cells), ((r .names, k .count, (k .names, fresh-first same (r .names))), tt))))),
-        refl, sym (head-text last (r .levels) (r .inputs) (r .names))))
+    ((record { levels = m; inputs = n; names = names }, record { levels = f; inputs = g; cells = c; count = l; names = k }), refl, head-text last m n names))
+    (λ (r, k). (
+      (tt, (tt, ((r .levels, k .levels), ((r .inputs, k .inputs, k .cells), ((r .names, k .count, (k .names, fresh-first same (r .names))), tt))))),
+      refl,
+      sym (head-text last (r .levels) (r .inputs) (r .names)),
+    ))

@@ -1,16 +1,16 @@
 -- The judges of single fields, each with the words that it passes: levels, inputs, names, a gate's digits, a row's levels and its ink.
 -- Assumes nothing.
-use Prim.Native.Nat.{ℕ, zero, suc, _+_, _-_, _*_, _≤_, _<_}
+use Prim.Native.Nat.{ℕ, _+_, _-_, _*_, _≤_, _<_}
 use mathlib.Core.Path.{_≡_, refl, sym, _∙_, ap, ap₂}
 use mathlib.Core.Bool.{Bool, true, false, not, _&&_, _||_, and-eq-true-iff, false≢true}
 use mathlib.Core.Logic.{_↔_}
 use mathlib.Core.Option.{Option, none, some}
-use mathlib.Core.List.{List, [], _∷_, _++_, map}
+use mathlib.Core.List.{List, [], _∷_, map}
 use native.Mathlib.Nat.{mul-pos}
 use native.Mathlib.Omega.{arith}
 use lib.ListN.{length, getD, length-map, List·getD-map}
-use lib.Dec.{eqb, leb, ltb}
-use borrow.Author.Tests.{leb-true, le-leb, ltb-true, lt-ltb, eqb-true, eq-eqb, not-true}
+use lib.Dec.{eqb, leb}
+use borrow.Author.Tests.{leb-true, le-leb, eqb-true, eq-eqb, not-true}
 use Rattle.rules.specs.Lists.{range, all, any, same, find}
 use Rattle.rules.specs.Text.{text, digitByte, isDigit, decimal}
 use Rattle.rules.specs.Limits.{fewestLevels, mostLevels, fewestInputs, mostInputs, levelsFit, inputsFit, cellsFit}
@@ -42,13 +42,17 @@ digit-back m b e =
 
 pub levels-fit : (m : ℕ) → (levelsFit m ≡ true) ↔ ((2 ≤ m) × (m ≤ 9))
 unfolding levelsFit fewestLevels mostLevels
-levels-fit m = (λ e. let (i, j) = and-eq-true-iff (leb 2 m) (leb m 9) .0 e in (leb-true 2 m i, leb-true m 9 j),
-    λ h. and-eq-true-iff (leb 2 m) (leb m 9) .1 (le-leb 2 m (h .0), le-leb m 9 (h .1)))
+levels-fit m = (
+  λ e. let (i, j) = and-eq-true-iff (leb 2 m) (leb m 9) .0 e in (leb-true 2 m i, leb-true m 9 j),
+  λ h. and-eq-true-iff (leb 2 m) (leb m 9) .1 (le-leb 2 m (h .0), le-leb m 9 (h .1)),
+)
 
 pub inputs-fit : (n : ℕ) → (inputsFit n ≡ true) ↔ ((2 ≤ n) × (n ≤ 11))
 unfolding inputsFit fewestInputs mostInputs
-inputs-fit n = (λ e. let (i, j) = and-eq-true-iff (leb 2 n) (leb n 11) .0 e in (leb-true 2 n i, leb-true n 11 j),
-    λ h. and-eq-true-iff (leb 2 n) (leb n 11) .1 (le-leb 2 n (h .0), le-leb n 11 (h .1)))
+inputs-fit n = (
+  λ e. let (i, j) = and-eq-true-iff (leb 2 n) (leb n 11) .0 e in (leb-true 2 n i, leb-true n 11 j),
+  λ h. and-eq-true-iff (leb 2 n) (leb n 11) .1 (le-leb 2 n (h .0), le-leb n 11 (h .1)),
+)
 
 levels-only : (w : List ℕ) (a : ℕ) → levelsField w ≡ good a → (x : (m : ℕ) × (levelsFit m ≡ true)) × (a ≡ x .0) × (w ≡ decimal (x .0))
 unfolding levelsField
@@ -152,13 +156,13 @@ pub judges-name : (earlier : List (List ℕ))
     → Judges (nameField earlier) ((w : List ℕ) × (isName w ≡ true) × (any (same w) earlier ≡ false)) (λ x. x .0) (λ x. x .0)
 unfolding nameField
 judges-name earlier = record {
-    passes = λ x. rw (x .1, x .2) refl;
-    word = λ x. name-word (x .0) (x .1);
-    only = λ w a e.
-        let (t, q) = judged-good (isName w && not (any (same w) earlier)) w 4 a e in
-        let (h, k) = and-eq-true-iff (isName w) (not (any (same w) earlier)) .0 t in
-        ((w, h, not-true (any (same w) earlier) k), q, refl)
-  }
+  passes = λ x. rw (x .1, x .2) refl;
+  word = λ x. name-word (x .0) (x .1);
+  only = λ w a e.
+      let (t, q) = judged-good (isName w && not (any (same w) earlier)) w 4 a e in
+      let (h, k) = and-eq-true-iff (isName w) (not (any (same w) earlier)) .0 t in
+      ((w, h, not-true (any (same w) earlier) k), q, refl);
+}
 
 -- ---- digits
 
@@ -179,20 +183,20 @@ digits-pass m ds g = all-each (isDigit m) (digitByte 0) (map digitByte ds)
 
 digits-table : (m : ℕ) (w : List ℕ) → length w ≡ m * m → all (isDigit m) w ≡ true → GateTable m (map (λ b. b - 48) w)
 digits-table m w e h = record {
-    count = length-map w (λ b. b - 48) ∙ e;
-    below = λ k l. rw (List·getD-map (λ b. b - 48) w k 48) (digit-back m (getD w k 48) (all-at (isDigit m) w h k 48 (rw (length-map w (λ b. b - 48)) at l)) .0)
-  }
+  count = length-map w (λ b. b - 48) ∙ e;
+  below = λ k l. rw (List·getD-map (λ b. b - 48) w k 48) (digit-back m (getD w k 48) (all-at (isDigit m) w h k 48 (rw (length-map w (λ b. b - 48)) at l)) .0);
+}
 
 pub judges-digits : (m : ℕ) → 0 < m → Judges (digitsField m) ((ds : List ℕ) × GateTable m ds) (λ x. x .0) (λ x. map digitByte (x .0))
 unfolding digitsField
 judges-digits m p = record {
-    passes = λ x. rw (length-map (x .0) digitByte, eq-eqb (length (x .0)) (m * m) (x .1 .count), digits-pass m (x .0) (x .1), bytes-digits (x .0)) refl;
-    word = λ x. digits-word m (map digitByte (x .0)) (digits-pass m (x .0) (x .1)) (rw (length-map (x .0) digitByte, x .1 .count) (mul-pos p p));
-    only = λ w a e.
-        let (t, q) = judged-good (eqb (length w) (m * m) && all (isDigit m) w) (map (λ b. b - 48) w) 6 a e in
-        let (h, k) = and-eq-true-iff (eqb (length w) (m * m)) (all (isDigit m) w) .0 t in
-        ((map (λ b. b - 48) w, digits-table m w (eqb-true (length w) (m * m) h) k), q, digits-bytes m w k)
-  }
+  passes = λ x. rw (length-map (x .0) digitByte, eq-eqb (length (x .0)) (m * m) (x .1 .count), digits-pass m (x .0) (x .1), bytes-digits (x .0)) refl;
+  word = λ x. digits-word m (map digitByte (x .0)) (digits-pass m (x .0) (x .1)) (rw (length-map (x .0) digitByte, x .1 .count) (mul-pos p p));
+  only = λ w a e.
+      let (t, q) = judged-good (eqb (length w) (m * m) && all (isDigit m) w) (map (λ b. b - 48) w) 6 a e in
+      let (h, k) = and-eq-true-iff (eqb (length w) (m * m)) (all (isDigit m) w) .0 t in
+      ((map (λ b. b - 48) w, digits-table m w (eqb-true (length w) (m * m) h) k), q, digits-bytes m w k);
+}
 
 -- ---- a row's levels and its ink
 
@@ -203,10 +207,10 @@ digit-word d = rw (high-plain (48 + d) (omega arith), all) refl
 pub judges-level : (l : ℕ) → Judges (levelField l) (Unit {0}) (λ _. tt) (λ _. digitByte l ∷ [])
 unfolding levelField
 judges-level l = record {
-    passes = λ _. rw same-refl;
-    word = λ _. digit-word l;
-    only = λ w a e. (tt, refl, same-true w (digitByte l ∷ []) (judged-good (same w (digitByte l ∷ [])) tt 5 a e .0))
-  }
+  passes = λ _. rw same-refl;
+  word = λ _. digit-word l;
+  only = λ w a e. (tt, refl, same-true w (digitByte l ∷ []) (judged-good (same w (digitByte l ∷ [])) tt 5 a e .0));
+}
 
 ink-only : (m : ℕ) (w : List ℕ) (a : ℕ) → inkField m w ≡ good a → (x : (d : ℕ) × (d < m)) × (a ≡ x .0) × (w ≡ digitByte (x .0) ∷ [])
 unfolding inkField

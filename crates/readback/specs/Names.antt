@@ -1,9 +1,8 @@
 -- Names: how a line of names is read, and that good names are different.
 -- Assumes nothing.
-use Prim.Native.Nat.{ℕ, zero, suc, _+_, _<_}
-use mathlib.Core.Path.{_≡_, refl, sym, _∙_, ap, ap₂}
-use mathlib.Core.Bool.{Bool, true, false, true≢false}
-use mathlib.Core.Logic.{_↔_}
+use Prim.Native.Nat.{ℕ, zero, suc, _<_}
+use mathlib.Core.Path.{_≡_, refl, sym, _∙_, ap}
+use mathlib.Core.Bool.{true, false, true≢false}
 use mathlib.Core.List.{List, [], _∷_, _++_, append-nil}
 use native.Mathlib.Omega.{arith}
 use lib.ListN.{length, getD}
@@ -13,7 +12,7 @@ use Rattle.rules.specs.Text.{space, newline}
 use Rattle.rules.specs.Fields.{Reader, _>>=_, isSeparator, field}
 use Rattle.rules.specs.Sheets.{isName, nameField, nameFields}
 use Rattle.rules.specs.Kept.{GoodNames}
-use Rattle.readback.specs.Tests.{any-iff, any-at, any-append, or-false-iff, same-refl, same-comm}
+use Rattle.readback.specs.Tests.{any-at, same-refl, same-comm}
 use Rattle.readback.specs.Spells.{Spells, spells-then, spells-as, spells-no-more}
 use Rattle.readback.specs.Fields.{spells-field}
 use Rattle.readback.specs.Judges.{judges-name}

@@ -1,8 +1,7 @@
 -- Net sheets: what the reader of a net sheet spells.
 -- Assumes nothing.
-use Prim.Native.Nat.{ℕ, zero, suc, _+_, _-_, _≤_, _<_}
-use mathlib.Core.Path.{_≡_, refl, sym, _∙_, ap, ap₂}
-use mathlib.Core.Bool.{Bool, true, false}
+use Prim.Native.Nat.{ℕ, _+_, _-_, _<_}
+use mathlib.Core.Path.{_≡_, refl, sym, _∙_, ap}
 use mathlib.Core.List.{List, [], _∷_, _++_, append-assoc, append-nil}
 use native.Mathlib.Nat.{add-zero}
 use native.Mathlib.Omega.{arith}
@@ -13,13 +12,13 @@ use Rattle.rules.specs.Text.{space, newline, text}
 use Rattle.rules.specs.Fields.{isSeparator}
 use Rattle.rules.specs.Sheets.{Header, Gate, Net, usedBy, netSheet}
 use Rattle.rules.specs.Printed.{line, firstLines, printedGate, printedNet}
-use Rattle.rules.specs.Kept.{KeptHeader, GateRules, IsNet, KeptNet}
+use Rattle.rules.specs.Kept.{KeptHeader, IsNet, KeptNet}
 use Rattle.readback.specs.Spells.{SpellsTo, spells-then, spells-as}
-use Rattle.readback.specs.Fields.{plain, isWord, parts-space, parts-newline, spells-field, judges-word, Ended, spells-end}
-use Rattle.readback.specs.Fresh.{Fresh, fresh-first}
+use Rattle.readback.specs.Fields.{plain, isWord, spells-field, judges-word, Ended, spells-end}
+use Rattle.readback.specs.Fresh.{fresh-first}
 use Rattle.readback.specs.Names.{ended}
-use Rattle.readback.specs.Header.{Size, kept-size, headText, spells-header}
-use Rattle.readback.specs.Gates.{GatesAfter, Gates, spells-gates}
+use Rattle.readback.specs.Header.{kept-size, headText, spells-header}
+use Rattle.readback.specs.Gates.{GatesAfter, spells-gates}
 
 -- a line is its words, ended by a line feed
 line-ended : (ws : List (List ℕ)) → 0 < length ws → line ws ≡ ended newline ws
@@ -57,9 +56,9 @@ spells-net = spells-as
     spells-then _ (spells-field space refl (judges-word "right" refl)) (λ _.
     spells-then _ (spells-field newline refl (judges-word "table" refl)) (λ _.
     spells-then _ (spells-gates (h .levels) (omega (arith, kept-size h k)) (h .names) (k .names) (h .inputs - 1) [])
-        (λ gs. spells-end (record { header = h; gates = gs .0 })))))))
+    (λ gs. spells-end (record { header = h; gates = gs .0 })))))))
     (λ ((h, k), (_, (_, (_, ((gs, l, b), _))))).
-        ((record { header = h; gates = gs }, record { header = k; gates = net-to h gs k l b }), refl, net-text h gs k))
+    ((record { header = h; gates = gs }, record { header = k; gates = net-to h gs k l b }), refl, net-text h gs k))
     (λ (net, k).
-        let (l, b) = net-from (net .header) (net .gates) (k .header) (k .gates) in
-        (((net .header, k .header), (tt, (tt, (tt, ((net .gates, l, b), tt))))), refl, sym (net-text (net .header) (net .gates) (k .header))))
+    let (l, b) = net-from (net .header) (net .gates) (k .header) (k .gates) in
+    (((net .header, k .header), (tt, (tt, (tt, ((net .gates, l, b), tt))))), refl, sym (net-text (net .header) (net .gates) (k .header))))

@@ -2,12 +2,12 @@
 -- exactly what would be printed and keeps every rule.
 -- Assumes nothing.
 use Prim.Native.Nat.{ℕ}
-use mathlib.Core.Path.{_≡_, refl, sym, _∙_, ap}
+use mathlib.Core.Path.{_≡_, refl, _∙_, ap}
 use mathlib.Core.Logic.{_↔_}
-use mathlib.Core.List.{List, [], _∷_, _++_, append-nil}
+use mathlib.Core.List.{List, [], _++_, append-nil}
 use native.Mathlib.Omega.{arith}
 use Rattle.rules.specs.Fields.{Read, read, turnedBack, Reader}
-use Rattle.rules.specs.Sheets.{Header, Net, Table}
+use Rattle.rules.specs.Sheets.{Net, Table}
 use Rattle.rules.specs.Printed.{printedNet, printedTable}
 use Rattle.rules.specs.Kept.{KeptNet, KeptTable}
 use Rattle.rules.specs.Calls.{Answer, accepted, refused, answered, readNet, readTable}
@@ -61,16 +61,16 @@ table-accepted s t e =
 -- "A sheet that keeps every rule of this section, with nothing after its last line, is accepted.", said without the reader
 pub net-sheets : (s : List ℕ) → ((net : Net) × (readNet s ≡ accepted net)) ↔ ((net : Net) × KeptNet net × (s ≡ printedNet net))
 net-sheets s = (
-    λ (net, e).
-        let (d, k) = net-accepted s net e in
-        (net, k, d),
-    λ (net, k, d). (net, rw d (net-read-back net k))
-  )
+  λ (net, e).
+      let (d, k) = net-accepted s net e in
+      (net, k, d),
+  λ (net, k, d). (net, rw d (net-read-back net k)),
+)
 
 pub table-sheets : (s : List ℕ) → ((t : Table) × (readTable s ≡ accepted t)) ↔ ((t : Table) × KeptTable t × (s ≡ printedTable t))
 table-sheets s = (
-    λ (t, e).
-        let (d, k) = table-accepted s t e in
-        (t, k, d),
-    λ (t, k, d). (t, rw d (table-read-back t k))
-  )
+  λ (t, e).
+      let (d, k) = table-accepted s t e in
+      (t, k, d),
+  λ (t, k, d). (t, rw d (table-read-back t k)),
+)

@@ -1,9 +1,9 @@
 -- References: what a field of a gate line refers to.
 -- Assumes nothing.
-use Prim.Native.Nat.{ℕ, zero, suc, _+_, _-_, _≤_, _<_}
-use mathlib.Core.Path.{_≡_, refl, sym, _∙_, ap, ap₂}
+use Prim.Native.Nat.{ℕ, _+_, _-_, _≤_, _<_}
+use mathlib.Core.Path.{_≡_, refl, sym, _∙_, ap}
 use mathlib.Core.Bool.{Bool, true, false, not, false≢true}
-use mathlib.Core.List.{List, [], _∷_, _++_}
+use mathlib.Core.List.{List, [], _∷_}
 use native.Mathlib.Omega.{arith}
 use lib.ListN.{length, getD}
 use lib.Dec.{eqb, ltb}
@@ -11,7 +11,7 @@ use borrow.Author.Tests.{ltb-true, ltb-false, not-true}
 use Rattle.rules.specs.Lists.{any, all}
 use Rattle.rules.specs.Text.{decimal, isDigit}
 use Rattle.rules.specs.Fields.{good}
-use Rattle.rules.specs.Sheets.{isName, letterFirst, isLetter, referenceText, referenceOf, referenceField}
+use Rattle.rules.specs.Sheets.{isName, letterFirst, referenceText, referenceOf, referenceField}
 use Rattle.rules.specs.Kept.{GoodNames}
 use Rattle.readback.specs.Tests.{all-iff}
 use Rattle.readback.specs.Fields.{isWord, Judges}
@@ -64,7 +64,7 @@ module _ (names : List (List ℕ)) (good-names : GoodNames names) where
       go (toInput h i) (toInput k j) = good-different names good-names q r h k (sym i ∙ e ∙ j)
       go (toInput h i) (toGate k j) = absurd (input-not-gate q r h (sym i ∙ e ∙ j))
       go (toGate h i) (toInput k j) = absurd (input-not-gate r q k (sym j ∙ sym e ∙ i))
-      go (toGate h i) (toGate k j) = 
+      go (toGate h i) (toGate k j) =
           let d : q + 1 - length names ≡ r + 1 - length names = decimal-injective _ _ (sym i ∙ e ∙ j) in
           omega arith
 

@@ -32,7 +32,6 @@ spells-give a = record { back = λ x rest at h. (at, refl); only = λ s at b res
 module _ {A B : Type 0} {After : List ℕ → Type 0} {r : Reader A} (k : A → Reader B) {X : Type 0} {Y : X → Type 0}
     {f : X → A} {g : (x : X) → Y x → B} {p : X → List ℕ} {q : (x : X) → Y x → List ℕ}
     (first : Spells r X f p) (next : (x : X) → SpellsTo After (k (f x)) (Y x) (g x) (q x)) where
-
   then-back : (x : X) (y : Y x) (rest : List ℕ) (at : ℕ) → After rest → (place : ℕ) × ((r >>= k) (p x ++ q x y ++ rest) at ≡ read (g x y) rest place)
   unfolding then
   then-back x y rest at h =
@@ -72,12 +71,12 @@ pub spells-as : {A : Type 0} {After : List ℕ → Type 0} {r : Reader A} {X Y :
     → SpellsTo After r X f p → ((x : X) → (y : Y) × (f x ≡ g y) × (p x ≡ q y)) → ((y : Y) → (x : X) × (g y ≡ f x) × (q y ≡ p x))
     → SpellsTo After r Y g q
 spells-as spells to from = record {
-    back = λ y rest at h. rw (from y .1, from y .2) (spells .back (from y .0) rest at h);
-    only = λ s at a rest place e.
-        let (x, d, c, h) = spells .only s at a rest place e in
-        let (y, i, j) = to x in
-        (y, d ∙ i, c ∙ ap (λ t. t ++ rest) j, h)
-  }
+  back = λ y rest at h. rw (from y .1, from y .2) (spells .back (from y .0) rest at h);
+  only = λ s at a rest place e.
+      let (x, d, c, h) = spells .only s at a rest place e in
+      let (y, i, j) = to x in
+      (y, d ∙ i, c ∙ ap (λ t. t ++ rest) j, h);
+}
 
 -- a list of things read, to which no more are due
 pub spells-no-more : {A : Type 0} (Rule : List A → Type 0) (print : List A → List ℕ) (earlier : List A) → Rule [] → print [] ≡ []

@@ -1,8 +1,7 @@
 -- Table sheets: what the reader of a table sheet spells.
 -- Assumes nothing.
-use Prim.Native.Nat.{ℕ, zero, suc, _+_, _-_, _^_, _<_}
-use mathlib.Core.Path.{_≡_, refl, sym, _∙_, ap, ap₂}
-use mathlib.Core.Bool.{Bool, true, false}
+use Prim.Native.Nat.{ℕ, zero, suc, _^_, _<_}
+use mathlib.Core.Path.{_≡_, refl, sym, ap}
 use mathlib.Core.List.{List, [], _∷_, _++_, map, append-assoc, append-nil, map-append}
 use native.Mathlib.Omega.{arith}
 use lib.ListN.{length, getD}
@@ -12,7 +11,7 @@ use Rattle.rules.specs.Text.{space, newline, text, digitByte}
 use Rattle.rules.specs.Fields.{isSeparator}
 use Rattle.rules.specs.Sheets.{Header, Table, levelsAt, levelFields, rowLines, tableSheet}
 use Rattle.rules.specs.Printed.{line, firstLines, printedRow, printedRows, printedTable}
-use Rattle.rules.specs.Kept.{KeptHeader, KeptTable}
+use Rattle.rules.specs.Kept.{KeptTable}
 use Rattle.readback.specs.Spells.{Spells, SpellsTo, spells-give, spells-then, spells-as, spells-no-more}
 use Rattle.readback.specs.Fields.{plain, isWord, parts-space, parts-newline, spells-field, judges-word, Ended, spells-end}
 use Rattle.readback.specs.Judges.{judges-level, judges-ink}

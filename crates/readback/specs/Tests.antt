@@ -3,14 +3,14 @@
 use Prim.Native.Nat.{ℕ, zero, suc, _+_, _≤_, _<_}
 use mathlib.Core.Path.{_≡_, refl, sym, _∙_, ap, ap₂}
 use mathlib.Core.Logic.{_↔_}
-use mathlib.Core.Bool.{Bool, true, false, _&&_, _||_, and-assoc, or-assoc, and-eq-true-iff, true≢false, false≢true}
-use mathlib.Core.Option.{Option, none, some, Option·some-injective, Option·none-ne-some}
-use mathlib.Core.List.{List, [], _∷_, _++_, map}
+use mathlib.Core.Bool.{Bool, true, false, _&&_, _||_, or-assoc, and-eq-true-iff, true≢false, false≢true}
+use mathlib.Core.Option.{some, Option·some-injective, Option·none-ne-some}
+use mathlib.Core.List.{List, [], _∷_, _++_}
 use native.Mathlib.Omega.{arith}
 use lib.ListN.{length, getD}
 use lib.Dec.{eqb}
 use lib.Arith.{lt-of-le-ne}
-use borrow.Author.Tests.{eqb-true, eq-eqb}
+use borrow.Author.Tests.{eqb-true, eqb-false, eq-eqb}
 use Rattle.rules.specs.Lists.{range, all, any, same, find}
 
 -- neither passes
@@ -59,6 +59,16 @@ module _ {A : Type 0} (test : A → Bool) where
   unfolding all
   all-each d [] h = refl
   all-each d (x ∷ xs) h = all-iff x xs .1 (h 0 (omega arith), all-each d xs (λ k l. h (suc k) (omega arith)))
+
+-- where all of a range pass, each number of it does
+pub all-range : (test : ℕ → Bool) (x from count : ℕ) → from ≤ x → x < from + count → all test (range from count) ≡ true → test x ≡ true
+unfolding range
+all-range test x from zero h k e = absurd (omega arith)
+all-range test x from (suc count) h k e = go (eqb from x) refl (λ l. all-range test x (suc from) count l (omega arith) (all-iff test from (range (suc from) count) .0 e .1))
+  where
+    go : (t : Bool) → eqb from x ≡ t → (suc from ≤ x → test x ≡ true) → test x ≡ true
+    go true d r = ap test (sym (eqb-true from x d)) ∙ all-iff test from (range (suc from) count) .0 e .0
+    go false d r = r (lt-of-le-ne h (eqb-false from x d))
 
 -- a weaker test passes too
 pub all-weaker : {A : Type 0} (p q : A → Bool) → ((x : A) → p x ≡ true → q x ≡ true) → (xs : List A) → all p xs ≡ true → all q xs ≡ true
