@@ -1,2 +1,3 @@
 pub mod Concat
+pub mod Outcomes
 pub mod Ranges

@@ -1,0 +1,5 @@
+-- The user's demands as theorems about the definitions of the calls. docs/PROMISES.md quotes each sentence beside its theorem.
+-- Assumes nothing.
+pub mod Bounds
+pub mod Settles
+pub mod Makes
