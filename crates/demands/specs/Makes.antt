@@ -51,11 +51,11 @@ module _ (t : Table) (kept : KeptTable t) where
   unfolding tableOfNet
   tree-sheet tree =
       let net : Net = record { header = t .header; gates = tree .0 } in
-      let kept-net : KeptNet net = record { header = kept .header; gates = tree .1 } in
-      ( printedNet net
-      , net
-      , net-read-back net kept-net
-      , λ i. record { header = t .header; inks = table-is (t .header .levels) (t .header .inputs) (tree .0) (t .inks) (kept .count) (tree .2) i }
+      let kept-net : KeptNet net = record { header = kept .header; gates = tree .1 } in (
+        printedNet net,
+        net,
+        net-read-back net kept-net,
+        λ i. record { header = t .header; inks = table-is (t .header .levels) (t .header .inputs) (tree .0) (t .inks) (kept .count) (tree .2) i },
       )
 
   -- the net made from a table has exactly that table
@@ -69,11 +69,11 @@ pub sheet-tree : (t : Table) → HasSheet t → HasTree t
 unfolding tableOfNet
 sheet-tree t has =
     let net : Net = has .1 in
-    subst HasTree (has .3)
-      ( net .gates
-      , net-accepted (has .0) net (has .2) .1 .gates
-      , λ p h. sym (table-at (net .header .levels) (net .header .inputs) (net .gates) p h)
-      )
+    subst HasTree (has .3) (
+      net .gates,
+      net-accepted (has .0) net (has .2) .1 .gates,
+      λ p h. sym (table-at (net .header .levels) (net .header .inputs) (net .gates) p h),
+    )
 
 -- a call that comes to write a sheet does not give 16
 not-16 : (sheet cells marks output : List ℕ) (place : ℕ) → writtenSheet sheet cells marks output .answer ≡ refused 16 place → ⊥
@@ -103,10 +103,10 @@ module _ (s : List ℕ) (t : Table) (reads : readTable s ≡ accepted t) where
   pub make-refuses : (cells marks output : List ℕ) → t .header .levels ^ t .header .inputs ≤ length cells → marksLength (t .header .inputs) ≤ length marks
       → ((place : ℕ) × (makeCall s cells marks output .answer ≡ refused 16 place)) ↔ (HasTree t → ⊥)
   make-refuses cells marks output cells-fit marks-fit =
-      let marked = make-is cells marks output ∙ into-marked t cells marks output cells-fit marks-fit in
-      ( λ r tree. not-16 (printedNet (settledNet t)) (written cells (t .inks)) (written marks (storedMarks (marksOfTable t))) output (r .0)
-          (sym (ap (λ (made : Made). made .answer) (marked ∙ marked-tree t cells marks output (two-tree t kept .0 tree))) ∙ r .1)
-      , λ none. (noTreePlace (t .header .inputs) (marksOfTable t), ap (λ (made : Made). made .answer) (marked ∙ marked-16 t cells marks output (λ two. none (two-tree t kept .1 two))))
+      let marked = make-is cells marks output ∙ into-marked t cells marks output cells-fit marks-fit in (
+        λ r tree. not-16 (printedNet (settledNet t)) (written cells (t .inks)) (written marks (storedMarks (marksOfTable t))) output (r .0)
+            (sym (ap (λ (made : Made). made .answer) (marked ∙ marked-tree t cells marks output (two-tree t kept .0 tree))) ∙ r .1),
+        λ none. (noTreePlace (t .header .inputs) (marksOfTable t), ap (λ (made : Made). made .answer) (marked ∙ marked-16 t cells marks output (λ two. none (two-tree t kept .1 two)))),
       )
 
   -- .. and so exactly when no accepted net sheet of those levels and names has that table.

@@ -9,6 +9,7 @@ use mathlib.Core.Logic.{_↔_}
 use mathlib.Core.List.{List, [], _∷_, _++_}
 use lib.ListN.{length, getD, take, drop}
 use lib.Seq.{take-at}
+use Rattle.rules.specs.Limits.{mostSettled}
 use Rattle.rules.specs.Sheets.{Header, Net, Table}
 use Rattle.rules.specs.Printed.{printedNet}
 use Rattle.rules.specs.Value.{tableOf}
@@ -18,7 +19,9 @@ use Rattle.rules.specs.Calls.{Answer, accepted, refused, Made, written, readNet
 use Rattle.laws.specs.Outcomes.{WholeTwo, marksOfTable, into-marked, marked-tree, sheet-written}
 use Rattle.trees.specs.Uniqueness.{settledOf, table-length, net-inks, net-two, settled-is-net, settled-table, settled-unique}
 use Rattle.demands.specs.Bounds.{levels-pos, inputs-several}
+use Rattle.demands.specs.FirstLines.{threeLines, three-lines, same-lines}
 use Rattle.readback.specs.ReadBack.{net-read-back, net-accepted}
+use Rattle.readback.specs.Length.{net-length}
 
 -- the sheet that a call wrote: as many bytes from the front of the output as it answers
 unfoldable pub sheetOf : Made → Answer (List ℕ)
@@ -41,9 +44,9 @@ pub settled-written : (t : Table) (cells marks output : List ℕ) → WholeTwo t
 unfolding sheetOf
 settled-written t cells marks output two long =
     ap sheetOf
-      (into-marked t cells marks output (long .cells-fit) (long .marks-fit)
-        ∙ marked-tree t cells marks output two
-        ∙ sheet-written (printedNet (settledNet t)) (written cells (t .inks)) (written marks (storedMarks (marksOfTable t))) output (long .output-fits))
+    (into-marked t cells marks output (long .cells-fit) (long .marks-fit)
+    ∙ marked-tree t cells marks output two
+    ∙ sheet-written (printedNet (settledNet t)) (written cells (t .inks)) (written marks (storedMarks (marksOfTable t))) output (long .output-fits))
     ∙ ap accepted (written-front output (printedNet (settledNet t)))
 
 module _ (net : Net) (kept : KeptNet net) where
@@ -98,6 +101,17 @@ module _ (s : List ℕ) (net : Net) (reads : readNet s ≡ accepted net) where
   pub settled-own-table : tableOfNet (settledNet (tableOfNet net)) ≡ tableOfNet net
   settled-own-table = settled-has-table net kept-net
 
+  -- .. and its own first three lines, ..
+  pub settled-own-lines : threeLines (printedNet (settledNet (tableOfNet net))) ≡ threeLines s
+  unfolding settledNet tableOfNet
+  settled-own-lines =
+      three-lines (settledNet (tableOfNet net)) (settled-kept net kept-net)
+      ∙ sym (ap threeLines (net-accepted s net reads .0) ∙ three-lines net kept-net)
+
+  -- .. and is never over 512 bytes long
+  pub settled-short : length (printedNet (settledNet (tableOfNet net))) ≤ mostSettled
+  settled-short = net-length (settledNet (tableOfNet net)) (settled-kept net kept-net)
+
 accepted-inj : {A : Type 0} (a b : A) → accepted a ≡ accepted b → a ≡ b
 accepted-inj a b e = cc
 
@@ -105,21 +119,21 @@ accepted-inj a b e = cc
 pub table-path : (t u : Table) → t .header ≡ u .header → t .inks ≡ u .inks → t ≡ u
 table-path t u h e = λ i. record { header = h i; inks = e i }
 
--- Two accepted net sheets with the same header settle to the same bytes exactly when they compute the same table.
-module _ (s r : List ℕ) (net other : Net) (reads : readNet s ≡ accepted net) (reads-other : readNet r ≡ accepted other) (same : net .header ≡ other .header) where
+-- Two accepted net sheets with the same first three lines settle to the same bytes exactly when they compute the same table.
+module _ (s r : List ℕ) (net other : Net) (reads : readNet s ≡ accepted net) (reads-other : readNet r ≡ accepted other) (lines : threeLines s ≡ threeLines r) where
   pub settled-alike : (cells marks output cells' marks' output' : List ℕ) → Long (tableOfNet net) cells marks output → Long (tableOfNet other) cells' marks' output'
       → (sheetOf (settleCall s cells marks output) ≡ sheetOf (settleCall r cells' marks' output')) ↔ (tableOfNet net .inks ≡ tableOfNet other .inks)
   unfolding tableOfNet
   settled-alike cells marks output cells' marks' output' long long' =
       let first = settles s net reads cells marks output long in
-      let second = settles r other reads-other cells' marks' output' long' in
-      ( λ e. ap (λ (t : Table). t .inks)
-          (sym (settled-own-table s net reads)
+      let second = settles r other reads-other cells' marks' output' long' in (
+        λ e. ap (λ (t : Table). t .inks)
+            (sym (settled-own-table s net reads)
             ∙ ap tableOfNet
-              (accepted-inj (settledNet (tableOfNet net)) (settledNet (tableOfNet other))
-                (sym (settled-accepted s net reads)
-                  ∙ ap readNet (accepted-inj (printedNet (settledNet (tableOfNet net))) (printedNet (settledNet (tableOfNet other))) (sym first ∙ e ∙ second))
-                  ∙ settled-accepted r other reads-other))
-            ∙ settled-own-table r other reads-other)
-      , λ e. first ∙ ap (λ (t : Table). accepted (printedNet (settledNet t))) (table-path (tableOfNet net) (tableOfNet other) same e) ∙ sym second
+            (accepted-inj (settledNet (tableOfNet net)) (settledNet (tableOfNet other))
+            (sym (settled-accepted s net reads)
+            ∙ ap readNet (accepted-inj (printedNet (settledNet (tableOfNet net))) (printedNet (settledNet (tableOfNet other))) (sym first ∙ e ∙ second))
+            ∙ settled-accepted r other reads-other))
+            ∙ settled-own-table r other reads-other),
+        λ e. first ∙ ap (λ (t : Table). accepted (printedNet (settledNet t))) (table-path (tableOfNet net) (tableOfNet other) (same-lines s r net other reads reads-other .0 lines) e) ∙ sym second,
       )

@@ -8,10 +8,10 @@ use lib.ListN.{length}
 use lib.Dec.{eqb, ltb}
 use borrow.Author.Tests.{lt-ltb, le-ltb, eq-eqb, ne-eqb}
 use Rattle.rules.specs.Sheets.{Net, Table}
-use Rattle.rules.specs.Printed.{printedNet}
+use Rattle.rules.specs.Printed.{printedNet, printedTable}
 use Rattle.rules.specs.Groups.{wholeGroup}
 use Rattle.rules.specs.Marks.{markIn, marksOf, marksLength, storedMarks, noTreePlace}
-use Rattle.rules.specs.Calls.{Answer, accepted, refused, Made, inkIn, written, readNet, readTable, tableOfNet, settledNet, writtenSheet, afterMarks, settledInto, settleCall, makeCall}
+use Rattle.rules.specs.Calls.{Answer, accepted, refused, Made, inkIn, written, readNet, readTable, tableOfNet, settledNet, writtenSheet, afterMarks, settledInto, settleCall, makeCall, turnedDown, neither, sameHeader, compared, checkedInto, writeTableCall}
 
 -- ---- settling and making
 
@@ -44,11 +44,11 @@ module _ (t : Table) (cells marks output : List ℕ) where
   pub marked-16 : (WholeTwo t → ⊥)
       → afterMarks t cells marks output
       ≡ record {
-          answer = refused 16 (noTreePlace (t .header .inputs) (marksOfTable t));
-          cells = written cells (t .inks);
-          marks = written marks (storedMarks (marksOfTable t));
-          output = output;
-        }
+        answer = refused 16 (noTreePlace (t .header .inputs) (marksOfTable t));
+        cells = written cells (t .inks);
+        marks = written marks (storedMarks (marksOfTable t));
+        output = output;
+      }
   unfolding afterMarks
   marked-16 h = rw (ne-eqb _ _ h, afterMarks)
 
@@ -69,3 +69,34 @@ module _ (sheet cells marks output : List ℕ) where
       ≡ record { answer = accepted (length sheet); cells = cells; marks = marks; output = written output sheet }
   unfolding writtenSheet
   sheet-written h = rw (le-ltb _ _ h, writtenSheet)
+
+-- ---- checking
+
+module _ (net : Net) (t : Table) (cells : List ℕ) where
+  pub check-12 : sameHeader (net .header) (t .header) ≡ false → checkedInto net t cells ≡ record { answer = turnedDown neither 12 0; cells = cells }
+  unfolding checkedInto
+  check-12 e = rw (e, checkedInto)
+
+  pub check-13 : sameHeader (net .header) (t .header) ≡ true → length cells < length (t .inks)
+      → checkedInto net t cells ≡ record { answer = turnedDown neither 13 (length (t .inks)); cells = cells }
+  unfolding checkedInto
+  check-13 e h = rw (e, lt-ltb _ _ h, checkedInto)
+
+  pub check-compared : sameHeader (net .header) (t .header) ≡ true → length (t .inks) ≤ length cells
+      → checkedInto net t cells ≡ record { answer = compared (tableOfNet net .inks) (t .inks); cells = written cells (t .inks) }
+  unfolding checkedInto
+  check-compared e h = rw (e, le-ltb _ _ h, checkedInto)
+
+-- ---- table writing
+
+module _ (sheet output : List ℕ) (net : Net) (reads : readNet sheet ≡ accepted net) where
+  pub table-15 : length output < length (printedTable (tableOfNet net))
+      → writeTableCall sheet output ≡ record { answer = refused 15 (length (printedTable (tableOfNet net))); output = output }
+  unfolding writeTableCall
+  table-15 h = rw (reads, lt-ltb _ _ h, writeTableCall)
+
+  pub table-written : length (printedTable (tableOfNet net)) ≤ length output
+      → writeTableCall sheet output
+      ≡ record { answer = accepted (length (printedTable (tableOfNet net))); output = written output (printedTable (tableOfNet net)) }
+  unfolding writeTableCall
+  table-written h = rw (reads, le-ltb _ _ h, writeTableCall)

@@ -21,7 +21,7 @@ use Rattle.readback.specs.Header.{kept-size, headText, spells-header}
 use Rattle.readback.specs.Gates.{GatesAfter, spells-gates}
 
 -- a line is its words, ended by a line feed
-line-ended : (ws : List (List ℕ)) → 0 < length ws → line ws ≡ ended newline ws
+pub line-ended : (ws : List (List ℕ)) → 0 < length ws → line ws ≡ ended newline ws
 unfolding line ended
 line-ended [] h = absurd (omega arith)
 line-ended (w ∷ []) h = refl
