@@ -54,14 +54,14 @@ module _ (xs ys : List ℕ) where
   unfolding place firstDifference
   before p h l =
       same-at xs ys p
-        (subst (λ (q : ℕ). differs xs ys q ≡ false) (range-at 0 (length xs) p 0 l ∙ zero-add p) (before-first (differs xs ys) 0 (range 0 (length xs)) p h))
+      (subst (λ (q : ℕ). differs xs ys q ≡ false) (range-at 0 (length xs) p 0 l ∙ zero-add p) (before-first (differs xs ys) 0 (range 0 (length xs)) p h))
 
   there : place < length xs → getD xs place 0 ≡ getD ys place 0 → ⊥
   unfolding place firstDifference differs
   there h =
       eqb-false _ _
-        (not-true _ (subst (λ (q : ℕ). differs xs ys q ≡ true) (range-at 0 (length xs) place 0 h ∙ zero-add place)
-          (at-first (differs xs ys) 0 (range 0 (length xs)) (subst⁻¹ (λ (l : ℕ). place < l) (range-length 0 (length xs)) h))))
+      (not-true _ (subst (λ (q : ℕ). differs xs ys q ≡ true) (range-at 0 (length xs) place 0 h ∙ zero-add place)
+      (at-first (differs xs ys) 0 (range 0 (length xs)) (subst⁻¹ (λ (l : ℕ). place < l) (range-length 0 (length xs)) h))))
 
   pub comparison : Compared xs ys
   unfolding compared place firstDifference differs
@@ -72,6 +72,12 @@ module _ (xs ys : List ℕ) where
       go (no h) = all-agree (rw (le-ltb place (length xs) (omega arith), compared)) (λ p l. before p (omega arith) l)
 
 -- ---- checking
+
+agree-differ : (k : ℕ) → _≡_ {A = Verdict} agree (differ k) → ⊥
+agree-differ k e = let z : _≡_ {A = ℕ} 0 1 = cc in omega arith
+
+differ-same : (j k : ℕ) → _≡_ {A = Verdict} (differ j) (differ k) → j ≡ k
+differ-same j k e = cc
 
 same-names : (ws : List (List ℕ)) → sameNames ws ws ≡ true
 unfolding sameNames
@@ -96,14 +102,62 @@ module _ (s r : List ℕ) (net : Net) (t : Table) (reads-net : readNet s ≡ acc
   unfolding tableOfNet
   inks-length = table-length (net .header .levels) (net .header .inputs) (net .gates) ∙ ap (λ (h : Header). h .levels ^ h .inputs) header
 
+  -- the net's value at an index is its table's entry
+  value-at : (p : ℕ) → p < length (tableOfNet net .inks) → value (net .header .levels) (net .header .inputs) (net .gates) p ≡ getD (tableOfNet net .inks) p 0
+  unfolding tableOfNet
+  value-at p h =
+      sym (table-at (net .header .levels) (net .header .inputs) (net .gates) p
+      (subst (λ (k : ℕ). p < k) (table-length (net .header .levels) (net .header .inputs) (net .gates)) h))
+
+  answer-is : checkCall s r cells .answer ≡ compared (tableOfNet net .inks) (t .inks)
+  answer-is = ap (λ (c : Checked). c .answer) checked
+
   -- the check says yes exactly when the net's value is the table's ink at every assignment
   pub check-agrees : (checkCall s r cells .answer ≡ agree)
       ↔ ((p : ℕ) → p < t .header .levels ^ t .header .inputs → value (net .header .levels) (net .header .inputs) (net .gates) p ≡ inkIn (t .inks) p)
-  check-agrees = ?a
+  check-agrees = go (comparison (tableOfNet net .inks) (t .inks))
+    where
+      go : Compared (tableOfNet net .inks) (t .inks)
+          → (checkCall s r cells .answer ≡ agree)
+          ↔ ((p : ℕ) → p < t .header .levels ^ t .header .inputs → value (net .header .levels) (net .header .inputs) (net .gates) p ≡ inkIn (t .inks) p)
+      go (all-agree e h) = (
+        λ _ p l. let l' : p < length (tableOfNet net .inks) = omega (arith, inks-length) in value-at p l' ∙ h p l',
+        λ _. answer-is ∙ e,
+      )
+      go (first-differs k e l no before) = (
+        λ a. absurd (agree-differ k (sym a ∙ answer-is ∙ e)),
+        λ h. absurd (no (sym (value-at k l) ∙ h k (omega (arith, inks-length)))),
+      )
 
   -- and otherwise the lowest index at which they differ
   pub check-differs : (k : ℕ) → checkCall s r cells .answer ≡ differ k
       → (k < t .header .levels ^ t .header .inputs)
       × (value (net .header .levels) (net .header .inputs) (net .gates) k ≡ inkIn (t .inks) k → ⊥)
       × ((p : ℕ) → p < k → value (net .header .levels) (net .header .inputs) (net .gates) p ≡ inkIn (t .inks) p)
-  check-differs k e = ?d
+  check-differs k d = go (comparison (tableOfNet net .inks) (t .inks))
+    where
+      go : Compared (tableOfNet net .inks) (t .inks)
+          → (k < t .header .levels ^ t .header .inputs)
+          × (value (net .header .levels) (net .header .inputs) (net .gates) k ≡ inkIn (t .inks) k → ⊥)
+          × ((p : ℕ) → p < k → value (net .header .levels) (net .header .inputs) (net .gates) p ≡ inkIn (t .inks) p)
+      go (all-agree e h) = absurd (agree-differ k (sym e ∙ sym answer-is ∙ d))
+      go (first-differs j e l no before) =
+          let same : j ≡ k = differ-same j k (sym e ∙ sym answer-is ∙ d) in (
+            omega (arith, inks-length),
+            subst (λ (i : ℕ). value (net .header .levels) (net .header .inputs) (net .gates) i ≡ inkIn (t .inks) i → ⊥) same (λ q. no (sym (value-at j l) ∙ q)),
+            λ p b. let c : p < j = omega arith in value-at p (omega arith) ∙ before p c,
+          )
+
+-- ---- table writing
+
+-- the table sheet written from a net sheet is accepted, with the net's table
+pub written-accepted : (s : List ℕ) (net : Net) → readNet s ≡ accepted net → readTable (printedTable (tableOfNet net)) ≡ accepted (tableOfNet net)
+written-accepted s net reads = table-read-back (tableOfNet net) (kept-table net (net-accepted s net reads .1))
+
+-- and checks against it
+pub written-checks : (s : List ℕ) (net : Net) → readNet s ≡ accepted net → (cells : List ℕ) → net .header .levels ^ net .header .inputs ≤ length cells
+    → checkCall s (printedTable (tableOfNet net)) cells .answer ≡ agree
+unfolding tableOfNet
+written-checks s net reads cells long =
+    check-agrees s (printedTable (tableOfNet net)) net (tableOfNet net) reads (written-accepted s net reads) refl cells long .1
+    (λ p h. sym (table-at (net .header .levels) (net .header .inputs) (net .gates) p h))

@@ -2,17 +2,17 @@
 -- Assumes nothing.
 use Prim.Native.Nat.{ℕ, zero, suc, _+_, _-_, _*_, _/_, _%_, _≤_, _<_}
 use mathlib.Core.Path.{_≡_, refl, sym, _∙_, ap}
-use mathlib.Core.Bool.{Bool, true, false, and-eq-true-iff}
+use mathlib.Core.Bool.{Bool, true, false}
 use mathlib.Core.Logic.{_↔_}
 use mathlib.Core.List.{List, [], _∷_, _++_}
 use native.Mathlib.Omega.{arith}
 use lib.ListN.{length, length-append}
-use lib.Dec.{leb, ltb}
-use borrow.Author.Tests.{leb-true, le-leb, ltb-true, ltb-false, lt-ltb, ne-eqb}
+use lib.Dec.{ltb}
+use borrow.Author.Tests.{ltb-true, ltb-false, ne-eqb}
 use Rattle.rules.specs.Lists.{all}
 use Rattle.rules.specs.Text.{space, newline, digitByte, isDigit, decimalF, decimal}
 use Rattle.rules.specs.Fields.{isSeparator}
-use Rattle.readback.specs.Tests.{all-iff, all-append, all-weaker}
+use Rattle.readback.specs.Tests.{both-leb, all-iff, all-append, all-weaker}
 use Rattle.readback.specs.Fields.{plain, isWord}
 
 -- ---- bytes of fields
@@ -28,18 +28,17 @@ unfolding isWord
 high-word p h [] e l = absurd (omega arith)
 high-word p h (b ∷ w) e l = all-weaker p plain (λ b d. high-plain b (h b d)) (b ∷ w) e
 
+-- the bytes of the digits below m
 pub digit-iff : (m b : ℕ) → (isDigit m b ≡ true) ↔ ((48 ≤ b) × (b < 48 + m))
 unfolding isDigit
-digit-iff m b = (
-  λ e. let (i, j) = and-eq-true-iff (leb 48 b) (ltb b (48 + m)) .0 e in (leb-true 48 b i, ltb-true b (48 + m) j),
-  λ h. and-eq-true-iff (leb 48 b) (ltb b (48 + m)) .1 (le-leb 48 b (h .0), lt-ltb b (48 + m) (h .1)),
-)
+digit-iff m b = both-leb 48 b (suc b) (48 + m)
 
 -- the byte of a level below m
 pub digit-byte : (m d : ℕ) → d < m → isDigit m (digitByte d) ≡ true
 unfolding digitByte
 digit-byte m d h = digit-iff m (48 + d) .1 (omega arith)
 
+-- digits are a word
 pub digits-word : (m : ℕ) (w : List ℕ) → all (isDigit m) w ≡ true → 0 < length w → isWord w ≡ true
 digits-word m = high-word (isDigit m) (λ b e. digit-iff m b .0 e .0)
 
@@ -61,7 +60,7 @@ module _ (P : ℕ → List ℕ → Type 0) (one : (n : ℕ) → n < 10 → P n (
           let h10 : 10 ≤ n = ltb-false n 10 e in
           rw (e, decimalF) (more n (decimalF fuel (n / 10)) h10 (r (omega arith)))
 
-  pub by-decimal : (n : ℕ) → P n (decimal n)
+  by-decimal : (n : ℕ) → P n (decimal n)
   unfolding decimal
   by-decimal n = by-digits n n (omega arith)
 
@@ -78,6 +77,7 @@ decimal-digits n = by-decimal (λ n w. (all (isDigit 10) w ≡ true) × (0 < len
     last : (d : ℕ) → d < 10 → all (isDigit 10) (digitByte d ∷ []) ≡ true
     last d h = all-iff (isDigit 10) (digitByte d) [] .1 (digit-byte 10 d h, refl)
 
+-- a decimal value is a word
 pub decimal-word : (n : ℕ) → isWord (decimal n) ≡ true
 decimal-word n = digits-word 10 (decimal n) (decimal-digits n .0) (decimal-digits n .1)
 
@@ -86,11 +86,13 @@ valueOf : ℕ → List ℕ → ℕ
 valueOf before [] = before
 valueOf before (b ∷ w) = valueOf (before * 10 + (b - 48)) w
 
+-- one more digit
 valueOf-last : (before : ℕ) (w : List ℕ) (b : ℕ) → valueOf before (w ++ (b ∷ [])) ≡ valueOf before w * 10 + (b - 48)
 unfolding valueOf
 valueOf-last before [] b = refl
 valueOf-last before (c ∷ w) b = valueOf-last (before * 10 + (c - 48)) w b
 
+-- a decimal value writes its number
 decimal-value : (n : ℕ) → valueOf 0 (decimal n) ≡ n
 unfolding valueOf digitByte
 decimal-value n = by-decimal (λ n w. valueOf 0 w ≡ n) (λ n h. omega arith) (λ n w l e. valueOf-last 0 w (48 + n % 10) ∙ (omega arith)) n

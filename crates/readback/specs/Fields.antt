@@ -24,6 +24,7 @@ unfoldable pub isWord : List ℕ → Bool
 isWord [] = false
 isWord (b ∷ w) = all plain (b ∷ w)
 
+-- the two separators
 pub parts-space : isSeparator space ≡ true
 unfolding isSeparator space newline
 parts-space = refl
@@ -34,37 +35,21 @@ parts-newline = refl
 
 -- ---- the longest run of bytes other than separators
 
-run-step : (b : ℕ) (s : List ℕ) → isSeparator b ≡ false → run (b ∷ s) ≡ b ∷ run s
-unfolding run
-run-step b s e = rw (e, run)
-
-past-step : (b : ℕ) (s : List ℕ) → isSeparator b ≡ false → past (b ∷ s) ≡ past s
-unfolding past
-past-step b s e = rw (e, past)
-
-run-stop : (b : ℕ) (s : List ℕ) → isSeparator b ≡ true → run (b ∷ s) ≡ []
-unfolding run
-run-stop b s e = rw (e, run)
-
-past-stop : (b : ℕ) (s : List ℕ) → isSeparator b ≡ true → past (b ∷ s) ≡ b ∷ s
-unfolding past
-past-stop b s e = rw (e, past)
-
 -- plain bytes before a separator are the run
 run-plain : (w : List ℕ) (due : ℕ) (rest : List ℕ) → all plain w ≡ true → isSeparator due ≡ true → run (w ++ due ∷ rest) ≡ w
-unfolding plain
-run-plain [] due rest h e = run-stop due rest e
+unfolding plain run
+run-plain [] due rest h e = rw (e, run)
 run-plain (b ∷ w) due rest h e =
     let (i, j) = all-iff plain b w .0 h in
-    run-step b (w ++ due ∷ rest) (not-true (isSeparator b) i) ∙ ap (λ v. b ∷ v) (run-plain w due rest j e)
+    rw (not-true (isSeparator b) i, run) (ap (λ v. b ∷ v) (run-plain w due rest j e))
 
 -- and the separator stands past them
 past-plain : (w : List ℕ) (due : ℕ) (rest : List ℕ) → all plain w ≡ true → isSeparator due ≡ true → past (w ++ due ∷ rest) ≡ due ∷ rest
-unfolding plain
-past-plain [] due rest h e = past-stop due rest e
+unfolding plain past
+past-plain [] due rest h e = rw (e, past)
 past-plain (b ∷ w) due rest h e =
     let (i, j) = all-iff plain b w .0 h in
-    past-step b (w ++ due ∷ rest) (not-true (isSeparator b) i) ∙ past-plain w due rest j e
+    rw (not-true (isSeparator b) i, past) (past-plain w due rest j e)
 
 -- a text is its first run and what stands past it
 run-past : (s : List ℕ) → s ≡ run s ++ past s
@@ -73,8 +58,8 @@ run-past [] = refl
 run-past (b ∷ s) = go (isSeparator b) refl (run-past s)
   where
     go : (t : Bool) → isSeparator b ≡ t → s ≡ run s ++ past s → b ∷ s ≡ run (b ∷ s) ++ past (b ∷ s)
-    go true e r = rw (run-stop b s e, past-stop b s e) refl
-    go false e r = rw (run-step b s e, past-step b s e) (ap (λ u. b ∷ u) r)
+    go true e r = rw (e, run, past) refl
+    go false e r = rw (e, run, past) (ap (λ u. b ∷ u) r)
 
 -- ---- a judge and the words that it passes
 
@@ -98,7 +83,8 @@ unfolding separator
 separator-read a due [] end b rest place e = absurd (not-read 1 end b rest place e)
 separator-read {A} a due (c ∷ s) end b rest place e = go (eqb c due) refl e
   where
-    go : (t : Bool) → eqb c due ≡ t → _≡_ {A = Read A} (elim t [ true ↦ read a s (suc end) | false ↦ turnedBack 1 end ]) (read b rest place) → (b ≡ a) × (c ∷ s ≡ due ∷ rest)
+    go : (t : Bool) → eqb c due ≡ t → _≡_ {A = Read A} (elim t [ true ↦ read a s (suc end) | false ↦ turnedBack 1 end ]) (read b rest place)
+        → (b ≡ a) × (c ∷ s ≡ due ∷ rest)
     go true d e = ((cc), ap₂ _∷_ (eqb-true c due d) (cc))
     go false d e = absurd (not-read 1 end b rest place e)
 
@@ -109,7 +95,8 @@ unfolding fieldOf afterField
 field-read judge due [] s at a rest place e = absurd (not-read 1 at a rest place e)
 field-read {A} judge due (b ∷ w) s at a rest place e = go (judge (b ∷ w)) refl e
   where
-    go : (j : Judged A) → judge (b ∷ w) ≡ j → afterField j due s at (at + suc (length w)) ≡ read a rest place → (judge (b ∷ w) ≡ good a) × (s ≡ due ∷ rest)
+    go : (j : Judged A) → judge (b ∷ w) ≡ j → afterField j due s at (at + suc (length w)) ≡ read a rest place
+        → (judge (b ∷ w) ≡ good a) × (s ≡ due ∷ rest)
     go (good c) d e =
         let (i, j) = separator-read c due s (at + suc (length w)) a rest place e in
         (d ∙ ap good (sym i), j)
@@ -122,16 +109,19 @@ unfolding fieldOf afterField separator isWord
 field-of-word judge due [] a rest at h e = absurd (false≢true h)
 field-of-word judge due (b ∷ w) a rest at h e = (suc (at + suc (length w)), rw (e, eq-eqb due due refl, separator) refl)
 
-pub word-plain : (w : List ℕ) → isWord w ≡ true → all plain w ≡ true
+-- a word's bytes are plain
+word-plain : (w : List ℕ) → isWord w ≡ true → all plain w ≡ true
 unfolding isWord
 word-plain [] h = absurd (false≢true h)
 word-plain (b ∷ w) h = h
 
+-- the same in the reader of the field
 field-back : {A : Type 0} (judge : Judge A) (due : ℕ) (w : List ℕ) (a : A) (rest : List ℕ) (at : ℕ)
     → isSeparator due ≡ true → isWord w ≡ true → judge w ≡ good a → (place : ℕ) × (field judge due (w ++ due ∷ [] ++ rest) at ≡ read a rest place)
 unfolding field
 field-back judge due w a rest at d h e =
-    rw (append-snoc w due rest, run-plain w due rest (word-plain w h) d, past-plain w due rest (word-plain w h) d) (field-of-word judge due w a rest at h e)
+    rw (append-snoc w due rest, run-plain w due rest (word-plain w h) d, past-plain w due rest (word-plain w h) d)
+    (field-of-word judge due w a rest at h e)
 
 -- a field spells its judge's words, each with the separator after it
 pub spells-field : {A : Type 0} {judge : Judge A} {X : Type 0} {f : X → A} {p : X → List ℕ} (due : ℕ) → isSeparator due ≡ true
@@ -160,12 +150,14 @@ judges-word word h = record {
 abbrev pub Ended : List ℕ → Type 0
 Ended rest = rest ≡ []
 
+-- an end that was read: nothing was left
 closed-read : {A : Type 0} (a : A) (s : List ℕ) (at : ℕ) (b : A) (rest : List ℕ) (place : ℕ) → (closed >>= λ _. give a) s at ≡ read b rest place
     → (x : Unit {0}) × (b ≡ a) × (s ≡ rest) × (rest ≡ [])
 unfolding closed then
 closed-read a [] at b rest place e = (tt, (cc), (cc), (cc))
 closed-read a (c ∷ s) at b rest place e = absurd (not-read 1 at b rest place e)
 
+-- the end of a sheet, and the value then given
 pub spells-end : {A : Type 0} (a : A) → SpellsTo Ended (closed >>= λ _. give a) (Unit {0}) (λ _. a) (λ _. [])
 unfolding closed then
 spells-end a = record { back = λ x rest at h. (at, rw h); only = closed-read a }

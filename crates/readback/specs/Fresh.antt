@@ -13,14 +13,17 @@ module _ {A : Type 0} (alike : A → A → Bool) where
   Fresh earlier [] = Unit {0}
   Fresh earlier (x ∷ xs) = (any (alike x) earlier ≡ false) × Fresh earlier xs
 
+  -- the first are fresh
   pub fresh-first : (xs : List A) → Fresh [] xs
   unfolding any
   fresh-first [] = tt
   fresh-first (x ∷ xs) = (refl, fresh-first xs)
 
+  -- like none of a list and its last
   any-last : (y x : A) (earlier : List A) → (any (alike y) (earlier ++ (x ∷ [])) ≡ false) ↔ ((any (alike y) earlier ≡ false) × (alike y x ≡ false))
   unfolding any
-  any-last y x earlier = rw (any-append (alike y) earlier (x ∷ []), any-cons (alike y) x [], or-false (alike y x)) (or-false-iff (any (alike y) earlier) (alike y x))
+  any-last y x earlier = rw (any-append (alike y) earlier (x ∷ []), any-cons (alike y) x [], or-false (alike y x))
+      (or-false-iff (any (alike y) earlier) (alike y x))
 
   module _ (turned : (x y : A) → alike x y ≡ alike y x) where
     -- fresh after one more: none of the later is like that one either

@@ -23,6 +23,7 @@ pub record Size (h : Header) : Type 0 where
   pub two-inputs : 2 ≤ h .inputs
   pub eleven-inputs : h .inputs ≤ 11
 
+-- a header that keeps the rules has such a size
 pub kept-size : (h : Header) → KeptHeader h → Size h
 kept-size h k =
     let (a, b) = levels-fit (h .levels) .0 (k .levels) in
@@ -33,12 +34,15 @@ kept-size h k =
 unfoldable pub headText : ℕ → Header → List ℕ
 headText last h = line (text "levels" ∷ text "inputs" ∷ []) ++ line (decimal (h .levels) ∷ decimal (h .inputs) ∷ []) ++ ended last (h .names)
 
+-- the same field by field
 head-text : (last m n : ℕ) (names : List (List ℕ))
-    → text "levels" ++ space ∷ [] ++ (text "inputs" ++ newline ∷ [] ++ (decimal m ++ space ∷ [] ++ (decimal n ++ newline ∷ [] ++ (ended last names ++ []))))
+    → text "levels" ++ space ∷ [] ++ (text "inputs" ++ newline ∷ []
+    ++ (decimal m ++ space ∷ [] ++ (decimal n ++ newline ∷ [] ++ (ended last names ++ []))))
     ≡ headText last (record { levels = m; inputs = n; names = names })
 unfolding headText line
 head-text last m n names = simp (append-assoc, append-nil)
 
+-- the first three lines spell the headers that keep the rules
 pub spells-header : (last : ℕ) → isSeparator last ≡ true
     → Spells (headerLines last) ((h : Header) × KeptHeader h) (λ x. x .0) (λ x. headText last (x .0))
 unfolding headerLines plain isWord all text isSeparator space newline
@@ -48,8 +52,11 @@ spells-header last h = spells-as
     spells-then _ (spells-field space refl judges-levels) (λ m.
     spells-then _ (spells-field newline refl (judges-inputs (m .0))) (λ n.
     spells-then _ (spells-names last h (n .0) []) (λ names. spells-give (record { levels = m .0; inputs = n .0; names = names .0 })))))))
-    (λ (_, (_, ((m, f), ((n, g, c), ((names, l, (k, _)), _))))).
-    ((record { levels = m; inputs = n; names = names }, record { levels = f; inputs = g; cells = c; count = l; names = k }), refl, head-text last m n names))
+    (λ (_, (_, ((m, f), ((n, g, c), ((names, l, (k, _)), _))))). (
+      (record { levels = m; inputs = n; names = names }, record { levels = f; inputs = g; cells = c; count = l; names = k }),
+      refl,
+      head-text last m n names,
+    ))
     (λ (r, k). (
       (tt, (tt, ((r .levels, k .levels), ((r .inputs, k .inputs, k .cells), ((r .names, k .count, (k .names, fresh-first same (r .names))), tt))))),
       refl,

@@ -10,14 +10,14 @@ use native.Mathlib.Nat.{mul-pos}
 use native.Mathlib.Omega.{arith}
 use lib.ListN.{length, getD, length-map, List·getD-map}
 use lib.Dec.{eqb, leb}
-use borrow.Author.Tests.{leb-true, le-leb, eqb-true, eq-eqb, not-true}
+use borrow.Author.Tests.{leb-true, eqb-true, eq-eqb, not-true}
 use Rattle.rules.specs.Lists.{range, all, any, same, find}
 use Rattle.rules.specs.Text.{text, digitByte, isDigit, decimal}
 use Rattle.rules.specs.Limits.{fewestLevels, mostLevels, fewestInputs, mostInputs, levelsFit, inputsFit, cellsFit}
 use Rattle.rules.specs.Fields.{Judged, good, bad, Judge, judged}
 use Rattle.rules.specs.Sheets.{levelsField, inputsOf, inputsField, isLetter, letterFirst, isName, nameField, digitsField, levelField, inkField}
 use Rattle.rules.specs.Kept.{GateTable}
-use Rattle.readback.specs.Tests.{all-iff, all-at, all-each, same-refl, same-true, find-only, found}
+use Rattle.readback.specs.Tests.{both-leb, all-iff, all-at, all-each, same-refl, same-true, find-only, found}
 use Rattle.readback.specs.Fields.{isWord, Judges, judged-good}
 use Rattle.readback.specs.Decimals.{high-plain, high-word, digit-iff, digit-byte, digits-word, decimal-digit, decimal-word, decimal-injective}
 
@@ -27,11 +27,12 @@ not-good number a e =
     let z : _≡_ {A = ℕ} 0 1 = cc in
     omega arith
 
--- a digit's byte, back and forth
+-- the digit of a digit's byte
 byte-digit : (d : ℕ) → digitByte d - 48 ≡ d
 unfolding digitByte
 byte-digit d = omega arith
 
+-- a byte that is a digit's: its digit is below m, and it is that digit's byte
 digit-back : (m b : ℕ) → isDigit m b ≡ true → (b - 48 < m) × (b ≡ digitByte (b - 48))
 unfolding digitByte
 digit-back m b e =
@@ -40,20 +41,17 @@ digit-back m b e =
 
 -- ---- levels and inputs
 
+-- the bounds on levels
 pub levels-fit : (m : ℕ) → (levelsFit m ≡ true) ↔ ((2 ≤ m) × (m ≤ 9))
 unfolding levelsFit fewestLevels mostLevels
-levels-fit m = (
-  λ e. let (i, j) = and-eq-true-iff (leb 2 m) (leb m 9) .0 e in (leb-true 2 m i, leb-true m 9 j),
-  λ h. and-eq-true-iff (leb 2 m) (leb m 9) .1 (le-leb 2 m (h .0), le-leb m 9 (h .1)),
-)
+levels-fit m = both-leb 2 m m 9
 
+-- the bounds on inputs
 pub inputs-fit : (n : ℕ) → (inputsFit n ≡ true) ↔ ((2 ≤ n) × (n ≤ 11))
 unfolding inputsFit fewestInputs mostInputs
-inputs-fit n = (
-  λ e. let (i, j) = and-eq-true-iff (leb 2 n) (leb n 11) .0 e in (leb-true 2 n i, leb-true n 11 j),
-  λ h. and-eq-true-iff (leb 2 n) (leb n 11) .1 (le-leb 2 n (h .0), le-leb n 11 (h .1)),
-)
+inputs-fit n = both-leb 2 n n 11
 
+-- a levels field that is good
 levels-only : (w : List ℕ) (a : ℕ) → levelsField w ≡ good a → (x : (m : ℕ) × (levelsFit m ≡ true)) × (a ≡ x .0) × (w ≡ decimal (x .0))
 unfolding levelsField
 levels-only [] a e = absurd (not-good 2 a e)
@@ -64,6 +62,7 @@ levels-only (b ∷ []) a e =
     let (k, p) = digit-back 10 b d in
     ((b - 48, h), q, ap (λ c. c ∷ []) p ∙ sym (decimal-digit (b - 48) k))
 
+-- the levels field: the decimal values from 2 to 9
 pub judges-levels : Judges levelsField ((m : ℕ) × (levelsFit m ≡ true)) (λ x. x .0) (λ x. decimal (x .0))
 unfolding levelsField
 judges-levels = record { passes = λ x. passes (x .0) (x .1); word = λ x. decimal-word (x .0); only = levels-only }
@@ -75,13 +74,16 @@ judges-levels = record { passes = λ x. passes (x .0) (x .1); word = λ x. decim
 
 -- A judge that looks for the number, of a range, whose print the field is, and then tests the number.
 module _ (print : ℕ → List ℕ) (from count : ℕ) (test : ℕ → Bool) (u v : ℕ) where
+  -- what is found, judged
   unfoldable pub verdict : Option ℕ → Judged ℕ
   verdict none = bad u
   verdict (some n) = judged (test n) n v
 
+  -- the judge
   unfoldable pub looking : Judge ℕ
   looking w = verdict (find (λ n. same w (print n)) (range from count))
 
+  -- the print of a number that passes is good, where different numbers have different prints
   pub looking-passes : ((m n : ℕ) → print m ≡ print n → m ≡ n)
       → (n : ℕ) → from ≤ n → n < from + count → test n ≡ true → looking (print n) ≡ good n
   unfolding looking verdict
@@ -91,6 +93,7 @@ module _ (print : ℕ → List ℕ) (from count : ℕ) (test : ℕ → Bool) (u 
       only : (m : ℕ) → same (print n) (print m) ≡ true → m ≡ n
       only m e = different m n (sym (same-true (print n) (print m) e))
 
+  -- a field that is good is the print of a number that passes
   pub looking-only : (w : List ℕ) (n : ℕ) → looking w ≡ good n → (from ≤ n) × (n < from + count) × (test n ≡ true) × (w ≡ print n)
   unfolding looking verdict
   looking-only w n e = go (find (λ n. same w (print n)) (range from count)) refl e
@@ -103,6 +106,7 @@ module _ (print : ℕ → List ℕ) (from count : ℕ) (test : ℕ → Bool) (u 
           let (h, k, i) = found (λ n. same w (print n)) m from count d in
           rw q (h, k, t, same-true w (print m) i)
 
+-- the inputs field: the decimal values from 2 to 11 that leave the cells within their bound
 pub judges-inputs : (m : ℕ) → Judges (inputsField m) ((n : ℕ) × (inputsFit n ≡ true) × (cellsFit m n ≡ true)) (λ x. x .0) (λ x. decimal (x .0))
 unfolding inputsField inputsOf fewestInputs mostInputs looking verdict
 judges-inputs m = record { passes = λ x. passes (x .0) (x .1) (x .2); word = λ x. decimal-word (x .0); only = only }
@@ -112,7 +116,8 @@ judges-inputs m = record { passes = λ x. passes (x .0) (x .1) (x .2); word = λ
         let (i, j) = inputs-fit n .0 h in
         looking-passes decimal 2 10 (cellsFit m) 3 3 decimal-injective n i (omega arith) k
 
-    only : (w : List ℕ) (a : ℕ) → inputsField m w ≡ good a → (x : (n : ℕ) × (inputsFit n ≡ true) × (cellsFit m n ≡ true)) × (a ≡ x .0) × (w ≡ decimal (x .0))
+    only : (w : List ℕ) (a : ℕ) → inputsField m w ≡ good a
+        → (x : (n : ℕ) × (inputsFit n ≡ true) × (cellsFit m n ≡ true)) × (a ≡ x .0) × (w ≡ decimal (x .0))
     only w a e =
         let (h, k, t, q) = looking-only decimal 2 10 (cellsFit m) 3 3 w a e in
         ((a, inputs-fit a .1 (omega arith), t), refl, q)
@@ -120,9 +125,10 @@ judges-inputs m = record { passes = λ x. passes (x .0) (x .1) (x .2); word = λ
 -- ---- names
 
 -- a byte of a name
-abbrev pub nameByte : ℕ → Bool
+abbrev nameByte : ℕ → Bool
 nameByte b = isLetter b || isDigit 10 b
 
+-- a name has at most 8 bytes, a letter first, and bytes of names only
 pub name-parts : (w : List ℕ) → isName w ≡ true → (length w ≤ 8) × (letterFirst w ≡ true) × (all nameByte w ≡ true)
 unfolding isName
 name-parts w e =
@@ -131,10 +137,12 @@ name-parts w e =
     let (a, b) = and-eq-true-iff (leb (length w) 8) (letterFirst w) .0 g in
     (leb-true (length w) 8 a, b, c)
 
+-- a letter stands behind all digits
 pub letter-high : (b : ℕ) → isLetter b ≡ true → 97 ≤ b
 unfolding isLetter
-letter-high b e = leb-true 97 b (and-eq-true-iff (leb 97 b) (leb b 122) .0 e .0)
+letter-high b e = both-leb 97 b b 122 .0 e .0
 
+-- a byte of a name is at least the byte of 0
 name-byte-high : (b : ℕ) → nameByte b ≡ true → 48 ≤ b
 name-byte-high b e = go (isLetter b) refl e
   where
@@ -142,51 +150,59 @@ name-byte-high b e = go (isLetter b) refl e
     go true d e = omega (arith, letter-high b d)
     go false d e = digit-iff 10 b .0 e .0
 
+-- what starts with a letter is not empty
 letter-there : (w : List ℕ) → letterFirst w ≡ true → 0 < length w
 unfolding letterFirst
 letter-there [] e = absurd (false≢true e)
 letter-there (b ∷ w) e = omega arith
 
+-- a name is a word
 pub name-word : (w : List ℕ) → isName w ≡ true → isWord w ≡ true
 name-word w e =
     let (_, h, k) = name-parts w e in
     high-word nameByte name-byte-high w k (letter-there w h)
 
+-- a name field: a name that is not among the earlier
 pub judges-name : (earlier : List (List ℕ))
-    → Judges (nameField earlier) ((w : List ℕ) × (isName w ≡ true) × (any (same w) earlier ≡ false)) (λ x. x .0) (λ x. x .0)
+    → Judges (nameField earlier) ((w : List ℕ) × ((isName w ≡ true) × (any (same w) earlier ≡ false))) (λ x. x .0) (λ x. x .0)
 unfolding nameField
 judges-name earlier = record {
-  passes = λ x. rw (x .1, x .2) refl;
-  word = λ x. name-word (x .0) (x .1);
+  passes = λ (w, (h, k)). rw (h, k) refl;
+  word = λ (w, (h, k)). name-word w h;
   only = λ w a e.
       let (t, q) = judged-good (isName w && not (any (same w) earlier)) w 4 a e in
       let (h, k) = and-eq-true-iff (isName w) (not (any (same w) earlier)) .0 t in
-      ((w, h, not-true (any (same w) earlier) k), q, refl);
+      ((w, (h, not-true (any (same w) earlier) k)), q, refl);
 }
 
 -- ---- digits
 
--- digits' bytes, back and forth
+-- the digits of digits' bytes
 bytes-digits : (ds : List ℕ) → map (λ b. b - 48) (map digitByte ds) ≡ ds
 bytes-digits [] = refl
 bytes-digits (d ∷ ds) = ap₂ _∷_ (byte-digit d) (bytes-digits ds)
 
+-- the bytes of bytes' digits
 digits-bytes : (m : ℕ) (w : List ℕ) → all (isDigit m) w ≡ true → w ≡ map digitByte (map (λ b. b - 48) w)
 digits-bytes m [] e = refl
 digits-bytes m (b ∷ w) e =
     let (h, k) = all-iff (isDigit m) b w .0 e in
     ap₂ _∷_ (digit-back m b h .1) (digits-bytes m w k)
 
+-- the bytes of a gate's digits are digits below m
 digits-pass : (m : ℕ) (ds : List ℕ) → GateTable m ds → all (isDigit m) (map digitByte ds) ≡ true
 digits-pass m ds g = all-each (isDigit m) (digitByte 0) (map digitByte ds)
     (λ k h. rw (List·getD-map digitByte ds k 0) (digit-byte m (getD ds k 0) (g .below k (rw (length-map ds digitByte) at h))))
 
+-- m·m digits below m are a gate's table
 digits-table : (m : ℕ) (w : List ℕ) → length w ≡ m * m → all (isDigit m) w ≡ true → GateTable m (map (λ b. b - 48) w)
 digits-table m w e h = record {
   count = length-map w (λ b. b - 48) ∙ e;
-  below = λ k l. rw (List·getD-map (λ b. b - 48) w k 48) (digit-back m (getD w k 48) (all-at (isDigit m) w h k 48 (rw (length-map w (λ b. b - 48)) at l)) .0);
+  below = λ k l. rw (List·getD-map (λ b. b - 48) w k 48)
+      (digit-back m (getD w k 48) (all-at (isDigit m) w h k 48 (rw (length-map w (λ b. b - 48)) at l)) .0);
 }
 
+-- a gate's table field: the tables' digits
 pub judges-digits : (m : ℕ) → 0 < m → Judges (digitsField m) ((ds : List ℕ) × GateTable m ds) (λ x. x .0) (λ x. map digitByte (x .0))
 unfolding digitsField
 judges-digits m p = record {
@@ -200,10 +216,12 @@ judges-digits m p = record {
 
 -- ---- a row's levels and its ink
 
+-- one digit is a word
 digit-word : (d : ℕ) → isWord (digitByte d ∷ []) ≡ true
 unfolding isWord all digitByte
 digit-word d = rw (high-plain (48 + d) (omega arith), all) refl
 
+-- a row's level field: the level that is due
 pub judges-level : (l : ℕ) → Judges (levelField l) (Unit {0}) (λ _. tt) (λ _. digitByte l ∷ [])
 unfolding levelField
 judges-level l = record {
@@ -212,6 +230,7 @@ judges-level l = record {
   only = λ w a e. (tt, refl, same-true w (digitByte l ∷ []) (judged-good (same w (digitByte l ∷ [])) tt 5 a e .0));
 }
 
+-- an ink field that is good
 ink-only : (m : ℕ) (w : List ℕ) (a : ℕ) → inkField m w ≡ good a → (x : (d : ℕ) × (d < m)) × (a ≡ x .0) × (w ≡ digitByte (x .0) ∷ [])
 unfolding inkField
 ink-only m [] a e = absurd (not-good 6 a e)
@@ -221,6 +240,7 @@ ink-only m (b ∷ []) a e =
     let (h, k) = digit-back m b t in
     ((b - 48, h), q, ap (λ c. c ∷ []) k)
 
+-- the ink field: a level below m
 pub judges-ink : (m : ℕ) → Judges (inkField m) ((d : ℕ) × (d < m)) (λ x. x .0) (λ x. digitByte (x .0) ∷ [])
 unfolding inkField
 judges-ink m = record { passes = λ x. rw (digit-byte m (x .0) (x .1), byte-digit (x .0)) refl; word = λ x. digit-word (x .0); only = ink-only m }

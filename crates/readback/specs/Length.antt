@@ -24,6 +24,7 @@ use Rattle.readback.specs.Header.{kept-size}
 
 -- ---- the parts of a sheet
 
+-- a line of names: at most 8 bytes and a separator each
 names-length : (ws : List (List ℕ)) → GoodNames ws → 0 < length ws → length (line ws) ≤ 9 * length ws
 unfolding line
 names-length [] g h = absurd (omega arith)
@@ -35,7 +36,7 @@ names-length (w ∷ v ∷ ws) g h =
     let i = names-length (v ∷ ws) (g .2) (omega arith) in
     rw length-append (omega arith)
 
--- a reference to an input or to one of the first 99 gates
+-- a reference to an input or to one of the first 99 gates is no longer than a name
 reference-length : (names : List (List ℕ)) → GoodNames names → (r : ℕ) → r < length names + 99 → length (referenceText names r) ≤ 8
 reference-length names g r h = go (refers names r)
   where
@@ -43,14 +44,16 @@ reference-length names g r h = go (refers names r)
     go (toInput l e) = rw e (name-parts (getD names r []) (good-name names g r l) .0)
     go (toGate l e) = rw e (le-trans (decimal-short (r + 1 - length names) (omega arith)) (omega arith))
 
-gate-length : (names : List (List ℕ)) → GoodNames names → (m : ℕ) (g : Gate) → g .left < length names + 99 → g .right < length names + 99 → GateTable m (g .digits)
-    → length (printedGate names g) ≤ 19 + m * m
+-- a gate line: two references, the digits and three separators
+gate-length : (names : List (List ℕ)) → GoodNames names → (m : ℕ) (g : Gate) → g .left < length names + 99 → g .right < length names + 99
+    → GateTable m (g .digits) → length (printedGate names g) ≤ 19 + m * m
 unfolding printedGate line
 gate-length names n m g h k t =
     let i = reference-length names n (g .left) h in
     let j = reference-length names n (g .right) k in
     simp (length-append, length-map) (omega (arith, t .count))
 
+-- all gate lines; `k` references stand before them
 gates-length : (names : List (List ℕ)) → GoodNames names → (m k : ℕ) (gates : List Gate) → RefersBack k gates → k + length gates ≤ length names + 99
     → Tables m gates → length (concatMap (printedGate names) gates) ≤ length gates * (19 + m * m)
 unfolding concatMap
@@ -62,10 +65,11 @@ gates-length names n m k (g ∷ gates) b h t =
 
 -- ---- the bound
 
--- no sheet of m levels and n inputs is longer
+-- no net sheet of m levels and n inputs is longer: two fixed lines (31), two values (6), the names, the gate lines
 bound : ℕ → ℕ → ℕ
 bound m n = 37 + 9 * n + (n - 1) * (19 + m * m)
 
+-- it is the sum of the parts
 sheet-length : (net : Net) → KeptNet net → length (printedNet net) ≤ bound (net .header .levels) (net .header .inputs)
 unfolding printedNet firstLines line bound text
 sheet-length net k =
@@ -74,27 +78,31 @@ sheet-length net k =
     let a = decimal-short (h .levels) (omega arith) in
     let b = decimal-short (h .inputs) (omega arith) in
     let c = names-length (h .names) (k .header .names) (omega arith) in
-    let d = gates-length (h .names) (k .header .names) (h .levels) (h .inputs) (net .gates) (k .gates .rules .back) (omega arith) (k .gates .rules .tables) in
+    let d = gates-length (h .names) (k .header .names) (h .levels) (h .inputs) (net .gates)
+    (k .gates .rules .back) (omega arith) (k .gates .rules .tables) in
     let e : h .inputs - 1 ≡ length (net .gates) = omega arith in
     simp (length-append, e) (omega arith)
 
--- over too many cells, or the bound is small
+-- there are too many cells, or the bound is small
 boundTest : ℕ → ℕ → Bool
 boundTest m n = not (cellsFit m n) || leb (bound m n) mostSettled
 
--- all levels and inputs within their bounds
+-- it is so for all levels from 2 to 9 and inputs from 2 to 11
 boundTests : all (λ m. all (boundTest m) (range 2 10)) (range 2 8) ≡ true
 unfolding all range boundTest bound cellsFit mostCells mostSettled
 boundTests = refl
 
+-- so the bound is small for all sizes that a sheet may have
 size-bound : (m n : ℕ) → 2 ≤ m → m ≤ 9 → 2 ≤ n → n ≤ 11 → cellsFit m n ≡ true → bound m n ≤ mostSettled
 unfolding boundTest
 size-bound m n a b c d e =
     let t = all-range (boundTest m) n 2 10 c (omega arith) (all-range (λ m. all (boundTest m) (range 2 10)) m 2 8 a (omega arith) boundTests) in
     leb-true (bound m n) mostSettled (rw e at t)
 
+-- no net sheet is longer than 512 bytes
 pub net-length : (net : Net) → KeptNet net → length (printedNet net) ≤ mostSettled
 net-length net kept =
     let h = net .header in
     let z = kept-size h (kept .header) in
-    le-trans (sheet-length net kept) (size-bound (h .levels) (h .inputs) (z .two-levels) (z .nine-levels) (z .two-inputs) (z .eleven-inputs) (kept .header .cells))
+    le-trans (sheet-length net kept)
+    (size-bound (h .levels) (h .inputs) (z .two-levels) (z .nine-levels) (z .two-inputs) (z .eleven-inputs) (kept .header .cells))

@@ -27,27 +27,41 @@ line-ended [] h = absurd (omega arith)
 line-ended (w ∷ []) h = refl
 line-ended (w ∷ v ∷ ws) h = ap (λ t. w ++ space ∷ t) (line-ended (v ∷ ws) (omega arith)) ∙ sym (append-assoc w (space ∷ []) (ended newline (v ∷ ws)))
 
+-- the print of a net, field by field
 net-text : (h : Header) (gs : List Gate) → KeptHeader h
-    → headText newline h ++ (text "left" ++ space ∷ [] ++ (text "right" ++ space ∷ [] ++ (text "table" ++ newline ∷ [] ++ (concatMap (printedGate (h .names)) gs ++ []))))
+    → headText newline h
+    ++ (text "left" ++ space ∷ [] ++ (text "right" ++ space ∷ [] ++ (text "table" ++ newline ∷ [] ++ (concatMap (printedGate (h .names)) gs ++ []))))
     ≡ printedNet (record { header = h; gates = gs })
 unfolding headText printedNet firstLines line
 net-text h gs k =
     let z = kept-size h k in
     rw (line-ended (h .names) (omega (arith, k .count))) (simp (append-assoc, append-nil))
 
--- the rules of gate lines after none, and the rules of a net's gates
+-- gate lines after none that keep the rules are a net's gates
 net-to : (h : Header) (gs : List Gate) → KeptHeader h → length gs ≡ h .inputs - 1 → GatesAfter (h .levels) (length (h .names) + 0) (usedBy []) gs
     → IsNet (h .levels) (h .inputs) gs
 net-to h gs k l b =
     let z = kept-size h k in
-    record { count = omega arith; rules = record { back = rw (add-zero (length (h .names)), k .count) at (b .back); once = b .once; tables = b .tables } }
+    record {
+      count = omega arith;
+      rules = record { back = rw (add-zero (length (h .names)), k .count) at (b .back); once = b .once; tables = b .tables };
+    }
 
+-- and the other way
 net-from : (h : Header) (gs : List Gate) → KeptHeader h → IsNet (h .levels) (h .inputs) gs
     → (length gs ≡ h .inputs - 1) × GatesAfter (h .levels) (length (h .names) + 0) (usedBy []) gs
 unfolding usedBy
-net-from h gs k i =
-    (omega (arith, i .count), record { back = rw (add-zero (length (h .names)), k .count) (i .rules .back); once = i .rules .once; fresh = fresh-first eqb (usedBy gs); tables = i .rules .tables })
+net-from h gs k i = (
+  omega (arith, i .count),
+  record {
+    back = rw (add-zero (length (h .names)), k .count) (i .rules .back);
+    once = i .rules .once;
+    fresh = fresh-first eqb (usedBy gs);
+    tables = i .rules .tables;
+  },
+)
 
+-- the reader of net sheets spells the nets that keep the rules
 pub spells-net : SpellsTo Ended netSheet ((net : Net) × KeptNet net) (λ x. x .0) (λ x. printedNet (x .0))
 unfolding netSheet plain isWord all text isSeparator space newline
 spells-net = spells-as

@@ -24,10 +24,12 @@ not-accepted number place a e =
 
 -- a whole sheet that a reader spells
 module _ {A : Type 0} {r : Reader A} {X : Type 0} {f : X → A} {p : X → List ℕ} (spells : SpellsTo Ended r X f p) where
+  -- each of the texts is accepted as its value
   whole-back : (x : X) → answered (r (p x) 0) ≡ accepted (f x)
   unfolding answered
   whole-back x = rw (← append-nil (p x), spells .back x [] 0 refl .1) refl
 
+  -- what is accepted is one of the texts
   whole-only : (s : List ℕ) (a : A) → answered (r s 0) ≡ accepted a → (x : X) × (a ≡ f x) × (s ≡ p x)
   unfolding answered
   whole-only s a e = go (r s 0) refl e
@@ -38,20 +40,24 @@ module _ {A : Type 0} {r : Reader A} {X : Type 0} {f : X → A} {p : X → List 
           let (x, i, j, h) = spells .only s 0 b rest place d in
           (x, (cc), j ∙ ap (λ t. p x ++ t) h ∙ append-nil (p x))
 
+-- a printed net is read back
 pub net-read-back : (net : Net) → KeptNet net → readNet (printedNet net) ≡ accepted net
 unfolding readNet
 net-read-back net kept = whole-back spells-net (net, kept)
 
+-- an accepted net sheet is the print of its net, which keeps the rules
 pub net-accepted : (s : List ℕ) (net : Net) → readNet s ≡ accepted net → (s ≡ printedNet net) × KeptNet net
 unfolding readNet
 net-accepted s net e =
     let ((n, k), q, d) = whole-only spells-net s net e in
     rw q (d, k)
 
+-- a printed table is read back
 pub table-read-back : (t : Table) → KeptTable t → readTable (printedTable t) ≡ accepted t
 unfolding readTable
 table-read-back t kept = whole-back spells-table (t, kept)
 
+-- an accepted table sheet is the print of its table, which keeps the rules
 pub table-accepted : (s : List ℕ) (t : Table) → readTable s ≡ accepted t → (s ≡ printedTable t) × KeptTable t
 unfolding readTable
 table-accepted s t e =
@@ -67,6 +73,7 @@ net-sheets s = (
   λ (net, k, d). (net, rw d (net-read-back net k)),
 )
 
+-- the same for table sheets
 pub table-sheets : (s : List ℕ) → ((t : Table) × (readTable s ≡ accepted t)) ↔ ((t : Table) × KeptTable t × (s ≡ printedTable t))
 table-sheets s = (
   λ (t, e).

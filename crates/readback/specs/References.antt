@@ -1,4 +1,4 @@
--- References: what a field of a gate line refers to.
+-- References: what a field of a gate line refers to. Different references are written differently.
 -- Assumes nothing.
 use Prim.Native.Nat.{ℕ, _+_, _-_, _≤_, _<_}
 use mathlib.Core.Path.{_≡_, refl, sym, _∙_, ap}
@@ -24,6 +24,7 @@ pub data Refers (names : List (List ℕ)) (r : ℕ) : Type 0 where
   toInput : r < length names → referenceText names r ≡ getD names r [] → Refers names r
   toGate : length names ≤ r → referenceText names r ≡ decimal (r + 1 - length names) → Refers names r
 
+-- which of the two it is
 pub refers : (names : List (List ℕ)) (r : ℕ) → Refers names r
 unfolding referenceText
 refers names r = go (ltb r (length names)) refl
@@ -46,18 +47,20 @@ name-not-decimal : (w : List ℕ) (n : ℕ) → isName w ≡ true → w ≡ deci
 name-not-decimal w n h e = not-letter (decimal n) (decimal-digits n .0) (ap letterFirst (sym e) ∙ name-parts w h .1)
 
 module _ (names : List (List ℕ)) (good-names : GoodNames names) where
-  pub reference-word : (r : ℕ) → isWord (referenceText names r) ≡ true
+  -- a reference is a word
+  reference-word : (r : ℕ) → isWord (referenceText names r) ≡ true
   reference-word r = go (refers names r)
     where
       go : Refers names r → isWord (referenceText names r) ≡ true
       go (toInput h e) = rw e (name-word (getD names r []) (good-name names good-names r h))
       go (toGate h e) = rw e (decimal-word (r + 1 - length names))
 
+  -- the same for the name of an input
   input-not-gate : (q r : ℕ) → q < length names → getD names q [] ≡ decimal (r + 1 - length names) → ⊥
   input-not-gate q r h e = name-not-decimal (getD names q []) (r + 1 - length names) (good-name names good-names q h) e
 
   -- different references are written differently
-  pub reference-injective : (q r : ℕ) → referenceText names q ≡ referenceText names r → q ≡ r
+  reference-injective : (q r : ℕ) → referenceText names q ≡ referenceText names r → q ≡ r
   reference-injective q r e = go (refers names q) (refers names r)
     where
       go : Refers names q → Refers names r → q ≡ r
@@ -69,9 +72,10 @@ module _ (names : List (List ℕ)) (good-names : GoodNames names) where
           omega arith
 
   -- a reference to an input or to an earlier gate that is not used yet
-  abbrev pub Reference : ℕ → List ℕ → Type 0
+  abbrev Reference : ℕ → List ℕ → Type 0
   Reference earlier used = (r : ℕ) × (r < length names + earlier) × (any (eqb r) used ≡ false)
 
+  -- a reference field: the prints of those references
   pub judges-reference : (earlier : ℕ) (used : List ℕ)
       → Judges (referenceField names earlier used) (Reference earlier used) (λ x. x .0) (λ x. referenceText names (x .0))
   unfolding referenceField referenceOf looking verdict
@@ -81,9 +85,11 @@ module _ (names : List (List ℕ)) (good-names : GoodNames names) where
       fresh r = not (any (eqb r) used)
 
       passes : (r : ℕ) → r < length names + earlier → any (eqb r) used ≡ false → referenceField names earlier used (referenceText names r) ≡ good r
-      passes r h e = looking-passes (referenceText names) 0 (length names + earlier) fresh 7 8 reference-injective r (omega arith) (omega arith) (ap not e)
+      passes r h e = looking-passes (referenceText names) 0 (length names + earlier) fresh 7 8 reference-injective
+          r (omega arith) (omega arith) (ap not e)
 
-      only : (w : List ℕ) (r : ℕ) → referenceField names earlier used w ≡ good r → (x : Reference earlier used) × (r ≡ x .0) × (w ≡ referenceText names (x .0))
+      only : (w : List ℕ) (r : ℕ) → referenceField names earlier used w ≡ good r
+          → (x : Reference earlier used) × (r ≡ x .0) × (w ≡ referenceText names (x .0))
       only w r e =
           let (_, h, t, q) = looking-only (referenceText names) 0 (length names + earlier) fresh 7 8 w r e in
           ((r, omega arith, not-true (any (eqb r) used) t), refl, q)

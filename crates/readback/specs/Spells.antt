@@ -3,9 +3,8 @@
 -- Assumes nothing.
 use Prim.Native.Nat.{ℕ}
 use mathlib.Core.Path.{_≡_, refl, sym, _∙_, ap}
-use mathlib.Core.List.{List, [], _∷_, _++_, append-assoc, append-nil}
+use mathlib.Core.List.{List, [], _++_, append-assoc}
 use native.Mathlib.Omega.{arith}
-use lib.ListN.{length}
 use Rattle.rules.specs.Fields.{Read, read, turnedBack, Reader, then, _>>=_, give}
 
 -- `r` reads the texts `print x`, of value `value x`, and no others; what stands after such a text keeps `After`
@@ -19,7 +18,8 @@ abbrev pub Spells : {A : Type 0} → Reader A → (X : Type 0) → (X → A) →
 Spells r X value print = SpellsTo (λ _. Unit {0}) r X value print
 
 -- what is turned back is not read
-pub not-read : {A : Type 0} (number turned : ℕ) (a : A) (rest : List ℕ) (place : ℕ) → _≡_ {A = Read A} (turnedBack number turned) (read a rest place) → ⊥
+pub not-read : {A : Type 0} (number turned : ℕ) (a : A) (rest : List ℕ) (place : ℕ)
+    → _≡_ {A = Read A} (turnedBack number turned) (read a rest place) → ⊥
 not-read number turned a rest place e =
     let z : _≡_ {A = ℕ} 0 1 = cc in
     omega arith
@@ -32,6 +32,7 @@ spells-give a = record { back = λ x rest at h. (at, refl); only = λ s at b res
 module _ {A B : Type 0} {After : List ℕ → Type 0} {r : Reader A} (k : A → Reader B) {X : Type 0} {Y : X → Type 0}
     {f : X → A} {g : (x : X) → Y x → B} {p : X → List ℕ} {q : (x : X) → Y x → List ℕ}
     (first : Spells r X f p) (next : (x : X) → SpellsTo After (k (f x)) (Y x) (g x) (q x)) where
+  -- both texts, one after the other, are read back
   then-back : (x : X) (y : Y x) (rest : List ℕ) (at : ℕ) → After rest → (place : ℕ) × ((r >>= k) (p x ++ q x y ++ rest) at ≡ read (g x y) rest place)
   unfolding then
   then-back x y rest at h =
@@ -43,10 +44,12 @@ module _ {A B : Type 0} {After : List ℕ → Type 0} {r : Reader A} (k : A → 
   Split : List ℕ → B → List ℕ → Type 0
   Split s b rest = (z : (x : X) × Y x) × (b ≡ g (z .0) (z .1)) × (s ≡ p (z .0) ++ q (z .0) (z .1) ++ rest) × After rest
 
+  -- two texts joined
   join : (x : X) (y : Y x) (s t rest : List ℕ) (b : B) → s ≡ p x ++ t → b ≡ g x y → t ≡ q x y ++ rest → After rest → Split s b rest
   unfolding Split
   join x y s t rest b d e f h = ((x, y), e, d ∙ ap (λ u. p x ++ u) f ∙ sym (append-assoc (p x) (q x y) rest), h)
 
+  -- and nothing else is accepted
   then-only : (s : List ℕ) (at : ℕ) (b : B) (rest : List ℕ) (place : ℕ) → (r >>= k) s at ≡ read b rest place → Split s b rest
   unfolding then
   then-only s at b rest place e = go (r s at) refl e
@@ -62,6 +65,7 @@ module _ {A B : Type 0} {After : List ℕ → Type 0} {r : Reader A} (k : A → 
           let (x, c, f, h) = first .only s at a t middle d in
           inner x t middle f (rw c at e)
 
+  -- the law
   pub spells-then : SpellsTo After (r >>= k) ((x : X) × Y x) (λ z. g (z .0) (z .1)) (λ z. p (z .0) ++ q (z .0) (z .1))
   unfolding Split
   spells-then = record { back = λ z. then-back (z .0) (z .1); only = then-only }
@@ -77,12 +81,3 @@ spells-as spells to from = record {
       let (y, i, j) = to x in
       (y, d ∙ i, c ∙ ap (λ t. t ++ rest) j, h);
 }
-
--- a list of things read, to which no more are due
-pub spells-no-more : {A : Type 0} (Rule : List A → Type 0) (print : List A → List ℕ) (earlier : List A) → Rule [] → print [] ≡ []
-    → Spells (give earlier) ((xs : List A) × (length xs ≡ 0) × Rule xs) (λ x. earlier ++ x .0) (λ x. print (x .0))
-spells-no-more {A} Rule print earlier h e = spells-as (spells-give earlier) (λ x. (([], refl, h), sym (append-nil earlier), sym e)) none
-  where
-    none : (y : (xs : List A) × (length xs ≡ 0) × Rule xs) → (x : Unit {0}) × (earlier ++ y .0 ≡ earlier) × (print (y .0) ≡ [])
-    none ([], l, g) = (tt, append-nil earlier, e)
-    none (x ∷ xs, l, g) = absurd (omega arith)

@@ -1,18 +1,19 @@
 -- Table sheets: what the reader of a table sheet spells.
 -- Assumes nothing.
 use Prim.Native.Nat.{ℕ, zero, suc, _^_, _<_}
-use mathlib.Core.Path.{_≡_, refl, sym, ap}
+use mathlib.Core.Path.{_≡_, refl, sym}
+use mathlib.Core.Logic.{_↔_}
 use mathlib.Core.List.{List, [], _∷_, _++_, map, append-assoc, append-nil, map-append}
 use native.Mathlib.Omega.{arith}
 use lib.ListN.{length, getD}
-use lib.Seq.{append-snoc}
 use Rattle.rules.specs.Lists.{all}
 use Rattle.rules.specs.Text.{space, newline, text, digitByte}
-use Rattle.rules.specs.Fields.{isSeparator}
-use Rattle.rules.specs.Sheets.{Header, Table, levelsAt, levelFields, rowLines, tableSheet}
+use Rattle.rules.specs.Fields.{_>>=_, isSeparator, field}
+use Rattle.rules.specs.Sheets.{Header, Table, levelsAt, levelFields, inkField, rowLines, tableSheet}
 use Rattle.rules.specs.Printed.{line, firstLines, printedRow, printedRows, printedTable}
 use Rattle.rules.specs.Kept.{KeptTable}
-use Rattle.readback.specs.Spells.{Spells, SpellsTo, spells-give, spells-then, spells-as, spells-no-more}
+use Rattle.readback.specs.Spells.{Spells, SpellsTo, spells-give, spells-then, spells-as}
+use Rattle.readback.specs.Collects.{Collects, collects-none, collects-more, then-then}
 use Rattle.readback.specs.Fields.{plain, isWord, parts-space, parts-newline, spells-field, judges-word, Ended, spells-end}
 use Rattle.readback.specs.Judges.{judges-level, judges-ink}
 use Rattle.readback.specs.Names.{ended, ended-one, ended-more}
@@ -23,6 +24,7 @@ ended-space : (w : List ℕ) (ws : List (List ℕ)) → w ++ space ∷ [] ++ end
 ended-space w [] = ended-one space w [] refl
 ended-space w (v ∷ ws) = ended-more space (length ws) w (v ∷ ws) refl
 
+-- one word, before others and the last
 line-more : (w : List ℕ) (ws : List (List ℕ)) (v : List ℕ) → line (w ∷ (ws ++ (v ∷ []))) ≡ w ++ space ∷ line (ws ++ (v ∷ []))
 unfolding line
 line-more w [] v = refl
@@ -39,6 +41,7 @@ line-last (w ∷ ws) v = rw (line-more w ws v, line-last ws v, ← ended-space w
 abbrev digitWords : List ℕ → List (List ℕ)
 digitWords ls = map (λ l. digitByte l ∷ []) ls
 
+-- a row's levels
 spells-levels : (ls : List ℕ) → Spells (levelFields ls) (Unit {0}) (λ _. tt) (λ _. ended space (digitWords ls))
 unfolding levelFields
 spells-levels [] = unfold ended in spells-give tt
@@ -49,39 +52,44 @@ spells-levels (l ∷ ls) = spells-as (spells-then _ (spells-field space parts-sp
 abbrev Below : ℕ → List ℕ → Type 0
 Below m inks = (k : ℕ) → k < length inks → getD inks k 0 < m
 
-below-cons : (m ink : ℕ) (inks : List ℕ) → ink < m → Below m inks → Below m (ink ∷ inks)
-below-cons m ink inks h b zero l = h
-below-cons m ink inks h b (suc k) l = b k (omega arith)
+-- one ink, then the others
+below-iff : (m ink : ℕ) (inks : List ℕ) → ((ink < m) × Below m inks) ↔ Below m (ink ∷ inks)
+below-iff m ink inks = (λ (h, b). more h b, λ b. (b 0 (omega arith), λ k h. b (suc k) (omega arith)))
+  where
+    more : ink < m → Below m inks → Below m (ink ∷ inks)
+    more h b zero l = h
+    more h b (suc k) l = b k (omega arith)
 
-row-text : (m n p ink : ℕ) (inks : List ℕ) → ended space (digitWords (levelsAt m n p)) ++ (digitByte ink ∷ newline ∷ printedRows m n (suc p) inks) ≡ printedRows m n p (ink ∷ inks)
-unfolding printedRows printedRow
-row-text m n p ink inks = rw (map-append, line-last (digitWords (levelsAt m n p)) (digitByte ink ∷ [])) (simp append-assoc)
+-- the print of a row, its levels and its ink
+row-text : (m n p ink : ℕ) → ended space (digitWords (levelsAt m n p)) ++ (digitByte ink ∷ newline ∷ []) ≡ printedRow m n p ink
+unfolding printedRow
+row-text m n p ink = rw (map-append, line-last (digitWords (levelsAt m n p)) (digitByte ink ∷ [])) refl
 
-rows-from : (m n count p : ℕ) (earlier : List ℕ) (y : (inks : List ℕ) × (length inks ≡ suc count) × Below m inks)
-    → (x : Unit {0} × (((ink : ℕ) × (ink < m)) × ((inks : List ℕ) × (length inks ≡ count) × Below m inks)))
-    × (earlier ++ y .0 ≡ earlier ++ (x .1 .0 .0 ∷ []) ++ x .1 .1 .0)
-    × (printedRows m n p (y .0) ≡ ended space (digitWords (levelsAt m n p)) ++ (digitByte (x .1 .0 .0) ∷ newline ∷ printedRows m n (suc p) (x .1 .1 .0)))
-rows-from m n count p earlier ([], l, b) = absurd (omega arith)
-rows-from m n count p earlier (ink ∷ inks, l, b) =
-    ((tt, ((ink, b 0 (omega arith)), (inks, omega arith, λ k h. b (suc k) (omega arith)))), sym (append-snoc earlier ink inks), sym (row-text m n p ink inks))
+-- one row
+spells-row : (m n p : ℕ)
+    → Spells (levelFields (levelsAt m n p) >>= λ _. field (inkField m) newline) ((ink : ℕ) × (ink < m)) (λ x. x .0) (λ x. printedRow m n p (x .0))
+spells-row m n p = spells-as (spells-then _ (spells-levels (levelsAt m n p)) (λ _. spells-field newline parts-newline (judges-ink m)))
+    (λ (_, x). (x, refl, row-text m n p (x .0))) (λ x. ((tt, x), refl, sym (row-text m n p (x .0))))
 
-spells-rows : (m n count p : ℕ) (earlier : List ℕ)
-    → Spells (rowLines m n p count earlier) ((inks : List ℕ) × (length inks ≡ count) × Below m inks) (λ x. earlier ++ x .0) (λ x. printedRows m n p (x .0))
-unfolding rowLines
-spells-rows m n zero p earlier = spells-no-more (Below m) (printedRows m n p) earlier (λ k l. absurd (omega arith)) (unfold printedRows in refl)
-spells-rows m n (suc count) p earlier = spells-as
-    (spells-then _ (spells-levels (levelsAt m n p)) (λ _.
-    spells-then _ (spells-field newline parts-newline (judges-ink m)) (λ ink. spells-rows m n count (suc p) (earlier ++ (ink .0 ∷ [])))))
-    (λ (_, ((ink, h), (inks, l, b))). ((ink ∷ inks, ap suc l, below-cons m ink inks h b), append-snoc earlier ink inks, row-text m n p ink inks))
-    (rows-from m n count p earlier)
+-- the rows
+spells-rows : (m n count p : ℕ) (earlier : List ℕ) → Collects (rowLines m n p count earlier) earlier count (Below m) (printedRows m n p)
+unfolding rowLines printedRows
+spells-rows m n zero p earlier = collects-none earlier (Below m) (printedRows m n p) (λ k l. absurd (omega arith)) refl
+spells-rows m n (suc count) p earlier =
+    rw (← then-then (levelFields (levelsAt m n p)) (λ _. field (inkField m) newline) (λ ink. rowLines m n (suc p) count (earlier ++ (ink ∷ []))))
+    (collects-more _ earlier count (λ ink. ink < m) (λ _. Below m) (Below m) (printedRow m n p) (printedRows m n (suc p)) (printedRows m n p)
+    (spells-row m n p) (λ ink. spells-rows m n count (suc p) (earlier ++ (ink ∷ []))) (below-iff m) (λ ink inks l. refl))
 
 -- ---- the sheet
 
+-- the print of a table, field by field
 table-text : (h : Header) (inks : List ℕ)
-    → headText space h ++ (text "ink" ++ newline ∷ [] ++ (printedRows (h .levels) (h .inputs) 0 inks ++ [])) ≡ printedTable (record { header = h; inks = inks })
+    → headText space h ++ (text "ink" ++ newline ∷ [] ++ (printedRows (h .levels) (h .inputs) 0 inks ++ []))
+    ≡ printedTable (record { header = h; inks = inks })
 unfolding headText printedTable firstLines
 table-text h inks = rw (line-last (h .names) (text "ink")) (simp (append-assoc, append-nil))
 
+-- the reader of table sheets spells the tables that keep the rules
 pub spells-table : SpellsTo Ended tableSheet ((t : Table) × KeptTable t) (λ x. x .0) (λ x. printedTable (x .0))
 unfolding tableSheet plain isWord all text isSeparator space newline
 spells-table = spells-as
