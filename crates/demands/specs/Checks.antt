@@ -124,9 +124,9 @@ module _ (s r : List ℕ) (net : Net) (t : Table) (reads-net : readNet s ≡ acc
         λ _ p l. let l' : p < length (tableOfNet net .inks) = omega (arith, inks-length) in value-at p l' ∙ h p l',
         λ _. answer-is ∙ e,
       )
-      go (first-differs k e l no before) = (
+      go (first-differs k e l unlike earlier) = (
         λ a. absurd (agree-differ k (sym a ∙ answer-is ∙ e)),
-        λ h. absurd (no (sym (value-at k l) ∙ h k (omega (arith, inks-length)))),
+        λ h. absurd (unlike (sym (value-at k l) ∙ h k (omega (arith, inks-length)))),
       )
 
   -- and otherwise the lowest index at which they differ
@@ -141,11 +141,11 @@ module _ (s r : List ℕ) (net : Net) (t : Table) (reads-net : readNet s ≡ acc
           × (value (net .header .levels) (net .header .inputs) (net .gates) k ≡ inkIn (t .inks) k → ⊥)
           × ((p : ℕ) → p < k → value (net .header .levels) (net .header .inputs) (net .gates) p ≡ inkIn (t .inks) p)
       go (all-agree e h) = absurd (agree-differ k (sym e ∙ sym answer-is ∙ d))
-      go (first-differs j e l no before) =
+      go (first-differs j e l unlike earlier) =
           let same : j ≡ k = differ-same j k (sym e ∙ sym answer-is ∙ d) in (
             omega (arith, inks-length),
-            subst (λ (i : ℕ). value (net .header .levels) (net .header .inputs) (net .gates) i ≡ inkIn (t .inks) i → ⊥) same (λ q. no (sym (value-at j l) ∙ q)),
-            λ p b. let c : p < j = omega arith in value-at p (omega arith) ∙ before p c,
+            subst (λ (i : ℕ). value (net .header .levels) (net .header .inputs) (net .gates) i ≡ inkIn (t .inks) i → ⊥) same (λ q. unlike (sym (value-at j l) ∙ q)),
+            λ p b. let c : p < j = omega arith in value-at p (omega arith) ∙ earlier p c,
           )
 
 -- ---- table writing
