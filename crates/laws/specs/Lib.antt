@@ -1,2 +1,3 @@
 pub mod Concat
 pub mod Ranges
+pub mod Levels
