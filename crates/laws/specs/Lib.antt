@@ -1,3 +1,4 @@
 pub mod Concat
 pub mod Ranges
 pub mod Levels
+pub mod Sizes

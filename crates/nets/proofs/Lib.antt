@@ -1,1 +1,2 @@
+mod Gates
 mod Stepping

@@ -1,0 +1,56 @@
+-- What reading and settling show of a net, and what its value is computed from.
+-- Assumes nothing.
+use Prim.Native.Nat.{ℕ, suc, _+_, _-_, _≤_, _<_}
+use mathlib.Core.Path.{_≡_, sym, ap, _∙_}
+use mathlib.Core.Bool.{true}
+use mathlib.Core.List.{List, _++_}
+use lib.ListN.{length, getD, take, drop, length-map}
+use native.Mathlib.Omega.{arith}
+use Rattle.rules.specs.Lists.{range}
+use Rattle.rules.specs.Limits.{fewestLevels, fewestInputs, sizeFits}
+use Rattle.rules.specs.Kept.{IsNet}
+use Rattle.rules.specs.Value.{withGates}
+use Rattle.laws.specs.Ranges.{range-length}
+use Rattle.laws.specs.Sizes.{Size, sized}
+use Rattle.nets.specs.declared.forms.Net.{Net}
+use Rattle.nets.specs.Forms.{gateOf, gatesOf}
+
+-- the net of an accepted sheet
+pub record Sound (net : Net) : Type 0 where
+  pub size : sizeFits (net .levels) (net .inputs) ≡ true
+  pub gates : IsNet (net .levels) (net .inputs) (gatesOf net)
+
+module _ (net : Net) (sound : Sound net) where
+  pub sound-size : Size (net .levels) (net .inputs)
+  sound-size = sized (net .levels) (net .inputs) (sound .size)
+
+  pub levels-pos : 0 < net .levels
+  unfolding fewestLevels
+  levels-pos = omega (arith, sound-size .levels-least)
+
+  -- "Then n − 1 gate lines"
+  pub gates-count : suc (net .gates) ≡ net .inputs
+  unfolding gatesOf
+  gates-count = ap suc (sym (range-length 0 (net .gates)) ∙ sym (length-map (range 0 (net .gates)) (gateOf net))) ∙ sound .gates .count
+
+  pub gates-pos : 0 < net .gates
+  unfolding fewestInputs
+  gates-pos = omega (arith, gates-count, sound-size .inputs-least)
+
+-- a net whose parts are lent one by one
+abbrev pub netOf : (levels inputs gates : ℕ) → (left right digits : List ℕ) → Net
+netOf levels inputs gates left right digits =
+    record { levels = levels; inputs = inputs; gates = gates; left = left; right = right; digits = digits }
+
+-- `values` begins with a level for each input and has room for each gate's value
+pub record Ready (net : Net) (values : List ℕ) : Type 0 where
+  pub sound : Sound net
+  pub left : net .gates ≤ length (net .left)
+  pub right : net .gates ≤ length (net .right)
+  pub room : net .inputs + net .gates ≤ length values
+  pub levels : (i : ℕ) → i < net .inputs → getD values i 0 < net .levels
+
+-- the net's value at those levels, and every gate's value put behind them
+pub record Valued (net : Net) (before after : List ℕ) (value : ℕ) : Type 0 where
+  pub result : value ≡ getD (withGates (net .levels) (take (net .inputs) before) (gatesOf net)) (net .inputs + net .gates - 1) 0
+  pub values : after ≡ withGates (net .levels) (take (net .inputs) before) (gatesOf net) ++ drop (net .inputs + net .gates) before
