@@ -7,7 +7,7 @@ use mathlib.Core.List.{List, [], _∷_, _++_, map}
 use native.Mathlib.Nat.{pow-zero, pow-succ', div-one, div-div-eq-div-mul, div-add-mod', mod-lt, suc-mul, zero-div, zero-mod}
 use native.Mathlib.Omega.{arith}
 use native.Mathlib.Decide.{decLe}
-use lib.ListN.{length, getD, replicate, length-map}
+use lib.ListN.{length, getD, take, replicate, length-map}
 use lib.Dec.{leb}
 use lib.Arith.{digits-div, digits-mod}
 use borrow.Author.Tests.{le-leb, lt-leb}
@@ -50,6 +50,11 @@ unfolding nextLevels allTop
 next-up m [] l h = simp (lt-leb m (l + 1) h)
 next-up m (x ∷ ls) l h = λ i. cond (top-up m ls l h i) (cond (leb m (x + 1)) 0 (x + 1)) x ∷ next-up m ls l h i
 
+pub next-length : (m : ℕ) (ls : List ℕ) → length (nextLevels m ls) ≡ length ls
+unfolding nextLevels
+next-length m [] = refl
+next-length m (l ∷ ls) = ap suc (next-length m ls)
+
 -- ---- an index's levels
 
 pub levels-length : (m n p : ℕ) → length (levelsAt m n p) ≡ n
@@ -76,6 +81,15 @@ levels-suc m n p =
 pub levels-first : (m n : ℕ) → levelsAt m n 0 ≡ replicate n 0
 unfolding levelsAt level
 levels-first m n = map-range-same (level m n 0) (λ _. 0) 0 n (λ i _ _. simp (zero-div, zero-mod)) ∙ map-range-all 0 0 n
+
+take-replicate : {A : Type 0} (a : A) (n count : ℕ) → n ≤ count → take n (replicate count a) ≡ replicate n a
+take-replicate a zero count h = refl
+take-replicate a (suc n) zero h = absurd (omega arith)
+take-replicate a (suc n) (suc count) h = ap {B = List _} (λ r. a ∷ r) (take-replicate a n count (omega arith))
+
+-- so zeros have the first levels in front
+pub zeros-front : (m n count : ℕ) → n ≤ count → take n (replicate {A = ℕ} count 0) ≡ levelsAt m n 0
+zeros-front m n count h = take-replicate 0 n count h ∙ sym (levels-first m n)
 
 -- a step of an index: its lowest digit turns to 0, ..
 step-turn : (m p : ℕ) → 0 < m → m ≤ p % m + 1 → (suc p / m ≡ suc (p / m)) × (suc p % m ≡ 0)

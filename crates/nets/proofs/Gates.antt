@@ -17,7 +17,7 @@ use Rattle.laws.specs.Ranges.{range-length, range-suc}
 use Rattle.nets.specs.declared.forms.Net.{Net}
 use Rattle.nets.specs.Forms.{gateOf, gatesOf}
 use Rattle.nets.specs.Sound.{levels-pos, gates-count, Ready, Valued}
-use Rattle.nets.specs.Values.{with-snoc, with-length, with-front, below-all, with-below, Below}
+use Rattle.nets.specs.Values.{with-snoc, with-length, with-front, below-all, with-below, AreLevels}
 
 -- ---- what holds of a gate list holds of each gate
 
@@ -80,7 +80,7 @@ module _ (net : Net) (vs : List ℕ) (ready : Ready net vs) where
   known-at : (k i : ℕ) → i < net .inputs + k → getD (after net vs k) i 0 ≡ getD (known net vs k) i 0
   known-at k i h = List·getD-append (known net vs k) (drop (net .inputs + k) vs) 0 i (rw (known-length k) h)
 
-  known-below : (k : ℕ) → k ≤ net .gates → Below (net .levels) (known net vs k)
+  known-below : (k : ℕ) → k ≤ net .gates → AreLevels (net .levels) (known net vs k)
   known-below k g =
       with-below (net .levels) pos (take (net .inputs) vs) (map (gateOf net) (range 0 k))
       (tables-front (gateOf net) (net .levels) 0 k (net .gates) g tables)

@@ -1,3 +1,4 @@
 pub mod Forms
 pub mod Sound
 pub mod Values
+pub mod Counting

@@ -1,6 +1,6 @@
 -- What reading and settling show of a net, and what its value is computed from.
 -- Assumes nothing.
-use Prim.Native.Nat.{ℕ, suc, _+_, _-_, _≤_, _<_}
+use Prim.Native.Nat.{ℕ, suc, _+_, _-_, _^_, _≤_, _<_}
 use mathlib.Core.Path.{_≡_, sym, ap, _∙_}
 use mathlib.Core.Bool.{true}
 use mathlib.Core.List.{List, _++_}
@@ -9,7 +9,8 @@ use native.Mathlib.Omega.{arith}
 use Rattle.rules.specs.Lists.{range}
 use Rattle.rules.specs.Limits.{fewestLevels, fewestInputs, sizeFits}
 use Rattle.rules.specs.Kept.{IsNet}
-use Rattle.rules.specs.Value.{withGates}
+use Rattle.rules.specs.Value.{withGates, tableOf}
+use Rattle.rules.specs.Calls.{written}
 use Rattle.laws.specs.Ranges.{range-length}
 use Rattle.laws.specs.Sizes.{Size, sized}
 use Rattle.nets.specs.declared.forms.Net.{Net}
@@ -19,6 +20,10 @@ use Rattle.nets.specs.Forms.{gateOf, gatesOf}
 pub record Sound (net : Net) : Type 0 where
   pub size : sizeFits (net .levels) (net .inputs) ≡ true
   pub gates : IsNet (net .levels) (net .inputs) (gatesOf net)
+
+pub gates-length : (net : Net) → length (gatesOf net) ≡ net .gates
+unfolding gatesOf
+gates-length net = length-map (range 0 (net .gates)) (gateOf net) ∙ range-length 0 (net .gates)
 
 module _ (net : Net) (sound : Sound net) where
   pub sound-size : Size (net .levels) (net .inputs)
@@ -30,8 +35,7 @@ module _ (net : Net) (sound : Sound net) where
 
   -- "Then n − 1 gate lines"
   pub gates-count : suc (net .gates) ≡ net .inputs
-  unfolding gatesOf
-  gates-count = ap suc (sym (range-length 0 (net .gates)) ∙ sym (length-map (range 0 (net .gates)) (gateOf net))) ∙ sound .gates .count
+  gates-count = ap suc (sym (gates-length net)) ∙ sound .gates .count
 
   pub gates-pos : 0 < net .gates
   unfolding fewestInputs
@@ -54,3 +58,9 @@ pub record Ready (net : Net) (values : List ℕ) : Type 0 where
 pub record Valued (net : Net) (before after : List ℕ) (value : ℕ) : Type 0 where
   pub result : value ≡ getD (withGates (net .levels) (take (net .inputs) before) (gatesOf net)) (net .inputs + net .gates - 1) 0
   pub values : after ≡ withGates (net .levels) (take (net .inputs) before) (gatesOf net) ++ drop (net .inputs + net .gates) before
+
+-- the net's table at the front of a buffer, and the number of its cells
+pub record Tabled (net : Net) (before after : List ℕ) (count : ℕ) : Type 0 where
+  pub result : count ≡ net .levels ^ net .inputs
+  pub front : take count after ≡ tableOf (net .levels) (net .inputs) (gatesOf net)
+  pub cells : after ≡ written before (tableOf (net .levels) (net .inputs) (gatesOf net))

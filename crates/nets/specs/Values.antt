@@ -40,26 +40,26 @@ with-front m vs (g ∷ gates) =
 
 -- ---- every value is a level
 
-abbrev pub Below : ℕ → List ℕ → Type 0
-Below m xs = (k : ℕ) → getD xs k 0 < m
+abbrev pub AreLevels : ℕ → List ℕ → Type 0
+AreLevels m xs = (k : ℕ) → getD xs k 0 < m
 
 module _ (m : ℕ) (pos : 0 < m) where
-  pub below-all : (xs : List ℕ) → ((k : ℕ) → k < length xs → getD xs k 0 < m) → Below m xs
+  pub below-all : (xs : List ℕ) → ((k : ℕ) → k < length xs → getD xs k 0 < m) → AreLevels m xs
   below-all [] h k = pos
   below-all (x ∷ xs) h zero = h 0 (omega arith)
   below-all (x ∷ xs) h (suc k) = below-all xs (λ j l. h (suc j) (omega arith)) k
 
-  below-snoc : (xs : List ℕ) (x : ℕ) → Below m xs → x < m → Below m (xs ++ (x ∷ []))
+  below-snoc : (xs : List ℕ) (x : ℕ) → AreLevels m xs → x < m → AreLevels m (xs ++ (x ∷ []))
   below-snoc [] x b h zero = h
   below-snoc [] x b h (suc k) = pos
   below-snoc (y ∷ xs) x b h zero = b 0
   below-snoc (y ∷ xs) x b h (suc k) = below-snoc xs x (λ j. b (suc j)) h k
 
-  gate-below : (vs : List ℕ) (g : Gate) → GateTable m (g .digits) → Below m vs → gateValue m vs g < m
+  gate-below : (vs : List ℕ) (g : Gate) → GateTable m (g .digits) → AreLevels m vs → gateValue m vs g < m
   unfolding gateValue
   gate-below vs g t b = below-all (g .digits) (t .below) (getD vs (g .left) 0 * m + getD vs (g .right) 0)
 
-  pub with-below : (vs : List ℕ) (gates : List Gate) → Tables m gates → Below m vs → Below m (withGates m vs gates)
+  pub with-below : (vs : List ℕ) (gates : List Gate) → Tables m gates → AreLevels m vs → AreLevels m (withGates m vs gates)
   unfolding withGates
   with-below vs [] t b = b
   with-below vs (g ∷ gates) t b =
@@ -78,7 +78,7 @@ unfolding tableOf
 table-length m n gates = length-map (range 0 (m ^ n)) (value m n gates) ∙ range-length 0 (m ^ n)
 
 -- a table's inks are levels
-pub table-below : (m n : ℕ) (gates : List Gate) → 0 < m → Tables m gates → Below m (tableOf m n gates)
+pub table-below : (m n : ℕ) (gates : List Gate) → 0 < m → Tables m gates → AreLevels m (tableOf m n gates)
 unfolding tableOf
 table-below m n gates pos t =
     below-all m pos (tableOf m n gates)
