@@ -14,7 +14,7 @@ use Rattle.laws.specs.Concat.{map-append}
 use Rattle.laws.specs.Ranges.{range-length, range-suc}
 use Rattle.nets.specs.declared.forms.Net.{Net}
 use Rattle.nets.specs.Forms.{gatesOf}
-use Rattle.nets.specs.Sound.{Tabled}
+use Rattle.nets.specs.Evaluating.{Tabled}
 
 module _ (net : Net) (cells : List ℕ) where
   -- `cells` after p of the table's cells

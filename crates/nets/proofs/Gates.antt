@@ -1,12 +1,12 @@
 -- One turn of `value`: k gates have their values. Assumes nothing.
 use Prim.Native.Nat.{ℕ, zero, suc, _+_, _-_, _*_, _≤_, _<_}
-use mathlib.Core.Path.{_≡_, refl, sym, ap, ap₂, _∙_}
+use mathlib.Core.Path.{_≡_, sym, ap, ap₂, _∙_}
 use mathlib.Core.List.{List, [], _∷_, _++_, map}
-use native.Mathlib.Nat.{zero-add, add-zero, add-suc, suc-add, add-assoc, mul-pos, le-antisymm}
+use native.Mathlib.Nat.{zero-add, add-zero, add-assoc, mul-pos, le-antisymm}
 use native.Mathlib.Omega.{arith}
 use native.Mathlib.Numerals.{add-one}
 use lib.ListN.{length, getD, take, drop, set, length-append, take-append-drop, length-take, length-drop, length-map, List·getD-append}
-use lib.Seq.{length-take-le, drop-cons, append-snoc, set-at, getD-take, getD-drop, take-at}
+use lib.Seq.{length-take-le, drop-cons, append-snoc, set-at, getD-take, getD-drop}
 use lib.Arith.{digits-lt}
 use Rattle.rules.specs.Lists.{range}
 use Rattle.rules.specs.Sheets.{Gate}
@@ -16,8 +16,9 @@ use Rattle.laws.specs.Concat.{map-append}
 use Rattle.laws.specs.Ranges.{range-length, range-suc}
 use Rattle.nets.specs.declared.forms.Net.{Net}
 use Rattle.nets.specs.Forms.{gateOf, gatesOf}
-use Rattle.nets.specs.Sound.{levels-pos, gates-count, Ready, Valued}
-use Rattle.nets.specs.Values.{with-snoc, with-length, with-front, below-all, with-below, AreLevels}
+use Rattle.nets.specs.Sound.{levels-pos, gates-count}
+use Rattle.nets.specs.Evaluating.{Ready, Valued}
+use Rattle.nets.specs.Values.{with-snoc, with-length, below-all, with-below, AreLevels}
 
 -- ---- what holds of a gate list holds of each gate
 
@@ -26,7 +27,9 @@ module _ (f : ℕ → Gate) where
   unfolding range
   table-at m from zero k h t = absurd (omega arith)
   table-at m from (suc count) zero h t = rw add-zero (t .0)
-  table-at m from (suc count) (suc k) h t = rw (add-suc, ← suc-add) (table-at m (suc from) count k (omega arith) (t .1))
+  table-at m from (suc count) (suc k) h t =
+      let e : from + suc k ≡ suc from + k = omega arith in
+      rw e (table-at m (suc from) count k (omega arith) (t .1))
 
   tables-front : (m from k count : ℕ) → k ≤ count → Tables m (map f (range from count)) → Tables m (map f (range from k))
   unfolding range
@@ -37,8 +40,11 @@ module _ (f : ℕ → Gate) where
   back-at : (i from count k : ℕ) → k < count → RefersBack i (map f (range from count)) → (f (from + k) .left < i + k) × (f (from + k) .right < i + k)
   unfolding range
   back-at i from zero k h b = absurd (omega arith)
-  back-at i from (suc count) zero h b = rw (add-zero, add-zero) (b .0, b .1)
-  back-at i from (suc count) (suc k) h b = rw (add-suc, ← suc-add, add-suc, ← suc-add) (back-at (suc i) (suc from) count k (omega arith) (b .2))
+  back-at i from (suc count) zero h b = simp add-zero (b .0, b .1)
+  back-at i from (suc count) (suc k) h b =
+      let e : from + suc k ≡ suc from + k = omega arith in
+      let e′ : i + suc k ≡ suc i + k = omega arith in
+      rw (e, e′) (back-at (suc i) (suc from) count k (omega arith) (b .2))
 
 -- ---- the turn
 
@@ -137,8 +143,15 @@ module _ (net : Net) (vs : List ℕ) (ready : Ready net vs) where
           let d = gateValue (net .levels) (known net vs k) (gateOf net k) in
           let room : net .inputs + k < length vs = omega (arith, ready .room) in
           let next : net .inputs + (k + 1) ≡ suc (net .inputs + k) = omega arith in
-          rw (es, ef, digit-read u v left-read right-read left-below right-below, drop-cons vs (net .inputs + k) 0 room,
-            set-at (known net vs k) (getD vs (net .inputs + k) 0) (drop (suc (net .inputs + k)) vs) d (net .inputs + k) (known-length k), next, known-more)
+          rw (
+            es,
+            ef,
+            digit-read u v left-read right-read left-below right-below,
+            drop-cons vs (net .inputs + k) 0 room,
+            set-at (known net vs k) (getD vs (net .inputs + k) 0) (drop (suc (net .inputs + k)) vs) d (net .inputs + k) (known-length k),
+            next,
+            known-more,
+          )
           (sym (append-snoc (known net vs k) d (drop (suc (net .inputs + k)) vs)))
 
   -- every gate has its value

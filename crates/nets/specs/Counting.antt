@@ -1,7 +1,7 @@
 -- A net's value at one assignment after the other: `value` at the levels of index p, then `next_levels`.
 -- Assumes nothing.
-use Prim.Native.Nat.{ℕ, _+_, _-_, _≤_, _<_}
-use mathlib.Core.Path.{_≡_, refl, sym, ap, ap₂, _∙_}
+use Prim.Native.Nat.{ℕ, _+_, _≤_, _<_}
+use mathlib.Core.Path.{_≡_, sym, ap, _∙_}
 use mathlib.Core.List.{List, _++_}
 use native.Mathlib.Numerals.{add-one}
 use native.Mathlib.Omega.{arith}
@@ -12,7 +12,8 @@ use Rattle.rules.specs.Value.{withGates, value}
 use Rattle.laws.specs.Levels.{nextLevels, next-length, levels-length, levels-below, levels-next}
 use Rattle.nets.specs.declared.forms.Net.{Net}
 use Rattle.nets.specs.Forms.{gatesOf}
-use Rattle.nets.specs.Sound.{Sound, gates-length, levels-pos, Ready, Valued}
+use Rattle.nets.specs.Sound.{Sound, gates-length, levels-pos}
+use Rattle.nets.specs.Evaluating.{Ready, Valued}
 use Rattle.nets.specs.Values.{with-length, with-front}
 
 module _ (net : Net) (sound : Sound net) (p : ℕ) (values : List ℕ)

@@ -1,16 +1,13 @@
--- What reading and settling show of a net, and what its value is computed from.
+-- What reading and settling show of a net.
 -- Assumes nothing.
-use Prim.Native.Nat.{ℕ, suc, _+_, _-_, _^_, _≤_, _<_}
+use Prim.Native.Nat.{suc, _<_}
 use mathlib.Core.Path.{_≡_, sym, ap, _∙_}
 use mathlib.Core.Bool.{true}
-use mathlib.Core.List.{List, _++_}
-use lib.ListN.{length, getD, take, drop, length-map}
 use native.Mathlib.Omega.{arith}
+use lib.ListN.{length, length-map}
 use Rattle.rules.specs.Lists.{range}
 use Rattle.rules.specs.Limits.{fewestLevels, fewestInputs, sizeFits}
 use Rattle.rules.specs.Kept.{IsNet}
-use Rattle.rules.specs.Value.{withGates, tableOf}
-use Rattle.rules.specs.Calls.{written}
 use Rattle.laws.specs.Ranges.{range-length}
 use Rattle.laws.specs.Sizes.{Size, sized}
 use Rattle.nets.specs.declared.forms.Net.{Net}
@@ -40,27 +37,3 @@ module _ (net : Net) (sound : Sound net) where
   pub gates-pos : 0 < net .gates
   unfolding fewestInputs
   gates-pos = omega (arith, gates-count, sound-size .inputs-least)
-
--- a net whose parts are lent one by one
-abbrev pub netOf : (levels inputs gates : ℕ) → (left right digits : List ℕ) → Net
-netOf levels inputs gates left right digits =
-    record { levels = levels; inputs = inputs; gates = gates; left = left; right = right; digits = digits }
-
--- `values` begins with a level for each input and has room for each gate's value
-pub record Ready (net : Net) (values : List ℕ) : Type 0 where
-  pub sound : Sound net
-  pub left : net .gates ≤ length (net .left)
-  pub right : net .gates ≤ length (net .right)
-  pub room : net .inputs + net .gates ≤ length values
-  pub levels : (i : ℕ) → i < net .inputs → getD values i 0 < net .levels
-
--- the net's value at those levels, and every gate's value put behind them
-pub record Valued (net : Net) (before after : List ℕ) (value : ℕ) : Type 0 where
-  pub result : value ≡ getD (withGates (net .levels) (take (net .inputs) before) (gatesOf net)) (net .inputs + net .gates - 1) 0
-  pub values : after ≡ withGates (net .levels) (take (net .inputs) before) (gatesOf net) ++ drop (net .inputs + net .gates) before
-
--- the net's table at the front of a buffer, and the number of its cells
-pub record Tabled (net : Net) (before after : List ℕ) (count : ℕ) : Type 0 where
-  pub result : count ≡ net .levels ^ net .inputs
-  pub front : take count after ≡ tableOf (net .levels) (net .inputs) (gatesOf net)
-  pub cells : after ≡ written before (tableOf (net .levels) (net .inputs) (gatesOf net))

@@ -2,7 +2,7 @@
 -- Assumes nothing.
 use Prim.Native.Nat.{ℕ, zero, suc, _+_, _-_, _*_, _^_, _≤_, _<_}
 use mathlib.Core.Path.{_≡_, refl, sym, ap, _∙_}
-use mathlib.Core.List.{List, [], _∷_, _++_, map}
+use mathlib.Core.List.{List, [], _∷_, _++_}
 use native.Mathlib.Nat.{add-zero, le-refl}
 use native.Mathlib.Omega.{arith}
 use lib.ListN.{length, getD, take, length-append, length-map}
@@ -55,15 +55,15 @@ module _ (m : ℕ) (pos : 0 < m) where
   below-snoc (y ∷ xs) x b h zero = b 0
   below-snoc (y ∷ xs) x b h (suc k) = below-snoc xs x (λ j. b (suc j)) h k
 
-  gate-below : (vs : List ℕ) (g : Gate) → GateTable m (g .digits) → AreLevels m vs → gateValue m vs g < m
+  gate-below : (vs : List ℕ) (g : Gate) → GateTable m (g .digits) → gateValue m vs g < m
   unfolding gateValue
-  gate-below vs g t b = below-all (g .digits) (t .below) (getD vs (g .left) 0 * m + getD vs (g .right) 0)
+  gate-below vs g t = below-all (g .digits) (t .below) (getD vs (g .left) 0 * m + getD vs (g .right) 0)
 
   pub with-below : (vs : List ℕ) (gates : List Gate) → Tables m gates → AreLevels m vs → AreLevels m (withGates m vs gates)
   unfolding withGates
   with-below vs [] t b = b
   with-below vs (g ∷ gates) t b =
-      with-below (vs ++ (gateValue m vs g ∷ [])) gates (t .1) (below-snoc vs (gateValue m vs g) b (gate-below vs g (t .0) b))
+      with-below (vs ++ (gateValue m vs g ∷ [])) gates (t .1) (below-snoc vs (gateValue m vs g) b (gate-below vs g (t .0)))
 
   pub value-below : (n : ℕ) (gates : List Gate) (p : ℕ) → Tables m gates → value m n gates p < m
   unfolding value

@@ -2,14 +2,23 @@
 ghost use mathlib.Core.Path.{_≡_};
 ghost use Prim.Native.Nat.{_^_, _≤_};
 ghost use lib.ListN.{length};
-ghost use Rattle.nets.specs.Forms.{gatesOf};
-ghost use Rattle.nets.specs.Sound.{Sound, netOf, Ready, Valued, Tabled};
+ghost use Rattle.nets.specs.Sound.{Sound};
+ghost use Rattle.nets.specs.Evaluating.{netOf, Ready, Valued, Tabled};
 use crate::forms::Net;
-use crate::levels::{next_levels, wide};
+use crate::levels::next_levels;
+use crate::levels::wide;
 
 // The net's value at the assignment whose n levels stand at the front of `values`; each gate's value is put behind them. The
 // digits of gate k begin at `from`.
-pub fn value(m: usize, n: usize, gates: usize, left: &[u8], right: &[u8], digits: &[u8], values: &mut [u8]) -> u8
+pub fn value(
+    m: usize,
+    n: usize,
+    gates: usize,
+    left: &[u8],
+    right: &[u8],
+    digits: &[u8],
+    values: &mut [u8],
+) -> u8
     requires { ⌜ Ready (netOf m n gates (now left) (now right) (now digits)) (now values) ⌝ }
     ensures { λ r. ⌜ Valued (netOf m n gates (now (left .entry)) (now (right .entry)) (now (digits .entry))) (now (values .entry)) (now (values .exit)) r ⌝ }
 {
@@ -40,12 +49,20 @@ fn power(m: usize, n: usize) -> usize
     p
 }
 
-// The table of a net whose parts are lent one by one: as `table`. `values` has room for 11 inputs and 10 gates.
-fn fill(m: usize, n: usize, gates: usize, left: &[u8], right: &[u8], digits: &[u8], cells: &mut [u8]) -> usize
+// As `table`, for a net whose parts are lent one by one. `values` has room for 16 inputs and their gates.
+fn fill(
+    m: usize,
+    n: usize,
+    gates: usize,
+    left: &[u8],
+    right: &[u8],
+    digits: &[u8],
+    cells: &mut [u8],
+) -> usize
     requires { ⌜ Sound (netOf m n gates (now left) (now right) (now digits)) × (gates ≤ length (now left)) × (gates ≤ length (now right)) × (m ^ n ≤ length (now cells)) ⌝ }
     ensures { λ r. ⌜ Tabled (netOf m n gates (now (left .entry)) (now (right .entry)) (now (digits .entry))) (now (cells .entry)) (now (cells .exit)) r ⌝ }
 {
-    let mut values = [0u8; 21];
+    let mut values = [0u8; 32];
     let last = power(m, n) - 1;
     let mut p: usize = 0;
     while p <= last {
@@ -64,5 +81,13 @@ pub fn table(net: Net, cells: &mut [u8]) -> usize
     let left = net.left;
     let right = net.right;
     let digits = net.digits;
-    fill(net.levels, net.inputs, net.gates, &left, &right, &digits, cells)
+    fill(
+        net.levels,
+        net.inputs,
+        net.gates,
+        &left,
+        &right,
+        &digits,
+        cells,
+    )
 }

@@ -8,9 +8,6 @@ use lib.ListN.{length, length-set}
 use Rattle.nets.proofs.Stepping.{stepped, step-none, step-up, step-turn}
 use Rattle.nets.proofs.levels.next_levels.Statement.{statement}
 use Rattle.nets.proofs.levels.next_levels.Tie as tie
-use Rattle.nets.proofs.levels.next_levels.Reads as reads
-use Rattle.nets.proofs.levels.next_levels.Lts as lts
-use Rattle.nets.proofs.levels.wide.Reads as wide-reads
 
 abbrev Inv-loop : tie.InvT-loop
 Inv-loop m n levels₀ i₀ levels i = (i ≤ length levels) × (length levels ≡ length levels₀) × (stepped m i levels ≡ stepped m n levels₀)

@@ -9,21 +9,17 @@ use Rattle.rules.specs.Lists.{range}
 use Rattle.rules.specs.Limits.{mostLevels, mostInputs}
 use Rattle.rules.specs.Sheets.{levelsAt}
 use Rattle.laws.specs.Levels.{zeros-front}
-use Rattle.nets.specs.Sound.{netOf, sound-size, levels-pos, gates-count}
+use Rattle.nets.specs.Sound.{sound-size, levels-pos, gates-count}
+use Rattle.nets.specs.Evaluating.{netOf}
 use Rattle.nets.specs.Counting.{ready-at, value-at, front-next}
 use Rattle.nets.proofs.Cells.{filled, filled-length, filled-more, filled-all}
 use Rattle.nets.proofs.values.fill.Statement.{statement}
 use Rattle.nets.proofs.values.fill.Tie as tie
-use Rattle.nets.proofs.values.fill.Reads as reads
-use Rattle.nets.proofs.values.fill.Lts as lts
-use Rattle.nets.proofs.levels.next_levels.Reads as next-levels-reads
-use Rattle.nets.proofs.values.power.Reads as power-reads
-use Rattle.nets.proofs.values.value.Reads as value-reads
 
 abbrev Inv-loop : tie.InvT-loop
 Inv-loop m n gates left right digits cells₀ values₀ last p₀ cells values p =
     (p ≤ m ^ n)
-    × (length values ≡ 21)
+    × (length values ≡ 32)
     × (take n values ≡ levelsAt m n p)
     × (cells ≡ filled (netOf m n gates left right digits) cells₀ p)
 
@@ -53,7 +49,7 @@ loop-holds : tie.Need-loop-holds Inv-loop μ-loop
 unfolding mostInputs range
 loop-holds c =
     let start = c .before .before .before .before .before in
-    (omega arith, refl, zeros-front (start .args .m) (start .args .n) 21 (omega (arith, sound-size _ (start .pre .0) .inputs-most)), refl)
+    (omega arith, refl, zeros-front (start .args .m) (start .args .n) 32 (omega (arith, sound-size _ (start .pre .0) .inputs-most)), refl)
 
 -- `cells` keeps its length
 kept : (c : tie.At-loop Inv-loop μ-loop) → length (c .loop .cells) ≡ length (start c .args .cells .now)

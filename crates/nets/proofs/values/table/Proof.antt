@@ -1,31 +1,39 @@
+-- `nets::values::table` meets its contract: it lends the net's parts to `fill`. Assumes nothing.
+use Prim.Native.Nat.{suc, _≤_}
+use mathlib.Core.Path.{_≡_}
+use native.Mathlib.Omega.{arith}
 use borrow.Author.Needs.{needs}
+use lib.ListN.{length}
+use Rattle.rules.specs.Limits.{mostInputs}
+use Rattle.nets.specs.Sound.{sound-size, gates-count}
 use Rattle.nets.proofs.values.table.Statement.{statement}
 use Rattle.nets.proofs.values.table.Tie as tie
-use Rattle.nets.proofs.values.table.Reads as reads
-use Rattle.nets.proofs.values.table.Lts as lts
-use Rattle.nets.proofs.values.fill.Reads as fill-reads
 
--- src/values.rt:67:45
 slice-aggregate-fill : tie.Need-slice-aggregate-fill
 slice-aggregate-fill c = search needs
 
--- src/values.rt:67:52
 slice-aggregate-fill-2 : tie.Need-slice-aggregate-fill-2
 slice-aggregate-fill-2 c = search needs
 
--- src/values.rt:67:60
 slice-aggregate-fill-3 : tie.Need-slice-aggregate-fill-3
 slice-aggregate-fill-3 c = search needs
 
--- src/values.rt:67:5
 fill-requires : tie.Need-fill-requires
-fill-requires c κs = ?
+unfolding mostInputs
+fill-requires c κs =
+    let start = c .before .before .before .before .before .before .before .before in
+    let net = start .args .net in
+    let count : suc (net .gates) ≡ net .inputs = gates-count _ (start .pre .0) in
+    let most : net .inputs ≤ mostInputs = sound-size _ (start .pre .0) .inputs-most in
+    let left : _ ≡ length (net .left) = slice-aggregate-fill (c .before .before .before) in
+    let right : _ ≡ length (net .right) = slice-aggregate-fill-2 (c .before .before) in
+    let left-room : net .gates ≤ length (net .left) = omega arith in
+    let right-room : net .gates ≤ length (net .right) = omega arith in
+    (start .pre .0, left-room, right-room, start .pre .1)
 
--- src/values.rt:60:1
 same-length : tie.Need-same-length
 same-length c = search needs
 
--- src/values.rt:60:1
 returns : tie.Need-returns
 returns c = search needs
 

@@ -1,19 +1,17 @@
 -- `nets::values::value` meets its contract. The loop's invariant: `values` has the values of the first k gates, and the digits of the next
 -- one begin at `from`. Assumes nothing.
 use Prim.Native.Nat.{_+_, _-_, _*_, _≤_, _<_}
-use mathlib.Core.Path.{_≡_, refl, sym, ap, _∙_}
+use mathlib.Core.Path.{_≡_, sym, ap, _∙_}
 use native.Mathlib.Nat.{zero-mul, suc-mul}
 use native.Mathlib.Numerals.{add-one}
 use native.Mathlib.Omega.{arith}
 use borrow.Author.Needs.{needs}
-use lib.ListN.{length, length-set}
-use Rattle.nets.specs.Sound.{netOf, gates-pos}
+use lib.ListN.{length}
+use Rattle.nets.specs.Sound.{gates-pos}
+use Rattle.nets.specs.Evaluating.{netOf}
 use Rattle.nets.proofs.Gates.{after, after-none, after-length, refers, table-within, digit-within, after-more, after-all}
 use Rattle.nets.proofs.values.value.Statement.{statement}
 use Rattle.nets.proofs.values.value.Tie as tie
-use Rattle.nets.proofs.values.value.Reads as reads
-use Rattle.nets.proofs.values.value.Lts as lts
-use Rattle.nets.proofs.levels.wide.Reads as wide-reads
 
 abbrev Inv-loop : tie.InvT-loop
 Inv-loop m n gates left right digits values₀ size from₀ k₀ values from k =
