@@ -1,14 +1,14 @@
 -- The loop of `widen` over plain lists: at turn j the front j entries are those of the widened list.
 -- Assumes nothing.
-use Prim.Native.Nat.{ℕ, zero, suc, _+_, _-_, _*_, _≤_, _<_}
-use mathlib.Core.Path.{_≡_, refl, sym, ap, _∙_, subst}
+use Prim.Native.Nat.{ℕ, _+_, _-_, _*_, _≤_, _<_}
+use mathlib.Core.Path.{_≡_, sym, ap, _∙_, subst}
 use mathlib.Core.List.{List, [], _∷_, _++_}
 use native.Mathlib.Nat.{mul-le-mul-left}
 use native.Mathlib.Numerals.{add-one}
 use native.Mathlib.Omega.{arith}
-use lib.ListN.{length, getD, take, drop, set}
-use lib.Seq.{take-suc, take-suc-set, getD-take, take-take, length-take-le}
-use Rattle.laws.specs.Bounds.{Below, below-at, at-below}
+use lib.ListN.{length, getD, take, set}
+use lib.Seq.{take-suc, take-suc-set, getD-take, length-take-le}
+use Rattle.laws.specs.Bounds.{below-at, at-below}
 use Rattle.radix.specs.Offsets.{widened, widened-length, widened-front, widened-step, widened-below}
 
 module _ (out₀ : List ℕ) (len w m : ℕ) (some : 0 < m) (fits : len * m ≤ length out₀) where

@@ -4,7 +4,7 @@
 use Prim.Native.Nat.{ℕ, zero, suc, _+_, _*_, _^_, _≤_, _<_}
 use mathlib.Core.Path.{_≡_, refl, sym, ap, ap₂, _∙_, subst, subst⁻¹}
 use mathlib.Core.Bool.{Bool, true, false}
-use mathlib.Core.List.{List, [], _∷_, _++_, map, append-assoc, append-nil, map-map, map-id}
+use mathlib.Core.List.{List, [], _∷_, _++_, map, append-nil, map-map, map-id}
 use native.Mathlib.Nat.{zero-mul, zero-add, add-mul, mul-assoc, add-assoc, mul-one, pow-zero, pow-suc, add-zero, add-suc, suc-add, mul-comm, suc-mul, mul-suc, mul-zero, mul-le-mul-left, mul-le-mul-right, lt-of-lt-of-le, le-mul-of-pos-right, one-le-mul}
 use native.Mathlib.Omega.{arith}
 use lib.ListN.{length, getD, take, length-append, length-map, List·getD-append}
@@ -12,7 +12,7 @@ use lib.Seq.{take-at, getD-append-add}
 use Rattle.rules.specs.Lists.{range, concatMap}
 use Rattle.rules.specs.Groups.{member, points}
 use Rattle.laws.specs.Bounds.{Below, below-append, below-map, below-more}
-use Rattle.laws.specs.Concat.{map-append, concat-append, concat-concat, concat-map, map-concat, concat-same, map-same}
+use Rattle.laws.specs.Concat.{concat-append, concat-concat, concat-map, map-concat, concat-same, map-same}
 use Rattle.laws.specs.Ranges.{range-suc, range-shift}
 
 -- the offsets xs for each level of an input of weight w

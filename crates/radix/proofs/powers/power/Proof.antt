@@ -1,6 +1,6 @@
 -- `radix::powers::power` meets its contract. The loop's invariant: `p` is m to the power `i`. Assumes nothing.
 use mathlib.Core.Path.{_≡_, sym, ap, _∙_, subst⁻¹}
-use Prim.Native.Nat.{ℕ, suc, _≤_, _<_, _+_, _-_, _*_, _^_}
+use Prim.Native.Nat.{ℕ, _≤_, _<_, _+_, _-_, _*_, _^_}
 use native.Mathlib.Nat.{pow-zero, pow-suc, pow-le-pow-left, pow-le-pow-right, le-trans, zero-lt-suc, lt-of-le-of-lt}
 use native.Mathlib.Numerals.{add-one}
 use native.Mathlib.Omega.{arith}
