@@ -1,3 +1,4 @@
+pub mod Bounds
 pub mod Concat
 pub mod FirstPlaces
 pub mod Outcomes
