@@ -35,20 +35,6 @@ pub fn value(
     values[n + gates - 1]
 }
 
-// m to the power n, for a digit m and n small enough that it fits.
-fn power(m: usize, n: usize) -> usize
-    requires { ⌜ (m ≤ 9) × (n ≤ 16) ⌝ }
-    ensures { λ r. ⌜ r ≡ m ^ n ⌝ }
-{
-    let mut p: usize = 1;
-    let mut i: usize = 0;
-    while i < n {
-        p = p * m;
-        i += 1;
-    }
-    p
-}
-
 // As `table`, for a net whose parts are lent one by one. `values` has room for 16 inputs and their gates.
 fn fill(
     m: usize,
@@ -63,7 +49,7 @@ fn fill(
     ensures { λ r. ⌜ Tabled (netOf m n gates (now (left .entry)) (now (right .entry)) (now (digits .entry))) (now (cells .entry)) (now (cells .exit)) r ⌝ }
 {
     let mut values = [0u8; 32];
-    let last = power(m, n) - 1;
+    let last = radix::powers::power(m, n) - 1;
     let mut p: usize = 0;
     while p <= last {
         cells[p] = value(m, n, gates, left, right, digits, &mut values);
