@@ -1,0 +1,80 @@
+//! A refusal: document 01's number and place, and what they say in words.
+
+use std::fmt;
+
+/// The sheet that a refusal names.
+#[derive(Clone, Copy, Debug, PartialEq, Eq)]
+pub enum Named {
+    Net,
+    Table,
+    Neither,
+}
+
+/// Why a call was turned back, and where.
+#[derive(Clone, Copy, Debug, PartialEq, Eq)]
+pub struct Refusal {
+    pub number: usize,
+    pub place: usize,
+    pub named: Named,
+    /// Line and column of the place in the sheet, from 1, where the refusal is a sheet's.
+    pub position: Option<(usize, usize)>,
+}
+
+impl Refusal {
+    pub(crate) fn new(number: usize, place: usize, named: Named, sheet: &[u8]) -> Refusal {
+        let named = if number <= 8 { named } else { Named::Neither };
+        let position = (number <= 8).then(|| position(sheet, place));
+        Refusal { number, place, named, position }
+    }
+
+    /// What is wrong, in words.
+    pub fn words(&self) -> &'static str {
+        match self.number {
+            1 => "a fixed word or a separator is missing, the sheet ends too early, or bytes follow its last line",
+            2 => "levels is not one digit from 2 to 9",
+            3 => "inputs is not a number from 2 to 11, or there are over 2,187 cells",
+            4 => "a name is malformed, is `ink`, or is repeated",
+            5 => "a row's input level is not the next in the count",
+            6 => "an ink, or a gate's table, is not made of digits below levels",
+            7 => "a reference is to no input and to no earlier gate",
+            8 => "a reference was used before",
+            9 => "levels, inputs or the number of cells is out of bounds, or the cells are not levels to the power inputs",
+            10 => "a cell is not below levels",
+            11 => "the group is empty, or no group of these inputs",
+            12 => "the two sheets differ in levels, inputs or names",
+            13 => "the cells buffer is too short",
+            14 => "the marks buffer is too short",
+            15 => "the output is too short",
+            16 => "no tree of two-input gates computes this table",
+            _ => "unknown refusal",
+        }
+    }
+}
+
+/// Line and column of a byte, both from 1.
+fn position(sheet: &[u8], place: usize) -> (usize, usize) {
+    let before = &sheet[..place.min(sheet.len())];
+    let line = 1 + before.iter().filter(|&&byte| byte == b'\n').count();
+    let column = 1 + before.iter().rev().take_while(|&&byte| byte != b'\n').count();
+    (line, column)
+}
+
+impl fmt::Display for Refusal {
+    fn fmt(&self, f: &mut fmt::Formatter<'_>) -> fmt::Result {
+        let sheet = match self.named {
+            Named::Net => "net sheet: ",
+            Named::Table => "table sheet: ",
+            Named::Neither => "",
+        };
+        write!(f, "{sheet}{} (refusal {}", self.words(), self.number)?;
+        match (self.number, self.position) {
+            (_, Some((line, column))) => write!(f, " at byte {}, line {line}, column {column})", self.place),
+            (10, _) => write!(f, " at index {})", self.place),
+            (13..=15, _) => write!(f, "; {} bytes are needed)", self.place),
+            (16, _) => write!(f, " at group {})", self.place),
+            _ => write!(f, ")"),
+        }
+    }
+}
+
+impl std::error::Error for Refusal {}
