@@ -21,7 +21,7 @@ use Rattle.rules.specs.Calls.{Answer, accepted, refused, Verdict, agree, differ
 use Rattle.laws.specs.FirstPlaces.{before-first, at-first, none-first}
 use Rattle.laws.specs.Outcomes.{check-compared}
 use Rattle.laws.specs.Ranges.{range-length, range-at}
-use Rattle.readback.specs.Tests.{same-refl, same-true}
+use Rattle.laws.specs.Same.{same-refl}
 use Rattle.readback.specs.ReadBack.{net-accepted, table-accepted, table-read-back}
 use Rattle.trees.specs.Uniqueness.{table-at, table-length}
 use Rattle.demands.specs.Settles.{kept-table}

@@ -17,7 +17,7 @@ use Rattle.rules.specs.Printed.{line, firstLines, printedGate, printedNet}
 use Rattle.rules.specs.Kept.{GoodNames, KeptHeader, KeptNet}
 use Rattle.rules.specs.Calls.{Answer, accepted, readNet}
 use Rattle.demands.specs.Bounds.{inputs-several}
-use Rattle.readback.specs.Tests.{all-iff}
+use Rattle.laws.specs.Tests.{all-iff}
 use Rattle.readback.specs.Fields.{plain, isWord}
 use Rattle.readback.specs.Decimals.{decimal-word}
 use Rattle.readback.specs.Judges.{name-word}

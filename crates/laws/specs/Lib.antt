@@ -1,4 +1,13 @@
+pub mod Bounds
 pub mod Concat
+pub mod Counts
+pub mod Distinct
+pub mod Finds
 pub mod FirstPlaces
 pub mod Outcomes
+pub mod Pigeonhole
+pub mod Places
 pub mod Ranges
+pub mod Rows
+pub mod Same
+pub mod Tests

@@ -12,7 +12,8 @@ use borrow.Author.Tests.{eqb-true, eq-eqb, not-true}
 use Rattle.rules.specs.Lists.{all, same}
 use Rattle.rules.specs.Text.{space, newline, text}
 use Rattle.rules.specs.Fields.{Read, read, turnedBack, then, _>>=_, give, Judged, good, bad, Judge, judged, isSeparator, run, past, separator, afterField, fieldOf, field, theWord, closed}
-use Rattle.readback.specs.Tests.{all-iff, same-refl, same-true}
+use Rattle.laws.specs.Tests.{all-iff}
+use Rattle.laws.specs.Same.{same-refl, same-true}
 use Rattle.readback.specs.Spells.{SpellsTo, Spells, not-read}
 
 -- a byte that a field may hold

@@ -5,7 +5,7 @@ use mathlib.Core.Bool.{Bool, false, or-false}
 use mathlib.Core.Logic.{_↔_}
 use mathlib.Core.List.{List, [], _∷_, _++_}
 use Rattle.rules.specs.Lists.{any}
-use Rattle.readback.specs.Tests.{any-cons, any-iff, any-append, or-false-iff}
+use Rattle.laws.specs.Tests.{any-cons, none-iff, any-append, or-false-iff}
 
 module _ {A : Type 0} (alike : A → A → Bool) where
   -- none of the later is like one of the earlier
@@ -34,8 +34,8 @@ module _ {A : Type 0} (alike : A → A → Bool) where
       λ h.
           let (i, j) = any-last y x earlier .0 (h .0) in
           let (k, l) = fresh-last earlier x ys .0 (h .1) in
-          (any-iff (alike x) y ys .1 (turned x y ∙ j, k), (i, l)),
+          (none-iff (alike x) y ys .1 (turned x y ∙ j, k), (i, l)),
       λ h.
-          let (i, j) = any-iff (alike x) y ys .0 (h .0) in
+          let (i, j) = none-iff (alike x) y ys .0 (h .0) in
           (any-last y x earlier .1 (h .1 .0, turned y x ∙ i), fresh-last earlier x ys .1 (j, h .1 .1)),
     )

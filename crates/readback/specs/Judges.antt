@@ -17,7 +17,10 @@ use Rattle.rules.specs.Limits.{fewestLevels, mostLevels, fewestInputs, mostInpu
 use Rattle.rules.specs.Fields.{Judged, good, bad, Judge, judged}
 use Rattle.rules.specs.Sheets.{levelsField, inputsOf, inputsField, isLetter, letterFirst, isName, nameField, digitsField, levelField, inkField}
 use Rattle.rules.specs.Kept.{GateTable}
-use Rattle.readback.specs.Tests.{both-leb, all-iff, all-at, all-each, same-refl, same-true, find-only, found}
+use Rattle.laws.specs.Tests.{both-leb, all-iff, all-mem, all-each}
+use Rattle.laws.specs.Same.{same-refl, same-true}
+use Rattle.laws.specs.Places.{mem-getD}
+use Rattle.laws.specs.Finds.{found-is, found-only, first-in-range}
 use Rattle.readback.specs.Fields.{isWord, Judges, judged-good}
 use Rattle.readback.specs.Decimals.{high-plain, high-word, digit-iff, digit-byte, digits-word, decimal-digit, decimal-word, decimal-injective}
 
@@ -88,10 +91,9 @@ module _ (print : ℕ → List ℕ) (from count : ℕ) (test : ℕ → Bool) (u 
       → (n : ℕ) → from ≤ n → n < from + count → test n ≡ true → looking (print n) ≡ good n
   unfolding looking verdict
   looking-passes different n h k t =
-      rw (find-only (λ m. same (print n) (print m)) n from count h k (same-refl (print n)) only, t) refl
-    where
-      only : (m : ℕ) → same (print n) (print m) ≡ true → m ≡ n
-      only m e = different m n (sym (same-true (print n) (print m) e))
+      let is = found-only (first-in-range (λ m. same (print n) (print m)) from count) n (h, k, same-refl (print n))
+      (λ m (_, _, e). different m n (sym (same-true (print n) (print m) e))) in
+      rw (is, t) refl
 
   -- a field that is good is the print of a number that passes
   pub looking-only : (w : List ℕ) (n : ℕ) → looking w ≡ good n → (from ≤ n) × (n < from + count) × (test n ≡ true) × (w ≡ print n)
@@ -103,7 +105,7 @@ module _ (print : ℕ → List ℕ) (from count : ℕ) (test : ℕ → Bool) (u 
       go none d e = absurd (not-good u n e)
       go (some m) d e =
           let (t, q) = judged-good (test m) m v n e in
-          let (h, k, i) = found (λ n. same w (print n)) m from count d in
+          let (h, k, i) = found-is (first-in-range (λ n. same w (print n)) from count) m d in
           rw q (h, k, t, same-true w (print m) i)
 
 -- the inputs field: the decimal values from 2 to 11 that leave the cells within their bound
@@ -199,7 +201,7 @@ digits-table : (m : ℕ) (w : List ℕ) → length w ≡ m * m → all (isDigit 
 digits-table m w e h = record {
   count = length-map w (λ b. b - 48) ∙ e;
   below = λ k l. rw (List·getD-map (λ b. b - 48) w k 48)
-      (digit-back m (getD w k 48) (all-at (isDigit m) w h k 48 (rw (length-map w (λ b. b - 48)) at l)) .0);
+      (digit-back m (getD w k 48) (all-mem (isDigit m) (mem-getD w k 48 (rw (length-map w (λ b. b - 48)) at l)) h) .0);
 }
 
 -- a gate's table field: the tables' digits

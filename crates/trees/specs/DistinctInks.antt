@@ -10,26 +10,18 @@ use lib.Dec.{eqb}
 use Rattle.rules.specs.Lists.{range, all, any}
 use Rattle.rules.specs.Groups.{wholeGroup, others, points, alikeOver, firsts, classes, multiplicity}
 use Rattle.laws.specs.Concat.{map-append}
-use Rattle.trees.specs.Searches.{any-cons}
+use Rattle.laws.specs.Tests.{any-map}
 use Rattle.trees.specs.Points.{points-whole, points-empty}
 
 -- the inks of a table, each once, in the order in which they first appear
 unfoldable pub distinctInks : List ℕ → List ℕ
 distinctInks inks = firsts eqb [] inks
 
-any-map : (f : ℕ → ℕ) (x : ℕ) (kept : List ℕ) → any (λ q. eqb (f x) (f q)) kept ≡ any (eqb (f x)) (map f kept)
-unfolding any
-any-map f x [] = refl
-any-map f x (q ∷ kept) =
-    any-cons (λ q. eqb (f x) (f q)) q kept
-    ∙ ap (λ (t : Bool). eqb (f x) (f q) || t) (any-map f x kept)
-    ∙ sym (any-cons (eqb (f x)) (f q) (map f kept))
-
 -- the firsts of indices by their inks are the firsts of the inks
 firsts-map : (f : ℕ → ℕ) (kept ps : List ℕ) → map f (firsts (λ p q. eqb (f p) (f q)) kept ps) ≡ firsts eqb (map f kept) (map f ps)
 unfolding firsts
 firsts-map f kept [] = refl
-firsts-map f kept (p ∷ ps) = go (any (λ q. eqb (f p) (f q)) kept) (any (eqb (f p)) (map f kept)) (any-map f p kept) (λ kept. firsts-map f kept ps)
+firsts-map f kept (p ∷ ps) = go (any (λ q. eqb (f p) (f q)) kept) (any (eqb (f p)) (map f kept)) (sym (any-map f (eqb (f p)) kept)) (λ kept. firsts-map f kept ps)
   where
     go : (t u : Bool) → t ≡ u
         → ((kept : List ℕ) → map f (firsts (λ p q. eqb (f p) (f q)) kept ps) ≡ firsts eqb (map f kept) (map f ps))

@@ -16,8 +16,8 @@ use Rattle.rules.specs.Marks.{markIn, marksOf}
 use Rattle.rules.specs.Settled.{settledGates}
 use Rattle.rules.specs.Calls.{inkIn}
 use Rattle.rules.specs.Kept.{IsNet}
+use Rattle.laws.specs.Ranges.{range-length, map-range-at}
 use Rattle.trees.specs.Trees.{Computes, treeValue}
-use Rattle.trees.specs.Rows.{range-length, range-at, map-at}
 use Rattle.trees.specs.NetTree.{TreeOf, net-tree}
 use Rattle.trees.specs.Wirings.{tree-below}
 use Rattle.trees.specs.MarkRule.{marked}
@@ -31,9 +31,7 @@ module _ (m n : ℕ) where
   -- the table's entry at an index is the value there
   pub table-at : (gates : List Gate) (p : ℕ) → p < m ^ n → inkIn (tableOf m n gates) p ≡ value m n gates p
   unfolding tableOf
-  table-at gates p h =
-      map-at (value m n gates) (range 0 (m ^ n)) p 0 0 (subst⁻¹ (λ (k : ℕ). p < k) (range-length 0 (m ^ n)) h)
-      ∙ ap (value m n gates) (range-at 0 (m ^ n) p 0 h ∙ zero-add p)
+  table-at gates p h = map-range-at (value m n gates) 0 (m ^ n) p 0 h ∙ ap (value m n gates) (zero-add p)
 
   -- a list of m to the n inks is the table of the gates that compute it
   pub table-is : (gates : List Gate) (inks : List ℕ) → length inks ≡ m ^ n → Computes m n gates (inkIn inks) → tableOf m n gates ≡ inks
