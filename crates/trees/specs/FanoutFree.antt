@@ -14,8 +14,8 @@ use Rattle.rules.specs.Lists.{all}
 use Rattle.rules.specs.Groups.{part, size, multiplicity}
 use Rattle.rules.specs.Marks.{marksOf}
 use Rattle.rules.specs.Settled.{Wiring, input, gate, groupOf, classNumber, carried, wiringBy}
+use Rattle.laws.specs.Tests.{all-mem, mem-all}
 use Rattle.trees.specs.Trees.{Tree, wiringIn, treeValue, Filled, fill, WiringOf, EachGate, Apart, Tells, mix}
-use Rattle.trees.specs.ListLaws.{all-mem, mem-all}
 use Rattle.trees.specs.Members.{member-single, single-below, join-below, size-single, size-le}
 use Rattle.trees.specs.Levels.{part-below, part-part, part-mix}
 use Rattle.trees.specs.Classes.{class-part, few-classes}
