@@ -1,10 +1,9 @@
 -- What the limits give the theorems: levels and inputs are at least 2.
 -- Assumes nothing.
-use Prim.Native.Nat.{ℕ, _≤_, _<_}
+use Prim.Native.Nat.{ℕ, _<_}
 use mathlib.Core.Path.{_≡_}
 use mathlib.Core.Bool.{true, and-eq-true-iff}
 use lib.Dec.{leb}
-use native.Mathlib.Nat.{le-trans}
 use native.Mathlib.Omega.{arith}
 use borrow.Author.Tests.{leb-true}
 use Rattle.rules.specs.Limits.{levelsFit, inputsFit, fewestLevels, mostLevels, fewestInputs, mostInputs}

@@ -7,15 +7,14 @@ use mathlib.Core.Logic.{_↔_}
 use mathlib.Core.Bool.{Bool, true, false, not, _||_, false≢true}
 use mathlib.Core.List.{List, [], _∷_, _++_, append-assoc, append-nil}
 use native.Mathlib.Omega.{arith}
-use lib.ListN.{length}
 use lib.Dec.{eqb}
 use Rattle.rules.specs.Lists.{all, concatMap}
 use Rattle.rules.specs.Text.{space, newline, text, decimal}
 use Rattle.rules.specs.Fields.{isSeparator, Read, read}
-use Rattle.rules.specs.Sheets.{Header, Net, isName, headerLines}
+use Rattle.rules.specs.Sheets.{Header, Net, headerLines}
 use Rattle.rules.specs.Printed.{line, firstLines, printedGate, printedNet}
 use Rattle.rules.specs.Kept.{GoodNames, KeptHeader, KeptNet}
-use Rattle.rules.specs.Calls.{Answer, accepted, readNet}
+use Rattle.rules.specs.Calls.{accepted, readNet}
 use Rattle.demands.specs.Bounds.{inputs-several}
 use Rattle.laws.specs.Tests.{all-iff}
 use Rattle.readback.specs.Fields.{plain, isWord}

@@ -1,18 +1,17 @@
 -- How many elements of a list pass a test, and how often a number stands in a list.
 -- Assumes nothing.
 use Prim.Native.Nat.{ℕ, zero, suc, _+_, _≤_, _<_}
-use mathlib.Core.Path.{_≡_, refl, sym, _∙_, ap}
+use mathlib.Core.Path.{_≡_, refl}
 use mathlib.Core.Logic.{by-cases}
 use mathlib.Core.Bool.{Bool, true, false}
 use mathlib.Core.List.{List, [], _∷_, _++_, map}
 use native.Mathlib.Omega.{arith}
 use native.Mathlib.Decide.{decLe}
-use lib.ListN.{length, length-append}
+use lib.ListN.{length}
 use lib.Dec.{eqb}
 use borrow.Author.Tests.{ne-eqb}
 use Rattle.rules.specs.Lists.{range, any, those}
 use Rattle.laws.specs.Tests.{oneIf, one-if-le, none-iff}
-use Rattle.laws.specs.Ranges.{range-append}
 
 -- how many pass
 abbrev pub count : {A : Type 0} → (A → Bool) → List A → ℕ

@@ -7,7 +7,7 @@ use mathlib.Core.Bool.{Bool, true, false, cond}
 use mathlib.Core.List.{List, [], _∷_, _++_, List·Memᴰ, List·Memᴰ·head, List·Memᴰ·tail, List·Memᴰ·not-nil, List·Memᴰ·append-cases, List·Memᴰ·eq-of-singleton, map}
 use native.Mathlib.Nat.{add-zero, zero-add, zero-mul, suc-mul, le-refl, le-step, pow-zero, pow-suc, mod-lt, not-suc-le-zero, le-of-suc-le-suc, le-add-right, add-lt-add-of-le-of-lt, div-add-mod', lt-of-lt-of-le, div-lt-iff-lt-mul, div-mul-le-self, one-mul, add-comm}
 use native.Mathlib.Omega.{arith}
-use lib.ListN.{length, getD, length-append}
+use lib.ListN.{length, getD}
 use lib.Arith.{digits-div, digits-mod}
 use lib.Pow.{pow-add}
 use Rattle.rules.specs.Groups.{member, part, points, size, wholeGroup}

@@ -1,23 +1,22 @@
 -- The settled net depends on the table alone: two nets have the same settled net exactly when they compute the same table.
 -- Assumes nothing.
-use Prim.Native.Nat.{ℕ, zero, suc, _+_, _^_, _<_}
-use mathlib.Core.Path.{_≡_, refl, sym, ap, _∙_, subst, subst⁻¹}
+use Prim.Native.Nat.{ℕ, _^_, _<_}
+use mathlib.Core.Path.{_≡_, sym, ap, _∙_, subst, subst⁻¹}
 use mathlib.Core.Logic.{_↔_}
-use mathlib.Core.List.{List, [], _∷_, map}
+use mathlib.Core.List.{List}
 use native.Mathlib.Nat.{zero-add}
-use native.Mathlib.Omega.{arith}
-use lib.ListN.{length, getD, length-map}
+use lib.ListN.{length, length-map}
 use lib.Seq.{ext-getD}
 use Rattle.rules.specs.Lists.{range}
-use Rattle.rules.specs.Sheets.{Gate, Net, Table}
+use Rattle.rules.specs.Sheets.{Gate}
 use Rattle.rules.specs.Value.{value, tableOf}
 use Rattle.rules.specs.Groups.{wholeGroup}
-use Rattle.rules.specs.Marks.{markIn, marksOf}
+use Rattle.rules.specs.Marks.{marksOf}
 use Rattle.rules.specs.Settled.{settledGates}
 use Rattle.rules.specs.Calls.{inkIn}
 use Rattle.rules.specs.Kept.{IsNet}
 use Rattle.laws.specs.Ranges.{range-length, map-range-at}
-use Rattle.trees.specs.Trees.{Computes, treeValue}
+use Rattle.trees.specs.Trees.{Computes}
 use Rattle.trees.specs.NetTree.{TreeOf, net-tree}
 use Rattle.trees.specs.Wirings.{tree-below}
 use Rattle.trees.specs.MarkRule.{marked}
