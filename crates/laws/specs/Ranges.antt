@@ -7,7 +7,7 @@ use mathlib.Core.List.{List, [], _∷_, _++_, map, List·Memᴰ, List·Memᴰ·h
 use native.Mathlib.Nat.{add-zero, zero-add, add-suc, suc-add, eq-or-lt-of-le}
 use native.Mathlib.Numerals.{add-one}
 use native.Mathlib.Omega.{arith}
-use lib.ListN.{length, getD}
+use lib.ListN.{length, getD, length-map}
 use Rattle.rules.specs.Lists.{range}
 use Rattle.laws.specs.Places.{map-at}
 
@@ -15,6 +15,9 @@ pub range-length : (from count : ℕ) → length (range from count) ≡ count
 unfolding range
 range-length from zero = refl
 range-length from (suc count) = ap suc (range-length (suc from) count)
+
+pub map-range-length : {A : Type 0} (f : ℕ → A) (from count : ℕ) → length (map f (range from count)) ≡ count
+map-range-length f from count = length-map (range from count) f ∙ range-length from count
 
 -- in two parts
 pub range-append : (from j k : ℕ) → range from (j + k) ≡ range from j ++ range (from + j) k

@@ -3,12 +3,12 @@
 use Prim.Native.Nat.{ℕ, suc, _+_, _≤_, _<_}
 use mathlib.Core.Path.{_≡_, refl, sym, _∙_, ap, ap₂}
 use mathlib.Core.Logic.{_↔_}
-use mathlib.Core.Bool.{Bool, true, false, cond, _&&_, _||_, or-assoc, and-eq-true-iff, true≢false}
+use mathlib.Core.Bool.{Bool, true, false, cond, _&&_, _||_, or-assoc, or-false, and-eq-true-iff, true≢false}
 use mathlib.Core.List.{List, [], _∷_, _++_, map, List·Memᴰ, List·Memᴰ·head, List·Memᴰ·tail}
 use native.Mathlib.Omega.{arith}
 use lib.ListN.{length, getD}
 use lib.Dec.{eqb, leb}
-use borrow.Author.Tests.{eqb-true, eq-eqb, leb-true, le-leb}
+use borrow.Author.Tests.{eqb-true, eq-eqb, ne-eqb, leb-true, le-leb}
 use Rattle.rules.specs.Lists.{all, any}
 
 -- ---- Booleans
@@ -46,6 +46,14 @@ both-eqb a b c d = (
       (eqb-true a b i, eqb-true c d j),
   λ (h, k). and-eq-true-iff (eqb a b) (eqb c d) .1 (eq-eqb a b h, eq-eqb c d k),
 )
+
+-- a number is not equal to both of two that differ
+pub not-both : (c a b : ℕ) → (a ≡ b → ⊥) → (eqb c a && eqb c b) ≡ false
+not-both c a b differ = go (eqb c a) refl
+  where
+    go : (t : Bool) → eqb c a ≡ t → (t && eqb c b) ≡ false
+    go true e = ne-eqb c b (λ q. differ (sym (eqb-true c a e) ∙ q))
+    go false e = refl
 
 -- a test as a count
 abbrev pub oneIf : Bool → ℕ
@@ -91,6 +99,11 @@ module _ {A : Type 0} (test : A → Bool) where
   -- none of two lists joined
   pub none-append : (xs ys : List A) → (any test (xs ++ ys) ≡ false) ↔ ((any test xs ≡ false) × (any test ys ≡ false))
   none-append xs ys = rw any-append (or-false-iff (any test xs) (any test ys))
+
+  -- none of a list and one element more
+  pub none-snoc : (xs : List A) (x : A) → (any test (xs ++ (x ∷ [])) ≡ false) ↔ ((any test xs ≡ false) × (test x ≡ false))
+  unfolding any
+  none-snoc xs x = rw (any-append xs (x ∷ []), any-cons x [], or-false) (or-false-iff (any test xs) (test x))
 
   -- all of two lists joined
   pub all-append : (xs ys : List A) → all test xs ≡ true → all test ys ≡ true → all test (xs ++ ys) ≡ true

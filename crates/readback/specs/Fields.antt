@@ -111,7 +111,7 @@ field-of-word judge due [] a rest at h e = absurd (false≢true h)
 field-of-word judge due (b ∷ w) a rest at h e = (suc (at + suc (length w)), rw (e, eq-eqb due due refl, separator) refl)
 
 -- a word's bytes are plain
-word-plain : (w : List ℕ) → isWord w ≡ true → all plain w ≡ true
+pub word-plain : (w : List ℕ) → isWord w ≡ true → all plain w ≡ true
 unfolding isWord
 word-plain [] h = absurd (false≢true h)
 word-plain (b ∷ w) h = h

@@ -2,7 +2,7 @@
 -- Assumes nothing.
 use Prim.Native.Nat.{ℕ, _^_, _<_}
 use mathlib.Core.Path.{_≡_, refl, sym, ap, ap₂, _∙_, fun-ext}
-use mathlib.Core.Bool.{Bool, true, false, true≢false, false≢true}
+use mathlib.Core.Bool.{Bool, true, false}
 use mathlib.Core.List.{List, [], _∷_, _++_, map}
 use native.Mathlib.Nat.{add-zero, sub-self}
 use lib.ListN.{length, length-map}
@@ -21,16 +21,14 @@ distinctInks inks = firsts eqb [] inks
 firsts-map : (f : ℕ → ℕ) (kept ps : List ℕ) → map f (firsts (λ p q. eqb (f p) (f q)) kept ps) ≡ firsts eqb (map f kept) (map f ps)
 unfolding firsts
 firsts-map f kept [] = refl
-firsts-map f kept (p ∷ ps) = go (any (λ q. eqb (f p) (f q)) kept) (any (eqb (f p)) (map f kept)) (sym (any-map f (eqb (f p)) kept)) (λ kept. firsts-map f kept ps)
+firsts-map f kept (p ∷ ps) =
+    rw (any-map f (eqb (f p)) kept, firsts)
+    (go (any (λ q. eqb (f p) (f q)) kept) _ _ (firsts-map f kept ps) (rw map-append at (firsts-map f (kept ++ (p ∷ [])) ps)))
   where
-    go : (t u : Bool) → t ≡ u
-        → ((kept : List ℕ) → map f (firsts (λ p q. eqb (f p) (f q)) kept ps) ≡ firsts eqb (map f kept) (map f ps))
-        → map f (elim t as (λ _. List ℕ) [ true ↦ firsts (λ p q. eqb (f p) (f q)) kept ps | false ↦ firsts (λ p q. eqb (f p) (f q)) (kept ++ (p ∷ [])) ps ])
-        ≡ (elim u as (λ _. List ℕ) [ true ↦ firsts eqb (map f kept) (map f ps) | false ↦ firsts eqb (map f kept ++ (f p ∷ [])) (map f ps) ])
-    go true true e rest = rest kept
-    go true false e rest = absurd (true≢false e)
-    go false true e rest = absurd (false≢true e)
-    go false false e rest = rest (kept ++ (p ∷ [])) ∙ ap (λ (l : List ℕ). firsts eqb l (map f ps)) (map-append f kept (p ∷ []))
+    go : (b : Bool) (c d : List ℕ) {k l : List ℕ} → map f c ≡ k → map f d ≡ l
+        → _≡_ {A = List ℕ} (map f (elim b [ true ↦ c | false ↦ d ])) (elim b [ true ↦ k | false ↦ l ])
+    go true c d e _ = e
+    go false c d _ e = e
 
 -- with no other input, alike is having the same ink
 alone : (f : ℕ → ℕ) (p q : ℕ) → alikeOver f (0 ∷ []) p q ≡ eqb (f p) (f q)

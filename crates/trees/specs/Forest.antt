@@ -3,17 +3,17 @@
 -- Assumes nothing.
 use Prim.Native.Nat.{ℕ, _+_, _-_, _<_}
 use mathlib.Core.Path.{_≡_, refl, _∙_, ap}
-use mathlib.Core.List.{List, [], _∷_, _++_, map}
+use mathlib.Core.List.{List, [], _∷_, _++_, map, map-map}
 use native.Mathlib.Nat.{zero-add}
 use native.Mathlib.Omega.{arith}
-use lib.ListN.{length, getD, length-map}
+use lib.ListN.{length, getD}
 use Rattle.rules.specs.Lists.{range}
-use Rattle.rules.specs.Sheets.{Gate, level, levelsAt}
+use Rattle.rules.specs.Sheets.{Gate, levelsAt}
 use Rattle.rules.specs.Value.{gateValue, withGates, value}
 use Rattle.rules.specs.Kept.{RefersBack}
 use Rattle.laws.specs.Concat.{map-append}
 use Rattle.laws.specs.Places.{length-snoc, map-at}
-use Rattle.laws.specs.Ranges.{range-length, map-range-at}
+use Rattle.laws.specs.Ranges.{map-range-length, map-range-at}
 use Rattle.trees.specs.Trees.{Tree, leaf, node, treeValue}
 
 -- the tree of a reference
@@ -45,7 +45,7 @@ trees-length forest (g ∷ gates) =
 -- each input has a tree
 pub inputs-length : (n : ℕ) → length (inputTrees n) ≡ n
 unfolding inputTrees
-inputs-length n = length-map (range 0 n) leaf ∙ range-length 0 n
+inputs-length n = map-range-length leaf 0 n
 
 -- the first n references are the inputs
 pub input-at : (n i : ℕ) → i < n → treeAt (inputTrees n) i ≡ leaf i
@@ -78,11 +78,7 @@ module _ (m n p : ℕ) where
   -- an input's value is its level
   inputs-values : map valueOf (inputTrees n) ≡ levelsAt m n p
   unfolding inputTrees levelsAt treeValue
-  inputs-values = map-leaf (range 0 n)
-    where
-      map-leaf : (is : List ℕ) → map valueOf (map leaf is) ≡ map (level m n p) is
-      map-leaf [] = refl
-      map-leaf (i ∷ is) = ap {B = List ℕ} (λ l. level m n p i ∷ l) (map-leaf is)
+  inputs-values = map-map valueOf leaf (range 0 n)
 
   -- the value of a gate list is that of its last gate's tree
   pub last-value : (gates : List Gate) → 0 < length gates → RefersBack n gates

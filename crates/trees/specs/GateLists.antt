@@ -8,7 +8,7 @@ use mathlib.Core.Path.{_≡_, refl, sym, ap, _∙_}
 use mathlib.Core.Logic.{by-cases}
 use mathlib.Core.Bool.{Bool, true, false}
 use mathlib.Core.List.{List, [], _∷_, _++_}
-use lib.ListN.{length, getD, length-append, length-map}
+use lib.ListN.{length, getD, length-append}
 use lib.Dec.{eqb}
 use Rattle.rules.specs.Lists.{range, those}
 use Rattle.rules.specs.Sheets.{Gate, usedBy, level, levelsAt}
@@ -17,7 +17,7 @@ use Rattle.rules.specs.Groups.{member, size, wholeGroup}
 use Rattle.rules.specs.Settled.{Wiring, input, gate, groupOf, gatesIn, referenceTo, gateList, gateDigits}
 use Rattle.rules.specs.Kept.{RefersBack, Tables, GateRules, IsNet}
 use Rattle.laws.specs.Tests.{oneIf, one-if-le, one-if-or}
-use Rattle.laws.specs.Ranges.{range-length, range-append, map-range-at}
+use Rattle.laws.specs.Ranges.{map-range-length, range-append, map-range-at}
 use Rattle.laws.specs.Counts.{count-cons, count-append, times, not-one, times-range}
 use Rattle.laws.specs.Distinct.{times-distinct}
 use Rattle.trees.specs.Trees.{EachOnce, Filled, treeValue, fill}
@@ -221,7 +221,7 @@ module _ (m n : ℕ) (f : ℕ → ℕ) where
   levels-valued : (p : ℕ) → Valued p 0 (levelsAt m n p)
   unfolding levelsAt
   levels-valued p = (
-    length-map (range 0 n) (level m n p) ∙ range-length 0 n ∙ sym (add-zero n),
+    map-range-length (level m n p) 0 n ∙ sym (add-zero n),
     λ i h. map-range-at (level m n p) 0 n i 0 h ∙ ap (level m n p) (zero-add i),
   )
 

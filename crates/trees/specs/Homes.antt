@@ -3,7 +3,7 @@
 -- Assumes nothing.
 use Prim.Native.Nat.{ℕ, _^_, _≤_, _<_}
 use mathlib.Core.Path.{_≡_, refl, sym, _∙_}
-use mathlib.Core.Bool.{Bool, true, false, _&&_, _||_}
+use mathlib.Core.Bool.{Bool, true, false, _||_}
 use mathlib.Core.List.{List, [], _∷_, _++_, append-assoc, append-nil}
 use native.Mathlib.Omega.{arith}
 use native.Mathlib.Decide.{decLt}
@@ -16,7 +16,7 @@ use Rattle.rules.specs.Sheets.{Gate, usedBy}
 use Rattle.rules.specs.Groups.{member}
 use Rattle.rules.specs.Settled.{groupOf}
 use Rattle.rules.specs.Kept.{GateTable, RefersBack, Distinct, Tables}
-use Rattle.laws.specs.Tests.{or-false-iff, none-append}
+use Rattle.laws.specs.Tests.{or-false-iff, not-both, none-append}
 use Rattle.laws.specs.Places.{length-snoc, each-snoc}
 use Rattle.laws.specs.Distinct.{NotIn, not-in-two, not-in-cons, distinct-before}
 use Rattle.trees.specs.Trees.{Tree, leaf, wiringIn, Apart, EachOnce, Filled}
@@ -68,14 +68,6 @@ grown-inputs m n =
     leaf-at r h = input-at n r (omega (arith, inputs-length n))
 
 -- ---- one gate more
-
--- a number is not equal to both of two that differ
-not-both : (c a b : ℕ) → (a ≡ b → ⊥) → (eqb c a && eqb c b) ≡ false
-not-both c a b differ = go (eqb c a) refl
-  where
-    go : (t : Bool) → eqb c a ≡ t → (t && eqb c b) ≡ false
-    go true e = ne-eqb c b (λ q. differ (sym (eqb-true c a e) ∙ q))
-    go false e = refl
 
 -- a number that is one of two is no other
 neither : (c a b s : ℕ) → (eqb c a || eqb c b) ≡ true → (s ≡ a → ⊥) → (s ≡ b → ⊥) → eqb c s ≡ false

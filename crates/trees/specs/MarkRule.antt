@@ -3,7 +3,7 @@
 use Prim.Native.Nat.{ℕ, zero, suc, _+_, _-_, _^_, _≤_, _<_}
 use mathlib.Core.Path.{_≡_, refl, sym, _∙_, ap}
 use mathlib.Core.Logic.{_≢_, _⊎_, inl, inr, ⊎-elim}
-use mathlib.Core.Bool.{Bool, true, false, not, _||_, and-eq-true-iff, and-comm, true≢false}
+use mathlib.Core.Bool.{Bool, true, false, not, _||_, and-eq-true-iff, true≢false}
 use mathlib.Core.List.{List, [], List·Memᴰ}
 use native.Mathlib.Omega.{arith}
 use native.Mathlib.Numerals.{add-one}
@@ -23,6 +23,7 @@ use Rattle.laws.specs.FirstPlaces.{first-passes}
 use Rattle.trees.specs.Trees.{Apart, Tells}
 use Rattle.trees.specs.Members.{member-single, inside-join, rest-apart, size-one, size-zero}
 use Rattle.trees.specs.Levels.{level-below, part-ext}
+use Rattle.trees.specs.Joins.{apart-sym}
 use Rattle.trees.specs.Alike.{alike-part}
 use Rattle.trees.specs.Classes.{few-classes}
 
@@ -88,7 +89,7 @@ parts-swap n mark g parts =
       a = parts .b;
       b = parts .a;
       joined = omega arith;
-      apart = λ i h. and-comm (member i (parts .b)) (member i (parts .a)) ∙ parts .apart i h;
+      apart = apart-sym n (parts .a) (parts .b) (parts .apart);
       some-a = parts .some-b;
       some-b = parts .some-a;
       two-a = parts .two-b;

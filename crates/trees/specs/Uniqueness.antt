@@ -5,9 +5,8 @@ use mathlib.Core.Path.{_≡_, sym, ap, _∙_, subst, subst⁻¹}
 use mathlib.Core.Logic.{_↔_}
 use mathlib.Core.List.{List}
 use native.Mathlib.Nat.{zero-add}
-use lib.ListN.{length, length-map}
+use lib.ListN.{length}
 use lib.Seq.{ext-getD}
-use Rattle.rules.specs.Lists.{range}
 use Rattle.rules.specs.Sheets.{Gate}
 use Rattle.rules.specs.Value.{value, tableOf}
 use Rattle.rules.specs.Groups.{wholeGroup}
@@ -15,7 +14,7 @@ use Rattle.rules.specs.Marks.{marksOf}
 use Rattle.rules.specs.Settled.{settledGates}
 use Rattle.rules.specs.Calls.{inkIn}
 use Rattle.rules.specs.Kept.{IsNet}
-use Rattle.laws.specs.Ranges.{range-length, map-range-at}
+use Rattle.laws.specs.Ranges.{map-range-length, map-range-at}
 use Rattle.trees.specs.Trees.{Computes}
 use Rattle.trees.specs.NetTree.{TreeOf, net-tree}
 use Rattle.trees.specs.Wirings.{tree-below}
@@ -25,7 +24,7 @@ use Rattle.trees.specs.Existence.{net-marks, settled-net}
 module _ (m n : ℕ) where
   pub table-length : (gates : List Gate) → length (tableOf m n gates) ≡ m ^ n
   unfolding tableOf
-  table-length gates = length-map (range 0 (m ^ n)) (value m n gates) ∙ range-length 0 (m ^ n)
+  table-length gates = map-range-length (value m n gates) 0 (m ^ n)
 
   -- the table's entry at an index is the value there
   pub table-at : (gates : List Gate) (p : ℕ) → p < m ^ n → inkIn (tableOf m n gates) p ≡ value m n gates p
