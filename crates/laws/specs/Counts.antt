@@ -57,17 +57,17 @@ pub not-one : (r x : ℕ) → (r ≡ x → ⊥) → oneIf (eqb r x) ≡ 0
 not-one r x ne = rw (ne-eqb r x ne)
 
 -- a range has no number below its first
-times-range-below : (r from count : ℕ) → r < from → times r (range from count) ≡ 0
+times-range-below : (r from k : ℕ) → r < from → times r (range from k) ≡ 0
 unfolding range those
 times-range-below r from zero h = refl
-times-range-below r from (suc count) h =
-    omega (arith, count-cons (eqb r) from (range (suc from) count), not-one r from (omega arith), times-range-below r (suc from) count (omega arith))
+times-range-below r from (suc k) h =
+    omega (arith, count-cons (eqb r) from (range (suc from) k), not-one r from (omega arith), times-range-below r (suc from) k (omega arith))
 
 -- a range has each number at most once
-pub times-range : (r from count : ℕ) → times r (range from count) ≤ 1
+pub times-range : (r from k : ℕ) → times r (range from k) ≤ 1
 unfolding range those
 times-range r from zero = omega arith
-times-range r from (suc count) =
+times-range r from (suc k) =
     by-cases (decLe r from)
-    (λ h. omega (arith, count-cons (eqb r) from (range (suc from) count), one-if-le (eqb r from), times-range-below r (suc from) count (omega arith)))
-    (λ h. omega (arith, count-cons (eqb r) from (range (suc from) count), not-one r from (λ e. h (omega arith)), times-range r (suc from) count))
+    (λ h. omega (arith, count-cons (eqb r) from (range (suc from) k), one-if-le (eqb r from), times-range-below r (suc from) k (omega arith)))
+    (λ h. omega (arith, count-cons (eqb r) from (range (suc from) k), not-one r from (λ e. h (omega arith)), times-range r (suc from) k))

@@ -108,7 +108,6 @@ module _ (m : ℕ) (positive : 0 < m) (names : List (List ℕ)) (good-names : Go
   abbrev Gates : List Gate → List Gate → Type 0
   Gates earlier gates = GatesAfter m (length names + length earlier) (usedBy earlier) gates
 
-  -- one gate line
   spells-gate : (earlier : List Gate) → Spells (gateLine m names earlier) ((g : Gate) × One earlier g) (λ x. x .0) (λ x. printedGate names (x .0))
   unfolding gateLine printedGate
   spells-gate earlier = spells-as
@@ -136,7 +135,6 @@ module _ (m : ℕ) (positive : 0 < m) (names : List (List ℕ)) (good-names : Go
   one-gate earlier g gates = rw (refs-last earlier g, used-last earlier g)
       (λ (a, b). gates-to m _ (usedBy earlier) g gates a b, gates-from m (length names + length earlier) (usedBy earlier) g gates)
 
-  -- the gate lines
   pub spells-gates : (count : ℕ) (earlier : List Gate)
       → Collects (gateLines m names count earlier) earlier count (Gates earlier) (concatMap (printedGate names))
   unfolding gateLines concatMap usedBy

@@ -82,7 +82,6 @@ module _ (print : ℕ → List ℕ) (from count : ℕ) (test : ℕ → Bool) (u 
   verdict none = bad u
   verdict (some n) = judged (test n) n v
 
-  -- the judge
   unfoldable pub looking : Judge ℕ
   looking w = verdict (find (λ n. same w (print n)) (range from count))
 

@@ -52,13 +52,11 @@ row-text : (m n p ink : ℕ) → ended space (digitWords (levelsAt m n p)) ++ (d
 unfolding printedRow
 row-text m n p ink = rw (map-append, line-last (digitWords (levelsAt m n p)) (digitByte ink ∷ [])) refl
 
--- one row
 spells-row : (m n p : ℕ)
     → Spells (levelFields (levelsAt m n p) >>= λ _. field (inkField m) newline) ((ink : ℕ) × (ink < m)) (λ x. x .0) (λ x. printedRow m n p (x .0))
 spells-row m n p = spells-as (spells-then _ (spells-levels (levelsAt m n p)) (λ _. spells-field newline parts-newline (judges-ink m)))
     (λ (_, x). (x, refl, row-text m n p (x .0))) (λ x. ((tt, x), refl, sym (row-text m n p (x .0))))
 
--- the rows
 spells-rows : (m n count p : ℕ) (earlier : List ℕ) → Collects (rowLines m n p count earlier) earlier count (Below m) (printedRows m n p)
 unfolding rowLines printedRows
 spells-rows m n zero p earlier = collects-none earlier (Below m) (printedRows m n p) tt refl

@@ -135,7 +135,6 @@ net-uses-gates m n gates net k h = net-uses m n gates net (n + k) (omega arith)
 pub net-uses-inputs : (m n : ℕ) (gates : List Gate) → 1 < n → IsNet m n gates → (i : ℕ) → i < n → any (eqb i) (usedBy gates) ≡ true
 net-uses-inputs m n gates h net i i< = net-uses m n gates net i (omega (arith, net .count))
 
--- a net's tree
 pub net-tree : (m n : ℕ) (gates : List Gate) → 1 < n → IsNet m n gates → TreeOf m n gates
 net-tree m n gates h net = net-is-tree m n gates (omega (arith, net .count)) (net .rules) (net-uses-gates m n gates net)
 
