@@ -2,7 +2,7 @@
 -- Assumes nothing.
 use Prim.Native.Nat.{ℕ, _^_, _<_}
 use mathlib.Core.Path.{_≡_, refl, sym, ap, ap₂, _∙_, fun-ext}
-use mathlib.Core.Bool.{Bool, true, false}
+use mathlib.Core.Bool.{Bool, true, false, and-true}
 use mathlib.Core.List.{List, [], _∷_, _++_, map}
 use native.Mathlib.Nat.{add-zero, sub-self}
 use lib.ListN.{length, length-map}
@@ -10,7 +10,7 @@ use lib.Dec.{eqb}
 use Rattle.rules.specs.Lists.{range, all, any}
 use Rattle.rules.specs.Groups.{wholeGroup, others, points, alikeOver, firsts, classes, multiplicity}
 use Rattle.laws.specs.Concat.{map-append}
-use Rattle.laws.specs.Tests.{any-map}
+use Rattle.laws.specs.Tests.{all-cons, any-map}
 use Rattle.trees.specs.Points.{points-whole, points-empty}
 
 -- the inks of a table, each once, in the order in which they first appear
@@ -33,11 +33,7 @@ firsts-map f kept (p ∷ ps) =
 -- with no other input, alike is having the same ink
 alone : (f : ℕ → ℕ) (p q : ℕ) → alikeOver f (0 ∷ []) p q ≡ eqb (f p) (f q)
 unfolding alikeOver all
-alone f p q = ap₂ (λ (a b : ℕ). all (λ (y : ℕ). eqb (f a) (f b)) (0 ∷ [])) (add-zero p) (add-zero q) ∙ go (eqb (f p) (f q))
-  where
-    go : (t : Bool) → (elim t as (λ _. Bool) [ true ↦ true | false ↦ false ]) ≡ t
-    go true = refl
-    go false = refl
+alone f p q = simp (all-cons, add-zero, and-true)
 
 module _ (m n : ℕ) (pos : 0 < m) (f : ℕ → ℕ) where
   whole-classes : classes m n f (wholeGroup n) ≡ firsts (λ p q. eqb (f p) (f q)) [] (range 0 (m ^ n))
