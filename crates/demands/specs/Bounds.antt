@@ -5,7 +5,7 @@ use mathlib.Core.Path.{_≡_}
 use mathlib.Core.Bool.{true}
 use native.Mathlib.Omega.{arith}
 use Rattle.rules.specs.Limits.{levelsFit, inputsFit}
-use Rattle.readback.specs.Judges.{levels-fit, inputs-fit}
+use Rattle.laws.specs.Sizes.{levels-fit, inputs-fit}
 
 pub levels-pos : (m : ℕ) → levelsFit m ≡ true → 0 < m
 levels-pos m h = omega (arith, levels-fit m .0 h .0)

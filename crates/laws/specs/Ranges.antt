@@ -7,7 +7,7 @@ use mathlib.Core.List.{List, [], _∷_, _++_, map, List·Memᴰ, List·Memᴰ·h
 use native.Mathlib.Nat.{add-zero, zero-add, add-suc, suc-add, eq-or-lt-of-le}
 use native.Mathlib.Numerals.{add-one}
 use native.Mathlib.Omega.{arith}
-use lib.ListN.{length, getD, length-map}
+use lib.ListN.{length, getD, length-map, replicate}
 use Rattle.rules.specs.Lists.{range}
 use Rattle.laws.specs.Places.{map-at}
 
@@ -40,6 +40,18 @@ pub map-range : (a from count : ℕ) → map (λ l. a + l) (range from count) �
 unfolding range
 map-range a from zero = refl
 map-range a from (suc count) = rw (map-range a (suc from) count, add-suc)
+
+-- two functions that agree on a range
+pub map-range-same : {A : Type 0} (f h : ℕ → A) (from count : ℕ) → ((i : ℕ) → from ≤ i → i < from + count → f i ≡ h i) → map f (range from count) ≡ map h (range from count)
+unfolding range
+map-range-same f h from zero e = refl
+map-range-same f h from (suc count) e = λ i. e from (omega arith) (omega arith) i ∷ map-range-same f h (suc from) count (λ k l u. e k (omega arith) (omega arith)) i
+
+-- one value for the whole range
+pub map-range-all : {A : Type 0} (a : A) (from count : ℕ) → map (λ _. a) (range from count) ≡ replicate count a
+unfolding range
+map-range-all a from zero = refl
+map-range-all a from (suc count) = ap {B = List _} (λ r. a ∷ r) (map-range-all a (suc from) count)
 
 -- ---- what is listed, and where
 

