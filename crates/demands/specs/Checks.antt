@@ -1,27 +1,26 @@
 -- Demand 2, checking and table writing: "the check of a net against a table says yes exactly when they agree on every
 -- assignment"; the table sheet written from a net sheet is accepted, and checks against it.
 -- Assumes nothing.
-use Prim.Native.Nat.{ℕ, _+_, _^_, _≤_, _<_}
+use Prim.Native.Nat.{ℕ, _^_, _≤_, _<_}
 use mathlib.Core.Path.{_≡_, refl, sym, ap, _∙_, subst, subst⁻¹}
 use mathlib.Core.Logic.{_↔_}
-use mathlib.Core.Bool.{Bool, true, false, not, _&&_}
+use mathlib.Core.Bool.{Bool, true, false, not}
 use mathlib.Core.List.{List, [], _∷_}
-use native.Mathlib.Nat.{zero-add, lt-of-not-le, le-of-eq}
+use native.Mathlib.Nat.{zero-add}
 use native.Mathlib.Decide.{decLt}
 use native.Mathlib.Omega.{arith}
 use lib.ListN.{length, getD}
-use lib.Dec.{eqb, ltb}
-use borrow.Author.Tests.{lt-ltb, le-ltb, eq-eqb, eqb-true, eqb-false, ne-eqb, not-false, not-true}
+use lib.Dec.{eqb}
+use borrow.Author.Tests.{lt-ltb, le-ltb, eq-eqb, eqb-true, eqb-false, not-false, not-true}
 use Rattle.rules.specs.Lists.{range, firstPlace, same}
 use Rattle.rules.specs.Sheets.{Header, Net, Table}
 use Rattle.rules.specs.Printed.{printedTable}
-use Rattle.rules.specs.Value.{value, tableOf}
-use Rattle.rules.specs.Kept.{KeptNet, KeptTable}
-use Rattle.rules.specs.Calls.{Answer, accepted, refused, Verdict, agree, differ, turnedDown, Checked, inkIn, written, readNet, readTable, tableOfNet, sameNames, sameHeader, compared, checkedInto, checkCall, writeTableCall}
-use Rattle.laws.specs.FirstPlaces.{before-first, at-first, none-first}
+use Rattle.rules.specs.Value.{value}
+use Rattle.rules.specs.Calls.{accepted, Verdict, agree, differ, Checked, inkIn, written, readNet, readTable, tableOfNet, sameNames, sameHeader, compared, checkCall}
+use Rattle.laws.specs.FirstPlaces.{before-first, at-first}
 use Rattle.laws.specs.Outcomes.{check-accepted, check-compared}
 use Rattle.laws.specs.Ranges.{range-length, range-at}
-use Rattle.readback.specs.Tests.{same-refl, same-true}
+use Rattle.laws.specs.Same.{same-refl}
 use Rattle.readback.specs.ReadBack.{net-accepted, table-accepted, table-read-back}
 use Rattle.trees.specs.Uniqueness.{table-at, table-length}
 use Rattle.demands.specs.Settles.{kept-table}

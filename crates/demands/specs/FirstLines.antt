@@ -7,18 +7,17 @@ use mathlib.Core.Logic.{_↔_}
 use mathlib.Core.Bool.{Bool, true, false, not, _||_, false≢true}
 use mathlib.Core.List.{List, [], _∷_, _++_, append-assoc, append-nil}
 use native.Mathlib.Omega.{arith}
-use lib.ListN.{length}
 use lib.Dec.{eqb}
 use Rattle.rules.specs.Lists.{all, concatMap}
 use Rattle.rules.specs.Text.{space, newline, text, decimal}
 use Rattle.rules.specs.Fields.{isSeparator, Read, read}
-use Rattle.rules.specs.Sheets.{Header, Net, isName, headerLines}
+use Rattle.rules.specs.Sheets.{Header, Net, headerLines}
 use Rattle.rules.specs.Printed.{line, firstLines, printedGate, printedNet}
 use Rattle.rules.specs.Kept.{GoodNames, KeptHeader, KeptNet}
-use Rattle.rules.specs.Calls.{Answer, accepted, readNet}
+use Rattle.rules.specs.Calls.{accepted, readNet}
 use Rattle.demands.specs.Bounds.{inputs-several}
-use Rattle.readback.specs.Tests.{all-iff}
-use Rattle.readback.specs.Fields.{plain, isWord}
+use Rattle.laws.specs.Tests.{all-iff}
+use Rattle.readback.specs.Fields.{plain, isWord, parts-newline, word-plain}
 use Rattle.readback.specs.Decimals.{decimal-word}
 use Rattle.readback.specs.Judges.{name-word}
 use Rattle.readback.specs.Header.{headText, spells-header}
@@ -33,15 +32,6 @@ linesOf (suc k) (b ∷ s) = elim (eqb b newline) [ true ↦ b ∷ linesOf k s | 
 
 unfoldable pub threeLines : List ℕ → List ℕ
 threeLines s = linesOf 3 s
-
-word-plain : (w : List ℕ) → isWord w ≡ true → all plain w ≡ true
-unfolding isWord
-word-plain [] h = absurd (false≢true h)
-word-plain (b ∷ w) h = h
-
-newline-parts : isSeparator newline ≡ true
-unfolding isSeparator space newline
-newline-parts = refl
 
 -- a byte that parts nothing is no line feed
 plain-byte : (b : ℕ) → plain b ≡ true → eqb b newline ≡ false
@@ -122,8 +112,8 @@ three-lines net kept =
 -- the header that those lines say
 pub header-said : (h k : Header) → KeptHeader h → KeptHeader k → firstLines h (h .names) ≡ firstLines k (k .names) → h ≡ k
 header-said h k kept kept' e =
-    let (place, d) = spells-header newline newline-parts .back (h, kept) [] 0 tt in
-    let (place', d') = spells-header newline newline-parts .back (k, kept') [] 0 tt in
+    let (place, d) = spells-header newline parts-newline .back (h, kept) [] 0 tt in
+    let (place', d') = spells-header newline parts-newline .back (k, kept') [] 0 tt in
     let same : headText newline h ≡ headText newline k = sym (head-line h kept) ∙ e ∙ head-line k kept' in
     same-read h k place place' (sym d ∙ ap (λ (t : List ℕ). headerLines newline (t ++ []) 0) same ∙ d')
 

@@ -4,20 +4,18 @@
 -- same order."
 -- Assumes nothing.
 use Prim.Native.Nat.{ℕ, _^_, _≤_, _<_}
-use mathlib.Core.Path.{_≡_, refl, sym, ap, _∙_, subst, subst⁻¹}
+use mathlib.Core.Path.{_≡_, sym, ap, _∙_, subst, subst⁻¹}
 use mathlib.Core.Logic.{_↔_}
-use mathlib.Core.List.{List, [], _∷_}
-use lib.ListN.{length, getD}
-use Rattle.rules.specs.Sheets.{Gate, Net, Table}
+use mathlib.Core.List.{List}
+use lib.ListN.{length}
+use Rattle.rules.specs.Sheets.{Net, Table}
 use Rattle.rules.specs.Printed.{printedNet}
-use Rattle.rules.specs.Value.{tableOf}
-use Rattle.rules.specs.Groups.{wholeGroup}
-use Rattle.rules.specs.Marks.{markIn, marksOf, marksLength, storedMarks, noTreePlace}
-use Rattle.rules.specs.Kept.{KeptNet, KeptTable, IsNet}
-use Rattle.rules.specs.Calls.{Answer, accepted, refused, Made, inkIn, written, readNet, readTable, tableOfNet, settledNet, settledInto, settleCall, makeCall}
+use Rattle.rules.specs.Marks.{marksLength, storedMarks, noTreePlace}
+use Rattle.rules.specs.Kept.{KeptNet, KeptTable}
+use Rattle.rules.specs.Calls.{accepted, refused, Made, inkIn, written, readNet, readTable, tableOfNet, settledNet, settleCall, makeCall}
 use Rattle.laws.specs.Outcomes.{WholeTwo, marksOfTable, make-accepted, into-marked, marked-16, marked-tree}
 use Rattle.trees.specs.Existence.{TreeExists, tree-exists, settled-net}
-use Rattle.trees.specs.Uniqueness.{table-is, table-length, table-at}
+use Rattle.trees.specs.Uniqueness.{table-is, table-at}
 use Rattle.demands.specs.Bounds.{levels-pos, inputs-several}
 use Rattle.readback.specs.ReadBack.{net-read-back, net-accepted, table-accepted}
 use Rattle.demands.specs.Settles.{sheetOf, Long, settled-written, settles, table-path, not-16}

@@ -4,23 +4,22 @@
 -- table."
 -- Assumes nothing.
 use Prim.Native.Nat.{ℕ, _^_, _≤_, _<_}
-use mathlib.Core.Path.{_≡_, refl, sym, ap, _∙_, subst, subst⁻¹}
+use mathlib.Core.Path.{_≡_, refl, sym, ap, _∙_, subst}
 use mathlib.Core.Logic.{_↔_}
-use mathlib.Core.List.{List, [], _∷_, _++_}
+use mathlib.Core.List.{List}
 use native.Mathlib.Nat.{lt-of-not-le}
 use native.Mathlib.Decide.{decLe}
 use native.Mathlib.Omega.{arith}
-use lib.ListN.{length, getD, take, drop}
+use lib.ListN.{length, take, drop}
 use lib.Seq.{take-at}
 use Rattle.rules.specs.Limits.{mostSettled}
-use Rattle.rules.specs.Sheets.{Header, Net, Table}
+use Rattle.rules.specs.Sheets.{Net, Table}
 use Rattle.rules.specs.Printed.{printedNet}
-use Rattle.rules.specs.Value.{tableOf}
 use Rattle.rules.specs.Marks.{marksLength, storedMarks}
-use Rattle.rules.specs.Kept.{KeptHeader, KeptNet, KeptTable, IsNet}
+use Rattle.rules.specs.Kept.{KeptNet, KeptTable}
 use Rattle.rules.specs.Calls.{Answer, accepted, refused, Made, written, readNet, tableOfNet, settledNet, writtenSheet, settledInto, settleCall}
 use Rattle.laws.specs.Outcomes.{WholeTwo, marksOfTable, settle-refused, settle-accepted, into-13, into-14, into-marked, marked-tree, sheet-15, sheet-written}
-use Rattle.trees.specs.Uniqueness.{settledOf, table-length, net-inks, net-two, settled-is-net, settled-table, settled-unique}
+use Rattle.trees.specs.Uniqueness.{settledOf, table-length, net-inks, net-two, settled-is-net, settled-table}
 use Rattle.demands.specs.Bounds.{levels-pos, inputs-several}
 use Rattle.demands.specs.FirstLines.{threeLines, three-lines, same-lines}
 use Rattle.readback.specs.ReadBack.{net-read-back, net-accepted}

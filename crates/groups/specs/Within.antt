@@ -7,7 +7,7 @@ use lib.ListN.{length, getD}
 use Rattle.rules.specs.Groups.{others, points}
 use Rattle.trees.specs.Trees.{mix}
 use Rattle.trees.specs.Levels.{mix-below}
-use Rattle.trees.specs.ListLaws.{mem-getD}
+use Rattle.laws.specs.Places.{mem-getD}
 use Rattle.trees.specs.Points.{points-are-parts}
 
 -- p with each of ys added is below b

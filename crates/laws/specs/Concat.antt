@@ -1,12 +1,13 @@
 -- Laws of `concatMap` and `map`.
 -- Assumes nothing.
+use Prim.Native.Nat.{ℕ, _*_}
 use mathlib.Core.Path.{_≡_, refl, sym, ap, _∙_}
-use mathlib.Core.List.{List, [], _∷_, _++_, map, append-assoc}
+use mathlib.Core.Logic.{_⊎_, inl, inr}
+use mathlib.Core.List.{List, [], _∷_, _++_, map, append-assoc, List·Memᴰ, List·Memᴰ·head, List·Memᴰ·tail, List·Memᴰ·append-cases, Memᴰ·append-left, Memᴰ·append-right, List·Memᴰ·not-nil}
+pub use mathlib.Core.List.{map-append}
+use native.Mathlib.Nat.{zero-mul, suc-mul, add-comm}
+use lib.ListN.{length, length-append}
 use Rattle.rules.specs.Lists.{concatMap}
-
-pub map-append : {A B : Type 0} (f : A → B) (xs ys : List A) → map f (xs ++ ys) ≡ map f xs ++ map f ys
-map-append f [] ys = refl
-map-append f (x ∷ xs) ys = ap {B = List _} (λ r. f x ∷ r) (map-append f xs ys)
 
 pub concat-append : {A B : Type 0} (f : A → List B) (xs ys : List A) → concatMap f (xs ++ ys) ≡ concatMap f xs ++ concatMap f ys
 unfolding concatMap
@@ -38,3 +39,29 @@ concat-same f h e (x ∷ xs) = λ i. e x i ++ concat-same f h e xs i
 pub map-same : {A B : Type 0} (f h : A → B) → ((x : A) → f x ≡ h x) → (xs : List A) → map f xs ≡ map h xs
 map-same f h e [] = refl
 map-same f h e (x ∷ xs) = λ i. e x i ∷ map-same f h e xs i
+
+module _ {A B : Type 0} (f : A → List B) where
+  -- elements that give k each
+  pub concat-length : (k : ℕ) → ((x : A) → length (f x) ≡ k) → (xs : List A) → length (concatMap f xs) ≡ length xs * k
+  unfolding concatMap
+  concat-length k e [] = sym (zero-mul k)
+  concat-length k e (x ∷ xs) = rw (length-append, e x, concat-length k e xs, suc-mul, add-comm k (length xs * k))
+
+  -- what an element gives is listed, ..
+  pub mem-concat : {x : A} {y : B} {xs : List A} → List·Memᴰ x xs → List·Memᴰ y (f x) → List·Memᴰ y (concatMap f xs)
+  unfolding concatMap
+  mem-concat (List·Memᴰ·head {xs} e) h = Memᴰ·append-left (concatMap f xs) (rw e at h)
+  mem-concat (List·Memᴰ·tail {x = z} i) h = Memᴰ·append-right (f z) (mem-concat i h)
+
+  -- .. and nothing else
+  pub concat-mem : {y : B} (xs : List A) → List·Memᴰ y (concatMap f xs) → (x : A) × List·Memᴰ x xs × List·Memᴰ y (f x)
+  unfolding concatMap
+  concat-mem [] h = absurd (List·Memᴰ·not-nil h)
+  concat-mem {y} (x ∷ xs) h = go (List·Memᴰ·append-cases (f x) h) (concat-mem xs)
+    where
+      Source : List A → Type 0
+      Source zs = (z : A) × List·Memᴰ z zs × List·Memᴰ y (f z)
+
+      go : List·Memᴰ y (f x) ⊎ List·Memᴰ y (concatMap f xs) → (List·Memᴰ y (concatMap f xs) → Source xs) → Source (x ∷ xs)
+      go (inl i) rest = (x, List·Memᴰ·head refl, i)
+      go (inr i) rest = let s = rest i in (s .0, List·Memᴰ·tail (s .1), s .2)

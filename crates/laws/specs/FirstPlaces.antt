@@ -1,12 +1,14 @@
 -- The place of the first element that passes a test.
 -- Assumes nothing.
-use Prim.Native.Nat.{ℕ, zero, suc, _+_, _≤_, _<_}
-use mathlib.Core.Path.{_≡_, refl, sym, ap, _∙_, subst, subst⁻¹}
-use mathlib.Core.Bool.{Bool, true, false, cond}
-use mathlib.Core.List.{List, [], _∷_}
+use Prim.Native.Nat.{ℕ, zero, suc, _+_, _<_}
+use mathlib.Core.Path.{_≡_, refl, sym, ap, _∙_}
+use mathlib.Core.Bool.{Bool, true, false, cond, _||_, false≢true}
+use mathlib.Core.List.{List, [], _∷_, map}
 use native.Mathlib.Omega.{arith}
 use lib.ListN.{length, getD}
-use Rattle.rules.specs.Lists.{firstPlace}
+use Rattle.rules.specs.Lists.{range, any, firstPlace}
+use Rattle.laws.specs.Tests.{any-cons}
+use Rattle.laws.specs.Ranges.{range-length, range-at}
 
 -- by the first element's test
 pub first-cons : {A : Type 0} (test : A → Bool) (x : A) (xs : List A) → firstPlace test (x ∷ xs) ≡ cond (test x) zero (suc (firstPlace test xs))
@@ -17,30 +19,62 @@ pub first-none : {A : Type 0} (test : A → Bool) → firstPlace test [] ≡ 0
 unfolding firstPlace
 first-none test = refl
 
+-- a test of a function's values
+pub first-map : {A B : Type 0} (f : A → B) (test : B → Bool) (xs : List A) → firstPlace test (map f xs) ≡ firstPlace (λ x. test (f x)) xs
+unfolding firstPlace
+first-map f test [] = refl
+first-map f test (x ∷ xs) =
+    first-cons test (f x) (map f xs)
+    ∙ ap (λ (k : ℕ). cond (test (f x)) zero (suc k)) (first-map f test xs)
+    ∙ sym (first-cons (λ x. test (f x)) x xs)
+
 module _ {A : Type 0} (test : A → Bool) (d : A) where
   -- no element before the first place passes
   pub before-first : (xs : List A) (k : ℕ) → k < firstPlace test xs → test (getD xs k d) ≡ false
   before-first [] k h = absurd (omega (arith, first-none test))
-  before-first (x ∷ xs) k h = go (test x) refl k (subst (λ (l : ℕ). k < l) (first-cons test x xs) h) (before-first xs)
+  before-first (x ∷ xs) k h = go (test x) refl k (rw first-cons at h) (before-first xs)
     where
-      go : (t : Bool) → test x ≡ t → (k : ℕ) → k < cond (test x) zero (suc (firstPlace test xs)) → ((k : ℕ) → k < firstPlace test xs → test (getD xs k d) ≡ false)
-          → test (getD (x ∷ xs) k d) ≡ false
-      go true e k h rest = absurd (omega (arith, subst (λ (b : Bool). k < cond b zero (suc (firstPlace test xs))) e h))
+      go : (t : Bool) → test x ≡ t → (k : ℕ) → k < cond t zero (suc (firstPlace test xs))
+          → ((k : ℕ) → k < firstPlace test xs → test (getD xs k d) ≡ false) → test (getD (x ∷ xs) k d) ≡ false
+      go true e k h rest = absurd (omega arith)
       go false e zero h rest = e
-      go false e (suc k) h rest = rest k (omega (arith, subst (λ (b : Bool). suc k < cond b zero (suc (firstPlace test xs))) e h))
+      go false e (suc k) h rest = rest k (omega arith)
 
   -- the element at the first place passes
   pub at-first : (xs : List A) → firstPlace test xs < length xs → test (getD xs (firstPlace test xs) d) ≡ true
   at-first [] h = absurd (omega arith)
-  at-first (x ∷ xs) h = subst⁻¹ (λ (k : ℕ). test (getD (x ∷ xs) k d) ≡ true) (first-cons test x xs) (go (test x) refl (subst (λ (k : ℕ). k < suc (length xs)) (first-cons test x xs) h) (at-first xs))
+  at-first (x ∷ xs) h = rw first-cons (go (test x) refl (rw first-cons at h) (at-first xs))
     where
-      go : (t : Bool) → test x ≡ t → cond (test x) zero (suc (firstPlace test xs)) < suc (length xs)
+      go : (t : Bool) → test x ≡ t → cond t zero (suc (firstPlace test xs)) < suc (length xs)
           → (firstPlace test xs < length xs → test (getD xs (firstPlace test xs) d) ≡ true)
-          → test (getD (x ∷ xs) (cond (test x) zero (suc (firstPlace test xs))) d) ≡ true
-      go true e h rest = rw e e
-      go false e h rest = rw e (rest (omega (arith, subst (λ (b : Bool). cond b zero (suc (firstPlace test xs)) < suc (length xs)) e h)))
+          → test (getD (x ∷ xs) (cond t zero (suc (firstPlace test xs))) d) ≡ true
+      go true e h rest = e
+      go false e h rest = rest (omega arith)
 
   -- where all fail, the place is past the end
   pub none-first : (xs : List A) → ((k : ℕ) → k < length xs → test (getD xs k d) ≡ false) → firstPlace test xs ≡ length xs
   none-first [] h = first-none test
   none-first (x ∷ xs) h = first-cons test x xs ∙ rw (h 0 (omega arith)) (ap suc (none-first xs (λ k l. h (suc k) (omega arith))))
+
+  -- where one passes, the place is before the end
+  first-below : (xs : List A) → any test xs ≡ true → firstPlace test xs < length xs
+  unfolding any
+  first-below [] h = absurd (false≢true h)
+  first-below (x ∷ xs) h = rw first-cons (go (test x) (rw any-cons at h) (first-below xs))
+    where
+      go : (t : Bool) → (t || any test xs) ≡ true → (any test xs ≡ true → firstPlace test xs < length xs)
+          → cond t zero (suc (firstPlace test xs)) < suc (length xs)
+      go true h rest = omega arith
+      go false h rest = omega (arith, rest h)
+
+  -- .. and the element there passes
+  pub first-passing : (xs : List A) → any test xs ≡ true → (firstPlace test xs < length xs) × (test (getD xs (firstPlace test xs) d) ≡ true)
+  first-passing xs h = (first-below xs h, at-first xs (first-below xs h))
+
+-- the same for a range
+pub first-passes : (test : ℕ → Bool) (from count : ℕ) → any test (range from count) ≡ true
+    → (firstPlace test (range from count) < count) × (test (from + firstPlace test (range from count)) ≡ true)
+first-passes test from count h =
+    let (l, passes) = first-passing test 0 (range from count) h in
+    let below : firstPlace test (range from count) < count = rw range-length at l in
+    (below, rw (range-at from count (firstPlace test (range from count)) 0 below) at passes)

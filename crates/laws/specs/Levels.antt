@@ -3,18 +3,18 @@
 use Prim.Native.Nat.{ℕ, zero, suc, _+_, _-_, _*_, _/_, _%_, _≤_, _<_}
 use mathlib.Core.Path.{_≡_, refl, sym, ap, _∙_}
 use mathlib.Core.Bool.{Bool, true, false, cond, _&&_, and-false}
-use mathlib.Core.List.{List, [], _∷_, _++_, map}
-use native.Mathlib.Nat.{pow-zero, pow-succ', div-one, div-div-eq-div-mul, div-add-mod', mod-lt, suc-mul, zero-div, zero-mod}
+use mathlib.Core.List.{List, [], _∷_, _++_}
+use native.Mathlib.Nat.{pow-zero, pow-succ', div-one, div-div-eq-div-mul, div-add-mod', mod-lt, suc-mul, zero-div, zero-mod, zero-add}
 use native.Mathlib.Omega.{arith}
 use native.Mathlib.Decide.{decLe}
-use lib.ListN.{length, getD, take, replicate, length-map}
+use lib.ListN.{length, getD, take, replicate}
 use lib.Dec.{leb}
 use lib.Arith.{digits-div, digits-mod}
 use borrow.Author.Tests.{le-leb, lt-leb}
 use Rattle.rules.specs.Lists.{range}
 use Rattle.rules.specs.Sheets.{level, levelsAt}
 use Rattle.laws.specs.Concat.{map-append}
-use Rattle.laws.specs.Ranges.{range-length, range-suc, map-range-at, map-range-same, map-range-all}
+use Rattle.laws.specs.Ranges.{range-suc, map-range-length, map-range-at, map-range-same, map-range-all}
 
 -- ---- the step of the count
 
@@ -57,25 +57,32 @@ next-length m (l ∷ ls) = ap suc (next-length m ls)
 
 -- ---- an index's levels
 
+-- the last input's level is the lowest digit
+pub level-last : (m n p : ℕ) → level m (suc n) p n ≡ p % m
+unfolding level
+level-last m n p = let e : suc n - 1 - n ≡ 0 = omega arith in rw (e, pow-zero, div-one)
+
+-- the earlier inputs' levels are those of the index over m
+pub level-front : (m n p i : ℕ) → i < n → level m (suc n) p i ≡ level m n (p / m) i
+unfolding level
+level-front m n p i h =
+    let e : suc n - 1 - i ≡ suc (n - 1 - i) = omega arith in
+    rw (e, pow-succ', ← div-div-eq-div-mul)
+
 pub levels-length : (m n p : ℕ) → length (levelsAt m n p) ≡ n
 unfolding levelsAt
-levels-length m n p = length-map (range 0 n) (level m n p) ∙ range-length 0 n
+levels-length m n p = map-range-length (level m n p) 0 n
 
 pub levels-below : (m n p k : ℕ) → 0 < m → k < n → getD (levelsAt m n p) k 0 < m
 unfolding levelsAt level
 levels-below m n p k pos h = rw (map-range-at (level m n p) 0 n k 0) (mod-lt _ pos)
 
--- the last input's level is the lowest digit, and the earlier ones' are those of the index over m
+-- so the levels are those of the index over m, and the lowest digit
 pub levels-suc : (m n p : ℕ) → levelsAt m (suc n) p ≡ levelsAt m n (p / m) ++ (p % m ∷ [])
-unfolding levelsAt level
+unfolding levelsAt
 levels-suc m n p =
-    rw (range-suc, map-append) (λ i. front i ++ (last i ∷ []))
-  where
-    front : map (level m (suc n) p) (range 0 n) ≡ map (level m n (p / m)) (range 0 n)
-    front = map-range-same (level m (suc n) p) (level m n (p / m)) 0 n (λ i _ h. let e : suc n - 1 - i ≡ suc (n - 1 - i) = omega arith in rw (e, pow-succ', ← div-div-eq-div-mul))
-
-    last : level m (suc n) p (0 + n) ≡ p % m
-    last = let e : suc n - 1 - (0 + n) ≡ 0 = omega arith in rw (e, pow-zero, div-one)
+    rw (range-suc, map-append, zero-add, level-last)
+    (ap (λ (ls : List ℕ). ls ++ (p % m ∷ [])) (map-range-same (level m (suc n) p) (level m n (p / m)) 0 n (λ i _ h. level-front m n p i (omega arith))))
 
 -- the count starts at all zeros
 pub levels-first : (m n : ℕ) → levelsAt m n 0 ≡ replicate n 0

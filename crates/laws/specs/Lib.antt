@@ -1,7 +1,15 @@
 pub mod Bounds
 pub mod Concat
+pub mod Counts
+pub mod Distinct
+pub mod Finds
 pub mod FirstPlaces
-pub mod Outcomes
-pub mod Ranges
 pub mod Levels
+pub mod Outcomes
+pub mod Pigeonhole
+pub mod Places
+pub mod Ranges
+pub mod Rows
+pub mod Same
 pub mod Sizes
+pub mod Tests

@@ -1,17 +1,16 @@
 -- What each call comes to, one law for each outcome.
 -- Assumes nothing.
 use Prim.Native.Nat.{ℕ, _^_, _≤_, _<_}
-use mathlib.Core.Path.{_≡_, refl}
+use mathlib.Core.Path.{_≡_}
 use mathlib.Core.List.{List}
-use mathlib.Core.Bool.{Bool, true, false}
+use mathlib.Core.Bool.{true, false}
 use lib.ListN.{length}
-use lib.Dec.{eqb, ltb}
 use borrow.Author.Tests.{lt-ltb, le-ltb, eq-eqb, ne-eqb}
 use Rattle.rules.specs.Sheets.{Net, Table}
 use Rattle.rules.specs.Printed.{printedNet, printedTable}
 use Rattle.rules.specs.Groups.{wholeGroup}
 use Rattle.rules.specs.Marks.{markIn, marksOf, marksLength, storedMarks, noTreePlace}
-use Rattle.rules.specs.Calls.{Answer, accepted, refused, Made, inkIn, written, readNet, readTable, tableOfNet, settledNet, writtenSheet, afterMarks, settledInto, settleCall, makeCall, turnedDown, netNamed, tableNamed, neither, checkCall, sameHeader, compared, checkedInto, writeTableCall}
+use Rattle.rules.specs.Calls.{accepted, refused, inkIn, written, readNet, readTable, tableOfNet, settledNet, writtenSheet, afterMarks, settledInto, settleCall, makeCall, turnedDown, netNamed, tableNamed, neither, checkCall, sameHeader, compared, checkedInto, writeTableCall}
 
 -- ---- settling and making
 

@@ -2,10 +2,11 @@
 -- Assumes nothing.
 use Prim.Native.Nat.{ℕ, _^_, _≤_}
 use mathlib.Core.Path.{_≡_}
+use mathlib.Core.Logic.{_↔_}
 use mathlib.Core.Bool.{true, _&&_, and-eq-true-iff}
-use lib.Dec.{leb}
 use borrow.Author.Tests.{leb-true}
 use Rattle.rules.specs.Limits.{fewestLevels, mostLevels, fewestInputs, mostInputs, mostCells, levelsFit, inputsFit, cellsFit, sizeFits}
+use Rattle.laws.specs.Tests.{both-leb}
 
 pub record Size (m n : ℕ) : Type 0 where
   pub levels-least : fewestLevels ≤ m
@@ -14,17 +15,25 @@ pub record Size (m n : ℕ) : Type 0 where
   pub inputs-most : n ≤ mostInputs
   pub cells-most : m ^ n ≤ mostCells
 
+pub levels-fit : (m : ℕ) → (levelsFit m ≡ true) ↔ ((2 ≤ m) × (m ≤ 9))
+unfolding levelsFit fewestLevels mostLevels
+levels-fit m = both-leb 2 m m 9
+
+pub inputs-fit : (n : ℕ) → (inputsFit n ≡ true) ↔ ((2 ≤ n) × (n ≤ 11))
+unfolding inputsFit fewestInputs mostInputs
+inputs-fit n = both-leb 2 n n 11
+
 pub sized : (m n : ℕ) → sizeFits m n ≡ true → Size m n
-unfolding sizeFits levelsFit inputsFit cellsFit
+unfolding sizeFits cellsFit fewestLevels mostLevels fewestInputs mostInputs
 sized m n e =
     let (sides, cells) = and-eq-true-iff (levelsFit m && inputsFit n) (cellsFit m n) .0 e in
     let (levels, inputs) = and-eq-true-iff (levelsFit m) (inputsFit n) .0 sides in
-    let l = and-eq-true-iff (leb fewestLevels m) (leb m mostLevels) .0 levels in
-    let i = and-eq-true-iff (leb fewestInputs n) (leb n mostInputs) .0 inputs in
+    let (a, b) = levels-fit m .0 levels in
+    let (c, d) = inputs-fit n .0 inputs in
     record {
-      levels-least = leb-true _ _ (l .0);
-      levels-most = leb-true _ _ (l .1);
-      inputs-least = leb-true _ _ (i .0);
-      inputs-most = leb-true _ _ (i .1);
+      levels-least = a;
+      levels-most = b;
+      inputs-least = c;
+      inputs-most = d;
       cells-most = leb-true _ _ cells;
     }

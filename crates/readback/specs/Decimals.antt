@@ -12,7 +12,7 @@ use borrow.Author.Tests.{ltb-true, ltb-false, ne-eqb}
 use Rattle.rules.specs.Lists.{all}
 use Rattle.rules.specs.Text.{space, newline, digitByte, isDigit, decimalF, decimal}
 use Rattle.rules.specs.Fields.{isSeparator}
-use Rattle.readback.specs.Tests.{both-leb, all-iff, all-append, all-weaker}
+use Rattle.laws.specs.Tests.{both-leb, all-iff, all-append, all-weaker}
 use Rattle.readback.specs.Fields.{plain, isWord}
 
 -- ---- bytes of fields

@@ -5,6 +5,7 @@ use Prim.Native.String.{String}
 use mathlib.Core.Path.{_≡_, refl, sym, _∙_, ap, ap₂}
 use mathlib.Core.Bool.{Bool, true, false, not, false≢true}
 use mathlib.Core.List.{List, [], _∷_, _++_}
+use native.Mathlib.Omega.{arith}
 use lib.ListN.{length}
 use lib.Seq.{append-snoc}
 use lib.Dec.{eqb}
@@ -12,7 +13,8 @@ use borrow.Author.Tests.{eqb-true, eq-eqb, not-true}
 use Rattle.rules.specs.Lists.{all, same}
 use Rattle.rules.specs.Text.{space, newline, text}
 use Rattle.rules.specs.Fields.{Read, read, turnedBack, then, _>>=_, give, Judged, good, bad, Judge, judged, isSeparator, run, past, separator, afterField, fieldOf, field, theWord, closed}
-use Rattle.readback.specs.Tests.{all-iff, same-refl, same-true}
+use Rattle.laws.specs.Tests.{all-iff}
+use Rattle.laws.specs.Same.{same-refl, same-true}
 use Rattle.readback.specs.Spells.{SpellsTo, Spells, not-read}
 
 -- a byte that a field may hold
@@ -69,6 +71,12 @@ pub record Judges {A : Type 0} (judge : Judge A) (X : Type 0) (value : X → A) 
   pub word : (x : X) → isWord (print x) ≡ true
   pub only : (w : List ℕ) (a : A) → judge w ≡ good a → (x : X) × (a ≡ value x) × (w ≡ print x)
 
+-- a verdict that is bad is not good
+pub not-good : {A : Type 0} (number : ℕ) (a : A) → _≡_ {A = Judged A} (bad number) (good a) → ⊥
+not-good number a e =
+    let z : _≡_ {A = ℕ} 0 1 = cc in
+    omega arith
+
 -- a verdict that is good: the test passed
 pub judged-good : {A : Type 0} (test : Bool) (a : A) (number : ℕ) (b : A) → judged test a number ≡ good b → (test ≡ true) × (b ≡ a)
 judged-good true a number b e = (refl, (cc))
@@ -110,7 +118,7 @@ field-of-word judge due [] a rest at h e = absurd (false≢true h)
 field-of-word judge due (b ∷ w) a rest at h e = (suc (at + suc (length w)), rw (e, eq-eqb due due refl, separator) refl)
 
 -- a word's bytes are plain
-word-plain : (w : List ℕ) → isWord w ≡ true → all plain w ≡ true
+pub word-plain : (w : List ℕ) → isWord w ≡ true → all plain w ≡ true
 unfolding isWord
 word-plain [] h = absurd (false≢true h)
 word-plain (b ∷ w) h = h

@@ -13,7 +13,8 @@ use Rattle.rules.specs.Text.{space, newline, digitByte}
 use Rattle.rules.specs.Sheets.{Gate, referenceText, usedBy, gateLine, gateLines}
 use Rattle.rules.specs.Printed.{line, printedGate}
 use Rattle.rules.specs.Kept.{GoodNames, GateTable, Tables, RefersBack, Distinct}
-use Rattle.readback.specs.Tests.{any-iff, eqb-comm}
+use Rattle.laws.specs.Tests.{none-iff}
+use Rattle.laws.specs.Same.{eqb-comm}
 use Rattle.readback.specs.Spells.{Spells, spells-give, spells-then, spells-as}
 use Rattle.readback.specs.Collects.{Collects, collects-none, collects-more}
 use Rattle.readback.specs.Fields.{parts-space, parts-newline, spells-field}
@@ -57,10 +58,10 @@ module _ (m k : ℕ) (used : List ℕ) (g : Gate) (gates : List Gate) where
   unfolding usedBy
   gates-to a b =
       let (l, r, j) = fresh-two .0 (b .fresh) in
-      let (d, e) = any-iff (eqb (g .right)) (g .left) used .0 (a .right-new) in
+      let (d, e) = none-iff (eqb (g .right)) (g .left) used .0 (a .right-new) in
       record {
         back = (a .left, a .right, b .back);
-        once = (any-iff (eqb (g .left)) (g .right) (usedBy gates) .1 (eqb-comm (g .left) (g .right) ∙ d, l), (r, b .once));
+        once = (none-iff (eqb (g .left)) (g .right) (usedBy gates) .1 (eqb-comm (g .left) (g .right) ∙ d, l), (r, b .once));
         fresh = (a .left-new, (e, j));
         tables = (a .table, b .tables);
       }
@@ -69,12 +70,12 @@ module _ (m k : ℕ) (used : List ℕ) (g : Gate) (gates : List Gate) where
   gates-from : GatesAfter m k used (g ∷ gates) → GateAfter m k used g × GatesAfter m (suc k) (used ++ (g .left ∷ []) ++ (g .right ∷ [])) gates
   unfolding usedBy
   gates-from b =
-      let (d, l) = any-iff (eqb (g .left)) (g .right) (usedBy gates) .0 (b .once .0) in (
+      let (d, l) = none-iff (eqb (g .left)) (g .right) (usedBy gates) .0 (b .once .0) in (
         record {
           left = b .back .0;
           right = b .back .1;
           left-new = b .fresh .0;
-          right-new = any-iff (eqb (g .right)) (g .left) used .1 (eqb-comm (g .right) (g .left) ∙ d, b .fresh .1 .0);
+          right-new = none-iff (eqb (g .right)) (g .left) used .1 (eqb-comm (g .right) (g .left) ∙ d, b .fresh .1 .0);
           table = b .tables .0;
         },
         record {
@@ -107,7 +108,6 @@ module _ (m : ℕ) (positive : 0 < m) (names : List (List ℕ)) (good-names : Go
   abbrev Gates : List Gate → List Gate → Type 0
   Gates earlier gates = GatesAfter m (length names + length earlier) (usedBy earlier) gates
 
-  -- one gate line
   spells-gate : (earlier : List Gate) → Spells (gateLine m names earlier) ((g : Gate) × One earlier g) (λ x. x .0) (λ x. printedGate names (x .0))
   unfolding gateLine printedGate
   spells-gate earlier = spells-as
@@ -135,7 +135,6 @@ module _ (m : ℕ) (positive : 0 < m) (names : List (List ℕ)) (good-names : Go
   one-gate earlier g gates = rw (refs-last earlier g, used-last earlier g)
       (λ (a, b). gates-to m _ (usedBy earlier) g gates a b, gates-from m (length names + length earlier) (usedBy earlier) g gates)
 
-  -- the gate lines
   pub spells-gates : (count : ℕ) (earlier : List Gate)
       → Collects (gateLines m names count earlier) earlier count (Gates earlier) (concatMap (printedGate names))
   unfolding gateLines concatMap usedBy

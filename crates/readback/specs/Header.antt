@@ -10,9 +10,10 @@ use Rattle.rules.specs.Fields.{isSeparator}
 use Rattle.rules.specs.Sheets.{Header, headerLines}
 use Rattle.rules.specs.Printed.{line}
 use Rattle.rules.specs.Kept.{KeptHeader}
+use Rattle.laws.specs.Sizes.{levels-fit, inputs-fit}
 use Rattle.readback.specs.Spells.{Spells, spells-give, spells-then, spells-as}
 use Rattle.readback.specs.Fields.{plain, isWord, spells-field, judges-word}
-use Rattle.readback.specs.Judges.{levels-fit, inputs-fit, judges-levels, judges-inputs}
+use Rattle.readback.specs.Judges.{judges-levels, judges-inputs}
 use Rattle.readback.specs.Fresh.{fresh-first}
 use Rattle.readback.specs.Names.{ended, spells-names}
 

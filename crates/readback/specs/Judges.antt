@@ -3,7 +3,6 @@
 use Prim.Native.Nat.{ℕ, _+_, _-_, _*_, _≤_, _<_}
 use mathlib.Core.Path.{_≡_, refl, sym, _∙_, ap, ap₂}
 use mathlib.Core.Bool.{Bool, true, false, not, _&&_, _||_, and-eq-true-iff, false≢true}
-use mathlib.Core.Logic.{_↔_}
 use mathlib.Core.Option.{Option, none, some}
 use mathlib.Core.List.{List, [], _∷_, map}
 use native.Mathlib.Nat.{mul-pos}
@@ -13,19 +12,17 @@ use lib.Dec.{eqb, leb}
 use borrow.Author.Tests.{leb-true, eqb-true, eq-eqb, not-true}
 use Rattle.rules.specs.Lists.{range, all, any, same, find}
 use Rattle.rules.specs.Text.{text, digitByte, isDigit, decimal}
-use Rattle.rules.specs.Limits.{fewestLevels, mostLevels, fewestInputs, mostInputs, levelsFit, inputsFit, cellsFit}
+use Rattle.rules.specs.Limits.{fewestInputs, mostInputs, levelsFit, inputsFit, cellsFit}
 use Rattle.rules.specs.Fields.{Judged, good, bad, Judge, judged}
 use Rattle.rules.specs.Sheets.{levelsField, inputsOf, inputsField, isLetter, letterFirst, isName, nameField, digitsField, levelField, inkField}
 use Rattle.rules.specs.Kept.{GateTable}
-use Rattle.readback.specs.Tests.{both-leb, all-iff, all-at, all-each, same-refl, same-true, find-only, found}
-use Rattle.readback.specs.Fields.{isWord, Judges, judged-good}
+use Rattle.laws.specs.Sizes.{levels-fit, inputs-fit}
+use Rattle.laws.specs.Tests.{both-leb, all-iff, all-mem, all-each}
+use Rattle.laws.specs.Same.{same-refl, same-true}
+use Rattle.laws.specs.Places.{mem-getD}
+use Rattle.laws.specs.Finds.{found-is, found-only, first-in-range}
+use Rattle.readback.specs.Fields.{isWord, Judges, not-good, judged-good}
 use Rattle.readback.specs.Decimals.{high-plain, high-word, digit-iff, digit-byte, digits-word, decimal-digit, decimal-word, decimal-injective}
-
--- a verdict that is bad is not good
-not-good : {A : Type 0} (number : ℕ) (a : A) → _≡_ {A = Judged A} (bad number) (good a) → ⊥
-not-good number a e =
-    let z : _≡_ {A = ℕ} 0 1 = cc in
-    omega arith
 
 -- the digit of a digit's byte
 byte-digit : (d : ℕ) → digitByte d - 48 ≡ d
@@ -40,16 +37,6 @@ digit-back m b e =
     omega arith
 
 -- ---- levels and inputs
-
--- the bounds on levels
-pub levels-fit : (m : ℕ) → (levelsFit m ≡ true) ↔ ((2 ≤ m) × (m ≤ 9))
-unfolding levelsFit fewestLevels mostLevels
-levels-fit m = both-leb 2 m m 9
-
--- the bounds on inputs
-pub inputs-fit : (n : ℕ) → (inputsFit n ≡ true) ↔ ((2 ≤ n) × (n ≤ 11))
-unfolding inputsFit fewestInputs mostInputs
-inputs-fit n = both-leb 2 n n 11
 
 -- a levels field that is good
 levels-only : (w : List ℕ) (a : ℕ) → levelsField w ≡ good a → (x : (m : ℕ) × (levelsFit m ≡ true)) × (a ≡ x .0) × (w ≡ decimal (x .0))
@@ -79,7 +66,6 @@ module _ (print : ℕ → List ℕ) (from count : ℕ) (test : ℕ → Bool) (u 
   verdict none = bad u
   verdict (some n) = judged (test n) n v
 
-  -- the judge
   unfoldable pub looking : Judge ℕ
   looking w = verdict (find (λ n. same w (print n)) (range from count))
 
@@ -88,10 +74,9 @@ module _ (print : ℕ → List ℕ) (from count : ℕ) (test : ℕ → Bool) (u 
       → (n : ℕ) → from ≤ n → n < from + count → test n ≡ true → looking (print n) ≡ good n
   unfolding looking verdict
   looking-passes different n h k t =
-      rw (find-only (λ m. same (print n) (print m)) n from count h k (same-refl (print n)) only, t) refl
-    where
-      only : (m : ℕ) → same (print n) (print m) ≡ true → m ≡ n
-      only m e = different m n (sym (same-true (print n) (print m) e))
+      let is = found-only (first-in-range (λ m. same (print n) (print m)) from count) n (h, k, same-refl (print n))
+      (λ m (_, _, e). different m n (sym (same-true (print n) (print m) e))) in
+      rw (is, t) refl
 
   -- a field that is good is the print of a number that passes
   pub looking-only : (w : List ℕ) (n : ℕ) → looking w ≡ good n → (from ≤ n) × (n < from + count) × (test n ≡ true) × (w ≡ print n)
@@ -103,7 +88,7 @@ module _ (print : ℕ → List ℕ) (from count : ℕ) (test : ℕ → Bool) (u 
       go none d e = absurd (not-good u n e)
       go (some m) d e =
           let (t, q) = judged-good (test m) m v n e in
-          let (h, k, i) = found (λ n. same w (print n)) m from count d in
+          let (h, k, i) = found-is (first-in-range (λ n. same w (print n)) from count) m d in
           rw q (h, k, t, same-true w (print m) i)
 
 -- the inputs field: the decimal values from 2 to 11 that leave the cells within their bound
@@ -199,7 +184,7 @@ digits-table : (m : ℕ) (w : List ℕ) → length w ≡ m * m → all (isDigit 
 digits-table m w e h = record {
   count = length-map w (λ b. b - 48) ∙ e;
   below = λ k l. rw (List·getD-map (λ b. b - 48) w k 48)
-      (digit-back m (getD w k 48) (all-at (isDigit m) w h k 48 (rw (length-map w (λ b. b - 48)) at l)) .0);
+      (digit-back m (getD w k 48) (all-mem (isDigit m) (mem-getD w k 48 (rw (length-map w (λ b. b - 48)) at l)) h) .0);
 }
 
 -- a gate's table field: the tables' digits

@@ -15,7 +15,8 @@ use Rattle.rules.specs.Limits.{cellsFit, mostCells, mostSettled}
 use Rattle.rules.specs.Sheets.{Gate, Net, referenceText}
 use Rattle.rules.specs.Printed.{line, firstLines, printedGate, printedNet}
 use Rattle.rules.specs.Kept.{GoodNames, GateTable, RefersBack, Tables, KeptNet}
-use Rattle.readback.specs.Tests.{all-range}
+use Rattle.laws.specs.Tests.{all-mem}
+use Rattle.laws.specs.Ranges.{mem-range}
 use Rattle.readback.specs.Decimals.{decimal-short}
 use Rattle.readback.specs.Judges.{name-parts}
 use Rattle.readback.specs.Names.{good-name}
@@ -96,7 +97,8 @@ boundTests = refl
 size-bound : (m n : ℕ) → 2 ≤ m → m ≤ 9 → 2 ≤ n → n ≤ 11 → cellsFit m n ≡ true → bound m n ≤ mostSettled
 unfolding boundTest
 size-bound m n a b c d e =
-    let t = all-range (boundTest m) n 2 10 c (omega arith) (all-range (λ m. all (boundTest m) (range 2 10)) m 2 8 a (omega arith) boundTests) in
+    let row = all-mem (λ m. all (boundTest m) (range 2 10)) (mem-range 2 8 m a (omega arith)) boundTests in
+    let t = all-mem (boundTest m) (mem-range 2 10 n c (omega arith)) row in
     leb-true (bound m n) mostSettled (rw e at t)
 
 -- no net sheet is longer than 512 bytes

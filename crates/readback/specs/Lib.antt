@@ -1,9 +1,8 @@
 -- Theorems about sheets: what was printed is read back, what was accepted is what would be printed (`ReadBack`), and how long a net
 -- sheet is (`Length`). The way there: what a reader reads is said once for both directions (`Spells`, `Collects`); then field by field
 -- (`Fields`, `Decimals`, `Judges`, `References`), line by line (`Names`, `Header`, `Gates`), sheet by sheet (`NetSheets`, `TableSheets`).
--- `Tests` and `Fresh` are the means.
+-- `Fresh` serves the names and the gates.
 -- Assumes nothing.
-pub mod Tests
 pub mod Spells
 pub mod Collects
 pub mod Fields

@@ -1,8 +1,8 @@
 -- Names: how a line of names is read, and that good names are different.
 -- Assumes nothing.
 use Prim.Native.Nat.{ℕ, zero, suc, _<_}
-use mathlib.Core.Path.{_≡_, refl, sym, _∙_, ap}
-use mathlib.Core.Bool.{true, false, true≢false}
+use mathlib.Core.Path.{_≡_, refl}
+use mathlib.Core.Bool.{true, false}
 use mathlib.Core.Logic.{_↔_}
 use mathlib.Core.List.{List, [], _∷_, _++_, append-nil}
 use native.Mathlib.Omega.{arith}
@@ -12,7 +12,8 @@ use Rattle.rules.specs.Text.{space}
 use Rattle.rules.specs.Fields.{isSeparator}
 use Rattle.rules.specs.Sheets.{isName, nameFields}
 use Rattle.rules.specs.Kept.{GoodNames}
-use Rattle.readback.specs.Tests.{any-at, same-refl, same-comm}
+use Rattle.laws.specs.Same.{same-refl, same-comm}
+use Rattle.laws.specs.Distinct.{Unlike, unlike-differ}
 use Rattle.readback.specs.Collects.{Collects, collects-none, collects-more}
 use Rattle.readback.specs.Fields.{parts-space, spells-field}
 use Rattle.readback.specs.Judges.{judges-name}
@@ -26,18 +27,14 @@ good-name [] g k h = absurd (omega arith)
 good-name (w ∷ ws) g zero h = g .0
 good-name (w ∷ ws) g (suc k) h = good-name ws (g .2) k (omega arith)
 
--- a name is none of the later ones
-not-later : (w : List ℕ) (ws : List (List ℕ)) → any (same w) ws ≡ false → (k : ℕ) → k < length ws → w ≡ getD ws k [] → ⊥
-not-later w ws e k h q = true≢false (sym (same-refl w) ∙ ap (same w) q ∙ any-at (same w) ws e k [] h)
-
 -- good names at different places are different
 pub good-different : (names : List (List ℕ)) → GoodNames names → (j k : ℕ) → j < length names → k < length names
     → getD names j [] ≡ getD names k [] → j ≡ k
-good-different [] g j k h i e = absurd (omega arith)
-good-different (w ∷ ws) g zero zero h i e = refl
-good-different (w ∷ ws) g zero (suc k) h i e = absurd (not-later w ws (g .1) k (omega arith) e)
-good-different (w ∷ ws) g (suc j) zero h i e = absurd (not-later w ws (g .1) j (omega arith) (sym e))
-good-different (w ∷ ws) g (suc j) (suc k) h i e = ap suc (good-different ws (g .2) j k (omega arith) (omega arith) e)
+good-different names g = unlike-differ same same-refl [] names (unlike names g)
+  where
+    unlike : (ws : List (List ℕ)) → GoodNames ws → Unlike same ws
+    unlike [] g = tt
+    unlike (w ∷ ws) g = (g .1, unlike ws (g .2))
 
 -- ---- a line of names
 

@@ -1,7 +1,7 @@
 -- A sheet that is turned back is turned back with one of the numbers 1 to 8.
 -- Assumes nothing.
 use Prim.Native.Nat.{ℕ, zero, suc, _-_, _*_, _^_, _≤_}
-use mathlib.Core.Path.{_≡_, refl, sym, _∙_, subst, ap}
+use mathlib.Core.Path.{_≡_, refl, sym}
 use mathlib.Core.Bool.{Bool, true, false, not, _&&_}
 use mathlib.Core.Option.{Option, none, some}
 use mathlib.Core.List.{List, [], _∷_, _++_, map}
@@ -13,8 +13,10 @@ use Rattle.rules.specs.Lists.{all, any, same}
 use Rattle.rules.specs.Text.{space, newline, text, digitByte, isDigit}
 use Rattle.rules.specs.Limits.{levelsFit, cellsFit}
 use Rattle.rules.specs.Fields.{Read, read, turnedBack, Reader, then, _>>=_, give, Judged, good, bad, Judge, judged, run, past, separator, afterField, fieldOf, field, theWord, closed}
-use Rattle.rules.specs.Sheets.{Header, Gate, Net, Table, levelsField, inputsOf, inputsField, isName, nameField, nameFields, headerLines, referenceOf, referenceField, digitsField, usedBy, gateLine, gateLines, netSheet, levelsAt, levelField, inkField, levelFields, rowLines, tableSheet}
-use Rattle.rules.specs.Calls.{Answer, accepted, refused, answered, readNet, readTable}
+use Rattle.rules.specs.Sheets.{Gate, levelsField, inputsOf, inputsField, isName, nameField, nameFields, headerLines, referenceOf, referenceField, digitsField, usedBy, gateLine, gateLines, netSheet, levelsAt, levelField, inkField, levelFields, rowLines, tableSheet}
+use Rattle.rules.specs.Calls.{Answer, refused, answered, readNet, readTable}
+use Rattle.readback.specs.Spells.{not-read}
+use Rattle.readback.specs.Fields.{not-good}
 
 -- every number with which a judge, or a reader, turns back is 1 to 8
 abbrev SmallJudge : {A : Type 0} → Judge A → Type 0
@@ -22,12 +24,6 @@ SmallJudge judge = (w : List ℕ) (k : ℕ) → judge w ≡ bad k → k ≤ 8
 
 abbrev Small : {A : Type 0} → Reader A → Type 0
 Small r = (s : List ℕ) (at k place : ℕ) → r s at ≡ turnedBack k place → k ≤ 8
-
-good-bad : {A : Type 0} (a : A) (k : ℕ) → good a ≡ bad k → ⊥
-good-bad a k e = let z : _≡_ {A = ℕ} 0 1 = cc in omega arith
-
-read-turned : {A : Type 0} (a : A) (rest : List ℕ) (at k place : ℕ) → read a rest at ≡ turnedBack k place → ⊥
-read-turned a rest at k place e = let z : _≡_ {A = ℕ} 0 1 = cc in omega arith
 
 -- a number that is named
 named-bad : {A : Type 0} (number k : ℕ) → number ≤ 8 → _≡_ {A = Judged A} (bad number) (bad k) → k ≤ 8
@@ -37,13 +33,13 @@ named-turned : {A : Type 0} (number at k place : ℕ) → number ≤ 8 → _≡_
 named-turned number at k place h e = let z : number ≡ k = cc in omega arith
 
 test-bad : {A : Type 0} (t : Bool) (a : A) (number k : ℕ) → number ≤ 8 → judged t a number ≡ bad k → k ≤ 8
-test-bad true a number k h e = absurd (good-bad a k e)
+test-bad true a number k h e = absurd (not-good k a (sym e))
 test-bad false a number k h e = named-bad number k h e
 
 -- ---- readers put together
 
 small-give : {A : Type 0} (a : A) → Small (give a)
-small-give a s at k place e = absurd (read-turned a s at k place e)
+small-give a s at k place e = absurd (not-read k place a s at (sym e))
 
 small-then : {A B : Type 0} (r : Reader A) (next : A → Reader B) → Small r → ((a : A) → Small (next a)) → Small (r >>= next)
 unfolding then
@@ -59,7 +55,7 @@ small-separator a due [] at k place e = named-turned 1 at k place (lit≤ tt) e
 small-separator {A} a due (b ∷ s) at k place e = go (eqb b due) e
   where
     go : (t : Bool) → _≡_ {A = Read A} (elim t [ true ↦ read a s (suc at) | false ↦ turnedBack 1 at ]) (turnedBack k place) → k ≤ 8
-    go true e = absurd (read-turned a s (suc at) k place e)
+    go true e = absurd (not-read k place a s (suc at) (sym e))
     go false e = named-turned 1 at k place (lit≤ tt) e
 
 small-field : {A : Type 0} (judge : Judge A) (due : ℕ) → SmallJudge judge → Small (field judge due)
@@ -124,7 +120,7 @@ small-ink m (b ∷ c ∷ w) k e = named-bad 6 k (lit≤ tt) e
 
 small-closed : Small closed
 unfolding closed
-small-closed [] at k place e = absurd (read-turned tt [] at k place e)
+small-closed [] at k place e = absurd (not-read k place tt [] at (sym e))
 small-closed (b ∷ s) at k place e = named-turned 1 at k place (lit≤ tt) e
 
 small-names : (last count : ℕ) (earlier : List (List ℕ)) → Small (nameFields last count earlier)

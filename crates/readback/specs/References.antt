@@ -13,7 +13,7 @@ use Rattle.rules.specs.Text.{decimal, isDigit}
 use Rattle.rules.specs.Fields.{good}
 use Rattle.rules.specs.Sheets.{isName, letterFirst, referenceText, referenceOf, referenceField}
 use Rattle.rules.specs.Kept.{GoodNames}
-use Rattle.readback.specs.Tests.{all-iff}
+use Rattle.laws.specs.Tests.{all-iff}
 use Rattle.readback.specs.Fields.{isWord, Judges}
 use Rattle.readback.specs.Decimals.{digit-iff, decimal-digits, decimal-word, decimal-injective}
 use Rattle.readback.specs.Judges.{name-parts, name-word, letter-high, verdict, looking, looking-passes, looking-only}

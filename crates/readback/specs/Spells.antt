@@ -65,7 +65,6 @@ module _ {A B : Type 0} {After : List ℕ → Type 0} {r : Reader A} (k : A → 
           let (x, c, f, h) = first .only s at a t middle d in
           inner x t middle f (rw c at e)
 
-  -- the law
   pub spells-then : SpellsTo After (r >>= k) ((x : X) × Y x) (λ z. g (z .0) (z .1)) (λ z. p (z .0) ++ q (z .0) (z .1))
   unfolding Split
   spells-then = record { back = λ z. then-back (z .0) (z .1); only = then-only }

@@ -2,16 +2,15 @@
 -- Assumes nothing.
 use Prim.Native.Nat.{ℕ, zero, suc, _^_, _<_}
 use mathlib.Core.Path.{_≡_, refl, sym}
-use mathlib.Core.Logic.{_↔_}
 use mathlib.Core.List.{List, [], _∷_, _++_, map, append-assoc, append-nil, map-append}
-use native.Mathlib.Omega.{arith}
-use lib.ListN.{length, getD}
+use lib.ListN.{length}
 use Rattle.rules.specs.Lists.{all}
 use Rattle.rules.specs.Text.{space, newline, text, digitByte}
 use Rattle.rules.specs.Fields.{_>>=_, isSeparator, field}
 use Rattle.rules.specs.Sheets.{Header, Table, levelsAt, levelFields, inkField, rowLines, tableSheet}
 use Rattle.rules.specs.Printed.{line, firstLines, printedRow, printedRows, printedTable}
 use Rattle.rules.specs.Kept.{KeptTable}
+use Rattle.laws.specs.Bounds.{Below, below-at, at-below}
 use Rattle.readback.specs.Spells.{Spells, SpellsTo, spells-give, spells-then, spells-as}
 use Rattle.readback.specs.Collects.{Collects, collects-none, collects-more, then-then}
 use Rattle.readback.specs.Fields.{plain, isWord, parts-space, parts-newline, spells-field, judges-word, Ended, spells-end}
@@ -48,37 +47,23 @@ spells-levels [] = unfold ended in spells-give tt
 spells-levels (l ∷ ls) = spells-as (spells-then _ (spells-field space parts-space (judges-level l)) (λ _. spells-levels ls))
     (λ _. (tt, refl, ended-space (digitByte l ∷ []) (digitWords ls))) (λ _. ((tt, tt), refl, sym (ended-space (digitByte l ∷ []) (digitWords ls))))
 
--- inks of which each is below m
-abbrev Below : ℕ → List ℕ → Type 0
-Below m inks = (k : ℕ) → k < length inks → getD inks k 0 < m
-
--- one ink, then the others
-below-iff : (m ink : ℕ) (inks : List ℕ) → ((ink < m) × Below m inks) ↔ Below m (ink ∷ inks)
-below-iff m ink inks = (λ (h, b). more h b, λ b. (b 0 (omega arith), λ k h. b (suc k) (omega arith)))
-  where
-    more : ink < m → Below m inks → Below m (ink ∷ inks)
-    more h b zero l = h
-    more h b (suc k) l = b k (omega arith)
-
 -- the print of a row, its levels and its ink
 row-text : (m n p ink : ℕ) → ended space (digitWords (levelsAt m n p)) ++ (digitByte ink ∷ newline ∷ []) ≡ printedRow m n p ink
 unfolding printedRow
 row-text m n p ink = rw (map-append, line-last (digitWords (levelsAt m n p)) (digitByte ink ∷ [])) refl
 
--- one row
 spells-row : (m n p : ℕ)
     → Spells (levelFields (levelsAt m n p) >>= λ _. field (inkField m) newline) ((ink : ℕ) × (ink < m)) (λ x. x .0) (λ x. printedRow m n p (x .0))
 spells-row m n p = spells-as (spells-then _ (spells-levels (levelsAt m n p)) (λ _. spells-field newline parts-newline (judges-ink m)))
     (λ (_, x). (x, refl, row-text m n p (x .0))) (λ x. ((tt, x), refl, sym (row-text m n p (x .0))))
 
--- the rows
 spells-rows : (m n count p : ℕ) (earlier : List ℕ) → Collects (rowLines m n p count earlier) earlier count (Below m) (printedRows m n p)
 unfolding rowLines printedRows
-spells-rows m n zero p earlier = collects-none earlier (Below m) (printedRows m n p) (λ k l. absurd (omega arith)) refl
+spells-rows m n zero p earlier = collects-none earlier (Below m) (printedRows m n p) tt refl
 spells-rows m n (suc count) p earlier =
     rw (← then-then (levelFields (levelsAt m n p)) (λ _. field (inkField m) newline) (λ ink. rowLines m n (suc p) count (earlier ++ (ink ∷ []))))
     (collects-more _ earlier count (λ ink. ink < m) (λ _. Below m) (Below m) (printedRow m n p) (printedRows m n (suc p)) (printedRows m n p)
-    (spells-row m n p) (λ ink. spells-rows m n count (suc p) (earlier ++ (ink ∷ []))) (below-iff m) (λ ink inks l. refl))
+    (spells-row m n p) (λ ink. spells-rows m n count (suc p) (earlier ++ (ink ∷ []))) (λ ink inks. (λ h. h, λ h. h)) (λ ink inks l. refl))
 
 -- ---- the sheet
 
@@ -96,5 +81,5 @@ spells-table = spells-as
     (spells-then _ (spells-header space refl) (λ (h, k).
     spells-then _ (spells-field newline refl (judges-word "ink" refl)) (λ _.
     spells-then _ (spells-rows (h .levels) (h .inputs) (h .levels ^ h .inputs) 0 []) (λ inks. spells-end (record { header = h; inks = inks .0 })))))
-    (λ ((h, k), (_, ((inks, l, b), _))). ((record { header = h; inks = inks }, record { header = k; count = l; below = b }), refl, table-text h inks))
-    (λ (t, k). (((t .header, k .header), (tt, ((t .inks, k .count, k .below), tt))), refl, sym (table-text (t .header) (t .inks))))
+    (λ ((h, k), (_, ((inks, l, b), _))). ((record { header = h; inks = inks }, record { header = k; count = l; below = below-at (h .levels) inks b }), refl, table-text h inks))
+    (λ (t, k). (((t .header, k .header), (tt, ((t .inks, k .count, at-below (t .header .levels) (t .inks) (k .below)), tt))), refl, sym (table-text (t .header) (t .inks))))

@@ -5,8 +5,8 @@ use mathlib.Core.Path.{_≡_, refl, sym, ap, _∙_, _≡⟨_⟩_, _∎}
 use mathlib.Core.Bool.{true}
 use borrow.Author.Tests.{eqb-true, eq-eqb}
 use Rattle.rules.specs.Groups.{part, points, others, alike, alikeOver, wholeGroup}
+use Rattle.laws.specs.Tests.{all-mem, mem-all}
 use Rattle.trees.specs.Trees.{Alike, Apart, mix}
-use Rattle.trees.specs.ListLaws.{all-mem, mem-all}
 use Rattle.trees.specs.Levels.{mix-whole, mix-join, mix-swap}
 use Rattle.trees.specs.Points.{part-in-points, points-are-parts}
 

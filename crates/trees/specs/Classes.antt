@@ -12,13 +12,15 @@ use native.Mathlib.Omega.{arith}
 use borrow.Author.Tests.{eq-eqb}
 use Rattle.rules.specs.Groups.{part, points, others, alike, alikeOver, classes, multiplicity}
 use Rattle.rules.specs.Settled.{classNumber}
+use Rattle.laws.specs.Tests.{mem-all}
+use Rattle.laws.specs.Places.{mem-getD}
+use Rattle.laws.specs.FirstPlaces.{first-passing}
+use Rattle.laws.specs.Pigeonhole.{pigeonhole}
 use Rattle.trees.specs.Trees.{Alike}
-use Rattle.trees.specs.ListLaws.{mem-all, mem-getD, first-passing}
 use Rattle.trees.specs.Levels.{part-part}
 use Rattle.trees.specs.Points.{part-in-points, points-are-parts}
 use Rattle.trees.specs.Alike.{alike-holds, alike-tested, alike-part, alike-sym, alike-trans}
 use Rattle.trees.specs.Firsts.{Keeps, firsts-keep}
-use Rattle.trees.specs.Pigeonhole.{pigeonhole}
 
 module _ (m n : ℕ) (pos : 0 < m) (f : ℕ → ℕ) (g : ℕ) (g< : g < 2 ^ n) where
   -- an assignment passes the test against itself

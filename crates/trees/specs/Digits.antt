@@ -3,24 +3,16 @@
 use Prim.Native.Nat.{ℕ, _+_, _*_, _/_, _%_, _<_}
 use mathlib.Core.Path.{_≡_, refl, sym, _∙_, ap, subst}
 use mathlib.Core.Logic.{_⊎_, inl, inr}
-use mathlib.Core.Bool.{Bool, true, false, _&&_, and-eq-true-iff, false≢true}
+use mathlib.Core.Bool.{Bool, true, false, _&&_, false≢true}
 use mathlib.Core.List.{List, [], _∷_, map, List·Memᴰ, List·Memᴰ·not-nil, List·Memᴰ·cases-cons}
 use native.Mathlib.Nat.{mod-lt, div-add-mod', div-lt-iff-lt-mul}
-use borrow.Author.Tests.{eqb-true, eq-eqb}
 use lib.Dec.{eqb}
 use lib.ListN.{length, getD}
 use Rattle.rules.specs.Lists.{find}
 use Rattle.rules.specs.Groups.{points}
 use Rattle.rules.specs.Settled.{Wiring, gate, groupOf, carried, Reached, digitAt, gateDigits}
-use Rattle.trees.specs.Rows.{grid-length, grid-at}
-
--- the test of a row and a column says what it tests
-both-true : (a b u v : ℕ) → (eqb a u && eqb b v) ≡ true → (a ≡ u) × (b ≡ v)
-both-true a b u v e = let t = and-eq-true-iff (eqb a u) (eqb b v) .0 e in (eqb-true a u (t .0), eqb-true b v (t .1))
-
--- and passes where it holds
-both-tested : (a b u v : ℕ) → a ≡ u → b ≡ v → (eqb a u && eqb b v) ≡ true
-both-tested a b u v d e = and-eq-true-iff (eqb a u) (eqb b v) .1 (eq-eqb a u d, eq-eqb b v e)
+use Rattle.laws.specs.Tests.{both-eqb}
+use Rattle.laws.specs.Rows.{grid-length, grid-at}
 
 -- what an assignment has the two wires carry and the gate give
 abbrev reach : (ℕ → ℕ) → (ℕ → ℕ) → (ℕ → ℕ) → ℕ → Reached
@@ -37,7 +29,7 @@ module _ (left right : ℕ → ℕ) (u v : ℕ) where
   reached-later x q ps e (m, l, r) = step (List·Memᴰ·cases-cons m)
     where
       step : (q ≡ x) ⊎ List·Memᴰ q ps → Reaches left right u v ps q
-      step (inl s) = absurd (false≢true (sym e ∙ both-tested (left x) (right x) u v (sym (ap left s) ∙ l) (sym (ap right s) ∙ r)))
+      step (inl s) = absurd (false≢true (sym e ∙ both-eqb (left x) u (right x) v .1 (sym (ap left s) ∙ l, sym (ap right s) ∙ r)))
       step (inr k) = (k, l, r)
 
   module _ (own : ℕ → ℕ) (P : ℕ → Type 0) (gives : (q : ℕ) → left q ≡ u → right q ≡ v → P (own q)) where
@@ -50,7 +42,7 @@ module _ (left right : ℕ → ℕ) (u v : ℕ) where
         step : (t : Bool) → (eqb (left x) u && eqb (right x) v) ≡ t
             → ((((q : ℕ) → Reaches left right u v ps q → ⊥) → P 0) → P (digitAt (map (reach left right own) ps) u v))
             → P (digitAt (map (reach left right own) (x ∷ ps)) u v)
-        step true e rest = let b = both-true (left x) (right x) u v e in rw (e, digitAt, find) (gives x (b .0) (b .1))
+        step true e rest = let b = both-eqb (left x) u (right x) v .0 e in rw (e, digitAt, find) (gives x (b .0) (b .1))
         step false e rest = rw (e, digitAt, find) (rest (λ none. unreached (λ q r. none q (reached-later x q ps e r))))
 
 module _ (m n : ℕ) (f : ℕ → ℕ) (last : Bool) (a b : Wiring) where

@@ -1,21 +1,19 @@
 -- "A tree exists exactly when the whole group has mark 2." A tree is any net with the same m and n, whatever its wiring and its
 -- gates' digits; and where the whole group has mark 2, the settled net is one.
 -- Assumes nothing.
-use Prim.Native.Nat.{ℕ, zero, suc, _+_, _-_, _*_, _^_, _≤_, _<_}
-use mathlib.Core.Path.{_≡_, refl, sym, ap, _∙_, subst}
+use Prim.Native.Nat.{ℕ, _^_, _<_}
+use mathlib.Core.Path.{_≡_, sym, ap, _∙_, subst}
 use mathlib.Core.Logic.{_↔_}
-use mathlib.Core.Bool.{Bool, true, false}
-use mathlib.Core.List.{List, [], _∷_}
+use mathlib.Core.Bool.{true}
+use mathlib.Core.List.{List}
 use native.Mathlib.Nat.{le-of-eq}
 use native.Mathlib.Omega.{arith}
-use lib.ListN.{length, getD}
 use Rattle.rules.specs.Sheets.{Gate}
-use Rattle.rules.specs.Value.{value}
 use Rattle.rules.specs.Groups.{part, size, wholeGroup}
 use Rattle.rules.specs.Marks.{markIn, marksOf}
 use Rattle.rules.specs.Settled.{Wiring, input, gate, groupOf, gateList, settledWiring, settledGates, wiringBy}
 use Rattle.rules.specs.Kept.{IsNet}
-use Rattle.trees.specs.Trees.{Tree, wiringIn, treeValue, mix, Alike, Tells, EachOnce, EachGate, WiringOf, Computes, fill}
+use Rattle.trees.specs.Trees.{Tree, wiringIn, treeValue, mix, Tells, EachOnce, EachGate, WiringOf, Computes}
 use Rattle.trees.specs.Members.{whole-below, size-single, size-whole}
 use Rattle.trees.specs.Levels.{mix-below, part-mix}
 use Rattle.trees.specs.NetTree.{TreeOf, net-tree, net-whole}

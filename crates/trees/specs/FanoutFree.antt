@@ -4,18 +4,18 @@
 use Prim.Native.Nat.{ℕ, zero, suc, _+_, _^_, _≤_, _<_}
 use mathlib.Core.Path.{_≡_, refl, sym, ap, ap₂, _∙_}
 use mathlib.Core.Logic.{_≢_, _⊎_, inl, inr}
-use mathlib.Core.Bool.{Bool, true, false, _&&_}
+use mathlib.Core.Bool.{Bool, true, false}
 use native.Mathlib.Omega.{arith}
-use mathlib.Core.List.{List, [], _∷_, List·Memᴰ·head, List·Memᴰ·tail}
+use mathlib.Core.List.{List, [], _∷_}
 use lib.ListN.{getD}
-use lib.Dec.{eqb, ltb}
-use borrow.Author.Tests.{eqb-true, ltb-true}
+use lib.Dec.{ltb}
+use borrow.Author.Tests.{ltb-true}
 use Rattle.rules.specs.Lists.{all}
 use Rattle.rules.specs.Groups.{part, size, multiplicity}
 use Rattle.rules.specs.Marks.{marksOf}
 use Rattle.rules.specs.Settled.{Wiring, input, gate, groupOf, classNumber, carried, wiringBy}
+use Rattle.laws.specs.Tests.{not-both, all-iff}
 use Rattle.trees.specs.Trees.{Tree, wiringIn, treeValue, Filled, fill, WiringOf, EachGate, Apart, Tells, mix}
-use Rattle.trees.specs.ListLaws.{all-mem, mem-all}
 use Rattle.trees.specs.Members.{member-single, single-below, join-below, size-single, size-le}
 use Rattle.trees.specs.Levels.{part-below, part-part, part-mix}
 use Rattle.trees.specs.Classes.{class-part, few-classes}
@@ -119,12 +119,7 @@ module _ (m n : ℕ) (pos : 0 < m) (f : ℕ → ℕ) (inks : (p : ℕ) → p < m
 
 -- two inputs share none
 pair-apart : (n i j : ℕ) → i ≢ j → Apart n (2 ^ i) (2 ^ j)
-pair-apart n i j differ k h = rw (member-single k i, member-single k j) (go (eqb k i) (eqb k j) refl refl)
-  where
-    go : (s t : Bool) → eqb k i ≡ s → eqb k j ≡ t → (s && t) ≡ false
-    go true true d e = absurd (differ (sym (eqb-true k i d) ∙ eqb-true k j e))
-    go true false d e = refl
-    go false t d e = refl
+pair-apart n i j differ k h = rw (member-single k i, member-single k j) (not-both k i j differ)
 
 -- any function of two inputs with m values
 pub pair-fanout-free : (m n : ℕ) → 0 < m → (i j : ℕ) → i < n → j < n → i ≢ j → (g : ℕ → ℕ)
@@ -158,6 +153,5 @@ pair-fanout-free m n pos i j i< j< differ g below =
 -- inks that pass the test are below m
 pub inks-below : (m : ℕ) → 0 < m → (inks : List ℕ) → all (λ k. ltb k m) inks ≡ true → (p : ℕ) → getD inks p 0 < m
 inks-below m pos [] h p = pos
-inks-below m pos (k ∷ inks) h zero = ltb-true k m (all-mem (λ k. ltb k m) (List·Memᴰ·head refl) h)
-inks-below m pos (k ∷ inks) h (suc p) =
-    inks-below m pos inks (mem-all (λ k. ltb k m) inks (λ x i. all-mem (λ k. ltb k m) (List·Memᴰ·tail i) h)) p
+inks-below m pos (k ∷ inks) h zero = ltb-true k m (all-iff (λ k. ltb k m) k inks .0 h .0)
+inks-below m pos (k ∷ inks) h (suc p) = inks-below m pos inks (all-iff (λ k. ltb k m) k inks .0 h .1) p

@@ -12,7 +12,9 @@ use lib.ListN.{length, getD, length-append, List·getD-append}
 use lib.Seq.{getD-at}
 use Rattle.rules.specs.Lists.{any}
 use Rattle.rules.specs.Groups.{firsts}
-use Rattle.trees.specs.ListLaws.{none-mem, mem-any, first-passing, mem-getD}
+use Rattle.laws.specs.Tests.{none-mem, mem-any}
+use Rattle.laws.specs.Places.{mem-getD}
+use Rattle.laws.specs.FirstPlaces.{first-passing}
 
 -- no element passes against an earlier one
 abbrev pub Fresh : (ℕ → ℕ → Bool) → List ℕ → Type 0

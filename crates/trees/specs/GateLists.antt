@@ -1,37 +1,30 @@
 -- A wiring's gate list ("A's, then B's, then the group's own") keeps every rule of a net sheet and has the tree's value.
 -- Assumes nothing.
-use Prim.Native.Nat.{ℕ, zero, suc, _+_, _-_, _*_, _≤_, _<_}
-use native.Mathlib.Nat.{add-zero, zero-add, add-assoc, not-suc-le-zero, le-of-suc-le-suc}
+use Prim.Native.Nat.{ℕ, suc, _+_, _-_, _*_, _≤_, _<_}
+use native.Mathlib.Nat.{add-zero, zero-add, add-assoc}
 use native.Mathlib.Decide.{decLt}
 use native.Mathlib.Omega.{arith}
 use mathlib.Core.Path.{_≡_, refl, sym, ap, _∙_}
 use mathlib.Core.Logic.{by-cases}
 use mathlib.Core.Bool.{Bool, true, false}
-use mathlib.Core.List.{List, [], _∷_, _++_, map}
-use lib.ListN.{length, getD, length-append, length-map}
-use Rattle.rules.specs.Lists.{range}
+use mathlib.Core.List.{List, [], _∷_, _++_}
+use lib.ListN.{length, getD, length-append}
+use lib.Dec.{eqb}
+use Rattle.rules.specs.Lists.{range, those}
 use Rattle.rules.specs.Sheets.{Gate, usedBy, level, levelsAt}
 use Rattle.rules.specs.Value.{value, gateValue, withGates}
 use Rattle.rules.specs.Groups.{member, size, wholeGroup}
 use Rattle.rules.specs.Settled.{Wiring, input, gate, groupOf, gatesIn, referenceTo, gateList, gateDigits}
 use Rattle.rules.specs.Kept.{RefersBack, Tables, GateRules, IsNet}
+use Rattle.laws.specs.Levels.{levels-length}
+use Rattle.laws.specs.Tests.{oneIf, one-if-le, one-if-or}
+use Rattle.laws.specs.Ranges.{range-append, map-range-at}
+use Rattle.laws.specs.Counts.{count-cons, count-append, times, not-one, times-range}
+use Rattle.laws.specs.Distinct.{times-distinct}
 use Rattle.trees.specs.Trees.{EachOnce, Filled, treeValue, fill}
 use Rattle.trees.specs.Members.{member-single, member-join, size-single, size-join, size-whole}
 use Rattle.trees.specs.Wirings.{group-below}
-use Rattle.trees.specs.Times.{oneIf, one-if-le, one-if-or, is, times, is-other, times-append, times-distinct, times-range-add, times-range}
 use Rattle.trees.specs.JoinedLists.{used-append, refers-append, tables-append, with-gates-append, with-gates-length, with-gates-earlier, with-gates-last}
-
--- how many numbers a run has, and a function's values over it
-range-length : (from count : ℕ) → length (range from count) ≡ count
-unfolding range
-range-length from zero = refl
-range-length from (suc count) = ap suc (range-length (suc from) count)
-
-getD-map-range : (h : ℕ → ℕ) (from count i : ℕ) → i < count → getD (map h (range from count)) i 0 ≡ h (from + i)
-unfolding range
-getD-map-range h from zero i i< = absurd (not-suc-le-zero i<)
-getD-map-range h from (suc count) zero i< = ap h (sym (add-zero from))
-getD-map-range h from (suc count) (suc i) i< = getD-map-range h (suc from) count i (le-of-suc-le-suc i<) ∙ ap h (omega arith)
 
 -- the reference to a wiring is to an input, or to the last of its own lines
 reference-below : (n before : ℕ) (w : Wiring) → EachOnce n w → referenceTo n before w < n + before + gatesIn w
@@ -102,39 +95,38 @@ module _ (m n : ℕ) (f : ℕ → ℕ) where
 
   -- how often r is used by a wiring's lines or by the line above them
   uses : Bool → ℕ → ℕ → Wiring → ℕ
-  uses last r before w = times r (usedBy (gateList m n f last before w)) + is r (referenceTo n before w)
+  uses last r before w = times r (usedBy (gateList m n f last before w)) + oneIf (eqb r (referenceTo n before w))
 
   -- a gate adds one use: its own, by the line above
   uses-gate : (last : Bool) (r before : ℕ) (a b : Wiring)
       → uses last r before (gate a b)
-      ≡ uses false r before a + uses false r (before + gatesIn a) b + is r (n + before + gatesIn a + gatesIn b)
-  unfolding uses gateList referenceTo usedBy times
-  uses-gate last r before a b = simp (used-append, times-append) (omega arith)
+      ≡ uses false r before a + uses false r (before + gatesIn a) b + oneIf (eqb r (n + before + gatesIn a + gatesIn b))
+  unfolding uses gateList referenceTo usedBy those
+  uses-gate last r before a b = simp (used-append, count-append, count-cons) (omega arith)
 
   -- an input is used once where it is a member of the wiring's group, and else not at all
   uses-input : (last : Bool) (r before : ℕ) (w : Wiring) → EachOnce n w → r < n → uses last r before w ≡ oneIf (member r (groupOf w))
-  unfolding uses gateList referenceTo usedBy times is groupOf
+  unfolding uses gateList referenceTo usedBy those groupOf
   uses-input last r before (input i) once h = rw (member-single, zero-add)
   uses-input last r before (gate a b) once h =
       let join = member-join r n (groupOf a) (groupOf b) (group-below n a (once .1)) (group-below n b (once .2)) (once .0) h in
       let sum = uses-gate last r before a b in
       let in-a = uses-input false r before a (once .1) h in
       let in-b = uses-input false r (before + gatesIn a) b (once .2) h in
-      let own = is-other r (n + before + gatesIn a + gatesIn b) (omega arith) in
+      let own = not-one r (n + before + gatesIn a + gatesIn b) (omega arith) in
       rw (join, one-if-or (member r (groupOf a)) (member r (groupOf b)) (once .0 r h)) (omega arith)
 
   -- a gate is used once where it is one of the wiring's, and else not at all
   uses-of-gate : (last : Bool) (r before : ℕ) (w : Wiring) → EachOnce n w → n ≤ r
       → uses last r before w ≡ times r (range (n + before) (gatesIn w))
-  unfolding uses gateList referenceTo usedBy times gatesIn range
-  uses-of-gate last r before (input i) once h = rw (is-other r i (omega arith))
+  unfolding uses gateList referenceTo usedBy those gatesIn range
+  uses-of-gate last r before (input i) once h = rw (not-one r i (omega arith))
   uses-of-gate last r before (gate a b) once h =
-      let cut = times-range-add r (n + before) (gatesIn a) (gatesIn b) in
       let sum = uses-gate last r before a b in
       let in-a = uses-of-gate false r before a (once .1) h in
       let in-b = rw (← add-assoc n before (gatesIn a)) at (uses-of-gate false r (before + gatesIn a) b (once .2) h) in
       let own = add-assoc (n + before) (gatesIn a) (gatesIn b) in
-      rw (times-range-add r (n + before) (gatesIn a + gatesIn b) 1, cut, ← own) (omega arith)
+      simp (range-append, count-append, count-cons, ← own) (omega arith)
 
   -- so no reference is used twice
   used-at-most-once : (last : Bool) (r before : ℕ) (w : Wiring) → EachOnce n w → times r (usedBy (gateList m n f last before w)) ≤ 1
@@ -230,8 +222,8 @@ module _ (m n : ℕ) (f : ℕ → ℕ) where
   levels-valued : (p : ℕ) → Valued p 0 (levelsAt m n p)
   unfolding levelsAt
   levels-valued p = (
-    length-map (range 0 n) (level m n p) ∙ range-length 0 n ∙ sym (add-zero n),
-    λ i h. getD-map-range (level m n p) 0 n i h ∙ ap (level m n p) (zero-add i),
+    levels-length m n p ∙ sym (add-zero n),
+    λ i h. map-range-at (level m n p) 0 n i 0 h ∙ ap (level m n p) (zero-add i),
   )
 
   -- the reference to the whole is to the last line

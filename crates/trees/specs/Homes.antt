@@ -3,7 +3,7 @@
 -- Assumes nothing.
 use Prim.Native.Nat.{ℕ, _^_, _≤_, _<_}
 use mathlib.Core.Path.{_≡_, refl, sym, _∙_}
-use mathlib.Core.Bool.{Bool, true, false, _&&_, _||_}
+use mathlib.Core.Bool.{Bool, true, false, _||_}
 use mathlib.Core.List.{List, [], _∷_, _++_, append-assoc, append-nil}
 use native.Mathlib.Omega.{arith}
 use native.Mathlib.Decide.{decLt}
@@ -16,11 +16,13 @@ use Rattle.rules.specs.Sheets.{Gate, usedBy}
 use Rattle.rules.specs.Groups.{member}
 use Rattle.rules.specs.Settled.{groupOf}
 use Rattle.rules.specs.Kept.{GateTable, RefersBack, Distinct, Tables}
+use Rattle.laws.specs.Tests.{or-false-iff, not-both, none-append}
+use Rattle.laws.specs.Places.{length-snoc, each-snoc}
+use Rattle.laws.specs.Distinct.{NotIn, not-in-two, not-in-cons, distinct-before}
 use Rattle.trees.specs.Trees.{Tree, leaf, wiringIn, Apart, EachOnce, Filled}
 use Rattle.trees.specs.Members.{member-single, member-join}
 use Rattle.trees.specs.Wirings.{group-below}
-use Rattle.trees.specs.Distinct.{NotIn, or-false-both, not-in-two, two-not-in, not-in-cons, not-in-append, distinct-before}
-use Rattle.trees.specs.Forest.{treeAt, joined, withTrees, inputTrees, length-snoc, each-snoc, inputs-length, input-at}
+use Rattle.trees.specs.Forest.{treeAt, joined, withTrees, inputTrees, inputs-length, input-at}
 
 -- the inputs below a reference
 abbrev pub groupAt : List Tree → ℕ → ℕ
@@ -67,14 +69,6 @@ grown-inputs m n =
 
 -- ---- one gate more
 
--- a number is not equal to both of two that differ
-not-both : (c a b : ℕ) → (a ≡ b → ⊥) → (eqb c a && eqb c b) ≡ false
-not-both c a b differ = go (eqb c a) refl
-  where
-    go : (t : Bool) → eqb c a ≡ t → (t && eqb c b) ≡ false
-    go true e = ne-eqb c b (λ q. differ (sym (eqb-true c a e) ∙ q))
-    go false e = refl
-
 -- a number that is one of two is no other
 neither : (c a b s : ℕ) → (eqb c a || eqb c b) ≡ true → (s ≡ a → ⊥) → (s ≡ b → ⊥) → eqb c s ≡ false
 neither c a b s e no-a no-b = ne-eqb c s (λ q. go (eqb c a) refl q e)
@@ -102,7 +96,7 @@ module _ (m n : ℕ) (used : List ℕ) (forest : List Tree) (grown : Grown m n u
 
   -- a reference past those that there are is not used
   fresh-snoc : (r : ℕ) → length forest ≤ r → NotIn r used⁺
-  fresh-snoc r h = two-not-in r used (g .left) (g .right) (grown .fresh r h) (λ e. omega arith) (λ e. omega arith)
+  fresh-snoc r h = not-in-two r used (g .left) (g .right) .1 (grown .fresh r h, λ e. omega arith, λ e. omega arith)
 
   module _ (i : ℕ) (i< : i < n) where
     abbrev home : Home used forest i
@@ -127,7 +121,7 @@ module _ (m n : ℕ) (used : List ℕ) (forest : List Tree) (grown : Grown m n u
     sole-snoc : (a : ℕ) → ((s : ℕ) → s < length forest → (s ≡ g .left → ⊥) → (s ≡ g .right → ⊥) → eqb (home .at) s ≡ eqb a s)
         → taken ≡ eqb a (length forest)
         → (s : ℕ) → s < length forest⁺ → NotIn s used⁺ → member i (groupAt forest⁺ s) ≡ eqb a s
-    sole-snoc a old new s h free = go (not-in-two s used (g .left) (g .right) free) (decLt s (length forest))
+    sole-snoc a old new s h free = go (not-in-two s used (g .left) (g .right) .0 free) (decLt s (length forest))
       where
         go : NotIn s used × (s ≡ g .left → ⊥) × (s ≡ g .right → ⊥) → Dec (s < length forest)
             → member i (groupAt forest⁺ s) ≡ eqb a s
@@ -151,11 +145,11 @@ module _ (m n : ℕ) (used : List ℕ) (forest : List Tree) (grown : Grown m n u
               (λ s h no-l no-r. neither (home .at) (g .left) (g .right) s e no-l no-r ∙ sym (ne-eqb (length forest) s (λ q. omega arith)))
               (e ∙ sym (eq-eqb (length forest) (length forest) refl));
         }
-        go false e = let other = or-false-both (eqb (home .at) (g .left)) (eqb (home .at) (g .right)) e in record {
+        go false e = let other = or-false-iff (eqb (home .at) (g .left)) (eqb (home .at) (g .right)) .0 e in record {
           at = home .at;
           below = omega (arith, length-snoc forest (joined forest g), home .below);
-          unused = two-not-in (home .at) used (g .left) (g .right) (home .unused)
-              (eqb-false (home .at) (g .left) (other .0)) (eqb-false (home .at) (g .right) (other .1));
+          unused = not-in-two (home .at) used (g .left) (g .right) .1
+              (home .unused, eqb-false (home .at) (g .left) (other .0), eqb-false (home .at) (g .right) (other .1));
           sole = sole-snoc (home .at) (λ s h no-l no-r. refl)
               (e ∙ sym (ne-eqb (home .at) (length forest) (λ q. omega (arith, home .below))));
         }
@@ -178,8 +172,8 @@ module _ (m n : ℕ) (used : List ℕ) (forest : List Tree) (grown : Grown m n u
 -- in a list without repetition two neighbours differ, and neither stands before them
 heads-unused : (used : List ℕ) (a b : ℕ) (rest : List ℕ) → Distinct (used ++ (a ∷ b ∷ rest)) → NotIn a used × NotIn b used × (a ≡ b → ⊥)
 heads-unused used a b rest distinct =
-    let second = not-in-append b used (a ∷ []) (distinct-before (used ++ (a ∷ [])) b rest (rw append-assoc distinct)) in
-    (distinct-before used a (b ∷ rest) distinct, second .0, λ e. not-in-cons b a [] (second .1) .0 (sym e))
+    let second = none-append (eqb b) used (a ∷ []) .0 (distinct-before (used ++ (a ∷ [])) b rest (rw append-assoc distinct)) in
+    (distinct-before used a (b ∷ rest) distinct, second .0, λ e. not-in-cons b a [] .0 (second .1) .0 (sym e))
 
 module _ (m n : ℕ) where
   -- gates that keep the rules keep all that `Grown` says

@@ -3,10 +3,11 @@
 -- Assumes nothing.
 use Prim.Native.Nat.{ℕ, _+_, _^_, _<_}
 use mathlib.Core.Path.{_≡_, refl, sym, _∙_, ap}
-use mathlib.Core.Bool.{Bool, true, false, _||_, and-true, and-comm}
+use mathlib.Core.Bool.{Bool, true, false, and-true, and-comm}
 use native.Mathlib.Nat.{add-comm}
 use Rattle.rules.specs.Groups.{member, part}
 use Rattle.rules.specs.Sheets.{level}
+use Rattle.laws.specs.Tests.{or-false-iff}
 use Rattle.trees.specs.Trees.{Apart, Tells, mix}
 use Rattle.trees.specs.Members.{member-join, join-below}
 use Rattle.trees.specs.Levels.{level-ext, level-part-in, level-mix-in, level-mix-out, mix-below, part-ext, part-mix}
@@ -19,11 +20,6 @@ apart-sym n a b apart i h = and-comm (member i b) (member i a) ∙ apart i h
 abbrev pub Over : ℕ → ℕ → ℕ → (ℕ → ℕ) → Type 0
 Over m n g v = (p q : ℕ) → part m n g p ≡ part m n g q → v p ≡ v q
 
--- a join that is false has a false left side
-or-false-left : (s t : Bool) → (s || t) ≡ false → s ≡ false
-or-false-left true t e = e
-or-false-left false t e = refl
-
 module _ (m n : ℕ) (pos : 0 < m) (a b : ℕ) (a< : a < 2 ^ n) (b< : b < 2 ^ n) (apart : Apart n a b) where
   -- a member of the left group is one of the join
   in-join : (i : ℕ) → i < n → member i a ≡ true → member i (a + b) ≡ true
@@ -31,7 +27,7 @@ module _ (m n : ℕ) (pos : 0 < m) (a b : ℕ) (a< : a < 2 ^ n) (b< : b < 2 ^ n)
 
   -- and an input outside the join is none of the left group
   out-of-join : (i : ℕ) → i < n → member i (a + b) ≡ false → member i a ≡ false
-  out-of-join i h e = or-false-left (member i a) (member i b) (sym (member-join i n a b a< b< apart h) ∙ e)
+  out-of-join i h e = or-false-iff (member i a) (member i b) .0 (sym (member-join i n a b a< b< apart h) ∙ e) .0
 
   -- what a join is given settles what its left group is given
   pub part-left : (p q : ℕ) → part m n (a + b) p ≡ part m n (a + b) q → part m n a p ≡ part m n a q

@@ -1,30 +1,19 @@
 -- Indices by their levels: an index below m to the n is known by its n levels, and `mix` takes each from one of two indices.
 -- Assumes nothing.
-use Prim.Native.Nat.{ℕ, zero, suc, _+_, _-_, _*_, _/_, _%_, _^_, _<_}
+use Prim.Native.Nat.{ℕ, zero, suc, _+_, _*_, _/_, _%_, _^_, _<_}
 use mathlib.Core.Path.{_≡_, refl, sym, ap, _∙_}
 use mathlib.Core.Logic.{_⊎_, inl, inr}
 use mathlib.Core.Bool.{Bool, true, false, not, cond, _&&_, _||_, true≢false}
-use native.Mathlib.Nat.{pow-zero, pow-suc, pow-succ', div-one, div-div-eq-div-mul, div-lt-iff-lt-mul, div-add-mod', mod-lt, zero-div, zero-mod, zero-mul, add-zero, zero-add, eq-or-lt-of-le, le-of-suc-le-suc, not-suc-le-zero, one-le-pow, le-step, le-refl}
+use native.Mathlib.Nat.{pow-zero, pow-suc, div-lt-iff-lt-mul, div-add-mod', mod-lt, zero-div, zero-mod, zero-mul, add-zero, zero-add, eq-or-lt-of-le, le-of-suc-le-suc, not-suc-le-zero, one-le-pow, le-step, le-refl}
 use native.Mathlib.Omega.{arith}
 use lib.Arith.{digits-lt, digits-div, digits-mod, lt-one}
 use Rattle.rules.specs.Sheets.{level}
 use Rattle.rules.specs.Groups.{member, part, others, wholeGroup}
+use Rattle.laws.specs.Levels.{level-last, level-front}
 use Rattle.trees.specs.Trees.{Apart, mix}
 use Rattle.trees.specs.Members.{member-whole, whole-below, member-others, member-join, join-below}
 
 -- ---- levels by the digits of an index
-
--- the last input's level is the lowest digit
-level-last : (m n p : ℕ) → level m (suc n) p n ≡ p % m
-unfolding level
-level-last m n p = let e : suc n - 1 - n ≡ 0 = omega arith in rw (e, pow-zero, div-one)
-
--- the earlier inputs' levels are those of the index over m
-level-front : (m n p i : ℕ) → i < n → level m (suc n) p i ≡ level m n (p / m) i
-unfolding level
-level-front m n p i h =
-    let e : suc n - 1 - i ≡ suc (n - 1 - i) = omega arith in
-    rw (e, pow-succ', ← div-div-eq-div-mul)
 
 -- an input is the last or stands at the front
 at-front : {i n : ℕ} → i < suc n → (i ≡ n) ⊎ (i < n)

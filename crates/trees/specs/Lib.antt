@@ -1,27 +1,20 @@
 -- Theorems about the definitions of `rules`. docs/PROMISES.md lists them beside the sentences that they prove.
 -- Assumes nothing.
 pub mod Trees
-pub mod Ranges
 pub mod Members
-pub mod ListLaws
 pub mod Levels
 pub mod Points
 pub mod Alike
 pub mod Firsts
-pub mod Pigeonhole
 pub mod Classes
-pub mod Distinct
 pub mod Forest
 pub mod Homes
 pub mod NetTree
-pub mod Rows
 pub mod Digits
 pub mod Joins
 pub mod Wirings
-pub mod Times
 pub mod JoinedLists
 pub mod GateLists
-pub mod Searches
 pub mod MarkRule
 pub mod MarkTwo
 pub mod NoTree

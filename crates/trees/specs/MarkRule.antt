@@ -3,8 +3,8 @@
 use Prim.Native.Nat.{ℕ, zero, suc, _+_, _-_, _^_, _≤_, _<_}
 use mathlib.Core.Path.{_≡_, refl, sym, _∙_, ap}
 use mathlib.Core.Logic.{_≢_, _⊎_, inl, inr, ⊎-elim}
-use mathlib.Core.Bool.{Bool, true, false, not, _||_, and-eq-true-iff, and-comm, true≢false}
-use mathlib.Core.List.{List, []}
+use mathlib.Core.Bool.{Bool, true, false, not, _||_, and-eq-true-iff, true≢false}
+use mathlib.Core.List.{List, [], List·Memᴰ}
 use native.Mathlib.Omega.{arith}
 use native.Mathlib.Numerals.{add-one}
 use native.Mathlib.Decide.{ℕ-discrete}
@@ -17,12 +17,15 @@ use Rattle.rules.specs.Sheets.{level}
 use Rattle.rules.specs.Groups.{member, size, multiplicity}
 use Rattle.rules.specs.Marks.{inside, markIn, partsAt, markOf, marksBelow, marksOf}
 use Rattle.rules.specs.Settled.{firstInput}
+use Rattle.laws.specs.Tests.{mem-any, any-same}
+use Rattle.laws.specs.Ranges.{mem-range, range-mem}
+use Rattle.laws.specs.FirstPlaces.{first-passes}
 use Rattle.trees.specs.Trees.{Apart, Tells}
 use Rattle.trees.specs.Members.{member-single, inside-join, rest-apart, size-one, size-zero}
 use Rattle.trees.specs.Levels.{level-below, part-ext}
+use Rattle.trees.specs.Joins.{apart-sym}
 use Rattle.trees.specs.Alike.{alike-part}
 use Rattle.trees.specs.Classes.{few-classes}
-use Rattle.trees.specs.Searches.{any-agree, any-at, first-passes}
 
 -- "it parts into two non-empty groups that both have mark 2", for marks given by `mark`
 pub record PartsIntoTwos (n : ℕ) (mark : ℕ → ℕ) (g : ℕ) : Type 0 where
@@ -86,7 +89,7 @@ parts-swap n mark g parts =
       a = parts .b;
       b = parts .a;
       joined = omega arith;
-      apart = λ i h. and-comm (member i (parts .b)) (member i (parts .a)) ∙ parts .apart i h;
+      apart = apart-sym n (parts .a) (parts .b) (parts .apart);
       some-a = parts .some-b;
       some-b = parts .some-a;
       two-a = parts .two-b;
@@ -103,7 +106,7 @@ search-parts n marks g g< h =
 pub parts-search : (n : ℕ) (marks : List ℕ) (g : ℕ) → g < 2 ^ n → PartsIntoTwos n (markIn marks) g
     → any (partsAt n marks g) (range 1 (g - 1)) ≡ true
 parts-search n marks g g< parts =
-    any-at (partsAt n marks g) 1 (g - 1) (parts .a) (omega arith) (omega arith) (parts-found n marks g g< parts)
+    mem-any (partsAt n marks g) (mem-range 1 (g - 1) (parts .a) (omega arith) (omega arith)) (parts-found n marks g g< parts)
 
 -- ---- the list
 
@@ -134,10 +137,10 @@ mark-agree : (m n : ℕ) (f : ℕ → ℕ) (xs ys : List ℕ) (g : ℕ) → ((a 
     → markOf m n f xs g ≡ markOf m n f ys g
 unfolding partsAt
 mark-agree m n f xs ys g e =
-    simp (mark-outcome, any-agree (partsAt n xs g) (partsAt n ys g) 1 (g - 1) same-test)
+    simp (mark-outcome, any-same (partsAt n xs g) (partsAt n ys g) (range 1 (g - 1)) same-test)
   where
-    same-test : (a : ℕ) → 1 ≤ a → a < 1 + (g - 1) → partsAt n xs g a ≡ partsAt n ys g a
-    same-test a low high = rw (e a (omega arith), e (g - a) (omega arith))
+    same-test : (a : ℕ) → List·Memᴰ a (range 1 (g - 1)) → partsAt n xs g a ≡ partsAt n ys g a
+    same-test a i = let between = range-mem 1 (g - 1) a i in rw (e a (omega arith), e (g - a) (omega arith))
 
 module _ (m n : ℕ) (f : ℕ → ℕ) where
   marks-below-length : (k : ℕ) → length (marksBelow m n f k) ≡ k

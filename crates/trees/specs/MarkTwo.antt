@@ -13,10 +13,12 @@ use Rattle.rules.specs.Lists.{range, any}
 use Rattle.rules.specs.Groups.{member, size}
 use Rattle.rules.specs.Marks.{inside, markIn, partsAt, marksOf}
 use Rattle.rules.specs.Settled.{Wiring, input, gate, groupOf, firstInput, splitOf, wiringBy}
+use Rattle.laws.specs.Tests.{mem-any}
+use Rattle.laws.specs.Ranges.{mem-range}
+use Rattle.laws.specs.FirstPlaces.{first-passes}
 use Rattle.trees.specs.Trees.{EachOnce, WiringOf, EachGate}
 use Rattle.trees.specs.Wirings.{Few, group-below}
 use Rattle.trees.specs.Members.{member-join, first-member, size-single, size-one, size-join, size-pos, rest-apart}
-use Rattle.trees.specs.Searches.{any-at, first-passes}
 use Rattle.trees.specs.MarkRule.{PartsIntoTwos, parts-at-holds, parts-found, parts-swap}
 use Rattle.trees.specs.MarkRule.{Way, to-none, to-two, to-one, marked, way, three-way}
 
@@ -28,7 +30,7 @@ isA n marks g a = partsAt n marks g a && member (firstInput n g) a
 part-is-A : (n : ℕ) (marks : List ℕ) (g : ℕ) → g < 2 ^ n → (parts : PartsIntoTwos n (markIn marks) g)
     → member (firstInput n g) (parts .a) ≡ true → any (isA n marks g) (range 1 (g - 1)) ≡ true
 part-is-A n marks g g< parts holds =
-    any-at (isA n marks g) 1 (g - 1) (parts .a) (omega arith) (omega arith) (rw (parts-found n marks g g< parts, holds))
+    mem-any (isA n marks g) (mem-range 1 (g - 1) (parts .a) (omega arith) (omega arith)) (rw (parts-found n marks g g< parts, holds))
 
 -- what the first of two parts does not hold, the second does
 in-other-part : (i n : ℕ) (mark : ℕ → ℕ) (g : ℕ) → g < 2 ^ n → i < n → member i g ≡ true → (parts : PartsIntoTwos n mark g)

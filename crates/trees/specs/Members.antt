@@ -4,7 +4,7 @@ use Prim.Native.Nat.{ℕ, zero, suc, _+_, _-_, _/_, _%_, _^_, _≤_, _<_}
 use native.Mathlib.Nat.{div-one, zero-div, div-div-eq-div-mul, pow-succ'}
 use native.Mathlib.Omega.{arith}
 use mathlib.Core.Path.{_≡_, refl, sym, ap, ap₂, _∙_}
-use mathlib.Core.Bool.{Bool, true, false, not, cond, _&&_, _||_, true≢false, false≢true, and-false}
+use mathlib.Core.Bool.{Bool, true, false, not, _&&_, _||_, false≢true, and-false}
 use lib.Dec.{eqb, eqb·zero-suc, eqb·suc-zero, eqb·suc-suc}
 use lib.Pow.{pow-pos, pow-lt}
 use borrow.Author.Tests.{eqb-true}
@@ -12,31 +12,30 @@ use Rattle.rules.specs.Lists.{range, those}
 use Rattle.rules.specs.Groups.{member, size, wholeGroup, others}
 use Rattle.rules.specs.Marks.{inside}
 use Rattle.rules.specs.Settled.{firstInput}
+use Rattle.laws.specs.Tests.{all-mem, mem-all, oneIf, one-if-le, one-if-or}
+use Rattle.laws.specs.Ranges.{range-shift, mem-range, range-mem}
+use Rattle.laws.specs.Counts.{count-cons, count-map}
+use Rattle.laws.specs.FirstPlaces.{first-cons, first-map}
 use Rattle.trees.specs.Trees.{Apart}
-use Rattle.trees.specs.Ranges.{all-passes, passes-all, count-suc, place-suc}
 
 -- ---- a group by its lowest bit and the group of the other bits
 
--- a test as a bit
-abbrev bit : Bool → ℕ
-bit t = cond t 1 0
-
 -- the lowest bit says whether input 0 is a member
-pub low-bit : (g : ℕ) → g % 2 ≡ bit (member zero g)
+pub low-bit : (g : ℕ) → g % 2 ≡ oneIf (member zero g)
 unfolding member
 low-bit g = rw div-one (go (g % 2) (omega arith))
   where
-    go : (x : ℕ) → x < 2 → x ≡ bit (eqb x 1)
+    go : (x : ℕ) → x < 2 → x ≡ oneIf (eqb x 1)
     go zero h = refl
     go (suc zero) h = refl
     go (suc (suc x)) h = omega arith
 
 -- and back: input 0 is a member as the lowest bit says
-pub low-member : (g : ℕ) (t : Bool) → g % 2 ≡ bit t → member zero g ≡ t
+pub low-member : (g : ℕ) (t : Bool) → g % 2 ≡ oneIf t → member zero g ≡ t
 unfolding member
 low-member g t e = rw (div-one, e) (go t)
   where
-    go : (s : Bool) → eqb (bit s) 1 ≡ s
+    go : (s : Bool) → eqb (oneIf s) 1 ≡ s
     go true = refl
     go false = refl
 
@@ -52,7 +51,7 @@ member-ext (suc n) g h g< h< e =
     omega (
       arith,
       member-ext n (g / 2) (h / 2) (omega arith) (omega arith) (λ i k. simp member-suc at (e (suc i) (omega arith))),
-      low-bit g ∙ ap bit (e 0 (omega arith)) ∙ sym (low-bit h),
+      low-bit g ∙ ap oneIf (e 0 (omega arith)) ∙ sym (low-bit h),
     )
 
 -- the empty group has no member
@@ -104,21 +103,9 @@ member-whole (suc i) (suc n) h = rw (member-suc, whole-half) (member-whole i n (
 
 -- ---- two groups that share no input
 
--- of two bits that are not both 1, the sum is the bit of either
-bits-apart : (s t : Bool) → (s && t) ≡ false → bit s + bit t ≡ bit (s || t)
-bits-apart true true e = absurd (true≢false e)
-bits-apart true false e = refl
-bits-apart false true e = refl
-bits-apart false false e = refl
-
--- a bit is 0 or 1
-bit-below : (t : Bool) → bit t < 2
-bit-below true = omega arith
-bit-below false = omega arith
-
 -- so it is with the lowest bits of two such groups
-low-apart : (n a b : ℕ) → Apart (suc n) a b → a % 2 + b % 2 ≡ bit (member 0 a || member 0 b)
-low-apart n a b apart = ap₂ _+_ (low-bit a) (low-bit b) ∙ bits-apart (member 0 a) (member 0 b) (apart 0 (omega arith))
+low-apart : (n a b : ℕ) → Apart (suc n) a b → a % 2 + b % 2 ≡ oneIf (member 0 a || member 0 b)
+low-apart n a b apart = ap₂ _+_ (low-bit a) (low-bit b) ∙ sym (one-if-or (member 0 a) (member 0 b) (apart 0 (omega arith)))
 
 -- their halves share no input either
 half-apart : (n a b : ℕ) → Apart (suc n) a b → Apart n (a / 2) (b / 2)
@@ -126,11 +113,11 @@ half-apart n a b apart i h = simp member-suc at (apart (suc i) (omega arith))
 
 -- the lowest bit of their sum is the sum of the lowest bits
 low-join : (n a b : ℕ) → Apart (suc n) a b → (a + b) % 2 ≡ a % 2 + b % 2
-low-join n a b apart = omega (arith, low-apart n a b apart, bit-below (member 0 a || member 0 b))
+low-join n a b apart = omega (arith, low-apart n a b apart, one-if-le (member 0 a || member 0 b))
 
 -- the half of their sum is the sum of the halves
 half-join : (n a b : ℕ) → Apart (suc n) a b → (a + b) / 2 ≡ a / 2 + b / 2
-half-join n a b apart = omega (arith, low-apart n a b apart, bit-below (member 0 a || member 0 b))
+half-join n a b apart = omega (arith, low-apart n a b apart, one-if-le (member 0 a || member 0 b))
 
 -- they join by a sum
 pub member-join : (i n a b : ℕ) → a < 2 ^ n → b < 2 ^ n → Apart n a b → i < n → member i (a + b) ≡ (member i a || member i b)
@@ -150,26 +137,28 @@ join-below (suc n) a b a< b< apart =
 -- `inside` as a statement
 pub inside-member : (i n a g : ℕ) → inside n a g ≡ true → i < n → member i a ≡ true → member i g ≡ true
 unfolding inside
-inside-member i n a g h i< e = rw e at (all-passes (λ j. not (member j a) || member j g) n h i i<)
+inside-member i n a g h i< e = rw e at (all-mem (λ j. not (member j a) || member j g) (mem-range 0 n i (omega arith) (omega arith)) h)
 
 -- and back
 pub member-inside : (n a g : ℕ) → ((i : ℕ) → i < n → member i a ≡ true → member i g ≡ true) → inside n a g ≡ true
 unfolding inside
-member-inside n a g h = passes-all (λ i. not (member i a) || member i g) n (λ i i<. go (member i a) (member i g) (h i i<))
+member-inside n a g h =
+    mem-all (λ i. not (member i a) || member i g) (range 0 n) λ i in-range.
+    let between = range-mem 0 n i in-range in go (member i a) (member i g) (h i (omega arith))
   where
     go : (s t : Bool) → (s ≡ true → t ≡ true) → (not s || t) ≡ true
     go true t f = f refl
     go false t f = refl
 
 -- of a bit that is 1 only where another is, what it leaves of that one
-bits-rest : (s t : Bool) → (s ≡ true → t ≡ true) → bit t ≡ bit s + bit (t && not s)
+bits-rest : (s t : Bool) → (s ≡ true → t ≡ true) → oneIf t ≡ oneIf s + oneIf (t && not s)
 bits-rest true true f = refl
 bits-rest true false f = absurd (false≢true (f refl))
 bits-rest false true f = refl
 bits-rest false false f = refl
 
 -- so it is with the lowest bits of a part and its group
-low-inside : (n a g : ℕ) → inside (suc n) a g ≡ true → g % 2 ≡ a % 2 + bit (member 0 g && not (member 0 a))
+low-inside : (n a g : ℕ) → inside (suc n) a g ≡ true → g % 2 ≡ a % 2 + oneIf (member 0 g && not (member 0 a))
 low-inside n a g h =
     rw (low-bit g, low-bit a) (bits-rest (member 0 a) (member 0 g) (inside-member 0 (suc n) a g h (omega arith)))
 
@@ -223,8 +212,8 @@ others-below n g = omega (arith, whole-below n)
 
 -- the lowest bit, and the size of the half
 pub size-suc : (n g : ℕ) → size (suc n) g ≡ g % 2 + size n (g / 2)
-unfolding size
-size-suc n g = simp (count-suc (λ i. member i g) n, low-bit g, member-suc)
+unfolding size range
+size-suc n g = simp (count-cons (λ i. member i g) 0, range-shift 0 n, count-map suc (λ i. member i g), low-bit g, member-suc)
 
 -- the empty group has no member
 pub size-zero : (n : ℕ) → size n 0 ≡ 0
@@ -275,13 +264,13 @@ size-pos n g g< h = go (size n g) (size-empty n g g<)
 
 -- input 0 where it is a member
 pub first-odd : (n g : ℕ) → member 0 g ≡ true → firstInput (suc n) g ≡ 0
-unfolding firstInput
-first-odd n g e = place-suc (λ i. member i g) n ∙ rw e
+unfolding firstInput range
+first-odd n g e = first-cons (λ i. member i g) 0 (range 1 n) ∙ rw e
 
 -- and else the half's, one place on
 pub first-even : (n g : ℕ) → member 0 g ≡ false → firstInput (suc n) g ≡ suc (firstInput n (g / 2))
-unfolding firstInput
-first-even n g e = place-suc (λ i. member i g) n ∙ simp (e, member-suc)
+unfolding firstInput range
+first-even n g e = first-cons (λ i. member i g) 0 (range 1 n) ∙ simp (e, range-shift 0 n, first-map suc (λ i. member i g), member-suc)
 
 -- a group of one member is that member's power of two
 pub size-one : (n g : ℕ) → g < 2 ^ n → size n g ≡ 1 → (firstInput n g < n) × (g ≡ 2 ^ firstInput n g)
@@ -291,10 +280,10 @@ size-one (suc n) g g< h = go (size-one n (g / 2) (omega arith)) (member 0 g) ref
     go : (size n (g / 2) ≡ 1 → (firstInput n (g / 2) < n) × (g / 2 ≡ 2 ^ firstInput n (g / 2))) → (t : Bool) → member 0 g ≡ t
         → (firstInput (suc n) g < suc n) × (g ≡ 2 ^ firstInput (suc n) g)
     go ih true e =
-        let low : g % 2 ≡ 1 = low-bit g ∙ ap bit e in
+        let low : g % 2 ≡ 1 = low-bit g ∙ ap oneIf e in
         rw (first-odd n g e) (omega (arith, size-empty n (g / 2) (omega arith) (omega (arith, size-suc n g))))
     go ih false e =
-        let low : g % 2 ≡ 0 = low-bit g ∙ ap bit e in
+        let low : g % 2 ≡ 0 = low-bit g ∙ ap oneIf e in
         rw (first-even n g e) (omega (arith, ih (omega (arith, size-suc n g))))
 
 -- the first-listed member of a group that is not empty
@@ -306,7 +295,7 @@ first-member (suc n) g g< h = go (first-member n (g / 2) (omega arith)) (member 
         → (firstInput (suc n) g < suc n) × (member (firstInput (suc n) g) g ≡ true)
     go ih true e = rw (first-odd n g e) (omega arith, e)
     go ih false e =
-        let low : g % 2 ≡ 0 = low-bit g ∙ ap bit e in
+        let low : g % 2 ≡ 0 = low-bit g ∙ ap oneIf e in
         let (below, is) = ih (omega arith) in
         rw (first-even n g e) (omega arith, member-suc (firstInput n (g / 2)) g ∙ is)
 

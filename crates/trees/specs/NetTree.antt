@@ -16,10 +16,11 @@ use Rattle.rules.specs.Value.{value}
 use Rattle.rules.specs.Groups.{member, wholeGroup}
 use Rattle.rules.specs.Settled.{groupOf}
 use Rattle.rules.specs.Kept.{RefersBack, GateRules, EarlierUsed, IsNet}
+use Rattle.laws.specs.Tests.{not-false-true}
+use Rattle.laws.specs.Distinct.{In, NotIn, not-in-cons, all-stand}
 use Rattle.trees.specs.Trees.{Tree, wiringIn, treeValue, EachOnce, Filled}
 use Rattle.trees.specs.Members.{member-ext, member-single, member-whole, whole-below}
 use Rattle.trees.specs.Wirings.{group-below}
-use Rattle.trees.specs.Distinct.{In, NotIn, cons-not-in, not-false-true, all-stand}
 use Rattle.trees.specs.Forest.{treeAt, withTrees, inputTrees, trees-length, inputs-length, last-value}
 use Rattle.trees.specs.Homes.{Home, Grown, groupAt, grown-inputs, grown-gates}
 
@@ -39,8 +40,8 @@ past-unused : (k : ℕ) (gates : List Gate) → RefersBack k gates → (r : ℕ)
 unfolding usedBy any
 past-unused k [] back r h = refl
 past-unused k (g ∷ gates) back r h =
-    cons-not-in r (g .left) (g .right ∷ usedBy gates) (λ e. omega arith)
-    (cons-not-in r (g .right) (usedBy gates) (λ e. omega arith) (past-unused (suc k) gates (back .2) r (omega arith)))
+    not-in-cons r (g .left) (g .right ∷ usedBy gates) .1
+    (λ e. omega arith, not-in-cons r (g .right) (usedBy gates) .1 (λ e. omega arith, past-unused (suc k) gates (back .2) r (omega arith)))
 
 -- each gate uses two references
 used-length : (gates : List Gate) → length (usedBy gates) ≡ length gates + length gates
@@ -134,7 +135,6 @@ net-uses-gates m n gates net k h = net-uses m n gates net (n + k) (omega arith)
 pub net-uses-inputs : (m n : ℕ) (gates : List Gate) → 1 < n → IsNet m n gates → (i : ℕ) → i < n → any (eqb i) (usedBy gates) ≡ true
 net-uses-inputs m n gates h net i i< = net-uses m n gates net i (omega (arith, net .count))
 
--- a net's tree
 pub net-tree : (m n : ℕ) (gates : List Gate) → 1 < n → IsNet m n gates → TreeOf m n gates
 net-tree m n gates h net = net-is-tree m n gates (omega (arith, net .count)) (net .rules) (net-uses-gates m n gates net)
 

@@ -17,7 +17,7 @@ use Rattle.trees.specs.Trees.{mix, Tells}
 use Rattle.trees.specs.Members.{whole-below, size-le}
 use Rattle.trees.specs.Levels.{part-below, part-whole, part-mix, mix-below}
 use Rattle.trees.specs.Classes.{few-classes}
-use Rattle.trees.specs.Searches.{First, missing, the-first, first-same, first-or, find-append, find-those, InRange, first-in-range}
+use Rattle.laws.specs.Finds.{First, missing, the-first, first-same, first-or, find-append, find-those, InRange, first-in-range}
 use Rattle.trees.specs.MarkRule.{Way, to-none, to-two, to-one, marked, way}
 
 -- ---- the groups in the order of their sizes

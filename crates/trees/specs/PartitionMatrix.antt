@@ -2,7 +2,7 @@
 -- its row multiplicity are document 01's multiplicities of the two groups.
 -- Assumes nothing.
 use Prim.Native.Nat.{ℕ, _+_, _^_, _<_}
-use mathlib.Core.Path.{_≡_, refl, ap, ap₂, _∙_, fun-ext}
+use mathlib.Core.Path.{_≡_, refl, ap, _∙_, fun-ext}
 use mathlib.Core.Bool.{Bool, true, false}
 use mathlib.Core.List.{List, [], _∷_, _++_, map, map-append}
 use native.Mathlib.Nat.{add-comm}
@@ -14,6 +14,7 @@ use Rattle.rules.specs.Groups.{size, others, wholeGroup, points, alikeOver, fir
 use Rattle.rules.specs.Calls.{inkIn}
 use Rattle.rules.specs.Cases.{digits, byRule, figureRows, figure}
 use Rattle.rules.specs.Evaluation.{computing}
+use Rattle.laws.specs.Tests.{any-same, any-map}
 use Rattle.trees.specs.Points.{points-length}
 
 -- "the Y|X partition matrix has m^|X| columns and m^|Y| rows labeled by all possible assignments of values to X and Y,
@@ -66,9 +67,9 @@ module _ (f : ℕ → ℕ) (ys : List ℕ) where
 
   -- a column is among some exactly where its assignment is alike with one of theirs
   any-column : (p : ℕ) (kept : List ℕ) → any (same (column p)) (map column kept) ≡ any (alikeOver f ys p) kept
-  unfolding any column
-  any-column p [] = refl
-  any-column p (q ∷ kept) = ap₂ (λ (b rest : Bool). elim b [ true ↦ true | false ↦ rest ]) (same-column f ys p q) (any-column p kept)
+  unfolding column
+  any-column p kept =
+      any-map column (same (column p)) kept ∙ any-same (λ q. same (column p) (column q)) (alikeOver f ys p) kept (λ q i. same-column f ys p q)
 
   -- so the distinct columns are those of the classes' first assignments
   distinct-firsts : (kept ps : List ℕ) → distinct (map column kept) (map column ps) ≡ map column (firsts (alikeOver f ys) kept ps)

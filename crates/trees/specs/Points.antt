@@ -7,12 +7,15 @@ use mathlib.Core.Bool.{Bool, true, false, cond}
 use mathlib.Core.List.{List, [], _∷_, _++_, List·Memᴰ, List·Memᴰ·head, List·Memᴰ·tail, List·Memᴰ·not-nil, List·Memᴰ·append-cases, List·Memᴰ·eq-of-singleton, map}
 use native.Mathlib.Nat.{add-zero, zero-add, zero-mul, suc-mul, le-refl, le-step, pow-zero, pow-suc, mod-lt, not-suc-le-zero, le-of-suc-le-suc, le-add-right, add-lt-add-of-le-of-lt, div-add-mod', lt-of-lt-of-le, div-lt-iff-lt-mul, div-mul-le-self, one-mul, add-comm}
 use native.Mathlib.Omega.{arith}
-use lib.ListN.{length, getD, length-append}
+use lib.ListN.{length, getD}
 use lib.Arith.{digits-div, digits-mod}
 use lib.Pow.{pow-add}
 use Rattle.rules.specs.Groups.{member, part, points, size, wholeGroup}
 use Rattle.rules.specs.Lists.{range, concatMap, those}
-use Rattle.trees.specs.ListLaws.{length-range, mem-range, range-mem, map-range, range-append, range-snoc, mem-concatMap, concatMap-mem, length-concatMap, those-append, mem-getD}
+use Rattle.laws.specs.Places.{mem-getD}
+use Rattle.laws.specs.Concat.{concat-length, mem-concat, concat-mem}
+use Rattle.laws.specs.Ranges.{range-length, range-append, range-suc, map-range, mem-range, range-mem}
+use Rattle.laws.specs.Counts.{count-cons, count-append}
 use Rattle.trees.specs.Levels.{part-below}
 use Rattle.trees.specs.Members.{member-whole, member-zero}
 
@@ -63,7 +66,7 @@ unfolding part points
 part-in-points m zero pos g p = List·Memᴰ·head refl
 part-in-points m (suc n) pos g p =
     rw points-suc
-    (mem-concatMap (block m (member n g)) (part-in-points m n pos g (p / m))
+    (mem-concat (block m (member n g)) (part-in-points m n pos g (p / m))
     (mem-range (part m n g (p / m) * m) (choices m (member n g)) _ (le-add-right _ _)
     (add-lt-add-of-le-of-lt (le-refl (part m n g (p / m) * m)) (digit-choice m pos (member n g) p))))
 
@@ -71,7 +74,7 @@ part-in-points m (suc n) pos g p =
 points-fixed : (m n : ℕ) → 0 < m → (g q : ℕ) → List·Memᴰ q (points m n g) → part m n g q ≡ q
 unfolding part points
 points-fixed m zero pos g q h = sym (List·Memᴰ·eq-of-singleton h)
-points-fixed m (suc n) pos g q h = go (concatMap-mem (block m (member n g)) (points m n g) (rw points-suc at h)) (points-fixed m n pos g)
+points-fixed m (suc n) pos g q h = go (concat-mem (block m (member n g)) (points m n g) (rw points-suc at h)) (points-fixed m n pos g)
   where
     join : (r : ℕ) → part m n g r ≡ r → (q / m ≡ r) × (cond (member n g) (q % m) 0 ≡ q % m) → part m (suc n) g q ≡ q
     join r e b = cc (div-add-mod' q m)
@@ -121,7 +124,7 @@ unfolding concatMap
 rising-blocks m pos c [] r = tt
 rising-blocks m pos c (x ∷ xs) r =
     rising-append (block m c x) (concatMap (block m c) xs) (rising-range (x * m) (choices m c)) (rising-blocks m pos c xs (r .1))
-    (λ a b i j. apart a b i (concatMap-mem (block m c) xs j))
+    (λ a b i j. apart a b i (concat-mem (block m c) xs j))
   where
     apart : (a b : ℕ) → List·Memᴰ a (block m c x) → (z : ℕ) × List·Memᴰ z xs × List·Memᴰ b (block m c z) → a < b
     apart a b i s = lt-of-div-lt m a b pos (rw (block-mem m pos c x a i .0, block-mem m pos c (s .0) b (s .2) .0) (r .0 (s .0) (s .1)))
@@ -135,13 +138,9 @@ rising-points m (suc n) pos g = rw points-suc (rising-blocks m pos (member n g) 
 -- ---- their number
 
 -- one more input adds at most one member
-size-suc : (n g : ℕ) → size (suc n) g ≡ size n g + cond (member n g) 1 0
+size-last : (n g : ℕ) → size (suc n) g ≡ size n g + cond (member n g) 1 0
 unfolding size those
-size-suc n g = rw (range-snoc, those-append, length-append, zero-add) (ap (λ x. size n g + x) (one (member n g)))
-  where
-    one : (c : Bool) → length {A = ℕ} (elim c as (λ _. List ℕ) [ true ↦ n ∷ [] | false ↦ [] ]) ≡ cond c 1 0
-    one true = refl
-    one false = refl
+size-last n g = rw (range-suc, count-append, count-cons, zero-add) (omega arith)
 
 -- one more member multiplies the number of assignments by m
 pow-choice : (m : ℕ) (c : Bool) → m ^ cond c 1 0 ≡ choices m c
@@ -153,7 +152,7 @@ pub points-length : (m n : ℕ) → 0 < m → (g : ℕ) → length (points m n g
 unfolding points size those range
 points-length m zero pos g = sym (pow-zero m)
 points-length m (suc n) pos g =
-    rw (points-suc, length-concatMap (block m (member n g)) (choices m (member n g)) (λ p. length-range (p * m) _), points-length m n pos g, size-suc, pow-add, pow-choice)
+    rw (points-suc, concat-length (block m (member n g)) (choices m (member n g)) (λ p. range-length (p * m) _), points-length m n pos g, size-last, pow-add, pow-choice)
 
 -- ---- the whole group's and the empty group's
 

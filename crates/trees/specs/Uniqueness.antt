@@ -1,23 +1,21 @@
 -- The settled net depends on the table alone: two nets have the same settled net exactly when they compute the same table.
 -- Assumes nothing.
-use Prim.Native.Nat.{ℕ, zero, suc, _+_, _^_, _<_}
-use mathlib.Core.Path.{_≡_, refl, sym, ap, _∙_, subst, subst⁻¹}
+use Prim.Native.Nat.{ℕ, _^_, _<_}
+use mathlib.Core.Path.{_≡_, sym, ap, _∙_, subst, subst⁻¹}
 use mathlib.Core.Logic.{_↔_}
-use mathlib.Core.List.{List, [], _∷_, map}
+use mathlib.Core.List.{List}
 use native.Mathlib.Nat.{zero-add}
-use native.Mathlib.Omega.{arith}
-use lib.ListN.{length, getD, length-map}
+use lib.ListN.{length}
 use lib.Seq.{ext-getD}
-use Rattle.rules.specs.Lists.{range}
-use Rattle.rules.specs.Sheets.{Gate, Net, Table}
+use Rattle.rules.specs.Sheets.{Gate}
 use Rattle.rules.specs.Value.{value, tableOf}
 use Rattle.rules.specs.Groups.{wholeGroup}
-use Rattle.rules.specs.Marks.{markIn, marksOf}
+use Rattle.rules.specs.Marks.{marksOf}
 use Rattle.rules.specs.Settled.{settledGates}
 use Rattle.rules.specs.Calls.{inkIn}
 use Rattle.rules.specs.Kept.{IsNet}
-use Rattle.trees.specs.Trees.{Computes, treeValue}
-use Rattle.trees.specs.Rows.{range-length, range-at, map-at}
+use Rattle.laws.specs.Ranges.{map-range-length, map-range-at}
+use Rattle.trees.specs.Trees.{Computes}
 use Rattle.trees.specs.NetTree.{TreeOf, net-tree}
 use Rattle.trees.specs.Wirings.{tree-below}
 use Rattle.trees.specs.MarkRule.{marked}
@@ -26,14 +24,12 @@ use Rattle.trees.specs.Existence.{net-marks, settled-net}
 module _ (m n : ℕ) where
   pub table-length : (gates : List Gate) → length (tableOf m n gates) ≡ m ^ n
   unfolding tableOf
-  table-length gates = length-map (range 0 (m ^ n)) (value m n gates) ∙ range-length 0 (m ^ n)
+  table-length gates = map-range-length (value m n gates) 0 (m ^ n)
 
   -- the table's entry at an index is the value there
   pub table-at : (gates : List Gate) (p : ℕ) → p < m ^ n → inkIn (tableOf m n gates) p ≡ value m n gates p
   unfolding tableOf
-  table-at gates p h =
-      map-at (value m n gates) (range 0 (m ^ n)) p 0 0 (subst⁻¹ (λ (k : ℕ). p < k) (range-length 0 (m ^ n)) h)
-      ∙ ap (value m n gates) (range-at 0 (m ^ n) p 0 h ∙ zero-add p)
+  table-at gates p h = map-range-at (value m n gates) 0 (m ^ n) p 0 h ∙ ap (value m n gates) (zero-add p)
 
   -- a list of m to the n inks is the table of the gates that compute it
   pub table-is : (gates : List Gate) (inks : List ℕ) → length inks ≡ m ^ n → Computes m n gates (inkIn inks) → tableOf m n gates ≡ inks

@@ -1,76 +1,36 @@
--- The searches of `Lists` over a range of numbers: what `any`, `firstPlace` and `find` find.
+-- The first element that a search finds, by `find`.
 -- Assumes nothing.
 use Prim.Native.Nat.{ℕ, zero, suc, _+_, _≤_, _<_}
-use mathlib.Core.Path.{_≡_, refl, sym, _∙_, ap}
+use mathlib.Core.Path.{_≡_, refl, sym, _∙_, ap, subst}
 use mathlib.Core.Logic.{_≢_, _↔_, _⊎_, inl, inr, ⊎-elim}
-use mathlib.Core.Bool.{Bool, true, false, _&&_, _||_, or-true, true≢false, false≢true}
-use mathlib.Core.Option.{Option, none, some}
+use mathlib.Core.Bool.{Bool, true, false, _&&_, true≢false}
+use mathlib.Core.Option.{Option, none, some, Option·some-injective, Option·none-ne-some}
 use mathlib.Core.List.{List, [], _∷_, _++_}
 use native.Mathlib.Omega.{arith}
-use native.Mathlib.Nat.{add-zero, suc-add, add-suc}
-use native.Mathlib.Decide.{ℕ-discrete}
-use Rattle.rules.specs.Lists.{range, any, firstPlace, those, find}
-
--- ---- any, firstPlace
-
--- `any` looks at the first element, and then at the others
-pub any-cons : {A : Type 0} (t : A → Bool) (x : A) (xs : List A) → any t (x ∷ xs) ≡ (t x || any t xs)
-unfolding any
-any-cons t x xs = go (t x)
-  where
-    go : (b : Bool) → elim b as (λ _. Bool) [ true ↦ true | false ↦ any t xs ] ≡ (b || any t xs)
-    go true = refl
-    go false = refl
-
--- tests that agree over the range give the same answer
-pub any-agree : (t u : ℕ → Bool) (from count : ℕ) → ((a : ℕ) → from ≤ a → a < from + count → t a ≡ u a)
-    → any t (range from count) ≡ any u (range from count)
-unfolding any range
-any-agree t u from zero e = refl
-any-agree t u from (suc count) e =
-    let later = any-agree t u (suc from) count (λ a low high. e a (omega arith) (omega arith)) in
-    rw (any-cons t, any-cons u, e from (omega arith) (omega arith), later)
-
--- a number of the range that passes is found
-pub any-at : (t : ℕ → Bool) (from count a : ℕ) → from ≤ a → a < from + count → t a ≡ true → any t (range from count) ≡ true
-unfolding range
-any-at t from zero a low high e = absurd (omega arith)
-any-at t from (suc count) a low high e =
-    rw (any-cons t) (go (λ next. any-at t (suc from) count a next (omega arith) e) (ℕ-discrete a from))
-  where
-    go : (suc from ≤ a → any t (range (suc from) count) ≡ true) → Dec (a ≡ from) → (t from || any t (range (suc from) count)) ≡ true
-    go later (yes same) = rw (← same, e)
-    go later (no other) = rw (later (omega arith), or-true)
-
--- where some number of the range passes, `firstPlace` is the place of one that does
-abbrev FirstPasses : (ℕ → Bool) → ℕ → ℕ → Type 0
-FirstPasses t from count = any t (range from count) ≡ true
-    → (firstPlace t (range from count) < count) × (t (from + firstPlace t (range from count)) ≡ true)
-
-pub first-passes : (t : ℕ → Bool) (from count : ℕ) → FirstPasses t from count
-unfolding any firstPlace range
-first-passes t from zero e = absurd (false≢true e)
-first-passes t from (suc count) e = go (t from) refl (first-passes t (suc from) count) e
-  where
-    go : (b : Bool) → t from ≡ b → FirstPasses t (suc from) count → FirstPasses t from (suc count)
-    go true here later e = rw (here, add-zero) (omega arith, here)
-    go false here later e =
-        let next = later (rw here at e) in
-        rw here (omega arith, rw (add-suc, ← suc-add) (next .1))
-
--- ---- find
+use Rattle.rules.specs.Lists.{range, those, find}
 
 -- What a search found is, by R, the first of the numbers that are P; where it found nothing there is none.
 pub data First (P : ℕ → Type 0) (R : ℕ → ℕ → Type 0) : Option ℕ → Type 0 where
   found : (g : ℕ) → P g → ((h : ℕ) → P h → R g h) → First P R (some g)
   missing : ((h : ℕ) → P h → ⊥) → First P R none
 
--- where some number is P, one was found
-pub the-first : {P : ℕ → Type 0} {R : ℕ → ℕ → Type 0} {o : Option ℕ} → First P R o → (w : ℕ) → P w →
-    let g = elim o as (λ _. ℕ) [ none ↦ 0 | some g ↦ g ] in
-    P g × ((h : ℕ) → P h → R g h)
-the-first (found g p least) w q = (p, least)
-the-first (missing empty) w q = absurd (empty w q)
+module _ {P : ℕ → Type 0} {R : ℕ → ℕ → Type 0} where
+  -- where some number is P, one was found
+  pub the-first : {o : Option ℕ} → First P R o → (w : ℕ) → P w →
+      let g = elim o as (λ _. ℕ) [ none ↦ 0 | some g ↦ g ] in
+      P g × ((h : ℕ) → P h → R g h)
+  the-first (found g p least) w q = (p, least)
+  the-first (missing empty) w q = absurd (empty w q)
+
+  -- what was found is P
+  pub found-is : {o : Option ℕ} → First P R o → (x : ℕ) → o ≡ some x → P x
+  found-is (found g p least) x e = subst P (Option·some-injective g x e) p
+  found-is (missing empty) x e = absurd (Option·none-ne-some x e)
+
+  -- the only number that is P is found
+  pub found-only : {o : Option ℕ} → First P R o → (x : ℕ) → P x → ((y : ℕ) → P y → y ≡ x) → o ≡ some x
+  found-only (found g p least) x q only = ap some (only g p)
+  found-only (missing empty) x q only = absurd (empty x q)
 
 -- the same first, said otherwise
 pub first-same : {P S : ℕ → Type 0} {R R′ : ℕ → ℕ → Type 0} {o : Option ℕ} → First P R o

@@ -1,0 +1,34 @@
+-- Lists read by place.
+-- Assumes nothing.
+use Prim.Native.Nat.{ℕ, zero, suc, _<_}
+use mathlib.Core.Path.{_≡_, refl}
+use mathlib.Core.List.{List, [], _∷_, _++_, map, List·Memᴰ, List·Memᴰ·head, List·Memᴰ·tail}
+use native.Mathlib.Nat.{not-suc-le-zero, le-of-suc-le-suc}
+use native.Mathlib.Omega.{arith}
+use lib.ListN.{length, getD, length-append}
+
+-- the element at a place is listed
+pub mem-getD {ℓ} : {A : Type ℓ} (xs : List A) (i : ℕ) (d : A) → i < length xs → List·Memᴰ (getD xs i d) xs
+mem-getD [] i d h = absurd (not-suc-le-zero h)
+mem-getD (x ∷ xs) zero d h = List·Memᴰ·head refl
+mem-getD (x ∷ xs) (suc i) d h = List·Memᴰ·tail (mem-getD xs i d (le-of-suc-le-suc h))
+
+-- a function's value at a place of a list
+pub map-at : {A B : Type 0} (f : A → B) (xs : List A) (i : ℕ) (d : A) (e : B) → i < length xs → getD (map f xs) i e ≡ f (getD xs i d)
+map-at f [] i d e h = absurd (not-suc-le-zero h)
+map-at f (x ∷ xs) zero d e h = refl
+map-at f (x ∷ xs) (suc i) d e h = map-at f xs i d e (le-of-suc-le-suc h)
+
+-- one element more at the end
+module _ {A : Type 0} where
+  pub length-snoc : (xs : List A) (x : A) → length (xs ++ (x ∷ [])) ≡ suc (length xs)
+  length-snoc xs x = omega (arith, length-append xs (x ∷ []))
+
+  -- what holds at each place of a list, and of the element
+  pub each-snoc : (P : A → Type 0) (d : A) (xs : List A) (x : A) → ((i : ℕ) → i < length xs → P (getD xs i d)) → P x
+      → (i : ℕ) → i < length (xs ++ (x ∷ [])) → P (getD (xs ++ (x ∷ [])) i d)
+  each-snoc P d [] x each new zero h = new
+  each-snoc P d [] x each new (suc i) h = absurd (omega arith)
+  each-snoc P d (y ∷ xs) x each new zero h = each zero (omega arith)
+  each-snoc P d (y ∷ xs) x each new (suc i) h =
+      each-snoc P d xs x (λ j k. each (suc j) (omega arith)) new i (le-of-suc-le-suc h)
