@@ -1,0 +1,20 @@
+// How a mark is stored and read: one byte, at its group's number. specs/Stored.antt says the same.
+ghost use mathlib.Core.Path.{_≡_};
+ghost use Prim.Native.Nat.{_<_};
+ghost use lib.ListN.{length};
+ghost use Rattle.rules.specs.Marks.{markIn};
+ghost use Rattle.marks.specs.Stored.{held, put};
+
+pub fn mark_at(marks: &[u8], g: usize) -> u8
+    requires { ⌜ g < length (held (now marks)) ⌝ }
+    ensures { λ r. ⌜ r ≡ markIn (held (now (marks .entry))) g ⌝ }
+{
+    marks[g]
+}
+
+pub fn put_mark(marks: &mut [u8], g: usize, v: u8)
+    requires { ⌜ g < length (held (now marks)) ⌝ }
+    ensures { λ _. ⌜ now (marks .exit) ≡ put (now (marks .entry)) g v ⌝ }
+{
+    marks[g] = v;
+}
