@@ -1,3 +1,4 @@
 pub mod Parts
+pub mod Rule
 pub mod Splits
 pub mod Stored
