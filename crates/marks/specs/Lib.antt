@@ -1,3 +1,4 @@
+pub mod Marking
 pub mod Parts
 pub mod Rule
 pub mod Splits
