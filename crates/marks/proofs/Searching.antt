@@ -1,7 +1,7 @@
 -- The loop of `split_of` over plain numbers: the search goes on from the first-listed input and the part `part` of the others.
 -- Assumes nothing.
-use Prim.Native.Nat.{ℕ, zero, suc, _+_, _-_, _^_, _≤_, _<_}
-use mathlib.Core.Path.{_≡_, refl, sym, ap, ap₂, _∙_, subst, subst⁻¹}
+use Prim.Native.Nat.{ℕ, _+_, _-_, _^_, _≤_, _<_}
+use mathlib.Core.Path.{_≡_, refl, sym, ap, _∙_}
 use mathlib.Core.Bool.{Bool, true, false, _&&_, and-eq-true-iff, and-true}
 use mathlib.Core.List.{List}
 use native.Mathlib.Nat.{add-zero}
@@ -17,7 +17,7 @@ use Rattle.rules.specs.Settled.{firstInput, splitOf}
 use Rattle.trees.specs.MarkTwo.{isA}
 use Rattle.trees.specs.MarkRule.{parts-at-holds}
 use Rattle.marks.specs.Parts.{Part, Next, without-first}
-use Rattle.marks.specs.Splits.{alone, holds-part, part-holds, skip-to, stop-at}
+use Rattle.marks.specs.Splits.{holds-part, part-holds, skip-to, stop-at}
 
 -- the search from A on is the search, where A is the first-listed input and the part `part` of the others
 pub record Sought (marks : List ℕ) (g rest part : ℕ) : Type 0 where
@@ -56,8 +56,8 @@ module _ (marks : List ℕ) (g rest : ℕ) (some : 0 < g) (is-rest : (n : ℕ) �
         low = omega arith;
         is-part = refl;
         left = λ n g<.
-          sym (skip-to (isA n marks g) 1 ((g - rest) + 0) g (omega (arith, first n g<, pow-pos (firstInput n g))) (omega arith)
-          (λ u low high. fails _ (λ e. omega (arith, passes n g< u (omega arith) e .0))));
+            sym (skip-to (isA n marks g) 1 ((g - rest) + 0) g (omega (arith, first n g<, pow-pos (firstInput n g))) (omega arith)
+            (λ u low high. fails _ (λ e. omega (arith, passes n g< u (omega arith) e .0))));
       }
 
   pub sought-all : (part : ℕ) → Sought marks g rest part → rest ≤ part → (n : ℕ) → g < 2 ^ n → g ≡ splitOf n marks g
@@ -94,9 +94,9 @@ module _ (marks : List ℕ) (g rest : ℕ) (some : 0 < g) (is-rest : (n : ℕ) �
           low = in-rest;
           is-part = after .part;
           left = λ n g<.
-            sym (skip-to (isA n marks g) ((g - rest) + part) ((g - rest) + next) g (omega (arith, after .above)) (omega (arith, in-rest, rest-of n g<))
-            (λ u low high. none n g< u low high (ℕ-discrete u ((g - rest) + part))))
-            ∙ s .left n g<;
+              sym (skip-to (isA n marks g) ((g - rest) + part) ((g - rest) + next) g (omega (arith, after .above)) (omega (arith, in-rest, rest-of n g<))
+              (λ u low high. none n g< u low high (ℕ-discrete u ((g - rest) + part))))
+              ∙ s .left n g<;
         }
       where
         -- nothing between the two passes

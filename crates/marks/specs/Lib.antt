@@ -1,3 +1,4 @@
+pub mod Answers
 pub mod Marking
 pub mod Parts
 pub mod Rule

@@ -52,11 +52,13 @@ next-here k r s t r< free p e s< = record { part = half-part t r (rw half p) (om
   where
     x : ℕ
     x = s + 2 ^ suc k - r
+
     is : t ≡ s / 2 * 2 + 1
     is =
         e
         ∙ and-halves x r (s / 2 + (2 ^ k - 1 - r / 2)) 1 (omega arith) (omega arith)
         ∙ ap (λ (y : ℕ). y * 2 + 1) (fill k (s / 2) (r / 2) (omega arith) p)
+
     half : t / 2 ≡ s / 2
     half = omega (arith, is)
 

@@ -2,13 +2,12 @@
 -- Assumes nothing.
 use Prim.Native.Nat.{ℕ, zero, suc, _+_, _-_, _^_, _≤_, _<_}
 use mathlib.Core.Path.{_≡_, refl, sym, ap, ap₂, _∙_}
-use mathlib.Core.Bool.{Bool, true, false, not, _&&_, _||_, and-eq-true-iff, true≢false, false≢true}
+use mathlib.Core.Bool.{Bool, true, false, not, _&&_, _||_, and-eq-true-iff, false≢true}
 use mathlib.Core.List.{List}
 use native.Mathlib.Nat.{zero-add, add-zero, suc-add}
 use native.Mathlib.Omega.{arith}
 use lib.Bits.{and-le-r}
 use lib.Dec.{eqb, ltb, leb·suc-suc}
-use lib.Pow.{pow-pos}
 use borrow.Author.Tests.{eqb-true, eq-eqb}
 use Rattle.rules.specs.Lists.{range, any, firstPlace}
 use Rattle.rules.specs.Groups.{member}
@@ -69,11 +68,10 @@ module _ (n g : ℕ) (some : 0 < g) (g< : g < 2 ^ n) where
 
   pub part-holds : (s : ℕ) → Part s (g - alone) → (inside n (alone + s) g ≡ true) × (member (firstInput n g) (alone + s) ≡ true)
   unfolding first
-  part-holds s p =
-      (
-        member-inside n (alone + s) g (λ i i< is. go i i< (member i alone) refl (sym (joined i i<) ∙ is)),
-        joined first is-input ∙ ap (λ t. t || member first s) (member-single first first ∙ eq-eqb first first refl),
-      )
+  part-holds s p = (
+    member-inside n (alone + s) g (λ i i< is. go i i< (member i alone) refl (sym (joined i i<) ∙ is)),
+    joined first is-input ∙ ap (λ t. t || member first s) (member-single first first ∙ eq-eqb first first refl),
+  )
     where
       s< : s < 2 ^ n
       s< = omega (arith, and-le-r s (g - alone), p, g<)
@@ -100,6 +98,16 @@ module _ (n g : ℕ) (some : 0 < g) (g< : g < 2 ^ n) where
       go i i< false one is = rest-of i i< (rw one at is) .0
 
 -- ---- the search
+
+-- tests that agree over the range have the same first place
+place-agree : (test other : ℕ → Bool) (a count : ℕ) → ((u : ℕ) → a ≤ u → u < a + count → test u ≡ other u)
+    → firstPlace test (range a count) ≡ firstPlace other (range a count)
+unfolding firstPlace range
+place-agree test other a zero e = refl
+place-agree test other a (suc count) e =
+    let here = e a (omega arith) (omega arith) in
+    let later = place-agree test other (suc a) count (λ u low high. e u (omega arith) (omega arith)) in
+    λ i. elim (here i) as (λ _. ℕ) [ true ↦ zero | false ↦ suc (later i) ]
 
 -- numbers that do not pass are skipped
 skip : (test : ℕ → Bool) (a count more : ℕ) → ((u : ℕ) → a ≤ u → u < a + count → test u ≡ false)
@@ -162,3 +170,11 @@ module _ (n : ℕ) (marks : List ℕ) (g : ℕ) (some : 0 < g) (g< : g < 2 ^ n) 
 
       back : suc (g - 1) ≡ g
       back = omega arith
+
+-- the search reads the marks of the groups below g alone
+pub split-agree : (n : ℕ) (xs ys : List ℕ) (g : ℕ) → ((a : ℕ) → a < g → markIn xs a ≡ markIn ys a) → splitOf n xs g ≡ splitOf n ys g
+unfolding splitOf partsAt
+split-agree n xs ys g e = ap (λ (k : ℕ). 1 + k) (place-agree (isA n xs g) (isA n ys g) 1 (g - 1) same)
+  where
+    same : (a : ℕ) → 1 ≤ a → a < 1 + (g - 1) → isA n xs g a ≡ isA n ys g a
+    same a low high = rw (e a (omega arith), e (g - a) (omega arith))

@@ -1,13 +1,11 @@
 -- How a marks buffer holds marks: one byte each, at the group's number. What the code reads and writes is said here alone.
 -- Assumes nothing.
 use Prim.Native.Nat.{ℕ, suc, _^_, _≤_, _<_}
-use mathlib.Core.Path.{_≡_, refl, sym, ap, ap₂, _∙_}
+use mathlib.Core.Path.{_≡_, sym, ap, ap₂, _∙_}
 use mathlib.Core.List.{List, [], _∷_, _++_}
-use native.Mathlib.Numerals.{add-one}
-use native.Mathlib.Omega.{arith}
-use lib.ListN.{length, getD, take, drop, set, length-set, take-append-drop}
-use lib.Seq.{take-set-le, take-suc-set, drop-set-lt, length-take-le}
-use Rattle.rules.specs.Marks.{marksLength, storedMarks}
+use lib.ListN.{length, take, drop, set, length-set, take-append-drop, List·getD-append}
+use lib.Seq.{take-suc-set, drop-set-lt}
+use Rattle.rules.specs.Marks.{markIn, marksLength, storedMarks}
 use Rattle.rules.specs.Calls.{written}
 
 -- the marks that a buffer holds, by group number
@@ -47,3 +45,8 @@ module _ (buffer : List ℕ) where
       sym (take-append-drop (2 ^ n) buffer)
       ∙ ap₂ (λ (l r : List ℕ). l ++ r) front past
       ∙ ap (λ (k : ℕ). marks ++ drop k before) (sym count)
+
+-- a buffer that the marks were written to holds them
+pub held-written : (before marks : List ℕ) (g : ℕ) → g < length marks → markIn (held (written before (storedMarks marks))) g ≡ markIn marks g
+unfolding held written storedMarks
+held-written before marks g h = List·getD-append marks (drop (length marks) before) 0 g h

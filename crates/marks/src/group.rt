@@ -27,7 +27,16 @@ fn few_mark(marks: &[u8], g: usize) -> u8
 
 // The mark of group g, from the marks of the groups below it. `xs`, `ys` and `firsts` are work arrays. A split is looked for only
 // in a group that has at most m classes.
-pub fn mark_group(m: usize, n: usize, cells: &[u8], g: usize, xs: &mut [u16], ys: &mut [u16], firsts: &mut [u16], marks: &[u8]) -> u8
+pub fn mark_group(
+    m: usize,
+    n: usize,
+    cells: &[u8],
+    g: usize,
+    xs: &mut [u16],
+    ys: &mut [u16],
+    firsts: &mut [u16],
+    marks: &[u8],
+) -> u8
     requires { ⌜ (Room m n (now cells) (now xs) (now ys) (now firsts)) × (g < 2 ^ n) × (g ≤ length (held (now marks))) ⌝ }
     ensures { λ r. ⌜ r ≡ markOf m n (inkIn (now (cells .entry))) (held (now (marks .entry))) g ⌝ }
 {

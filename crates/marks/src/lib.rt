@@ -1,4 +1,5 @@
 // Marks: how they are stored, the split of a group, one group's mark, and the marking call.
+pub mod call;
 pub mod group;
 pub mod marking;
 pub mod parts;

@@ -1,6 +1,5 @@
 -- `marks::group::mark_group` meets its contract: an empty group, one of too many classes, or the mark of one of few.
 -- Assumes nothing.
-use Prim.Native.Nat.{ℕ, _^_, _≤_, _<_}
 use mathlib.Core.Path.{_∙_}
 use native.Mathlib.Nat.{lt-of-lt-of-le}
 use native.Mathlib.Omega.{arith}

@@ -1,7 +1,7 @@
 -- `marks::marking::mark_all` meets its contract. The loop's invariant: the groups below `g` are marked, and the work arrays are as
 -- long as they were.
 -- Assumes nothing.
-use Prim.Native.Nat.{ℕ, _+_, _-_, _^_, _≤_, _<_}
+use Prim.Native.Nat.{ℕ, _+_, _-_, _^_, _<_}
 use mathlib.Core.Path.{_≡_, refl, sym, ap, _∙_, subst⁻¹}
 use native.Mathlib.Omega.{arith}
 use borrow.Author.Count.{falls}
@@ -78,7 +78,7 @@ loop-again c =
       called .kept .1 .1 .1 .1 .1 .0 ∙ l .inv .2,
       called .kept .1 .1 .1 .1 .1 .1 .0 ∙ l .inv .3,
       subst⁻¹ (Below (a .m) (a .n) (inkIn (a .cells .now)) (a .marks .now) (l .g + 1)) (put .ensures)
-      (below-next (a .m) (a .n) (inkIn (a .cells .now)) (a .marks .now) (start .pre .2) (l .g) (l .marks) (l .inv .4) (omega (arith, l .inv .0, c .before .before .before .before .before .before .before .before .before .before .before .before .loop-test .taken)) (called .result) (called .ensures)),
+          (below-next (a .m) (a .n) (inkIn (a .cells .now)) (a .marks .now) (start .pre .2) (l .g) (l .marks) (l .inv .4) (omega (arith, l .inv .0, c .before .before .before .before .before .before .before .before .before .before .before .before .loop-test .taken)) (called .result) (called .ensures)),
     )
 
 sub-mark-at : tie.Need-sub-mark-at Inv-loop μ-loop

@@ -1,5 +1,5 @@
 -- `marks::split::both_two` meets its contract: one test after the other. Assumes nothing.
-use mathlib.Core.Path.{_≡_, sym, ap, _∙_}
+use mathlib.Core.Path.{sym, _∙_}
 use borrow.Author.Tests.{eq-eqb, ne-eqb}
 use borrow.Author.Needs.{needs}
 use Rattle.marks.proofs.split.both_two.Statement.{statement}

@@ -1,7 +1,7 @@
 -- `marks::split::split_of` meets its contract. The loop's invariant: the search from the part that is looked at on is the search.
 -- Assumes nothing.
-use Prim.Native.Nat.{ℕ, _-_}
-use mathlib.Core.Path.{_≡_, sym, ap, _∙_}
+use Prim.Native.Nat.{_-_}
+use mathlib.Core.Path.{sym, _∙_}
 use native.Mathlib.Omega.{arith}
 use Rattle.marks.specs.Stored.{held}
 use Rattle.marks.proofs.Searching.{Sought, sought-none, sought-all, here, sought-found, sought-next}
