@@ -15,7 +15,9 @@ use Rattle.rules.specs.Marks.{inside, markIn, partsAt}
 use Rattle.rules.specs.Settled.{firstInput, splitOf}
 use Rattle.trees.specs.Trees.{Apart}
 use Rattle.trees.specs.Members.{member-single, single-below, member-join, inside-member, member-inside, inside-le, member-rest, first-member}
-use Rattle.trees.specs.Searches.{any-at, first-passes}
+use Rattle.laws.specs.FirstPlaces.{first-passes}
+use Rattle.laws.specs.Ranges.{mem-range}
+use Rattle.laws.specs.Tests.{mem-any}
 use Rattle.trees.specs.MarkRule.{search-parts}
 use Rattle.trees.specs.MarkTwo.{isA, some-A}
 use Rattle.groups.specs.Firsts.{any-place}
@@ -150,7 +152,7 @@ module _ (n : ℕ) (marks : List ℕ) (g : ℕ) (some : 0 < g) (g< : g < 2 ^ n) 
       back : any (isA n marks g) (range 1 (g - 1)) ≡ true → any (partsAt n marks g) (range 1 (g - 1)) ≡ true
       back found =
           let at = first-passes (isA n marks g) 1 (g - 1) found in
-          any-at (partsAt n marks g) 1 (g - 1) _ (omega arith) (omega arith) (and-eq-true-iff _ _ .0 (at .1) .0)
+          mem-any (partsAt n marks g) (mem-range 1 (g - 1) _ (omega arith) (omega arith)) (and-eq-true-iff _ _ .0 (at .1) .0)
 
   -- a group parts into two of mark 2 exactly when its A is found
   pub split-found : any (partsAt n marks g) (range 1 (g - 1)) ≡ ltb (splitOf n marks g) g
