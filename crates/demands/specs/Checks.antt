@@ -19,7 +19,7 @@ use Rattle.rules.specs.Value.{value, tableOf}
 use Rattle.rules.specs.Kept.{KeptNet, KeptTable}
 use Rattle.rules.specs.Calls.{Answer, accepted, refused, Verdict, agree, differ, turnedDown, Checked, inkIn, written, readNet, readTable, tableOfNet, sameNames, sameHeader, compared, checkedInto, checkCall, writeTableCall}
 use Rattle.laws.specs.FirstPlaces.{before-first, at-first, none-first}
-use Rattle.laws.specs.Outcomes.{check-compared}
+use Rattle.laws.specs.Outcomes.{check-accepted, check-compared}
 use Rattle.laws.specs.Ranges.{range-length, range-at}
 use Rattle.readback.specs.Tests.{same-refl, same-true}
 use Rattle.readback.specs.ReadBack.{net-accepted, table-accepted, table-read-back}
@@ -92,10 +92,9 @@ module _ (s r : List ℕ) (net : Net) (t : Table) (reads-net : readNet s ≡ acc
     (cells : List ℕ) (long : t .header .levels ^ t .header .inputs ≤ length cells) where
   -- the inks are compared, and stand in the cells buffer whether they agree or not
   pub checked : checkCall s r cells ≡ record { answer = compared (tableOfNet net .inks) (t .inks); cells = written cells (t .inks) }
-  unfolding checkCall
   checked =
-      rw (reads-net, reads-table, checkCall)
-      (check-compared net t cells (same-header (net .header) (t .header) header)
+      check-accepted s r cells net reads-net t reads-table
+      ∙ (check-compared net t cells (same-header (net .header) (t .header) header)
       (subst⁻¹ (λ (k : ℕ). k ≤ length cells) (table-accepted r t reads-table .1 .count) long))
 
   inks-length : length (tableOfNet net .inks) ≡ t .header .levels ^ t .header .inputs

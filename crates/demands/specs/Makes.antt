@@ -7,9 +7,6 @@ use Prim.Native.Nat.{ℕ, _^_, _≤_, _<_}
 use mathlib.Core.Path.{_≡_, refl, sym, ap, _∙_, subst, subst⁻¹}
 use mathlib.Core.Logic.{_↔_}
 use mathlib.Core.List.{List, [], _∷_}
-use native.Mathlib.Omega.{arith}
-use native.Mathlib.Nat.{lt-of-not-le}
-use native.Mathlib.Decide.{decLe}
 use lib.ListN.{length, getD}
 use Rattle.rules.specs.Sheets.{Gate, Net, Table}
 use Rattle.rules.specs.Printed.{printedNet}
@@ -17,13 +14,13 @@ use Rattle.rules.specs.Value.{tableOf}
 use Rattle.rules.specs.Groups.{wholeGroup}
 use Rattle.rules.specs.Marks.{markIn, marksOf, marksLength, storedMarks, noTreePlace}
 use Rattle.rules.specs.Kept.{KeptNet, KeptTable, IsNet}
-use Rattle.rules.specs.Calls.{Answer, accepted, refused, Made, inkIn, written, readNet, readTable, tableOfNet, settledNet, settledInto, writtenSheet, settleCall, makeCall}
-use Rattle.laws.specs.Outcomes.{WholeTwo, marksOfTable, into-marked, marked-16, marked-tree, sheet-15, sheet-written}
+use Rattle.rules.specs.Calls.{Answer, accepted, refused, Made, inkIn, written, readNet, readTable, tableOfNet, settledNet, settledInto, settleCall, makeCall}
+use Rattle.laws.specs.Outcomes.{WholeTwo, marksOfTable, make-accepted, into-marked, marked-16, marked-tree}
 use Rattle.trees.specs.Existence.{TreeExists, tree-exists, settled-net}
 use Rattle.trees.specs.Uniqueness.{table-is, table-length, table-at}
 use Rattle.demands.specs.Bounds.{levels-pos, inputs-several}
 use Rattle.readback.specs.ReadBack.{net-read-back, net-accepted, table-accepted}
-use Rattle.demands.specs.Settles.{sheetOf, Long, settled-written, settles, table-path}
+use Rattle.demands.specs.Settles.{sheetOf, Long, settled-written, settles, table-path, not-16}
 
 -- some gate list, whatever its wiring and digits, is a net of the table's levels and inputs and computes its inks
 abbrev pub HasTree : Table → Type 0
@@ -75,35 +72,17 @@ sheet-tree t has =
       λ p h. sym (table-at (net .header .levels) (net .header .inputs) (net .gates) p h),
     )
 
--- a call that comes to write a sheet does not give 16
-not-16 : (sheet cells marks output : List ℕ) (place : ℕ) → writtenSheet sheet cells marks output .answer ≡ refused 16 place → ⊥
-not-16 sheet cells marks output place e = go (decLe (length sheet) (length output))
-  where
-    go : Dec (length sheet ≤ length output) → ⊥
-    go (yes h) =
-        let a : _≡_ {A = Answer ℕ} (accepted (length sheet)) (refused 16 place) = sym (ap (λ (made : Made). made .answer) (sheet-written sheet cells marks output h)) ∙ e in
-        let z : _≡_ {A = ℕ} 0 1 = cc in
-        omega arith
-    go (no h) =
-        let a : _≡_ {A = Answer ℕ} (refused 15 (length sheet)) (refused 16 place) = sym (ap (λ (made : Made). made .answer) (sheet-15 sheet cells marks output (lt-of-not-le h))) ∙ e in
-        let z : _≡_ {A = ℕ} 15 16 = cc in
-        omega arith
-
 -- ---- the demand
 
 module _ (s : List ℕ) (t : Table) (reads : readTable s ≡ accepted t) where
   kept : KeptTable t
   kept = table-accepted s t reads .1
 
-  make-is : (cells marks output : List ℕ) → makeCall s cells marks output ≡ settledInto t cells marks output
-  unfolding makeCall
-  make-is cells marks output = rw (reads, makeCall)
-
   -- Making refuses the table with 16 exactly when no gate list, whatever its wiring and its tables, is a net that computes it, ..
   pub make-refuses : (cells marks output : List ℕ) → t .header .levels ^ t .header .inputs ≤ length cells → marksLength (t .header .inputs) ≤ length marks
       → ((place : ℕ) × (makeCall s cells marks output .answer ≡ refused 16 place)) ↔ (HasTree t → ⊥)
   make-refuses cells marks output cells-fit marks-fit =
-      let marked = make-is cells marks output ∙ into-marked t cells marks output cells-fit marks-fit in (
+      let marked = make-accepted s cells marks output t reads ∙ into-marked t cells marks output cells-fit marks-fit in (
         λ r tree. not-16 (printedNet (settledNet t)) (written cells (t .inks)) (written marks (storedMarks (marksOfTable t))) output (r .0)
             (sym (ap (λ (made : Made). made .answer) (marked ∙ marked-tree t cells marks output (two-tree t kept .0 tree))) ∙ r .1),
         λ none. (noTreePlace (t .header .inputs) (marksOfTable t), ap (λ (made : Made). made .answer) (marked ∙ marked-16 t cells marks output (λ two. none (two-tree t kept .1 two)))),
@@ -120,7 +99,7 @@ module _ (s : List ℕ) (t : Table) (reads : readTable s ≡ accepted t) where
   pub makes : (cells marks output : List ℕ) → HasTree t → Long t cells marks output
       → sheetOf (makeCall s cells marks output) ≡ accepted (printedNet (settledNet t))
   makes cells marks output tree long =
-      ap sheetOf (make-is cells marks output) ∙ settled-written t cells marks output (two-tree t kept .0 tree) long
+      ap sheetOf (make-accepted s cells marks output t reads) ∙ settled-written t cells marks output (two-tree t kept .0 tree) long
 
   -- .. the very sheet that settling writes from every accepted net sheet with that table and that header.
   pub make-as-settle : (r : List ℕ) (net : Net) → readNet r ≡ accepted net → net .header ≡ t .header → tableOfNet net .inks ≡ t .inks

@@ -3,3 +3,5 @@ pub mod Concat
 pub mod FirstPlaces
 pub mod Outcomes
 pub mod Ranges
+pub mod Levels
+pub mod Sizes

@@ -11,7 +11,7 @@ use Rattle.rules.specs.Sheets.{Net, Table}
 use Rattle.rules.specs.Printed.{printedNet, printedTable}
 use Rattle.rules.specs.Groups.{wholeGroup}
 use Rattle.rules.specs.Marks.{markIn, marksOf, marksLength, storedMarks, noTreePlace}
-use Rattle.rules.specs.Calls.{Answer, accepted, refused, Made, inkIn, written, readNet, readTable, tableOfNet, settledNet, writtenSheet, afterMarks, settledInto, settleCall, makeCall, turnedDown, neither, sameHeader, compared, checkedInto, writeTableCall}
+use Rattle.rules.specs.Calls.{Answer, accepted, refused, Made, inkIn, written, readNet, readTable, tableOfNet, settledNet, writtenSheet, afterMarks, settledInto, settleCall, makeCall, turnedDown, netNamed, tableNamed, neither, checkCall, sameHeader, compared, checkedInto, writeTableCall}
 
 -- ---- settling and making
 
@@ -70,7 +70,42 @@ module _ (sheet cells marks output : List ℕ) where
   unfolding writtenSheet
   sheet-written h = rw (le-ltb _ _ h, writtenSheet)
 
+-- a sheet that is turned back, and one that is accepted
+module _ (s cells marks output : List ℕ) where
+  pub settle-refused : (number place : ℕ) → readNet s ≡ refused number place
+      → settleCall s cells marks output ≡ record { answer = refused number place; cells = cells; marks = marks; output = output }
+  unfolding settleCall
+  settle-refused number place e = rw (e, settleCall)
+
+  pub settle-accepted : (net : Net) → readNet s ≡ accepted net → settleCall s cells marks output ≡ settledInto (tableOfNet net) cells marks output
+  unfolding settleCall
+  settle-accepted net e = rw (e, settleCall)
+
+  pub make-refused : (number place : ℕ) → readTable s ≡ refused number place
+      → makeCall s cells marks output ≡ record { answer = refused number place; cells = cells; marks = marks; output = output }
+  unfolding makeCall
+  make-refused number place e = rw (e, makeCall)
+
+  pub make-accepted : (t : Table) → readTable s ≡ accepted t → makeCall s cells marks output ≡ settledInto t cells marks output
+  unfolding makeCall
+  make-accepted t e = rw (e, makeCall)
+
 -- ---- checking
+
+module _ (s r cells : List ℕ) where
+  pub check-net-refused : (number place : ℕ) → readNet s ≡ refused number place
+      → checkCall s r cells ≡ record { answer = turnedDown netNamed number place; cells = cells }
+  unfolding checkCall
+  check-net-refused number place e = rw (e, checkCall)
+
+  pub check-table-refused : (net : Net) → readNet s ≡ accepted net → (number place : ℕ) → readTable r ≡ refused number place
+      → checkCall s r cells ≡ record { answer = turnedDown tableNamed number place; cells = cells }
+  unfolding checkCall
+  check-table-refused net d number place e = rw (d, e, checkCall)
+
+  pub check-accepted : (net : Net) → readNet s ≡ accepted net → (t : Table) → readTable r ≡ accepted t → checkCall s r cells ≡ checkedInto net t cells
+  unfolding checkCall
+  check-accepted net d t e = rw (d, e, checkCall)
 
 module _ (net : Net) (t : Table) (cells : List ℕ) where
   pub check-12 : sameHeader (net .header) (t .header) ≡ false → checkedInto net t cells ≡ record { answer = turnedDown neither 12 0; cells = cells }
@@ -88,6 +123,11 @@ module _ (net : Net) (t : Table) (cells : List ℕ) where
   check-compared e h = rw (e, le-ltb _ _ h, checkedInto)
 
 -- ---- table writing
+
+pub table-refused : (sheet output : List ℕ) (number place : ℕ) → readNet sheet ≡ refused number place
+    → writeTableCall sheet output ≡ record { answer = refused number place; output = output }
+unfolding writeTableCall
+table-refused sheet output number place e = rw (e, writeTableCall)
 
 module _ (sheet output : List ℕ) (net : Net) (reads : readNet sheet ≡ accepted net) where
   pub table-15 : length output < length (printedTable (tableOfNet net))

@@ -16,5 +16,6 @@ pub mod Header
 pub mod Gates
 pub mod NetSheets
 pub mod TableSheets
+pub mod Numbers
 pub mod ReadBack
 pub mod Length
