@@ -12,7 +12,7 @@ pub enum Bare {
     Refused { number: usize, place: usize },
 }
 
-fn wide(x: u8) -> usize
+pub fn wide(x: u8) -> usize
     ensures { λ r. ⌜ r ≡ x ⌝ }
 {
     x as usize

@@ -12,12 +12,6 @@ use groups::bare;
 use groups::bare::Bare;
 use groups::call::Answer;
 
-fn wide(x: u8) -> usize
-    ensures { λ r. ⌜ r ≡ x ⌝ }
-{
-    x as usize
-}
-
 // Refusal 14, or all marks.
 fn mark_into(m: usize, n: usize, cells: &[u8], marks: &mut [u8]) -> Answer
     requires { ⌜ (sizeFits m n ≡ true) × (length (now cells) ≡ m ^ n) ⌝ }
@@ -30,7 +24,7 @@ fn mark_into(m: usize, n: usize, cells: &[u8], marks: &mut [u8]) -> Answer
             place: need,
         };
     }
-    Answer::Accepted(wide(marking::mark_all(m, n, cells, marks)))
+    Answer::Accepted(bare::wide(marking::mark_all(m, n, cells, marks)))
 }
 
 // Writes every group's mark and answers the whole group's. Any arguments may come in.
