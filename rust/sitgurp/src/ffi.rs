@@ -9,7 +9,13 @@ pub struct Answer {
 }
 
 extern "C" {
-    pub fn sitgurp_multiplicity(m: usize, n: usize, cells: *const u8, cells_len: usize, group: usize) -> Answer;
+    pub fn sitgurp_multiplicity(
+        m: usize,
+        n: usize,
+        cells: *const u8,
+        cells_len: usize,
+        group: usize,
+    ) -> Answer;
     pub fn sitgurp_marking(
         m: usize,
         n: usize,

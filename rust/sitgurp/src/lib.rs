@@ -4,13 +4,14 @@
 //! [`settled`] and [`made`] lend buffers of the sizes that always suffice.
 //!
 //! ```
-//! let sheet = b"levels inputs\n2 3\na b c\nleft right table\na b 0110\n1 c 0110\n";
-//! let settled = sitgurp::settled(sheet).unwrap();
-//! assert_eq!(settled, b"levels inputs\n2 3\na b c\nleft right table\nb c 0110\na 1 0110\n");
+//! // 2 levels, ink 1 when at least two of three inputs are 1: no tree
+//! let cells = [0, 0, 0, 1, 0, 1, 1, 1];
+//! let mut marks = [0; 8];
+//! assert_eq!(sitgurp::marking(2, 3, &cells, &mut marks), Ok(1));
+//! assert_eq!(marks, [0, 2, 2, 0, 2, 0, 0, 1]);
 //!
-//! let refusal = sitgurp::settled(b"levels inputs\n1 2\n").unwrap_err();
-//! assert_eq!((refusal.number, refusal.place), (2, 14));
-//! assert_eq!(refusal.to_string(), "levels is not one digit from 2 to 9 (refusal 2 at byte 14, line 2, column 1)");
+//! let refusal = sitgurp::marking(2, 3, &cells, &mut marks[..7]).unwrap_err();
+//! assert_eq!(refusal.to_string(), "the marks buffer is too short (refusal 14; 8 bytes are needed)");
 //! ```
 
 mod ffi;
@@ -49,7 +50,14 @@ pub fn multiplicity(m: usize, n: usize, cells: &[u8], group: usize) -> Result<us
 /// Writes every group's mark to the front of `marks`, and answers the whole group's.
 pub fn marking(m: usize, n: usize, cells: &[u8], marks: &mut [u8]) -> Result<usize, Refusal> {
     let answer = unsafe {
-        ffi::sitgurp_marking(m, n, cells.as_ptr(), cells.len(), marks.as_mut_ptr(), marks.len())
+        ffi::sitgurp_marking(
+            m,
+            n,
+            cells.as_ptr(),
+            cells.len(),
+            marks.as_mut_ptr(),
+            marks.len(),
+        )
     };
     answered(answer, Named::Neither, &[])
 }

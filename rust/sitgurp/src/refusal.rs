@@ -24,7 +24,12 @@ impl Refusal {
     pub(crate) fn new(number: usize, place: usize, named: Named, sheet: &[u8]) -> Refusal {
         let named = if number <= 8 { named } else { Named::Neither };
         let position = (number <= 8).then(|| position(sheet, place));
-        Refusal { number, place, named, position }
+        Refusal {
+            number,
+            place,
+            named,
+            position,
+        }
     }
 
     /// What is wrong, in words.
@@ -55,7 +60,11 @@ impl Refusal {
 fn position(sheet: &[u8], place: usize) -> (usize, usize) {
     let before = &sheet[..place.min(sheet.len())];
     let line = 1 + before.iter().filter(|&&byte| byte == b'\n').count();
-    let column = 1 + before.iter().rev().take_while(|&&byte| byte != b'\n').count();
+    let column = 1 + before
+        .iter()
+        .rev()
+        .take_while(|&&byte| byte != b'\n')
+        .count();
     (line, column)
 }
 
@@ -68,7 +77,9 @@ impl fmt::Display for Refusal {
         };
         write!(f, "{sheet}{} (refusal {}", self.words(), self.number)?;
         match (self.number, self.position) {
-            (_, Some((line, column))) => write!(f, " at byte {}, line {line}, column {column})", self.place),
+            (_, Some((line, column))) => {
+                write!(f, " at byte {}, line {line}, column {column})", self.place)
+            }
             (10, _) => write!(f, " at index {})", self.place),
             (13..=15, _) => write!(f, "; {} bytes are needed)", self.place),
             (16, _) => write!(f, " at group {})", self.place),

@@ -1,0 +1,75 @@
+//! Times the proved library against plain Rust in the same run, on the same inputs: `cargo run --release -p bench`.
+//! A ratio is the proved library's time over plain's; below 1 the library is the quicker.
+
+mod plain;
+
+use reference::generate::{Generator, TableKind};
+use std::hint::black_box;
+use std::time::{Duration, Instant};
+
+const SIZES: [(usize, usize); 5] = [(2, 11), (3, 7), (4, 5), (5, 4), (9, 3)];
+const KINDS: [(&str, TableKind); 5] = [
+    ("random", TableKind::Random),
+    ("tree", TableKind::OfNet),
+    ("sum", TableKind::Sum),
+    ("chain", TableKind::MinMaxChain),
+    ("constant", TableKind::Constant),
+];
+const TABLES: usize = 5;
+const ROUNDS: usize = 7;
+
+/// The least time of several rounds over all inputs.
+fn least<T>(inputs: &[T], mut work: impl FnMut(&T)) -> Duration {
+    (0..ROUNDS)
+        .map(|_| {
+            let start = Instant::now();
+            inputs.iter().for_each(&mut work);
+            start.elapsed()
+        })
+        .min()
+        .expect("some rounds")
+}
+
+fn geometric_mean(ratios: &[f64]) -> f64 {
+    (ratios.iter().map(|ratio| ratio.ln()).sum::<f64>() / ratios.len() as f64).exp()
+}
+
+/// One row a size, one column a kind, and the geometric mean over the kinds.
+fn report(title: &str, mut ratio: impl FnMut(usize, usize, TableKind) -> f64) {
+    println!("{title}");
+    print!("{:8}", "m n");
+    KINDS.iter().for_each(|(name, _)| print!("{name:>10}"));
+    println!("{:>10}", "mean");
+    for (m, n) in SIZES {
+        let ratios: Vec<f64> = KINDS.iter().map(|&(_, kind)| ratio(m, n, kind)).collect();
+        print!("{:8}", format!("{m} {n}"));
+        ratios.iter().for_each(|ratio| print!("{ratio:>10.2}"));
+        println!("{:>10.2}", geometric_mean(&ratios));
+    }
+    println!();
+}
+
+fn marking(m: usize, n: usize, kind: TableKind) -> f64 {
+    let mut generator = Generator::new(11);
+    let tables: Vec<Vec<u8>> = (0..TABLES)
+        .map(|_| generator.table(m, n, kind).inks)
+        .collect();
+    let mut marks = vec![0u8; 1 << n];
+    let mut plain_marks = vec![0u8; 1 << n];
+    for cells in &tables {
+        sitgurp::marking(m, n, cells, &mut marks).expect("bare cells are good");
+        plain::marking(m, n, cells, &mut plain_marks);
+        assert_eq!(marks, plain_marks, "both mark alike");
+    }
+    let proved = least(&tables, |cells| {
+        black_box(sitgurp::marking(m, n, black_box(cells), &mut marks)).ok();
+    });
+    let plain = least(&tables, |cells| {
+        black_box(plain::marking(m, n, black_box(cells), &mut plain_marks));
+    });
+    proved.as_secs_f64() / plain.as_secs_f64()
+}
+
+fn main() {
+    report("marking, proved / plain", marking);
+}

@@ -1,0 +1,137 @@
+//! The two calls on bare cells, held against the second implementation: every allowed size, every refusal, every length of the
+//! marks buffer around its need, and the bytes beyond it.
+
+use reference::generate::{Generator, TableKind};
+use reference::refusal::Refusal as Expected;
+
+const SEED: u64 = 2_187;
+
+fn flat<T: Into<u64>>(answer: Result<T, Expected>) -> Result<usize, (usize, usize)> {
+    match answer {
+        Ok(value) => Ok(value.into() as usize),
+        Err(refusal) => Err((usize::from(refusal.number), refusal.place as usize)),
+    }
+}
+
+fn got(answer: Result<usize, sitgurp::Refusal>) -> Result<usize, (usize, usize)> {
+    answer.map_err(|refusal| (refusal.number, refusal.place))
+}
+
+fn same_multiplicity(m: usize, n: usize, cells: &[u8], group: usize) {
+    let due = flat(reference::multiplicity(
+        m as u64,
+        n as u64,
+        cells,
+        group as u64,
+    ));
+    assert_eq!(
+        got(sitgurp::multiplicity(m, n, cells, group)),
+        due,
+        "m {m} n {n} group {group}"
+    );
+}
+
+fn same_marking(m: usize, n: usize, cells: &[u8], length: usize) {
+    let mut due_marks: Vec<u8> = (0..length).map(|k| (k % 251) as u8 ^ 0x5a).collect();
+    let mut marks = due_marks.clone();
+    let due = flat(reference::marking(
+        m as u64,
+        n as u64,
+        cells,
+        &mut due_marks,
+    ));
+    assert_eq!(
+        got(sitgurp::marking(m, n, cells, &mut marks)),
+        due,
+        "m {m} n {n} length {length}"
+    );
+    assert_eq!(marks, due_marks, "m {m} n {n} length {length}");
+}
+
+/// A table of each kind at every allowed size.
+fn tables() -> Vec<(usize, usize, Vec<u8>)> {
+    println!("seed {SEED}");
+    let mut generator = Generator::new(SEED);
+    let mut tables = Vec::new();
+    for (m, n) in reference::allowed_sizes() {
+        let (m, n) = (m as usize, n as usize);
+        for kind in TableKind::ALL {
+            tables.push((m, n, generator.table(m, n, kind).inks));
+        }
+    }
+    tables
+}
+
+#[test]
+fn every_group_of_every_size() {
+    for (m, n, cells) in tables() {
+        let groups = 1usize << n;
+        for group in (0..=groups + 1).step_by(1 + groups / 64) {
+            same_multiplicity(m, n, &cells, group);
+        }
+        same_multiplicity(m, n, &cells, groups - 1);
+    }
+}
+
+#[test]
+fn every_marks_buffer_around_the_need() {
+    for (m, n, cells) in tables() {
+        let need = 1usize << n;
+        for length in [0, 1, need - 1, need, need + 1, need + 70] {
+            same_marking(m, n, &cells, length);
+        }
+    }
+}
+
+#[test]
+fn sizes_and_lengths_out_of_bounds() {
+    let odd = [
+        0,
+        1,
+        2,
+        3,
+        9,
+        10,
+        11,
+        12,
+        63,
+        64,
+        255,
+        256,
+        1 << 32,
+        usize::MAX,
+    ];
+    let cells = vec![0u8; 2_200];
+    for m in odd {
+        for n in odd {
+            for length in [0, 1, 4, 8, 9, 2_187, 2_188, 2_200] {
+                same_multiplicity(m, n, &cells[..length], 1);
+                same_marking(m, n, &cells[..length], 2_048);
+            }
+        }
+    }
+}
+
+#[test]
+fn the_lowest_cell_that_is_not_below_m() {
+    for (m, n, cells) in tables() {
+        for place in [0, 1, cells.len() / 2, cells.len() - 1] {
+            let mut damaged = cells.clone();
+            damaged[place] = m as u8;
+            if place + 1 < damaged.len() {
+                damaged[place + 1] = 255;
+            }
+            same_multiplicity(m, n, &damaged, 1);
+            same_marking(m, n, &damaged, 1 << n);
+        }
+    }
+}
+
+#[test]
+fn groups_out_of_bounds() {
+    for (m, n, cells) in tables() {
+        for group in [0, 1 << n, (1 << n) + 1, 1 << 32, usize::MAX] {
+            same_multiplicity(m, n, &cells, group);
+        }
+    }
+}
