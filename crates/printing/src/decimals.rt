@@ -1,0 +1,29 @@
+// Decimal values.
+ghost use mathlib.Core.Path.{_≡_};
+ghost use Prim.Native.Nat.{_+_, _≤_};
+ghost use lib.ListN.{length};
+ghost use Rattle.rules.specs.Text.{decimal};
+ghost use Rattle.printing.specs.Put.{Put};
+use crate::put::put_digit;
+
+// Writes k without a leading zero at `at`.
+pub fn print_decimal(k: usize, out: &mut [u8], at: usize) -> usize
+    requires { ⌜ at + length (decimal k) ≤ length (now out) ⌝ }
+    ensures { λ r. ⌜ Put (now (out .entry)) at (decimal k) (now (out .exit)) r ⌝ }
+{
+    if k < 10 {
+        return put_digit(k, out, at);
+    }
+    let next = print_decimal(k / 10, out, at);
+    put_digit(k % 10, out, next)
+}
+
+// How many digits k has.
+pub fn decimal_length(k: usize) -> usize
+    ensures { λ r. ⌜ r ≡ length (decimal k) ⌝ }
+{
+    if k < 10 {
+        return 1;
+    }
+    decimal_length(k / 10) + 1
+}

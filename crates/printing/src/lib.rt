@@ -1,0 +1,3 @@
+// Printing.
+pub mod decimals;
+pub mod put;
