@@ -1,2 +1,3 @@
 pub mod Put
 pub mod Decimals
+pub mod Names

@@ -68,6 +68,9 @@ module _ {out : List ℕ} {at : ℕ} {out₀ : List ℕ} {at₀ : ℕ} {t₀ : L
   pub room-for : (u t : List ℕ) → Left out at (u ++ t) out₀ at₀ t₀ → at + length u ≤ length out
   room-for u t h = omega (arith, simp length-append at (h .room))
 
+  pub room-byte : {b : ℕ} {t : List ℕ} → Left out at (b ∷ t) out₀ at₀ t₀ → at < length out
+  room-byte h = omega (arith, h .room)
+
   pub none-left : Left out at [] out₀ at₀ t₀ → Put out₀ at₀ t₀ out at
   none-left h = record { text = h .text; end = sym (add-zero at) ∙ h .end }
 

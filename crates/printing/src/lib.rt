@@ -1,3 +1,4 @@
 // Printing.
 pub mod decimals;
+pub mod header;
 pub mod put;

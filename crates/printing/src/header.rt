@@ -1,0 +1,49 @@
+// The first three lines.
+ghost use mathlib.Core.Path.{_≡_};
+ghost use Prim.Native.Nat.{_+_, _≤_, _<_};
+ghost use mathlib.Core.List.{[], _∷_, _++_};
+ghost use lib.ListN.{length};
+ghost use Rattle.rules.specs.Text.{decimal};
+ghost use Rattle.rules.specs.Printed.{line};
+ghost use Rattle.nets.specs.Forms.{nameIn};
+ghost use Rattle.printing.specs.Put.{Put};
+ghost use Rattle.printing.specs.Names.{NamesInside};
+use nets::forms::Header;
+use crate::decimals::print_decimal;
+use crate::put::copy;
+use crate::put::put;
+
+fn wide(x: u8) -> usize
+    ensures { λ r. ⌜ r ≡ x ⌝ }
+{
+    x as usize
+}
+
+fn wide16(x: u16) -> usize
+    ensures { λ r. ⌜ r ≡ x ⌝ }
+{
+    x as usize
+}
+
+// A line, and then a line of two decimal values.
+pub fn print_pair(head: &[u8], a: usize, b: usize, out: &mut [u8], at: usize) -> usize
+    requires { ⌜ at + length (now head ++ line (decimal a ∷ decimal b ∷ [])) ≤ length (now out) ⌝ }
+    ensures { λ r. ⌜ Put (now (out .entry)) at (now (head .entry) ++ line (decimal a ∷ decimal b ∷ [])) (now (out .exit)) r ⌝ }
+{
+    let p = copy(head, out, at);
+    let p = print_decimal(a, out, p);
+    let p = put(b' ', out, p);
+    let p = print_decimal(b, out, p);
+    put(b'\n', out, p)
+}
+
+pub fn print_name(s: &[u8], h: Header, i: usize, out: &mut [u8], at: usize) -> usize
+    requires { ⌜ NamesInside (now s) h × (i < h .inputs) × (at + length (nameIn (now s) h i) ≤ length (now out)) ⌝ }
+    ensures { λ r. ⌜ Put (now (out .entry)) at (nameIn (now (s .entry)) h i) (now (out .exit)) r ⌝ }
+{
+    let starts = h.starts;
+    let lens = h.lens;
+    let a = wide16(starts[i]);
+    let e = a + wide(lens[i]);
+    copy(&s[a..e], out, at)
+}
