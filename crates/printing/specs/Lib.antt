@@ -1,3 +1,4 @@
 pub mod Put
 pub mod Decimals
+pub mod Lines
 pub mod Names

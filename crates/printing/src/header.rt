@@ -5,8 +5,9 @@ ghost use mathlib.Core.List.{[], _∷_, _++_};
 ghost use lib.ListN.{length};
 ghost use Rattle.rules.specs.Text.{decimal};
 ghost use Rattle.rules.specs.Printed.{line};
-ghost use Rattle.nets.specs.Forms.{nameIn};
+ghost use Rattle.nets.specs.Forms.{nameIn, headerOf};
 ghost use Rattle.printing.specs.Put.{Put};
+ghost use Rattle.printing.specs.Lines.{spacedFrom};
 ghost use Rattle.printing.specs.Names.{NamesInside};
 use nets::forms::Header;
 use crate::decimals::print_decimal;
@@ -46,4 +47,30 @@ pub fn print_name(s: &[u8], h: Header, i: usize, out: &mut [u8], at: usize) -> u
     let a = wide16(starts[i]);
     let e = a + wide(lens[i]);
     copy(&s[a..e], out, at)
+}
+
+// The first `count` names, each with a space behind it.
+pub fn print_names(s: &[u8], h: Header, count: usize, out: &mut [u8], at: usize) -> usize
+    requires { ⌜ NamesInside (now s) h × (count ≤ h .inputs) × (at + length (spacedFrom (nameIn (now s) h) 0 count) ≤ length (now out)) ⌝ }
+    ensures { λ r. ⌜ Put (now (out .entry)) at (spacedFrom (nameIn (now (s .entry)) h) 0 count) (now (out .exit)) r ⌝ }
+{
+    let mut i: usize = 0;
+    let mut p: usize = at;
+    while i < count {
+        let e = print_name(s, h, i, out, p);
+        p = put(b' ', out, e);
+        i += 1;
+    }
+    p
+}
+
+// The line of all names.
+pub fn print_names_line(s: &[u8], h: Header, out: &mut [u8], at: usize) -> usize
+    requires { ⌜ NamesInside (now s) h × (0 < h .inputs) × (at + length (line (headerOf (now s) h .names)) ≤ length (now out)) ⌝ }
+    ensures { λ r. ⌜ Put (now (out .entry)) at (line (headerOf (now (s .entry)) h .names)) (now (out .exit)) r ⌝ }
+{
+    let last = h.inputs - 1;
+    let p = print_names(s, h, last, out, at);
+    let p = print_name(s, h, last, out, p);
+    put(b'\n', out, p)
 }
