@@ -1,4 +1,6 @@
 pub mod Put
 pub mod Decimals
+pub mod Maps
 pub mod Lines
 pub mod Names
+pub mod Gates

@@ -50,3 +50,8 @@ spaced-none f i n h =
 pub line-from : (f : ℕ → List ℕ) (n : ℕ) → line (map f (range 0 (suc n))) ≡ spacedFrom f 0 n ++ (f n ++ (newline ∷ []))
 unfolding spacedFrom
 line-from f n = simp (range-suc, map-append, line-last, zero-add, sub-zero)
+
+-- a line of three fields, each with what stands behind it
+pub line-three : (u v w : List ℕ) → line (u ∷ v ∷ w ∷ []) ≡ (u ++ (space ∷ [])) ++ ((v ++ (space ∷ [])) ++ (w ++ (newline ∷ [])))
+unfolding line
+line-three u v w = simp append-assoc

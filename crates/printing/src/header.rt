@@ -14,7 +14,7 @@ use crate::decimals::print_decimal;
 use crate::put::copy;
 use crate::put::put;
 
-fn wide(x: u8) -> usize
+pub fn wide(x: u8) -> usize
     ensures { λ r. ⌜ r ≡ x ⌝ }
 {
     x as usize
@@ -66,7 +66,7 @@ pub fn print_names(s: &[u8], h: Header, count: usize, out: &mut [u8], at: usize)
 
 // The line of all names.
 pub fn print_names_line(s: &[u8], h: Header, out: &mut [u8], at: usize) -> usize
-    requires { ⌜ NamesInside (now s) h × (0 < h .inputs) × (at + length (line (headerOf (now s) h .names)) ≤ length (now out)) ⌝ }
+    requires { ⌜ NamesInside (now s) h × (at + length (line (headerOf (now s) h .names)) ≤ length (now out)) ⌝ }
     ensures { λ r. ⌜ Put (now (out .entry)) at (line (headerOf (now (s .entry)) h .names)) (now (out .exit)) r ⌝ }
 {
     let last = h.inputs - 1;

@@ -1,4 +1,5 @@
 // Printing.
 pub mod decimals;
 pub mod header;
+pub mod net;
 pub mod put;

@@ -28,7 +28,7 @@ abbrev Rest : tie.Start → List ℕ → ℕ → List ℕ → Type 0
 Rest c out at t = Left out at t (c .args .out .now) (c .args .at) (line (headerOf (c .args .s .now) (c .args .h) .names))
 
 start : (c : tie.Start) → Rest c (c .args .out .now) (c .args .at) (spacedFrom (name c) 0 (last c) ++ (name c (last c) ++ (newline ∷ [])))
-start c = parts-left (names-line (c .args .s .now) (c .args .h) (c .pre .1)) (c .pre .2)
+start c = parts-left (names-line (c .args .s .now) (c .args .h) (c .pre .0 .some)) (c .pre .1)
 
 after-names : (c : tie.After-print-names) → Rest (c .before .before .before .before .before) (c .print-names .last .1 .1 .1 .0) (c .print-names .result) (name (c .before .before .before .before .before) (last (c .before .before .before .before .before)) ++ (newline ∷ []))
 after-names c = put-left (start (c .before .before .before .before .before)) (c .print-names .ensures)

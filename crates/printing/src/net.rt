@@ -1,0 +1,79 @@
+// A net sheet.
+ghost use mathlib.Core.Path.{_≡_};
+ghost use Prim.Native.Nat.{ℕ, _+_, _≤_, _<_};
+ghost use mathlib.Core.List.{[], _∷_, _++_, map};
+ghost use lib.ListN.{length, getD};
+ghost use Rattle.rules.specs.Text.{digitByte, space};
+ghost use Rattle.rules.specs.Sheets.{referenceText};
+ghost use Rattle.rules.specs.Printed.{printedGate};
+ghost use Rattle.nets.specs.Forms.{headerOf, gateOf};
+ghost use Rattle.printing.specs.Put.{Put};
+ghost use Rattle.printing.specs.Names.{NamesInside};
+ghost use Rattle.printing.specs.Gates.{GatesInside};
+use nets::forms::Header;
+use nets::forms::Net;
+use crate::decimals::print_decimal;
+use crate::header::print_name;
+use crate::header::wide;
+use crate::put::put;
+
+// An input by its name, a gate by its number.
+fn print_reference(s: &[u8], h: Header, r: usize, out: &mut [u8], at: usize) -> usize
+    requires { ⌜ NamesInside (now s) h × (at + length (referenceText (headerOf (now s) h .names) r) ≤ length (now out)) ⌝ }
+    ensures { λ n. ⌜ Put (now (out .entry)) at (referenceText (headerOf (now (s .entry)) h .names) r) (now (out .exit)) n ⌝ }
+{
+    let inputs = h.inputs;
+    if r < inputs {
+        return print_name(s, h, r, out, at);
+    }
+    print_decimal(r - inputs + 1, out, at)
+}
+
+// A gate's digits.
+fn print_digits(digits: &[u8], out: &mut [u8], at: usize) -> usize
+    requires { ⌜ (at + length (now digits) ≤ length (now out)) × ((k : ℕ) → k < length (now digits) → getD (now digits) k 0 < 10) ⌝ }
+    ensures { λ r. ⌜ Put (now (out .entry)) at (map digitByte (now (digits .entry))) (now (out .exit)) r ⌝ }
+{
+    let mut i: usize = 0;
+    let mut p: usize = at;
+    while i < digits.len() {
+        out[p] = 48 + digits[i];
+        i += 1;
+        p += 1;
+    }
+    p
+}
+
+// A reference with a space behind it.
+fn print_wire(s: &[u8], h: Header, r: usize, out: &mut [u8], at: usize) -> usize
+    requires { ⌜ NamesInside (now s) h × (at + length (referenceText (headerOf (now s) h .names) r ++ (space ∷ [])) ≤ length (now out)) ⌝ }
+    ensures { λ n. ⌜ Put (now (out .entry)) at (referenceText (headerOf (now (s .entry)) h .names) r ++ (space ∷ [])) (now (out .exit)) n ⌝ }
+{
+    let p = print_reference(s, h, r, out, at);
+    put(b' ', out, p)
+}
+
+// The digits of the gate with k gates before it.
+fn print_gate_table(net: Net, k: usize, out: &mut [u8], at: usize) -> usize
+    requires { ⌜ GatesInside net × (k < net .gates) × (at + length (map digitByte (gateOf net k .digits)) ≤ length (now out)) ⌝ }
+    ensures { λ r. ⌜ Put (now (out .entry)) at (map digitByte (gateOf net k .digits)) (now (out .exit)) r ⌝ }
+{
+    let digits = net.digits;
+    let size = net.levels * net.levels;
+    let from = k * size;
+    let end = from + size;
+    print_digits(&digits[from..end], out, at)
+}
+
+// The line of the gate with k gates before it.
+fn print_gate(s: &[u8], h: Header, net: Net, k: usize, out: &mut [u8], at: usize) -> usize
+    requires { ⌜ NamesInside (now s) h × GatesInside net × (k < net .gates) × (at + length (printedGate (headerOf (now s) h .names) (gateOf net k)) ≤ length (now out)) ⌝ }
+    ensures { λ r. ⌜ Put (now (out .entry)) at (printedGate (headerOf (now (s .entry)) h .names) (gateOf net k)) (now (out .exit)) r ⌝ }
+{
+    let left = net.left;
+    let right = net.right;
+    let p = print_wire(s, h, wide(left[k]), out, at);
+    let p = print_wire(s, h, wide(right[k]), out, p);
+    let p = print_gate_table(net, k, out, p);
+    put(b'\n', out, p)
+}
