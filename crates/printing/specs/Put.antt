@@ -3,9 +3,10 @@
 use Prim.Native.Nat.{ℕ, suc, _+_, _≤_, _<_}
 use mathlib.Core.Path.{_≡_, refl, sym, ap, subst, _∙_}
 use mathlib.Core.List.{List, [], _∷_, _++_}
-use native.Mathlib.Nat.{add-zero, add-suc, suc-add}
+use native.Mathlib.Nat.{zero-add, add-zero, add-suc, suc-add}
 use native.Mathlib.Numerals.{add-one}
 use native.Mathlib.Omega.{arith}
+use lib.ListN
 use lib.ListN.{length, getD, drop, set, length-append, length-drop, length-set, drop-of-length-le}
 use lib.Seq.{drop-cons, sets, length-sets, sets-eq}
 use Rattle.rules.specs.Calls.{written}
@@ -81,9 +82,13 @@ module _ {out : List ℕ} {at : ℕ} {out₀ : List ℕ} {at₀ : ℕ} {t₀ : L
   pub last-put : {u out' : List ℕ} {at' : ℕ} → Left out at u out₀ at₀ t₀ → Put out at u out' at' → Put out₀ at₀ t₀ out' at'
   last-put h p = record { text = p .text ∙ h .text; end = p .end ∙ h .end }
 
--- a text at the front
-pub put-written : {out t out' : List ℕ} {r : ℕ} → length t ≤ length out → Put out 0 t out' r → (r ≡ length t) × (out' ≡ written out t)
+-- A call that writes a sheet to the front of a buffer, as document 01 has it: what the buffer holds then, and the answer.
+pub record Sheet (before : List ℕ) (sheet : List ℕ) (after : List ℕ) (answer : ℕ) : Type 0 where
+  pub text : after ≡ written before sheet
+  pub length : answer ≡ ListN.length sheet
+
+pub put-sheet : {out t out' : List ℕ} {r : ℕ} → length t ≤ length out → Put out 0 t out' r → Sheet out t out' r
 unfolding written
-put-written {out} {t} h p =
-    let e : 0 + length t ≡ length t = omega arith in
-    (omega (arith, p .end), p .text ∙ sets-eq t out 0 (omega arith) ∙ ap (λ (k : ℕ). t ++ drop k out) e)
+put-sheet {out} {t} h p =
+    let e : 0 + length t ≡ length t = zero-add (length t) in
+    record { text = p .text ∙ sets-eq t out 0 (omega arith) ∙ ap (λ (k : ℕ). t ++ drop k out) e; length = p .end ∙ e }

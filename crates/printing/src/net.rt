@@ -3,18 +3,22 @@ ghost use mathlib.Core.Path.{_≡_};
 ghost use Prim.Native.Nat.{ℕ, _+_, _≤_, _<_};
 ghost use mathlib.Core.List.{[], _∷_, _++_, map};
 ghost use lib.ListN.{length, getD};
+ghost use Rattle.rules.specs.Lists.{concatMap};
 ghost use Rattle.rules.specs.Text.{digitByte, space};
 ghost use Rattle.rules.specs.Sheets.{referenceText};
-ghost use Rattle.rules.specs.Printed.{printedGate};
-ghost use Rattle.nets.specs.Forms.{headerOf, gateOf};
-ghost use Rattle.printing.specs.Put.{Put};
+ghost use Rattle.rules.specs.Printed.{printedGate, printedNet};
+ghost use Rattle.nets.specs.Forms.{headerOf, gateOf, gatesOf};
+ghost use Rattle.printing.specs.Put.{Put, Sheet};
 ghost use Rattle.printing.specs.Names.{NamesInside};
-ghost use Rattle.printing.specs.Gates.{GatesInside};
+ghost use Rattle.printing.specs.Gates.{GatesInside, netOf};
 use nets::forms::Header;
 use nets::forms::Net;
 use crate::decimals::print_decimal;
 use crate::header::print_name;
+use crate::header::print_names_line;
+use crate::header::print_pair;
 use crate::header::wide;
+use crate::put::copy;
 use crate::put::put;
 
 // An input by its name, a gate by its number.
@@ -76,4 +80,32 @@ fn print_gate(s: &[u8], h: Header, net: Net, k: usize, out: &mut [u8], at: usize
     let p = print_wire(s, h, wide(right[k]), out, p);
     let p = print_gate_table(net, k, out, p);
     put(b'\n', out, p)
+}
+
+// The lines of all gates.
+fn print_gates(s: &[u8], h: Header, net: Net, out: &mut [u8], at: usize) -> usize
+    requires { ⌜ NamesInside (now s) h × GatesInside net × (at + length (concatMap (printedGate (headerOf (now s) h .names)) (gatesOf net)) ≤ length (now out)) ⌝ }
+    ensures { λ r. ⌜ Put (now (out .entry)) at (concatMap (printedGate (headerOf (now (s .entry)) h .names)) (gatesOf net)) (now (out .exit)) r ⌝ }
+{
+    let gates = net.gates;
+    let mut k: usize = 0;
+    let mut p: usize = at;
+    while k < gates {
+        p = print_gate(s, h, net, k, out, p);
+        k += 1;
+    }
+    p
+}
+
+// Writes the net sheet of the header's names and the net to the front of `out`, and answers its length.
+pub fn print_net(s: &[u8], h: Header, net: Net, out: &mut [u8]) -> usize
+    requires { ⌜ NamesInside (now s) h × GatesInside net × (length (printedNet (netOf (now s) h net)) ≤ length (now out)) ⌝ }
+    ensures { λ r. ⌜ Sheet (now (out .entry)) (printedNet (netOf (now (s .entry)) h net)) (now (out .exit)) r ⌝ }
+{
+    let levels = h.levels;
+    let inputs = h.inputs;
+    let p = print_pair(b"levels inputs\n", levels, inputs, out, 0);
+    let p = print_names_line(s, h, out, p);
+    let p = copy(b"left right table\n", out, p);
+    print_gates(s, h, net, out, p)
 }
