@@ -4,3 +4,5 @@ pub mod Maps
 pub mod Lines
 pub mod Names
 pub mod Gates
+pub mod Odometer
+pub mod Rows

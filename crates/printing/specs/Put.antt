@@ -82,13 +82,20 @@ module _ {out : List ℕ} {at : ℕ} {out₀ : List ℕ} {at₀ : ℕ} {t₀ : L
   pub last-put : {u out' : List ℕ} {at' : ℕ} → Left out at u out₀ at₀ t₀ → Put out at u out' at' → Put out₀ at₀ t₀ out' at'
   last-put h p = record { text = p .text ∙ h .text; end = p .end ∙ h .end }
 
--- A call that writes a sheet to the front of a buffer, as document 01 has it: what the buffer holds then, and the answer.
-pub record Sheet (before : List ℕ) (sheet : List ℕ) (after : List ℕ) (answer : ℕ) : Type 0 where
+-- two bytes
+pub bytes-left : {out : List ℕ} {at : ℕ} {a b : ℕ} {t out₀ : List ℕ} {at₀ : ℕ} {t₀ : List ℕ} → Left out at (a ∷ b ∷ t) out₀ at₀ t₀
+    → Left (set (set out at a) (at + 1) b) (at + 2) t out₀ at₀ t₀
+bytes-left {out} {at} h =
+    let e : at + 1 + 1 ≡ at + 2 = omega arith in
+    rw e at (byte-left (byte-left h))
+
+-- "A call that writes a sheet answers its length, and the sheet is that many bytes from the front of the output."
+pub record Wrote (before sheet after : List ℕ) (answer : ℕ) : Type 0 where
   pub text : after ≡ written before sheet
   pub length : answer ≡ ListN.length sheet
 
-pub put-sheet : {out t out' : List ℕ} {r : ℕ} → length t ≤ length out → Put out 0 t out' r → Sheet out t out' r
+pub put-wrote : {out t out' : List ℕ} {r : ℕ} → length t ≤ length out → Put out 0 t out' r → Wrote out t out' r
 unfolding written
-put-sheet {out} {t} h p =
+put-wrote {out} {t} h p =
     let e : 0 + length t ≡ length t = zero-add (length t) in
     record { text = p .text ∙ sets-eq t out 0 (omega arith) ∙ ap (λ (k : ℕ). t ++ drop k out) e; length = p .end ∙ e }

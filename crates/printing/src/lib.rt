@@ -3,3 +3,4 @@ pub mod decimals;
 pub mod header;
 pub mod net;
 pub mod put;
+pub mod table;

@@ -30,7 +30,7 @@ part s h i a l p q =
     rw (e, p, q)
 
 inside : (c : tie.After-wide) → c .before .wide16 .result + c .wide .result ≤ length (c .before .before .before .before .before .before .args .s .now)
-inside c = omega (arith, c .before .wide16 .ensures, c .wide .ensures, c .before .before .before .before .before .before .pre .0 .inside (c .before .before .before .before .before .before .args .i) (c .before .before .before .before .before .before .pre .1))
+inside c = omega (arith, c .before .wide16 .ensures, c .wide .ensures .0, c .before .before .before .before .before .before .pre .0 .inside (c .before .before .before .before .before .before .args .i) (c .before .before .before .before .before .before .pre .1))
 
 mul-wide16 : tie.Need-mul-wide16
 mul-wide16 c = omega (arith, room (c .before .before .before .before .pre .0) (c .before .before .before .before .pre .1))
@@ -60,13 +60,13 @@ part-copy-end : tie.Need-part-copy-end
 part-copy-end c = inside c
 
 copy-requires : tie.Need-copy-requires
-copy-requires c κs = rw (part (c .before .before .before .before .before .before .before .before .args .s .now) (c .before .before .before .before .before .before .before .before .args .h) (c .before .before .before .before .before .before .before .before .args .i) (c .before .before .before .wide16 .result) (c .before .before .wide .result) (c .before .before .before .wide16 .ensures) (c .before .before .wide .ensures)) (c .before .before .before .before .before .before .before .before .pre .2)
+copy-requires c κs = rw (part (c .before .before .before .before .before .before .before .before .args .s .now) (c .before .before .before .before .before .before .before .before .args .h) (c .before .before .before .before .before .before .before .before .args .i) (c .before .before .before .wide16 .result) (c .before .before .wide .result) (c .before .before .before .wide16 .ensures) (c .before .before .wide .ensures .0)) (c .before .before .before .before .before .before .before .before .pre .2)
 
 same-length : tie.Need-same-length
 same-length c = search needs
 
 returns : tie.Need-returns
-returns c = rw (part (c .before .before .before .before .before .before .before .before .before .before .before .args .s .now) (c .before .before .before .before .before .before .before .before .before .before .before .args .h) (c .before .before .before .before .before .before .before .before .before .before .before .args .i) (c .before .before .before .before .before .before .wide16 .result) (c .before .before .before .before .before .wide .result) (c .before .before .before .before .before .before .wide16 .ensures) (c .before .before .before .before .before .wide .ensures)) at (c .before .before .copy .ensures)
+returns c = rw (part (c .before .before .before .before .before .before .before .before .before .before .before .args .s .now) (c .before .before .before .before .before .before .before .before .before .before .before .args .h) (c .before .before .before .before .before .before .before .before .before .before .before .args .i) (c .before .before .before .before .before .before .wide16 .result) (c .before .before .before .before .before .wide .result) (c .before .before .before .before .before .before .wide16 .ensures) (c .before .before .before .before .before .wide .ensures .0)) at (c .before .before .copy .ensures)
 
 pub print-name-spec : {M : Type 1} → statement M
 print-name-spec =

@@ -46,14 +46,14 @@ start c =
     (c .pre .3)
 
 first : (c : tie.After-print-wire) → Put (c .before .before .before .before .before .before .before .args .out .now) (c .before .before .before .before .before .before .before .args .at) (left (c .before .before .before .before .before .before .before)) (c .print-wire .last .1 .1 .1 .0) (c .print-wire .result)
-first c = rw (c .before .before .wide .ensures) at (c .print-wire .ensures)
+first c = rw (c .before .before .wide .ensures .0) at (c .print-wire .ensures)
 
 after-first : (c : tie.After-print-wire) → Rest (c .before .before .before .before .before .before .before) (c .print-wire .last .1 .1 .1 .0) (c .print-wire .result) (right (c .before .before .before .before .before .before .before) ++ (digits (c .before .before .before .before .before .before .before) ++ (newline ∷ [])))
 after-first c = put-left (start (c .before .before .before .before .before .before .before)) (first c)
 
 second : (c : tie.After-print-wire2)
     → Put (c .before .before .before .before .before .print-wire .last .1 .1 .1 .0) (c .before .before .before .before .before .print-wire .result) (right (c .before .before .before .before .before .before .before .before .before .before .before .before)) (c .print-wire2 .last .1 .1 .1 .0) (c .print-wire2 .result)
-second c = rw (c .before .before .wide2 .ensures) at (c .print-wire2 .ensures)
+second c = rw (c .before .before .wide2 .ensures .0) at (c .print-wire2 .ensures)
 
 after-second : (c : tie.After-print-wire2) → Rest (c .before .before .before .before .before .before .before .before .before .before .before .before) (c .print-wire2 .last .1 .1 .1 .0) (c .print-wire2 .result) (digits (c .before .before .before .before .before .before .before .before .before .before .before .before) ++ (newline ∷ []))
 after-second c = put-left (after-first (c .before .before .before .before .before)) (second c)
@@ -73,7 +73,7 @@ wide-requires : tie.Need-wide-requires
 wide-requires c κs = search needs
 
 print-wire-requires : tie.Need-print-wire-requires
-print-wire-requires c κs = rw (c .before .wide .ensures) (c .before .before .before .before .before .before .pre .0, room-for (left (c .before .before .before .before .before .before)) (right (c .before .before .before .before .before .before) ++ (digits (c .before .before .before .before .before .before) ++ (newline ∷ []))) (start (c .before .before .before .before .before .before)))
+print-wire-requires c κs = rw (c .before .wide .ensures .0) (c .before .before .before .before .before .before .pre .0, room-for (left (c .before .before .before .before .before .before)) (right (c .before .before .before .before .before .before) ++ (digits (c .before .before .before .before .before .before) ++ (newline ∷ []))) (start (c .before .before .before .before .before .before)))
 
 array-read-wide-2 : tie.Need-array-read-wide-2
 array-read-wide-2 c = place (c .before .before .before .before .before .before .before .before .before)
@@ -82,7 +82,7 @@ wide-requires-2 : tie.Need-wide-requires-2
 wide-requires-2 c κs = search needs
 
 print-wire-requires-2 : tie.Need-print-wire-requires-2
-print-wire-requires-2 c κs = rw (c .before .wide2 .ensures) (c .before .before .before .before .before .before .before .before .before .before .before .pre .0, room-for (right (c .before .before .before .before .before .before .before .before .before .before .before)) (digits (c .before .before .before .before .before .before .before .before .before .before .before) ++ (newline ∷ [])) (after-first (c .before .before .before .before)))
+print-wire-requires-2 c κs = rw (c .before .wide2 .ensures .0) (c .before .before .before .before .before .before .before .before .before .before .before .pre .0, room-for (right (c .before .before .before .before .before .before .before .before .before .before .before)) (digits (c .before .before .before .before .before .before .before .before .before .before .before) ++ (newline ∷ [])) (after-first (c .before .before .before .before)))
 
 print-gate-table-requires : tie.Need-print-gate-table-requires
 print-gate-table-requires c κs = (c .before .before .before .before .before .before .before .before .before .before .before .before .before .before .before .pre .1, c .before .before .before .before .before .before .before .before .before .before .before .before .before .before .before .pre .2, room-for (digits (c .before .before .before .before .before .before .before .before .before .before .before .before .before .before .before)) (newline ∷ []) (after-second (c .before .before .before)))

@@ -9,7 +9,7 @@ use Rattle.rules.specs.Lists.{concatMap}
 use Rattle.rules.specs.Text.{space, newline, text, decimal}
 use Rattle.rules.specs.Printed.{line, printedGate, printedNet}
 use Rattle.nets.specs.Forms.{headerOf, gatesOf}
-use Rattle.printing.specs.Put.{Left, parts-left, put-left, room-for, last-put, put-sheet}
+use Rattle.printing.specs.Put.{Left, parts-left, put-left, room-for, last-put, put-wrote}
 use Rattle.printing.specs.Gates.{netOf, net-parts}
 use Rattle.printing.proofs.net.print_net.Statement.{statement}
 use Rattle.printing.proofs.net.print_net.Tie as tie
@@ -76,7 +76,7 @@ same-length : tie.Need-same-length
 same-length c = search needs
 
 returns : tie.Need-returns
-returns c = put-sheet (c .before .before .before .before .before .before .before .before .before .before .before .before .before .before .before .before .before .before .before .before .pre .2) (last-put (after-fourth (c .before .before .before .before .before .before)) (c .before .before .print-gates .ensures))
+returns c = put-wrote (c .before .before .before .before .before .before .before .before .before .before .before .before .before .before .before .before .before .before .before .before .pre .2) (last-put (after-fourth (c .before .before .before .before .before .before)) (c .before .before .print-gates .ensures))
 
 pub print-net-spec : {M : Type 1} → statement M
 print-net-spec =
