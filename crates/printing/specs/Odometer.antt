@@ -4,13 +4,13 @@ use Prim.Native.Nat.{ℕ, zero, suc, _+_, _-_, _*_, _/_, _%_, _^_, _≤_, _<_}
 use mathlib.Core.Path.{_≡_, refl, sym, ap, ap₂, _∙_}
 use mathlib.Core.Bool.{Bool, true, false}
 use mathlib.Core.List.{List, [], _∷_, _++_, map}
-use native.Mathlib.Nat.{zero-add, pow-zero, pow-succ', mod-lt, div-add-mod', div-div-eq-div-mul, div-one}
+use native.Mathlib.Nat.{zero-add, pow-zero, pow-succ', mod-lt, div-add-mod', div-div-eq-div-mul, div-one, zero-div, zero-mod}
 use native.Mathlib.Decide.{decLt}
 use native.Mathlib.Omega.{arith}
 use borrow.Author.Tests.{lt-ltb, le-ltb}
 use lib.Arith.{digits-div, digits-mod}
 use lib.Dec.{ltb}
-use lib.ListN.{length, getD, set, length-map, length-set, List·getD-append}
+use lib.ListN.{length, getD, take, set, replicate, length-map, length-set, List·getD-append}
 use lib.Seq.{getD-at, set-at, set-append-left}
 use Rattle.rules.specs.Lists.{range}
 use Rattle.rules.specs.Sheets.{level, levelsAt}
@@ -82,6 +82,21 @@ levels-last m n p =
 pub levels-length : (m n p : ℕ) → length (levelsAt m n p) ≡ n
 unfolding levelsAt
 levels-length m n p = length-map (range 0 n) (level m n p) ∙ range-length 0 n
+
+-- index 0: all levels are 0
+zeros : (f : ℕ → ℕ) (from count : ℕ) → ((i : ℕ) → f i ≡ 0) → map f (range from count) ≡ replicate count 0
+unfolding range
+zeros f from zero e = refl
+zeros f from (suc count) e = ap₂ {C = List ℕ} (λ x xs. x ∷ xs) (e from) (zeros f (suc from) count e)
+
+take-replicate : (n c : ℕ) → n ≤ c → take {A = ℕ} n (replicate c 0) ≡ replicate n 0
+take-replicate zero c h = refl
+take-replicate (suc n) zero h = absurd (omega arith)
+take-replicate (suc n) (suc c) h = ap {B = List ℕ} (λ xs. 0 ∷ xs) (take-replicate n c (omega arith))
+
+pub levels-first : (m n c : ℕ) → n ≤ c → take n (replicate c 0) ≡ levelsAt m n 0
+unfolding levelsAt level
+levels-first m n c h = take-replicate n c h ∙ sym (zeros (level m n 0) 0 n (λ i. ap (λ (q : ℕ). q % m) (zero-div (m ^ (n - 1 - i))) ∙ zero-mod m))
 
 -- ---- one index further
 

@@ -40,3 +40,13 @@ module _ (levels : List ℕ) (ink : ℕ) where
   pub row-end : (i : ℕ) → length levels ≤ i → rowFrom levels ink i ≡ digitByte ink ∷ newline ∷ []
   unfolding rowFrom spaced
   row-end i h = rw (drop-of-length-le levels {i = i} h)
+
+-- the rows from index k on, the first of them by its levels
+pub rows-next : (m n k : ℕ) (inks : List ℕ) → k < length inks
+    → printedRows m n k (drop k inks) ≡ rowText (levelsAt m n k) (getD inks k 0) ++ printedRows m n (k + 1) (drop (k + 1) inks)
+unfolding printedRows
+rows-next m n k inks h = rw (drop-cons inks k 0 h, row-text, add-one k)
+
+pub rows-end : (m n k : ℕ) (inks : List ℕ) → length inks ≤ k → printedRows m n k (drop k inks) ≡ []
+unfolding printedRows
+rows-end m n k inks h = rw (drop-of-length-le inks {i = k} h)

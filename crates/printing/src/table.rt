@@ -3,6 +3,8 @@ ghost use mathlib.Core.Path.{_≡_};
 ghost use Prim.Native.Nat.{ℕ, _+_, _≤_, _<_};
 ghost use mathlib.Core.List.{[], _∷_, _++_, map};
 ghost use lib.ListN.{length, getD};
+ghost use Rattle.rules.specs.Limits.{mostLevels, mostInputs};
+ghost use Rattle.rules.specs.Printed.{printedRows};
 ghost use Rattle.printing.specs.Put.{Put, Wrote};
 ghost use Rattle.printing.specs.Rows.{rowText};
 ghost use Rattle.printing.specs.Odometer.{countUp};
@@ -41,4 +43,20 @@ fn count_up(m: usize, levels: &mut [u8])
         }
         levels[i] = 0;
     }
+}
+
+// The rows of all cells.
+fn print_rows(m: usize, n: usize, inks: &[u8], out: &mut [u8], at: usize) -> usize
+    requires { ⌜ (0 < m) × (m ≤ mostLevels) × (n ≤ mostInputs) × ((k : ℕ) → k < length (now inks) → getD (now inks) k 0 < 10) × (at + length (printedRows m n 0 (now inks)) ≤ length (now out)) ⌝ }
+    ensures { λ r. ⌜ Put (now (out .entry)) at (printedRows m n 0 (now (inks .entry))) (now (out .exit)) r ⌝ }
+{
+    let mut levels = [0u8; 11];
+    let mut k: usize = 0;
+    let mut p: usize = at;
+    while k < inks.len() {
+        p = print_row(&levels[0..n], inks[k], out, p);
+        count_up(m, &mut levels[0..n]);
+        k += 1;
+    }
+    p
 }
