@@ -18,8 +18,8 @@ use Rattle.nets.specs.Forms.{headerOf, gateOf, gatesOf}
 use Rattle.printing.specs.Lines.{range-next}
 
 -- the net of the sheet's names and the form's gates
-unfoldable pub netOf : List ℕ → Header → Net → sheets.Net
-netOf s h net = record { header = headerOf s h; gates = gatesOf net }
+abbrev pub netIn : List ℕ → Header → Net → sheets.Net
+netIn s h net = record { header = headerOf s h; gates = gatesOf net }
 
 -- no more gates than the form has room for, and each digit is one digit
 pub record GatesInside (net : Net) : Type 0 where
@@ -59,9 +59,9 @@ module _ (net : Net) (inside : GatesInside net) (k : ℕ) (h : k < net .gates) w
       rw (getD-take size (drop (k * size) (net .digits)) i 0 below, getD-drop) (inside .digits (k * size + i) (omega (arith, table-end)))
 
 -- the sheet of a net in the parts in which it is written
-pub net-parts : (s : List ℕ) (h : Header) (net : Net) → printedNet (netOf s h net)
+pub net-parts : (s : List ℕ) (h : Header) (net : Net) → printedNet (netIn s h net)
     ≡ (line (text "levels" ∷ text "inputs" ∷ []) ++ line (decimal (h .levels) ∷ decimal (h .inputs) ∷ []))
       ++ (line (headerOf s h .names)
       ++ (line (text "left" ∷ text "right" ∷ text "table" ∷ []) ++ concatMap (printedGate (headerOf s h .names)) (gatesOf net)))
-unfolding printedNet firstLines netOf headerOf
+unfolding printedNet firstLines headerOf
 net-parts s h net = simp append-assoc

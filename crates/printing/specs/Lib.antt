@@ -6,3 +6,5 @@ pub mod Names
 pub mod Gates
 pub mod Odometer
 pub mod Rows
+pub mod Tables
+pub mod Refusals

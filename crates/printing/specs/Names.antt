@@ -1,12 +1,12 @@
 -- A header's names: what printing them asks, and the line that they make.
 -- Assumes nothing.
-use Prim.Native.Nat.{ℕ, suc, _+_, _-_, _≤_, _<_}
-use mathlib.Core.Path.{_≡_, sym, ap, _∙_}
+use Prim.Native.Nat.{ℕ, zero, suc, _+_, _-_, _≤_, _<_}
+use mathlib.Core.Path.{_≡_, refl, sym, ap, _∙_}
 use mathlib.Core.List.{List, [], _∷_, _++_, map}
 use native.Mathlib.Nat.{zero-add}
 use native.Mathlib.Omega.{arith}
 use borrow.Author.Tests.{lt-ltb, le-ltb}
-use lib.ListN.{length, getD, length-map}
+use lib.ListN.{length, getD, length-map, length-append, length-take, length-drop}
 use Rattle.rules.specs.Lists.{range}
 use Rattle.rules.specs.Limits.{mostInputs}
 use Rattle.rules.specs.Text.{newline, decimal}
@@ -16,13 +16,18 @@ use Rattle.nets.specs.declared.forms.Header.{Header}
 use Rattle.nets.specs.Forms.{nameIn, headerOf}
 use Rattle.laws.specs.Ranges.{range-length, range-at}
 use Rattle.printing.specs.Maps.{getD-map}
-use Rattle.printing.specs.Lines.{spacedFrom, line-from}
+use Rattle.printing.specs.Lines.{spaced, spacedFrom, spaced-more, line-from}
 
 -- there are names, no more of them than the form has room for, and each is a part of the sheet
 pub record NamesInside (s : List ℕ) (h : Header) : Type 0 where
   pub some : 0 < h .inputs
   pub count : h .inputs ≤ mostInputs
   pub inside : (i : ℕ) → i < h .inputs → getD (h .starts) i 0 + getD (h .lens) i 0 ≤ length s
+
+-- how long the first n names are, each with the space behind it
+unfoldable pub lensTotal : List ℕ → ℕ → ℕ
+lensTotal lens zero = 0
+lensTotal lens (suc n) = lensTotal lens n + (getD lens n 0 + 1)
 
 module _ (s : List ℕ) (h : Header) where
   pub names-line : 0 < h .inputs
@@ -35,6 +40,17 @@ module _ (s : List ℕ) (h : Header) where
   names-length : length (headerOf s h .names) ≡ h .inputs
   unfolding headerOf
   names-length = length-map (range 0 (h .inputs)) (nameIn s h) ∙ range-length 0 (h .inputs)
+
+  name-length : NamesInside s h → (i : ℕ) → i < h .inputs → length (nameIn s h i) ≡ getD (h .lens) i 0
+  unfolding nameIn
+  name-length n i l = rw (length-take, length-drop) (omega (arith, n .inside i l))
+
+  pub names-total : NamesInside s h → (n : ℕ) → n ≤ h .inputs → length (spacedFrom (nameIn s h) 0 n) ≡ lensTotal (h .lens) n
+  unfolding lensTotal spacedFrom spaced range
+  names-total i zero l = refl
+  names-total i (suc n) l =
+      ap length (spaced-more (nameIn s h) n)
+      ∙ simp length-append (omega (arith, names-total i n (omega arith), name-length i n l))
 
   -- a reference is printed as a name, or as a gate's number
   pub reference-name : (r : ℕ) → r < h .inputs → referenceText (headerOf s h .names) r ≡ nameIn s h r

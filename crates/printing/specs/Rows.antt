@@ -5,7 +5,7 @@ use mathlib.Core.Path.{_≡_, refl, sym, ap, _∙_}
 use mathlib.Core.List.{List, [], _∷_, _++_, map}
 use native.Mathlib.Numerals.{add-one}
 use native.Mathlib.Omega.{arith}
-use lib.ListN.{length, getD, drop, drop-of-length-le}
+use lib.ListN.{length, getD, drop, length-append, drop-of-length-le}
 use lib.Seq.{drop-cons}
 use Rattle.rules.specs.Text.{space, newline, digitByte}
 use Rattle.rules.specs.Sheets.{levelsAt}
@@ -28,6 +28,11 @@ row-text m n p ink = refl
 unfoldable pub rowFrom : List ℕ → ℕ → ℕ → List ℕ
 rowFrom levels ink i = spaced (map oneDigit (drop i levels)) ++ (digitByte ink ∷ newline ∷ [])
 
+digits-length : (levels : List ℕ) → length (spaced (map oneDigit levels)) ≡ 2 * length levels
+unfolding spaced
+digits-length [] = refl
+digits-length (l ∷ levels) = omega (arith, digits-length levels)
+
 module _ (levels : List ℕ) (ink : ℕ) where
   pub row-all : rowText levels ink ≡ rowFrom levels ink 0
   unfolding rowText rowFrom
@@ -40,6 +45,11 @@ module _ (levels : List ℕ) (ink : ℕ) where
   pub row-end : (i : ℕ) → length levels ≤ i → rowFrom levels ink i ≡ digitByte ink ∷ newline ∷ []
   unfolding rowFrom spaced
   row-end i h = rw (drop-of-length-le levels {i = i} h)
+
+  -- two bytes for each level and two for the ink
+  pub row-length : length (rowText levels ink) ≡ 2 * length levels + 2
+  unfolding rowFrom
+  row-length = ap length row-all ∙ length-append (spaced (map oneDigit levels)) (digitByte ink ∷ newline ∷ []) ∙ omega (arith, digits-length levels)
 
 -- the rows from index k on, the first of them by its levels
 pub rows-next : (m n k : ℕ) (inks : List ℕ) → k < length inks

@@ -20,7 +20,7 @@ pub fn print_decimal(k: usize, out: &mut [u8], at: usize) -> usize
 
 // How many digits k has.
 pub fn decimal_length(k: usize) -> usize
-    ensures { λ r. ⌜ r ≡ length (decimal k) ⌝ }
+    ensures { λ r. ⌜ (r ≡ length (decimal k)) × (r ≤ 20) ⌝ }
 {
     if k < 10 {
         return 1;

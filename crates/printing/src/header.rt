@@ -1,14 +1,15 @@
 // The first three lines.
 ghost use mathlib.Core.Path.{_≡_};
-ghost use Prim.Native.Nat.{_+_, _≤_, _<_};
+ghost use Prim.Native.Nat.{_+_, _*_, _≤_, _<_};
 ghost use mathlib.Core.List.{[], _∷_, _++_};
 ghost use lib.ListN.{length};
+ghost use Rattle.rules.specs.Limits.{mostInputs};
 ghost use Rattle.rules.specs.Text.{decimal};
 ghost use Rattle.rules.specs.Printed.{line};
 ghost use Rattle.nets.specs.Forms.{nameIn, headerOf};
 ghost use Rattle.printing.specs.Put.{Put};
 ghost use Rattle.printing.specs.Lines.{spacedFrom};
-ghost use Rattle.printing.specs.Names.{NamesInside};
+ghost use Rattle.printing.specs.Names.{NamesInside, lensTotal};
 use nets::forms::Header;
 use crate::decimals::print_decimal;
 use crate::put::copy;
@@ -73,4 +74,20 @@ pub fn print_names_line(s: &[u8], h: Header, out: &mut [u8], at: usize) -> usize
     let p = print_names(s, h, last, out, at);
     let p = print_name(s, h, last, out, p);
     put(b'\n', out, p)
+}
+
+// How long all names are, each with the space behind it.
+pub fn names_length(h: Header) -> usize
+    requires { ⌜ h .inputs ≤ mostInputs ⌝ }
+    ensures { λ r. ⌜ (r ≡ lensTotal (h .lens) (h .inputs)) × (r ≤ 256 * h .inputs) ⌝ }
+{
+    let inputs = h.inputs;
+    let lens = h.lens;
+    let mut total: usize = 0;
+    let mut i: usize = 0;
+    while i < inputs {
+        total += wide(lens[i]) + 1;
+        i += 1;
+    }
+    total
 }

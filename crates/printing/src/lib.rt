@@ -3,4 +3,5 @@ pub mod decimals;
 pub mod header;
 pub mod net;
 pub mod put;
+pub mod refusal;
 pub mod table;

@@ -10,7 +10,7 @@ ghost use Rattle.rules.specs.Printed.{printedGate, printedNet};
 ghost use Rattle.nets.specs.Forms.{headerOf, gateOf, gatesOf};
 ghost use Rattle.printing.specs.Put.{Put, Wrote};
 ghost use Rattle.printing.specs.Names.{NamesInside};
-ghost use Rattle.printing.specs.Gates.{GatesInside, netOf};
+ghost use Rattle.printing.specs.Gates.{GatesInside, netIn};
 use nets::forms::Header;
 use nets::forms::Net;
 use crate::decimals::print_decimal;
@@ -99,8 +99,8 @@ fn print_gates(s: &[u8], h: Header, net: Net, out: &mut [u8], at: usize) -> usiz
 
 // Writes the net sheet of the header's names and the net to the front of `out`, and answers its length.
 pub fn print_net(s: &[u8], h: Header, net: Net, out: &mut [u8]) -> usize
-    requires { ⌜ NamesInside (now s) h × GatesInside net × (length (printedNet (netOf (now s) h net)) ≤ length (now out)) ⌝ }
-    ensures { λ r. ⌜ Wrote (now (out .entry)) (printedNet (netOf (now (s .entry)) h net)) (now (out .exit)) r ⌝ }
+    requires { ⌜ NamesInside (now s) h × GatesInside net × (length (printedNet (netIn (now s) h net)) ≤ length (now out)) ⌝ }
+    ensures { λ r. ⌜ Wrote (now (out .entry)) (printedNet (netIn (now (s .entry)) h net)) (now (out .exit)) r ⌝ }
 {
     let levels = h.levels;
     let inputs = h.inputs;

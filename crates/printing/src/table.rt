@@ -1,14 +1,22 @@
 // A table sheet.
 ghost use mathlib.Core.Path.{_≡_};
 ghost use Prim.Native.Nat.{ℕ, _+_, _≤_, _<_};
-ghost use mathlib.Core.List.{[], _∷_, _++_, map};
+ghost use mathlib.Core.List.{List};
 ghost use lib.ListN.{length, getD};
-ghost use Rattle.rules.specs.Limits.{mostLevels, mostInputs};
-ghost use Rattle.rules.specs.Printed.{printedRows};
+ghost use Rattle.rules.specs.Limits.{mostLevels, mostInputs, mostCells};
+ghost use Rattle.rules.specs.Printed.{printedRows, printedTable};
 ghost use Rattle.printing.specs.Put.{Put, Wrote};
 ghost use Rattle.printing.specs.Rows.{rowText};
+ghost use Rattle.printing.specs.Names.{NamesInside};
+ghost use Rattle.printing.specs.Tables.{TableInside, tableIn};
 ghost use Rattle.printing.specs.Odometer.{countUp};
+use crate::decimals::decimal_length;
+use crate::header::names_length;
+use crate::header::print_names;
+use crate::header::print_pair;
 use crate::header::wide;
+use crate::put::copy;
+use nets::forms::Header;
 
 // A row: each level with a space behind it, then the ink with a line feed.
 fn print_row(levels: &[u8], ink: u8, out: &mut [u8], at: usize) -> usize
@@ -59,4 +67,28 @@ fn print_rows(m: usize, n: usize, inks: &[u8], out: &mut [u8], at: usize) -> usi
         k += 1;
     }
     p
+}
+
+// The length of the table sheet of the header's names and as many inks as there are cells.
+pub fn table_length(h: Header, cells: usize) -> usize
+    requires { ⌜ (h .inputs ≤ mostInputs) × (cells ≤ mostCells) ⌝ }
+    ensures { λ r. ⌜ ((s inks : List ℕ) → NamesInside s h → length inks ≡ cells → r ≡ length (printedTable (tableIn s h inks))) ⌝ }
+{
+    let levels = h.levels;
+    let inputs = h.inputs;
+    let values = decimal_length(levels) + decimal_length(inputs);
+    20 + values + names_length(h) + cells * (2 * inputs + 2)
+}
+
+// Writes the table sheet of the header's names and the inks to the front of `out`, and answers its length.
+pub fn print_table(s: &[u8], h: Header, inks: &[u8], out: &mut [u8]) -> usize
+    requires { ⌜ TableInside (now s) h (now inks) × (length (printedTable (tableIn (now s) h (now inks))) ≤ length (now out)) ⌝ }
+    ensures { λ r. ⌜ Wrote (now (out .entry)) (printedTable (tableIn (now (s .entry)) h (now (inks .entry)))) (now (out .exit)) r ⌝ }
+{
+    let levels = h.levels;
+    let inputs = h.inputs;
+    let p = print_pair(b"levels inputs\n", levels, inputs, out, 0);
+    let p = print_names(s, h, inputs, out, p);
+    let p = copy(b"ink\n", out, p);
+    print_rows(levels, inputs, inks, out, p)
 }

@@ -2,8 +2,11 @@
 -- Assumes nothing.
 use native.Mathlib.Omega.{arith}
 use Rattle.printing.specs.Decimals.{decimal-one, decimal-more, decimal-length}
-use Prim.Native.Nat.{ℕ, _/_, _<_}
-use lib.ListN.{length-append}
+use Prim.Native.Nat.{ℕ, _+_, _/_, _%_, _<_}
+use mathlib.Core.Path.{_≡_, refl, ap, _∙_}
+use mathlib.Core.List.{[], _∷_}
+use lib.ListN.{length, length-append}
+use Rattle.rules.specs.Text.{digitByte, decimal}
 use borrow.Fn.Kinds.{In}
 use borrow.Fn.PlainCycle.{Measures, is, falls, and}
 use Rattle.printing.proofs.decimals.decimal_length.Reads as decimal-length
@@ -36,7 +39,7 @@ decimal-length-returns : (t : ℕ) → decimal-length-lts.Need-returns (
   decimal-length-below t,
   decimal-length.Post,
 ) (decimal-length-at t) decimal-length.Post
-decimal-length-returns t c = rw (decimal-one (c .before .args .k) (c .if1 .taken))
+decimal-length-returns t c = rw (decimal-one (c .before .args .k) (c .if1 .taken)) (refl, omega arith)
 
 -- src/decimals.rt:28:5
 decimal-length-decimal-length-requires : (t : ℕ) → decimal-length-lts.Need-decimal-length-requires (
@@ -51,7 +54,7 @@ decimal-length-add-result : (t : ℕ) → decimal-length-lts.Need-add-result (
   decimal-length.Post,
 ) (decimal-length-at t) decimal-length.Post
 decimal-length-add-result t c =
-    omega (arith, c .decimal-length .ensures, decimal-length 19 (c .before .before .args .k / 10) (omega arith))
+    omega (arith, c .decimal-length .ensures .1)
 
 -- src/decimals.rt:22:1
 decimal-length-returns-2 : (t : ℕ) → decimal-length-lts.Need-returns-2 (
@@ -59,7 +62,10 @@ decimal-length-returns-2 : (t : ℕ) → decimal-length-lts.Need-returns-2 (
   decimal-length.Post,
 ) (decimal-length-at t) decimal-length.Post
 decimal-length-returns-2 t c =
-    rw (decimal-more (c .before .before .args .k) (omega arith), length-append, c .decimal-length .ensures)
+    let k = c .before .before .args .k in
+    let more : length (decimal k) ≡ length (decimal (k / 10)) + 1 =
+        ap length (decimal-more k (omega arith)) ∙ length-append (decimal (k / 10)) (digitByte (k % 10) ∷ []) in
+    (omega (arith, c .decimal-length .ensures .0), omega (arith, c .decimal-length .ensures .0, decimal-length 19 k (omega arith)))
 
 pub +decimal-length-spec : {M : Type 1} → statement M
 +decimal-length-spec = close μ-decimal-length λ t. decimal-length-lts.spec (

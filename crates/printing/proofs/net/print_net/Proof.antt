@@ -10,7 +10,7 @@ use Rattle.rules.specs.Text.{space, newline, text, decimal}
 use Rattle.rules.specs.Printed.{line, printedGate, printedNet}
 use Rattle.nets.specs.Forms.{headerOf, gatesOf}
 use Rattle.printing.specs.Put.{Left, parts-left, put-left, room-for, last-put, put-wrote}
-use Rattle.printing.specs.Gates.{netOf, net-parts}
+use Rattle.printing.specs.Gates.{netIn, net-parts}
 use Rattle.printing.proofs.net.print_net.Statement.{statement}
 use Rattle.printing.proofs.net.print_net.Tie as tie
 use Rattle.printing.proofs.net.print_net.Reads as reads
@@ -33,7 +33,7 @@ abbrev gates : tie.Start → List ℕ
 gates c = concatMap (printedGate (names c)) (gatesOf (c .args .net))
 
 abbrev sheet : tie.Start → List ℕ
-sheet c = printedNet (netOf (c .args .s .now) (c .args .h) (c .args .net))
+sheet c = printedNet (netIn (c .args .s .now) (c .args .h) (c .args .net))
 
 abbrev Rest : tie.Start → List ℕ → ℕ → List ℕ → Type 0
 Rest c out at t = Left out at t (c .args .out .now) 0 (sheet c)
