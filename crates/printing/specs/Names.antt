@@ -1,7 +1,7 @@
 -- A header's names: what printing them asks, and the line that they make.
 -- Assumes nothing.
 use Prim.Native.Nat.{ℕ, zero, suc, _+_, _-_, _≤_, _<_}
-use mathlib.Core.Path.{_≡_, refl, sym, ap, _∙_}
+use mathlib.Core.Path.{_≡_, refl, ap, _∙_}
 use mathlib.Core.List.{List, [], _∷_, _++_, map}
 use native.Mathlib.Nat.{zero-add}
 use native.Mathlib.Omega.{arith}
@@ -18,6 +18,13 @@ use Rattle.laws.specs.Ranges.{range-length, range-at}
 use Rattle.printing.specs.Maps.{getD-map}
 use Rattle.printing.specs.Lines.{spaced, spacedFrom, spaced-more, line-from}
 
+-- all names of a header, and what a reference is printed as
+abbrev pub namesIn : List ℕ → Header → List (List ℕ)
+namesIn s h = headerOf s h .names
+
+abbrev pub referenceIn : List ℕ → Header → ℕ → List ℕ
+referenceIn s h r = referenceText (namesIn s h) r
+
 -- there are names, no more of them than the form has room for, and each is a part of the sheet
 pub record NamesInside (s : List ℕ) (h : Header) : Type 0 where
   pub some : 0 < h .inputs
@@ -31,13 +38,13 @@ lensTotal lens (suc n) = lensTotal lens n + (getD lens n 0 + 1)
 
 module _ (s : List ℕ) (h : Header) where
   pub names-line : 0 < h .inputs
-      → line (headerOf s h .names) ≡ spacedFrom (nameIn s h) 0 (h .inputs - 1) ++ (nameIn s h (h .inputs - 1) ++ (newline ∷ []))
+      → line (namesIn s h) ≡ spacedFrom (nameIn s h) 0 (h .inputs - 1) ++ (nameIn s h (h .inputs - 1) ++ (newline ∷ []))
   unfolding headerOf
   names-line l =
       let e : h .inputs ≡ suc (h .inputs - 1) = omega arith in
       ap (λ (n : ℕ). line (map (nameIn s h) (range 0 n))) e ∙ line-from (nameIn s h) (h .inputs - 1)
 
-  names-length : length (headerOf s h .names) ≡ h .inputs
+  names-length : length (namesIn s h) ≡ h .inputs
   unfolding headerOf
   names-length = length-map (range 0 (h .inputs)) (nameIn s h) ∙ range-length 0 (h .inputs)
 
@@ -53,13 +60,13 @@ module _ (s : List ℕ) (h : Header) where
       ∙ simp length-append (omega (arith, names-total i n (omega arith), name-length i n l))
 
   -- a reference is printed as a name, or as a gate's number
-  pub reference-name : (r : ℕ) → r < h .inputs → referenceText (headerOf s h .names) r ≡ nameIn s h r
+  pub reference-name : (r : ℕ) → r < h .inputs → referenceIn s h r ≡ nameIn s h r
   unfolding referenceText headerOf
   reference-name r l =
       rw (names-length, lt-ltb r (h .inputs) l, referenceText)
       (getD-map (nameIn s h) (range 0 (h .inputs)) r [] 0 (rw range-length l) ∙ ap (nameIn s h) (range-at 0 (h .inputs) r 0 l ∙ zero-add r))
 
-  pub reference-gate : (r : ℕ) → h .inputs ≤ r → referenceText (headerOf s h .names) r ≡ decimal (r - h .inputs + 1)
+  pub reference-gate : (r : ℕ) → h .inputs ≤ r → referenceIn s h r ≡ decimal (r - h .inputs + 1)
   unfolding referenceText
   reference-gate r l =
       let e : r + 1 - h .inputs ≡ r - h .inputs + 1 = omega arith in

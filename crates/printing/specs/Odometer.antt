@@ -2,7 +2,7 @@
 -- Assumes nothing.
 use Prim.Native.Nat.{ℕ, zero, suc, _+_, _-_, _*_, _/_, _%_, _^_, _≤_, _<_}
 use mathlib.Core.Path.{_≡_, refl, sym, ap, ap₂, _∙_}
-use mathlib.Core.Bool.{Bool, true, false}
+use mathlib.Core.Bool.{true, false}
 use mathlib.Core.List.{List, [], _∷_, _++_, map}
 use native.Mathlib.Nat.{zero-add, pow-zero, pow-succ', mod-lt, div-add-mod', div-div-eq-div-mul, div-one, zero-div, zero-mod}
 use native.Mathlib.Decide.{decLt}
@@ -40,6 +40,7 @@ count-append m (suc i) ls rest h = go (decLt (getD ls i 0 + 1) m) (count-append 
   where
     here : getD (ls ++ rest) i 0 ≡ getD ls i 0
     here = List·getD-append ls rest 0 i h
+
     go : Dec (getD ls i 0 + 1 < m) → (i ≤ length (set ls i 0) → countUp m (set ls i 0 ++ rest) i ≡ countUp m (set ls i 0) i ++ rest)
         → countUp m (ls ++ rest) (suc i) ≡ countUp m ls (suc i) ++ rest
     go (yes l) r =
@@ -120,10 +121,13 @@ module _ (m : ℕ) (pos : 0 < m) where
     where
       d : ℕ
       d = p % m
+
       before : List ℕ
       before = levelsAt m n (p / m)
+
       here : getD (before ++ (d ∷ [])) n 0 ≡ d
       here = getD-at before d [] 0 n (levels-length m n (p / m))
+
       go : Dec (d + 1 < m) → countUp m before n ≡ levelsAt m n (p / m + 1)
           → countUp m (before ++ (d ∷ [])) (suc n) ≡ levelsAt m n ((p + 1) / m) ++ (((p + 1) % m) ∷ [])
       go (yes l) next =

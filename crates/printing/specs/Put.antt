@@ -7,9 +7,13 @@ use native.Mathlib.Nat.{zero-add, add-zero, add-suc, suc-add}
 use native.Mathlib.Numerals.{add-one}
 use native.Mathlib.Omega.{arith}
 use lib.ListN
-use lib.ListN.{length, getD, drop, set, length-append, length-drop, length-set, drop-of-length-le}
+use lib.ListN.{length, getD, drop, set, length-append, length-set, drop-of-length-le}
 use lib.Seq.{drop-cons, sets, length-sets, sets-eq}
 use Rattle.rules.specs.Calls.{written}
+
+-- the text t fits into the buffer from `at` on
+abbrev pub Room : List ℕ → ℕ → List ℕ → Type 0
+Room out at t = at + length t ≤ length out
 
 -- `t` was written at `at`: the buffer was `before` and is `after`, and `next` is the place after the text
 pub record Put (before : List ℕ) (at : ℕ) (t : List ℕ) (after : List ℕ) (next : ℕ) : Type 0 where
@@ -20,7 +24,7 @@ pub record Put (before : List ℕ) (at : ℕ) (t : List ℕ) (after : List ℕ) 
 pub record Left (out : List ℕ) (at : ℕ) (t : List ℕ) (out₀ : List ℕ) (at₀ : ℕ) (t₀ : List ℕ) : Type 0 where
   pub text : sets out at t ≡ sets out₀ at₀ t₀
   pub end : at + length t ≡ at₀ + length t₀
-  pub room : at + length t ≤ length out
+  pub room : Room out at t
   pub kept : length out ≡ length out₀
 
 -- to write t and then u behind it is to write t ++ u
@@ -33,11 +37,11 @@ sets-append (b ∷ t) u l at =
 pub put-length : {before t after : List ℕ} {at next : ℕ} → Put before at t after next → length after ≡ length before
 put-length {before} {t} {after} {at} p = ap length (p .text) ∙ length-sets before at t
 
-pub all-left : {out : List ℕ} {at : ℕ} {t : List ℕ} → at + length t ≤ length out → Left out at t out at t
+pub all-left : {out : List ℕ} {at : ℕ} {t : List ℕ} → Room out at t → Left out at t out at t
 all-left h = record { text = refl; end = refl; room = h; kept = refl }
 
 -- the same text, put together another way
-pub parts-left : {out : List ℕ} {at : ℕ} {t u : List ℕ} → t ≡ u → at + length t ≤ length out → Left out at u out at t
+pub parts-left : {out : List ℕ} {at : ℕ} {t u : List ℕ} → t ≡ u → Room out at t → Left out at u out at t
 parts-left {out} {at} {t} e h = subst (λ (w : List ℕ). Left out at w out at t) e (all-left h)
 
 module _ {out : List ℕ} {at : ℕ} {out₀ : List ℕ} {at₀ : ℕ} {t₀ : List ℕ} where
@@ -66,7 +70,7 @@ module _ {out : List ℕ} {at : ℕ} {out₀ : List ℕ} {at₀ : ℕ} {t₀ : L
         kept = put-length p ∙ h .kept;
       }
 
-  pub room-for : (u t : List ℕ) → Left out at (u ++ t) out₀ at₀ t₀ → at + length u ≤ length out
+  pub room-for : (u t : List ℕ) → Left out at (u ++ t) out₀ at₀ t₀ → Room out at u
   room-for u t h = omega (arith, simp length-append at (h .room))
 
   pub room-byte : {b : ℕ} {t : List ℕ} → Left out at (b ∷ t) out₀ at₀ t₀ → at < length out

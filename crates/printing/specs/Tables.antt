@@ -1,7 +1,7 @@
 -- A table sheet: what printing it asks, its parts and its length.
 -- Assumes nothing.
 use Prim.Native.Nat.{ℕ, suc, _+_, _*_, _≤_, _<_}
-use mathlib.Core.Path.{_≡_, refl, sym, ap, _∙_}
+use mathlib.Core.Path.{_≡_, sym, ap, _∙_}
 use mathlib.Core.List.{List, [], _∷_, _++_, map, append-assoc}
 use native.Mathlib.Nat.{zero-mul, suc-mul}
 use native.Mathlib.Omega.{arith}
@@ -14,7 +14,7 @@ use Rattle.rules.specs.Sheets.{levelsAt}
 use Rattle.rules.specs.Printed.{line, firstLines, printedRow, printedRows, printedTable}
 use Rattle.nets.specs.declared.forms.Header.{Header}
 use Rattle.nets.specs.Forms.{nameIn, headerOf}
-use Rattle.printing.specs.Lines.{spaced, spacedFrom, line-last, spaced-all}
+use Rattle.printing.specs.Lines.{spacedFrom, line-last, spaced-all}
 use Rattle.printing.specs.Names.{NamesInside}
 use Rattle.printing.specs.Odometer.{levels-length}
 use Rattle.printing.specs.Rows.{row-text, row-length}
@@ -33,7 +33,7 @@ pub record TableInside (s : List ℕ) (h : Header) (inks : List ℕ) : Type 0 wh
 -- the sheet in the parts in which it is written
 pub table-parts : (s : List ℕ) (h : Header) (inks : List ℕ) → printedTable (tableIn s h inks)
     ≡ (line (text "levels" ∷ text "inputs" ∷ []) ++ line (decimal (h .levels) ∷ decimal (h .inputs) ∷ []))
-      ++ (spacedFrom (nameIn s h) 0 (h .inputs) ++ (line (text "ink" ∷ []) ++ printedRows (h .levels) (h .inputs) 0 inks))
+    ++ (spacedFrom (nameIn s h) 0 (h .inputs) ++ (line (text "ink" ∷ []) ++ printedRows (h .levels) (h .inputs) 0 inks))
 unfolding printedTable firstLines headerOf line
 table-parts s h inks = rw (line-last (map (nameIn s h) (range 0 (h .inputs))) (text "ink"), spaced-all (nameIn s h) (h .inputs)) (simp append-assoc)
 

@@ -1,14 +1,14 @@
 // Decimal values.
 ghost use mathlib.Core.Path.{_≡_};
-ghost use Prim.Native.Nat.{_+_, _≤_};
+ghost use Prim.Native.Nat.{_≤_};
 ghost use lib.ListN.{length};
 ghost use Rattle.rules.specs.Text.{decimal};
-ghost use Rattle.printing.specs.Put.{Put};
+ghost use Rattle.printing.specs.Put.{Put, Room};
 use crate::put::put_digit;
 
 // Writes k without a leading zero at `at`.
 pub fn print_decimal(k: usize, out: &mut [u8], at: usize) -> usize
-    requires { ⌜ at + length (decimal k) ≤ length (now out) ⌝ }
+    requires { ⌜ Room (now out) at (decimal k) ⌝ }
     ensures { λ r. ⌜ Put (now (out .entry)) at (decimal k) (now (out .exit)) r ⌝ }
 {
     if k < 10 {
@@ -22,8 +22,11 @@ pub fn print_decimal(k: usize, out: &mut [u8], at: usize) -> usize
 pub fn decimal_length(k: usize) -> usize
     ensures { λ r. ⌜ (r ≡ length (decimal k)) × (r ≤ 20) ⌝ }
 {
-    if k < 10 {
-        return 1;
+    let mut digits: usize = 1;
+    let mut rest: usize = k;
+    while 10 <= rest {
+        rest = rest / 10;
+        digits += 1;
     }
-    decimal_length(k / 10) + 1
+    digits
 }

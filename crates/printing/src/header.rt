@@ -1,35 +1,24 @@
 // The first three lines.
 ghost use mathlib.Core.Path.{_≡_};
-ghost use Prim.Native.Nat.{_+_, _*_, _≤_, _<_};
+ghost use Prim.Native.Nat.{_*_, _≤_, _<_};
 ghost use mathlib.Core.List.{[], _∷_, _++_};
-ghost use lib.ListN.{length};
 ghost use Rattle.rules.specs.Limits.{mostInputs};
 ghost use Rattle.rules.specs.Text.{decimal};
 ghost use Rattle.rules.specs.Printed.{line};
-ghost use Rattle.nets.specs.Forms.{nameIn, headerOf};
-ghost use Rattle.printing.specs.Put.{Put};
+ghost use Rattle.nets.specs.Forms.{nameIn};
+ghost use Rattle.printing.specs.Put.{Put, Room};
 ghost use Rattle.printing.specs.Lines.{spacedFrom};
-ghost use Rattle.printing.specs.Names.{NamesInside, lensTotal};
-use nets::forms::Header;
+ghost use Rattle.printing.specs.Names.{NamesInside, namesIn, lensTotal};
 use crate::decimals::print_decimal;
 use crate::put::copy;
 use crate::put::put;
-
-pub fn wide(x: u8) -> usize
-    ensures { λ r. ⌜ (r ≡ x) × (r < 256) ⌝ }
-{
-    x as usize
-}
-
-fn wide16(x: u16) -> usize
-    ensures { λ r. ⌜ r ≡ x ⌝ }
-{
-    x as usize
-}
+use crate::wide::wide;
+use crate::wide::wide16;
+use nets::forms::Header;
 
 // A line, and then a line of two decimal values.
 pub fn print_pair(head: &[u8], a: usize, b: usize, out: &mut [u8], at: usize) -> usize
-    requires { ⌜ at + length (now head ++ line (decimal a ∷ decimal b ∷ [])) ≤ length (now out) ⌝ }
+    requires { ⌜ Room (now out) at (now head ++ line (decimal a ∷ decimal b ∷ [])) ⌝ }
     ensures { λ r. ⌜ Put (now (out .entry)) at (now (head .entry) ++ line (decimal a ∷ decimal b ∷ [])) (now (out .exit)) r ⌝ }
 {
     let p = copy(head, out, at);
@@ -40,7 +29,7 @@ pub fn print_pair(head: &[u8], a: usize, b: usize, out: &mut [u8], at: usize) ->
 }
 
 pub fn print_name(s: &[u8], h: Header, i: usize, out: &mut [u8], at: usize) -> usize
-    requires { ⌜ NamesInside (now s) h × (i < h .inputs) × (at + length (nameIn (now s) h i) ≤ length (now out)) ⌝ }
+    requires { ⌜ NamesInside (now s) h × (i < h .inputs) × Room (now out) at (nameIn (now s) h i) ⌝ }
     ensures { λ r. ⌜ Put (now (out .entry)) at (nameIn (now (s .entry)) h i) (now (out .exit)) r ⌝ }
 {
     let starts = h.starts;
@@ -52,7 +41,7 @@ pub fn print_name(s: &[u8], h: Header, i: usize, out: &mut [u8], at: usize) -> u
 
 // The first `count` names, each with a space behind it.
 pub fn print_names(s: &[u8], h: Header, count: usize, out: &mut [u8], at: usize) -> usize
-    requires { ⌜ NamesInside (now s) h × (count ≤ h .inputs) × (at + length (spacedFrom (nameIn (now s) h) 0 count) ≤ length (now out)) ⌝ }
+    requires { ⌜ NamesInside (now s) h × (count ≤ h .inputs) × Room (now out) at (spacedFrom (nameIn (now s) h) 0 count) ⌝ }
     ensures { λ r. ⌜ Put (now (out .entry)) at (spacedFrom (nameIn (now (s .entry)) h) 0 count) (now (out .exit)) r ⌝ }
 {
     let mut i: usize = 0;
@@ -67,8 +56,8 @@ pub fn print_names(s: &[u8], h: Header, count: usize, out: &mut [u8], at: usize)
 
 // The line of all names.
 pub fn print_names_line(s: &[u8], h: Header, out: &mut [u8], at: usize) -> usize
-    requires { ⌜ NamesInside (now s) h × (at + length (line (headerOf (now s) h .names)) ≤ length (now out)) ⌝ }
-    ensures { λ r. ⌜ Put (now (out .entry)) at (line (headerOf (now (s .entry)) h .names)) (now (out .exit)) r ⌝ }
+    requires { ⌜ NamesInside (now s) h × Room (now out) at (line (namesIn (now s) h)) ⌝ }
+    ensures { λ r. ⌜ Put (now (out .entry)) at (line (namesIn (now (s .entry)) h)) (now (out .exit)) r ⌝ }
 {
     let last = h.inputs - 1;
     let p = print_names(s, h, last, out, at);

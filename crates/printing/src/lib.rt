@@ -5,3 +5,4 @@ pub mod net;
 pub mod put;
 pub mod refusal;
 pub mod table;
+pub mod wide;

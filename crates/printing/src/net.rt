@@ -1,30 +1,27 @@
 // A net sheet.
-ghost use mathlib.Core.Path.{_≡_};
 ghost use Prim.Native.Nat.{ℕ, _+_, _≤_, _<_};
 ghost use mathlib.Core.List.{[], _∷_, _++_, map};
 ghost use lib.ListN.{length, getD};
-ghost use Rattle.rules.specs.Lists.{concatMap};
 ghost use Rattle.rules.specs.Text.{digitByte, space};
-ghost use Rattle.rules.specs.Sheets.{referenceText};
-ghost use Rattle.rules.specs.Printed.{printedGate, printedNet};
-ghost use Rattle.nets.specs.Forms.{headerOf, gateOf, gatesOf};
-ghost use Rattle.printing.specs.Put.{Put, Wrote};
-ghost use Rattle.printing.specs.Names.{NamesInside};
-ghost use Rattle.printing.specs.Gates.{GatesInside, netIn};
-use nets::forms::Header;
-use nets::forms::Net;
+ghost use Rattle.rules.specs.Printed.{printedNet};
+ghost use Rattle.nets.specs.Forms.{gateOf};
+ghost use Rattle.printing.specs.Put.{Put, Room, Wrote};
+ghost use Rattle.printing.specs.Names.{NamesInside, referenceIn};
+ghost use Rattle.printing.specs.Gates.{GatesInside, netIn, gateLine, gateLines};
 use crate::decimals::print_decimal;
 use crate::header::print_name;
 use crate::header::print_names_line;
 use crate::header::print_pair;
-use crate::header::wide;
 use crate::put::copy;
 use crate::put::put;
+use crate::wide::wide;
+use nets::forms::Header;
+use nets::forms::Net;
 
 // An input by its name, a gate by its number.
 fn print_reference(s: &[u8], h: Header, r: usize, out: &mut [u8], at: usize) -> usize
-    requires { ⌜ NamesInside (now s) h × (at + length (referenceText (headerOf (now s) h .names) r) ≤ length (now out)) ⌝ }
-    ensures { λ n. ⌜ Put (now (out .entry)) at (referenceText (headerOf (now (s .entry)) h .names) r) (now (out .exit)) n ⌝ }
+    requires { ⌜ NamesInside (now s) h × Room (now out) at (referenceIn (now s) h r) ⌝ }
+    ensures { λ n. ⌜ Put (now (out .entry)) at (referenceIn (now (s .entry)) h r) (now (out .exit)) n ⌝ }
 {
     let inputs = h.inputs;
     if r < inputs {
@@ -35,7 +32,7 @@ fn print_reference(s: &[u8], h: Header, r: usize, out: &mut [u8], at: usize) -> 
 
 // A gate's digits.
 fn print_digits(digits: &[u8], out: &mut [u8], at: usize) -> usize
-    requires { ⌜ (at + length (now digits) ≤ length (now out)) × ((k : ℕ) → k < length (now digits) → getD (now digits) k 0 < 10) ⌝ }
+    requires { ⌜ Room (now out) at (map digitByte (now digits)) × ((k : ℕ) → k < length (now digits) → getD (now digits) k 0 < 10) ⌝ }
     ensures { λ r. ⌜ Put (now (out .entry)) at (map digitByte (now (digits .entry))) (now (out .exit)) r ⌝ }
 {
     let mut i: usize = 0;
@@ -50,8 +47,8 @@ fn print_digits(digits: &[u8], out: &mut [u8], at: usize) -> usize
 
 // A reference with a space behind it.
 fn print_wire(s: &[u8], h: Header, r: usize, out: &mut [u8], at: usize) -> usize
-    requires { ⌜ NamesInside (now s) h × (at + length (referenceText (headerOf (now s) h .names) r ++ (space ∷ [])) ≤ length (now out)) ⌝ }
-    ensures { λ n. ⌜ Put (now (out .entry)) at (referenceText (headerOf (now (s .entry)) h .names) r ++ (space ∷ [])) (now (out .exit)) n ⌝ }
+    requires { ⌜ NamesInside (now s) h × Room (now out) at (referenceIn (now s) h r ++ (space ∷ [])) ⌝ }
+    ensures { λ n. ⌜ Put (now (out .entry)) at (referenceIn (now (s .entry)) h r ++ (space ∷ [])) (now (out .exit)) n ⌝ }
 {
     let p = print_reference(s, h, r, out, at);
     put(b' ', out, p)
@@ -59,7 +56,7 @@ fn print_wire(s: &[u8], h: Header, r: usize, out: &mut [u8], at: usize) -> usize
 
 // The digits of the gate with k gates before it.
 fn print_gate_table(net: Net, k: usize, out: &mut [u8], at: usize) -> usize
-    requires { ⌜ GatesInside net × (k < net .gates) × (at + length (map digitByte (gateOf net k .digits)) ≤ length (now out)) ⌝ }
+    requires { ⌜ GatesInside net × (k < net .gates) × Room (now out) at (map digitByte (gateOf net k .digits)) ⌝ }
     ensures { λ r. ⌜ Put (now (out .entry)) at (map digitByte (gateOf net k .digits)) (now (out .exit)) r ⌝ }
 {
     let digits = net.digits;
@@ -71,8 +68,8 @@ fn print_gate_table(net: Net, k: usize, out: &mut [u8], at: usize) -> usize
 
 // The line of the gate with k gates before it.
 fn print_gate(s: &[u8], h: Header, net: Net, k: usize, out: &mut [u8], at: usize) -> usize
-    requires { ⌜ NamesInside (now s) h × GatesInside net × (k < net .gates) × (at + length (printedGate (headerOf (now s) h .names) (gateOf net k)) ≤ length (now out)) ⌝ }
-    ensures { λ r. ⌜ Put (now (out .entry)) at (printedGate (headerOf (now (s .entry)) h .names) (gateOf net k)) (now (out .exit)) r ⌝ }
+    requires { ⌜ NamesInside (now s) h × GatesInside net × (k < net .gates) × Room (now out) at (gateLine (now s) h net k) ⌝ }
+    ensures { λ r. ⌜ Put (now (out .entry)) at (gateLine (now (s .entry)) h net k) (now (out .exit)) r ⌝ }
 {
     let left = net.left;
     let right = net.right;
@@ -84,8 +81,8 @@ fn print_gate(s: &[u8], h: Header, net: Net, k: usize, out: &mut [u8], at: usize
 
 // The lines of all gates.
 fn print_gates(s: &[u8], h: Header, net: Net, out: &mut [u8], at: usize) -> usize
-    requires { ⌜ NamesInside (now s) h × GatesInside net × (at + length (concatMap (printedGate (headerOf (now s) h .names)) (gatesOf net)) ≤ length (now out)) ⌝ }
-    ensures { λ r. ⌜ Put (now (out .entry)) at (concatMap (printedGate (headerOf (now (s .entry)) h .names)) (gatesOf net)) (now (out .exit)) r ⌝ }
+    requires { ⌜ NamesInside (now s) h × GatesInside net × Room (now out) at (gateLines (now s) h net) ⌝ }
+    ensures { λ r. ⌜ Put (now (out .entry)) at (gateLines (now (s .entry)) h net) (now (out .exit)) r ⌝ }
 {
     let gates = net.gates;
     let mut k: usize = 0;

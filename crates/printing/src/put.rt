@@ -1,9 +1,9 @@
 // Text written into a buffer at a place. Each function answers the place after its text.
-ghost use Prim.Native.Nat.{_+_, _≤_, _<_};
+ghost use Prim.Native.Nat.{_<_};
 ghost use mathlib.Core.List.{[], _∷_};
 ghost use lib.ListN.{length};
 ghost use Rattle.rules.specs.Text.{digitByte};
-ghost use Rattle.printing.specs.Put.{Put};
+ghost use Rattle.printing.specs.Put.{Put, Room};
 
 pub fn put(b: u8, out: &mut [u8], at: usize) -> usize
     requires { ⌜ at < length (now out) ⌝ }
@@ -21,7 +21,7 @@ pub fn put_digit(d: usize, out: &mut [u8], at: usize) -> usize
 }
 
 pub fn copy(t: &[u8], out: &mut [u8], at: usize) -> usize
-    requires { ⌜ at + length (now t) ≤ length (now out) ⌝ }
+    requires { ⌜ Room (now out) at (now t) ⌝ }
     ensures { λ r. ⌜ Put (now (out .entry)) at (now (t .entry)) (now (out .exit)) r ⌝ }
 {
     let mut i: usize = 0;

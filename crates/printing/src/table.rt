@@ -5,7 +5,7 @@ ghost use mathlib.Core.List.{List};
 ghost use lib.ListN.{length, getD};
 ghost use Rattle.rules.specs.Limits.{mostLevels, mostInputs, mostCells};
 ghost use Rattle.rules.specs.Printed.{printedRows, printedTable};
-ghost use Rattle.printing.specs.Put.{Put, Wrote};
+ghost use Rattle.printing.specs.Put.{Put, Room, Wrote};
 ghost use Rattle.printing.specs.Rows.{rowText};
 ghost use Rattle.printing.specs.Names.{NamesInside};
 ghost use Rattle.printing.specs.Tables.{TableInside, tableIn};
@@ -14,13 +14,13 @@ use crate::decimals::decimal_length;
 use crate::header::names_length;
 use crate::header::print_names;
 use crate::header::print_pair;
-use crate::header::wide;
 use crate::put::copy;
+use crate::wide::wide;
 use nets::forms::Header;
 
 // A row: each level with a space behind it, then the ink with a line feed.
 fn print_row(levels: &[u8], ink: u8, out: &mut [u8], at: usize) -> usize
-    requires { ⌜ ((k : ℕ) → k < length (now levels) → getD (now levels) k 0 < 10) × (ink < 10) × (at + length (rowText (now levels) ink) ≤ length (now out)) ⌝ }
+    requires { ⌜ ((k : ℕ) → k < length (now levels) → getD (now levels) k 0 < 10) × (ink < 10) × Room (now out) at (rowText (now levels) ink) ⌝ }
     ensures { λ r. ⌜ Put (now (out .entry)) at (rowText (now (levels .entry)) ink) (now (out .exit)) r ⌝ }
 {
     let mut i: usize = 0;
@@ -55,7 +55,7 @@ fn count_up(m: usize, levels: &mut [u8])
 
 // The rows of all cells.
 fn print_rows(m: usize, n: usize, inks: &[u8], out: &mut [u8], at: usize) -> usize
-    requires { ⌜ (0 < m) × (m ≤ mostLevels) × (n ≤ mostInputs) × ((k : ℕ) → k < length (now inks) → getD (now inks) k 0 < 10) × (at + length (printedRows m n 0 (now inks)) ≤ length (now out)) ⌝ }
+    requires { ⌜ (0 < m) × (m ≤ mostLevels) × (n ≤ mostInputs) × ((k : ℕ) → k < length (now inks) → getD (now inks) k 0 < 10) × Room (now out) at (printedRows m n 0 (now inks)) ⌝ }
     ensures { λ r. ⌜ Put (now (out .entry)) at (printedRows m n 0 (now (inks .entry))) (now (out .exit)) r ⌝ }
 {
     let mut levels = [0u8; 11];

@@ -2,7 +2,6 @@
 -- is written first, and one digit is left.
 -- Assumes nothing.
 use Prim.Native.Nat.{ℕ, _+_, _/_, _%_, _≤_, _<_}
-use mathlib.Core.Path.{ap}
 use mathlib.Core.List.{List, [], _∷_, _++_}
 use native.Mathlib.Omega.{arith}
 use borrow.Author.Needs.{needs}
@@ -73,9 +72,11 @@ print-decimal-print-decimal-requires : (t : ℕ) → print-decimal-lts.Need-prin
   print-decimal-below t,
   print-decimal.Post,
 ) (print-decimal-at t) print-decimal.Post
-print-decimal-print-decimal-requires t c κs =
-    (omega arith, room-for (decimal (c .before .before .before .args .k / 10)) (digitByte (c .before .before .before .args .k % 10) ∷ [])
-    (more-left (c .before .before .before .args .out .now) (c .before .before .before .args .at) (c .before .before .before .args .k) (c .before .before .before .pre .1) (c .before .if1 .left)))
+print-decimal-print-decimal-requires t c κs = (
+  omega arith,
+  room-for (decimal (c .before .before .before .args .k / 10)) (digitByte (c .before .before .before .args .k % 10) ∷ [])
+      (more-left (c .before .before .before .args .out .now) (c .before .before .before .args .at) (c .before .before .before .args .k) (c .before .before .before .pre .1) (c .before .if1 .left)),
+)
 
 print-decimal-put-digit-requires-2 : (t : ℕ) → print-decimal-lts.Need-put-digit-requires-2 (
   put-digit-reads.Asked,

@@ -1,6 +1,6 @@
 -- `printing::header::names_length` meets its contract. The loop's invariant: `total` is the length of the first i names.
 -- Assumes nothing.
-use Prim.Native.Nat.{ℕ, suc, _+_, _-_, _*_, _≤_}
+use Prim.Native.Nat.{ℕ, _+_, _-_, _*_, _≤_}
 use mathlib.Core.Path.{_≡_, refl, ap, _∙_}
 use mathlib.Core.List.{List}
 use native.Mathlib.Numerals.{add-one}
@@ -10,9 +10,6 @@ use Rattle.rules.specs.Limits.{mostInputs}
 use Rattle.printing.specs.Names.{lensTotal}
 use Rattle.printing.proofs.header.names_length.Statement.{statement}
 use Rattle.printing.proofs.header.names_length.Tie as tie
-use Rattle.printing.proofs.header.names_length.Reads as reads
-use Rattle.printing.proofs.header.names_length.Lts as lts
-use Rattle.printing.proofs.header.wide.Reads as wide-reads
 
 abbrev Inv-loop : tie.InvT-loop
 Inv-loop inputs lens total₀ i₀ total i = (i ≤ inputs) × (total ≡ lensTotal lens i) × (total ≤ 256 * i)

@@ -12,11 +12,6 @@ use Rattle.nets.specs.Forms.{nameIn}
 use Rattle.printing.specs.Names.{NamesInside}
 use Rattle.printing.proofs.header.print_name.Statement.{statement}
 use Rattle.printing.proofs.header.print_name.Tie as tie
-use Rattle.printing.proofs.header.print_name.Reads as reads
-use Rattle.printing.proofs.header.print_name.Lts as lts
-use Rattle.printing.proofs.header.wide.Reads as wide-reads
-use Rattle.printing.proofs.header.wide16.Reads as wide16-reads
-use Rattle.printing.proofs.put.copy.Reads as copy-reads
 
 room : {s : List ℕ} {h : Header} → NamesInside s h → {i : ℕ} → i < h .inputs → i < 11
 unfolding mostInputs

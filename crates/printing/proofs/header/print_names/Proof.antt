@@ -9,10 +9,6 @@ use Rattle.printing.specs.Put.{Left, all-left, put-left, room-for, room-
 use Rattle.printing.specs.Lines.{spacedFrom, spaced-next, spaced-none}
 use Rattle.printing.proofs.header.print_names.Statement.{statement}
 use Rattle.printing.proofs.header.print_names.Tie as tie
-use Rattle.printing.proofs.header.print_names.Reads as reads
-use Rattle.printing.proofs.header.print_names.Lts as lts
-use Rattle.printing.proofs.header.print_name.Reads as print-name-reads
-use Rattle.printing.proofs.put.put.Reads as put-reads
 
 abbrev Inv-loop : tie.InvT-loop
 Inv-loop s h count out₀ at i₀ p₀ out i p = (i ≤ count) × Left out p (spacedFrom (nameIn s h) i count) out₀ at (spacedFrom (nameIn s h) 0 count)

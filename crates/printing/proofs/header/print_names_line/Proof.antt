@@ -6,17 +6,12 @@ use native.Mathlib.Omega.{arith}
 use borrow.Author.Needs.{needs}
 use Rattle.rules.specs.Text.{newline}
 use Rattle.rules.specs.Printed.{line}
-use Rattle.nets.specs.Forms.{nameIn, headerOf}
+use Rattle.nets.specs.Forms.{nameIn}
 use Rattle.printing.specs.Put.{Left, parts-left, put-left, room-for, room-byte, last-put}
 use Rattle.printing.specs.Lines.{spacedFrom}
-use Rattle.printing.specs.Names.{names-line}
+use Rattle.printing.specs.Names.{namesIn, names-line}
 use Rattle.printing.proofs.header.print_names_line.Statement.{statement}
 use Rattle.printing.proofs.header.print_names_line.Tie as tie
-use Rattle.printing.proofs.header.print_names_line.Reads as reads
-use Rattle.printing.proofs.header.print_names_line.Lts as lts
-use Rattle.printing.proofs.header.print_name.Reads as print-name-reads
-use Rattle.printing.proofs.header.print_names.Reads as print-names-reads
-use Rattle.printing.proofs.put.put.Reads as put-reads
 
 abbrev name : tie.Start → ℕ → List ℕ
 name c = nameIn (c .args .s .now) (c .args .h)
@@ -25,7 +20,7 @@ abbrev last : tie.Start → ℕ
 last c = c .args .h .inputs - 1
 
 abbrev Rest : tie.Start → List ℕ → ℕ → List ℕ → Type 0
-Rest c out at t = Left out at t (c .args .out .now) (c .args .at) (line (headerOf (c .args .s .now) (c .args .h) .names))
+Rest c out at t = Left out at t (c .args .out .now) (c .args .at) (line (namesIn (c .args .s .now) (c .args .h)))
 
 start : (c : tie.Start) → Rest c (c .args .out .now) (c .args .at) (spacedFrom (name c) 0 (last c) ++ (name c (last c) ++ (newline ∷ [])))
 start c = parts-left (names-line (c .args .s .now) (c .args .h) (c .pre .0 .some)) (c .pre .1)

@@ -8,11 +8,6 @@ use Rattle.rules.specs.Printed.{line}
 use Rattle.printing.specs.Put.{Left, all-left, put-left, room-for, room-byte, last-put}
 use Rattle.printing.proofs.header.print_pair.Statement.{statement}
 use Rattle.printing.proofs.header.print_pair.Tie as tie
-use Rattle.printing.proofs.header.print_pair.Reads as reads
-use Rattle.printing.proofs.header.print_pair.Lts as lts
-use Rattle.printing.proofs.decimals.print_decimal.Reads as print-decimal-reads
-use Rattle.printing.proofs.put.copy.Reads as copy-reads
-use Rattle.printing.proofs.put.put.Reads as put-reads
 
 abbrev text : tie.Start → List ℕ
 text c = c .args .head .now ++ (decimal (c .args .a) ++ (space ∷ (decimal (c .args .b) ++ (newline ∷ []))))

@@ -1,7 +1,6 @@
 -- `printing::net::print_digits` meets its contract. The loop's invariant: the digits from i on are left to write at p.
 -- Assumes nothing.
 use Prim.Native.Nat.{ℕ, _+_, _-_, _≤_, _<_}
-use mathlib.Core.Path.{_≡_, sym}
 use mathlib.Core.List.{List, map}
 use native.Mathlib.Omega.{arith}
 use lib.ListN.{length, getD, set, drop, length-drop, length-map}
@@ -10,8 +9,6 @@ use Rattle.printing.specs.Maps.{getD-map}
 use Rattle.printing.specs.Put.{Left, all-left, next-left, past-left}
 use Rattle.printing.proofs.net.print_digits.Statement.{statement}
 use Rattle.printing.proofs.net.print_digits.Tie as tie
-use Rattle.printing.proofs.net.print_digits.Reads as reads
-use Rattle.printing.proofs.net.print_digits.Lts as lts
 
 abbrev Inv-loop : tie.InvT-loop
 Inv-loop digits out₀ at i₀ p₀ out i p = (i ≤ length digits) × Left out p (drop i (map digitByte digits)) out₀ at (map digitByte digits)
@@ -29,7 +26,7 @@ unfolding digitByte
 turn digits i h l = rw (getD-map digitByte digits i 0 0 h) at (next-left (map digitByte digits) i (rw length-map h) l)
 
 loop-holds : tie.Need-loop-holds Inv-loop μ-loop
-loop-holds c = (omega arith, all-left (rw length-map (c .pre .0)))
+loop-holds c = (omega arith, all-left (c .pre .0))
 
 shared-slice-read-out : tie.Need-shared-slice-read-out Inv-loop μ-loop
 shared-slice-read-out c = omega arith

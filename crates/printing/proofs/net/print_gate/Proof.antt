@@ -7,52 +7,42 @@ use borrow.Author.Needs.{needs}
 use lib.ListN.{getD}
 use Rattle.rules.specs.Limits.{mostInputs}
 use Rattle.rules.specs.Text.{space, newline, digitByte}
-use Rattle.rules.specs.Sheets.{Gate, referenceText}
 use Rattle.rules.specs.Printed.{printedGate}
-use Rattle.nets.specs.Forms.{headerOf, gateOf}
+use Rattle.nets.specs.Forms.{gateOf}
 use Rattle.printing.specs.Put.{Put, Left, parts-left, put-left, room-for, room-byte, last-put}
+use Rattle.printing.specs.Names.{referenceIn}
+use Rattle.printing.specs.Gates.{gateLine}
 use Rattle.printing.specs.Lines.{line-three}
 use Rattle.printing.proofs.net.print_gate.Statement.{statement}
 use Rattle.printing.proofs.net.print_gate.Tie as tie
-use Rattle.printing.proofs.net.print_gate.Reads as reads
-use Rattle.printing.proofs.net.print_gate.Lts as lts
-use Rattle.printing.proofs.header.wide.Reads as wide-reads
-use Rattle.printing.proofs.net.print_gate_table.Reads as print-gate-table-reads
-use Rattle.printing.proofs.net.print_wire.Reads as print-wire-reads
-use Rattle.printing.proofs.put.put.Reads as put-reads
-
-abbrev wire : tie.Start → ℕ → List ℕ
-wire c r = referenceText (headerOf (c .args .s .now) (c .args .h) .names) r ++ (space ∷ [])
 
 abbrev left : tie.Start → List ℕ
-left c = wire c (getD (c .args .net .left) (c .args .k) 0)
+left c = referenceIn (c .args .s .now) (c .args .h) (getD (c .args .net .left) (c .args .k) 0)
 
 abbrev right : tie.Start → List ℕ
-right c = wire c (getD (c .args .net .right) (c .args .k) 0)
+right c = referenceIn (c .args .s .now) (c .args .h) (getD (c .args .net .right) (c .args .k) 0)
 
 abbrev digits : tie.Start → List ℕ
 digits c = map digitByte (gateOf (c .args .net) (c .args .k) .digits)
 
 abbrev Rest : tie.Start → List ℕ → ℕ → List ℕ → Type 0
-Rest c out at t = Left out at t (c .args .out .now) (c .args .at) (printedGate (headerOf (c .args .s .now) (c .args .h) .names) (gateOf (c .args .net) (c .args .k)))
+Rest c out at t = Left out at t (c .args .out .now) (c .args .at) (gateLine (c .args .s .now) (c .args .h) (c .args .net) (c .args .k))
 
-start : (c : tie.Start) → Rest c (c .args .out .now) (c .args .at) (left c ++ (right c ++ (digits c ++ (newline ∷ []))))
+start : (c : tie.Start)
+    → Rest c (c .args .out .now) (c .args .at) ((left c ++ (space ∷ [])) ++ ((right c ++ (space ∷ [])) ++ (digits c ++ (newline ∷ []))))
 unfolding printedGate gateOf
-start c =
-    parts-left
-    (line-three (referenceText (headerOf (c .args .s .now) (c .args .h) .names) (getD (c .args .net .left) (c .args .k) 0))
-    (referenceText (headerOf (c .args .s .now) (c .args .h) .names) (getD (c .args .net .right) (c .args .k) 0))
-    (digits c))
-    (c .pre .3)
+start c = parts-left (line-three (left c) (right c) (digits c)) (c .pre .3)
 
-first : (c : tie.After-print-wire) → Put (c .before .before .before .before .before .before .before .args .out .now) (c .before .before .before .before .before .before .before .args .at) (left (c .before .before .before .before .before .before .before)) (c .print-wire .last .1 .1 .1 .0) (c .print-wire .result)
+first : (c : tie.After-print-wire)
+    → Put (c .before .before .before .before .before .before .before .args .out .now) (c .before .before .before .before .before .before .before .args .at) (left (c .before .before .before .before .before .before .before) ++ (space ∷ [])) (c .print-wire .last .1 .1 .1 .0) (c .print-wire .result)
 first c = rw (c .before .before .wide .ensures .0) at (c .print-wire .ensures)
 
-after-first : (c : tie.After-print-wire) → Rest (c .before .before .before .before .before .before .before) (c .print-wire .last .1 .1 .1 .0) (c .print-wire .result) (right (c .before .before .before .before .before .before .before) ++ (digits (c .before .before .before .before .before .before .before) ++ (newline ∷ [])))
+after-first : (c : tie.After-print-wire)
+    → Rest (c .before .before .before .before .before .before .before) (c .print-wire .last .1 .1 .1 .0) (c .print-wire .result) ((right (c .before .before .before .before .before .before .before) ++ (space ∷ [])) ++ (digits (c .before .before .before .before .before .before .before) ++ (newline ∷ [])))
 after-first c = put-left (start (c .before .before .before .before .before .before .before)) (first c)
 
 second : (c : tie.After-print-wire2)
-    → Put (c .before .before .before .before .before .print-wire .last .1 .1 .1 .0) (c .before .before .before .before .before .print-wire .result) (right (c .before .before .before .before .before .before .before .before .before .before .before .before)) (c .print-wire2 .last .1 .1 .1 .0) (c .print-wire2 .result)
+    → Put (c .before .before .before .before .before .print-wire .last .1 .1 .1 .0) (c .before .before .before .before .before .print-wire .result) (right (c .before .before .before .before .before .before .before .before .before .before .before .before) ++ (space ∷ [])) (c .print-wire2 .last .1 .1 .1 .0) (c .print-wire2 .result)
 second c = rw (c .before .before .wide2 .ensures .0) at (c .print-wire2 .ensures)
 
 after-second : (c : tie.After-print-wire2) → Rest (c .before .before .before .before .before .before .before .before .before .before .before .before) (c .print-wire2 .last .1 .1 .1 .0) (c .print-wire2 .result) (digits (c .before .before .before .before .before .before .before .before .before .before .before .before) ++ (newline ∷ []))
@@ -73,7 +63,9 @@ wide-requires : tie.Need-wide-requires
 wide-requires c κs = search needs
 
 print-wire-requires : tie.Need-print-wire-requires
-print-wire-requires c κs = rw (c .before .wide .ensures .0) (c .before .before .before .before .before .before .pre .0, room-for (left (c .before .before .before .before .before .before)) (right (c .before .before .before .before .before .before) ++ (digits (c .before .before .before .before .before .before) ++ (newline ∷ []))) (start (c .before .before .before .before .before .before)))
+print-wire-requires c κs =
+    rw (c .before .wide .ensures .0)
+    (c .before .before .before .before .before .before .pre .0, room-for (left (c .before .before .before .before .before .before) ++ (space ∷ [])) ((right (c .before .before .before .before .before .before) ++ (space ∷ [])) ++ (digits (c .before .before .before .before .before .before) ++ (newline ∷ []))) (start (c .before .before .before .before .before .before)))
 
 array-read-wide-2 : tie.Need-array-read-wide-2
 array-read-wide-2 c = place (c .before .before .before .before .before .before .before .before .before)
@@ -82,7 +74,8 @@ wide-requires-2 : tie.Need-wide-requires-2
 wide-requires-2 c κs = search needs
 
 print-wire-requires-2 : tie.Need-print-wire-requires-2
-print-wire-requires-2 c κs = rw (c .before .wide2 .ensures .0) (c .before .before .before .before .before .before .before .before .before .before .before .pre .0, room-for (right (c .before .before .before .before .before .before .before .before .before .before .before)) (digits (c .before .before .before .before .before .before .before .before .before .before .before) ++ (newline ∷ [])) (after-first (c .before .before .before .before)))
+print-wire-requires-2 c κs =
+    rw (c .before .wide2 .ensures .0) (c .before .before .before .before .before .before .before .before .before .before .before .pre .0, room-for (right (c .before .before .before .before .before .before .before .before .before .before .before) ++ (space ∷ [])) (digits (c .before .before .before .before .before .before .before .before .before .before .before) ++ (newline ∷ [])) (after-first (c .before .before .before .before)))
 
 print-gate-table-requires : tie.Need-print-gate-table-requires
 print-gate-table-requires c κs = (c .before .before .before .before .before .before .before .before .before .before .before .before .before .before .before .pre .1, c .before .before .before .before .before .before .before .before .before .before .before .before .before .before .before .pre .2, room-for (digits (c .before .before .before .before .before .before .before .before .before .before .before .before .before .before .before)) (newline ∷ []) (after-second (c .before .before .before)))

@@ -1,20 +1,15 @@
 -- `printing::net::print_gate_table` meets its contract: the part of the form's digits that it prints is the gate's.
 -- Assumes nothing.
-use Prim.Native.Nat.{ℕ, _+_, _-_, _*_, _≤_, _<_}
+use Prim.Native.Nat.{ℕ, _+_, _-_, _*_, _≤_}
 use mathlib.Core.Path.{_≡_, sym, ap, _∙_}
-use mathlib.Core.List.{List, map}
 use native.Mathlib.Omega.{arith}
 use borrow.Author.Needs.{needs}
-use lib.ListN.{length, getD, take, drop, length-map}
-use Rattle.rules.specs.Text.{digitByte}
+use lib.ListN.{length, take, drop, length-map}
 use Rattle.nets.specs.declared.forms.Net.{Net}
 use Rattle.nets.specs.Forms.{gateOf}
-use Rattle.printing.specs.Gates.{GatesInside, table-end, table-digit}
+use Rattle.printing.specs.Gates.{table-end, table-digit}
 use Rattle.printing.proofs.net.print_gate_table.Statement.{statement}
 use Rattle.printing.proofs.net.print_gate_table.Tie as tie
-use Rattle.printing.proofs.net.print_gate_table.Reads as reads
-use Rattle.printing.proofs.net.print_gate_table.Lts as lts
-use Rattle.printing.proofs.net.print_digits.Reads as print-digits-reads
 
 end : (c : tie.Start) → c .args .k * (c .args .net .levels * c .args .net .levels) + c .args .net .levels * c .args .net .levels ≤ 162
 end c = omega (arith, c .pre .0 .room, table-end (c .args .net) (c .pre .0) (c .args .k) (c .pre .1))
@@ -26,7 +21,7 @@ size c = sym (length-map (c .args .net .digits) (λ v. v)) ∙ c .good .0 .1 .1 
 -- the part that the code takes
 part : (net : Net) (k : ℕ)
     → take (k * (net .levels * net .levels) + net .levels * net .levels - k * (net .levels * net .levels)) (drop (k * (net .levels * net .levels)) (net .digits))
-      ≡ gateOf net k .digits
+    ≡ gateOf net k .digits
 unfolding gateOf
 part net k =
     let size : ℕ = net .levels * net .levels in
@@ -54,7 +49,7 @@ part-print-digits-end c = omega (arith, end (c .before .before .before .before),
 print-digits-requires : tie.Need-print-digits-requires
 print-digits-requires c κs =
     rw (part (c .before .before .before .before .before .before .args .net) (c .before .before .before .before .before .before .args .k))
-    (rw length-map at (c .before .before .before .before .before .before .pre .2), table-digit (c .before .before .before .before .before .before .args .net) (c .before .before .before .before .before .before .pre .0) (c .before .before .before .before .before .before .args .k) (c .before .before .before .before .before .before .pre .1))
+    (c .before .before .before .before .before .before .pre .2, table-digit (c .before .before .before .before .before .before .args .net) (c .before .before .before .before .before .before .pre .0) (c .before .before .before .before .before .before .args .k) (c .before .before .before .before .before .before .pre .1))
 
 same-length : tie.Need-same-length
 same-length c = search needs

@@ -1,36 +1,28 @@
 -- `printing::net::print_net` meets its contract: after each call, what is left to write.
 -- Assumes nothing.
-use Prim.Native.Nat.{ℕ, _+_, _≤_}
+use Prim.Native.Nat.{ℕ}
 use mathlib.Core.List.{List, [], _∷_, _++_}
 use native.Mathlib.Omega.{arith}
 use borrow.Author.Needs.{needs}
-use lib.ListN.{length}
-use Rattle.rules.specs.Lists.{concatMap}
 use Rattle.rules.specs.Text.{space, newline, text, decimal}
-use Rattle.rules.specs.Printed.{line, printedGate, printedNet}
-use Rattle.nets.specs.Forms.{headerOf, gatesOf}
+use Rattle.rules.specs.Printed.{line, printedNet}
 use Rattle.printing.specs.Put.{Left, parts-left, put-left, room-for, last-put, put-wrote}
-use Rattle.printing.specs.Gates.{netIn, net-parts}
+use Rattle.printing.specs.Names.{namesIn}
+use Rattle.printing.specs.Gates.{netIn, gateLines, net-parts}
 use Rattle.printing.proofs.net.print_net.Statement.{statement}
 use Rattle.printing.proofs.net.print_net.Tie as tie
-use Rattle.printing.proofs.net.print_net.Reads as reads
-use Rattle.printing.proofs.net.print_net.Lts as lts
-use Rattle.printing.proofs.header.print_names_line.Reads as print-names-line-reads
-use Rattle.printing.proofs.header.print_pair.Reads as print-pair-reads
-use Rattle.printing.proofs.net.print_gates.Reads as print-gates-reads
-use Rattle.printing.proofs.put.copy.Reads as copy-reads
 
 abbrev firstTwo : tie.Start → List ℕ
 firstTwo c = line (text "levels" ∷ text "inputs" ∷ []) ++ line (decimal (c .args .h .levels) ∷ decimal (c .args .h .inputs) ∷ [])
 
-abbrev names : tie.Start → List (List ℕ)
-names c = headerOf (c .args .s .now) (c .args .h) .names
+abbrev third : tie.Start → List ℕ
+third c = line (namesIn (c .args .s .now) (c .args .h))
 
 abbrev fourth : List ℕ
 fourth = line (text "left" ∷ text "right" ∷ text "table" ∷ [])
 
 abbrev gates : tie.Start → List ℕ
-gates c = concatMap (printedGate (names c)) (gatesOf (c .args .net))
+gates c = gateLines (c .args .s .now) (c .args .h) (c .args .net)
 
 abbrev sheet : tie.Start → List ℕ
 sheet c = printedNet (netIn (c .args .s .now) (c .args .h) (c .args .net))
@@ -38,10 +30,10 @@ sheet c = printedNet (netIn (c .args .s .now) (c .args .h) (c .args .net))
 abbrev Rest : tie.Start → List ℕ → ℕ → List ℕ → Type 0
 Rest c out at t = Left out at t (c .args .out .now) 0 (sheet c)
 
-start : (c : tie.Start) → Rest c (c .args .out .now) 0 (firstTwo c ++ (line (names c) ++ (fourth ++ gates c)))
+start : (c : tie.Start) → Rest c (c .args .out .now) 0 (firstTwo c ++ (third c ++ (fourth ++ gates c)))
 start c = parts-left (net-parts (c .args .s .now) (c .args .h) (c .args .net)) (omega (arith, c .pre .2))
 
-after-pair : (c : tie.After-print-pair) → Rest (c .before .before .before .before .before) (c .print-pair .last .1 .1 .1 .0) (c .print-pair .result) (line (names (c .before .before .before .before .before)) ++ (fourth ++ gates (c .before .before .before .before .before)))
+after-pair : (c : tie.After-print-pair) → Rest (c .before .before .before .before .before) (c .print-pair .last .1 .1 .1 .0) (c .print-pair .result) (third (c .before .before .before .before .before) ++ (fourth ++ gates (c .before .before .before .before .before)))
 unfolding line text space newline
 after-pair c = put-left (start (c .before .before .before .before .before)) (c .print-pair .ensures)
 
@@ -57,10 +49,10 @@ slice-aggregate-print-pair c = search needs
 
 print-pair-requires : tie.Need-print-pair-requires
 unfolding line text space newline
-print-pair-requires c κs = room-for (firstTwo (c .before .before .before .before)) (line (names (c .before .before .before .before)) ++ (fourth ++ gates (c .before .before .before .before))) (start (c .before .before .before .before))
+print-pair-requires c κs = room-for (firstTwo (c .before .before .before .before)) (third (c .before .before .before .before) ++ (fourth ++ gates (c .before .before .before .before))) (start (c .before .before .before .before))
 
 print-names-line-requires : tie.Need-print-names-line-requires
-print-names-line-requires c κs = (c .before .before .before .before .before .before .before .before .pre .0, room-for (line (names (c .before .before .before .before .before .before .before .before))) (fourth ++ gates (c .before .before .before .before .before .before .before .before)) (after-pair (c .before .before .before)))
+print-names-line-requires c κs = (c .before .before .before .before .before .before .before .before .pre .0, room-for (third (c .before .before .before .before .before .before .before .before)) (fourth ++ gates (c .before .before .before .before .before .before .before .before)) (after-pair (c .before .before .before)))
 
 slice-aggregate-copy : tie.Need-slice-aggregate-copy
 slice-aggregate-copy c = search needs

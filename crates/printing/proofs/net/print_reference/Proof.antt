@@ -1,16 +1,9 @@
 -- `printing::net::print_reference` meets its contract.
 -- Assumes nothing.
-use Prim.Native.Nat.{ℕ, _+_, _-_}
-use mathlib.Core.List.{List}
-use native.Mathlib.Omega.{arith}
 use borrow.Author.Needs.{needs}
 use Rattle.printing.specs.Names.{reference-name, reference-gate}
 use Rattle.printing.proofs.net.print_reference.Statement.{statement}
 use Rattle.printing.proofs.net.print_reference.Tie as tie
-use Rattle.printing.proofs.net.print_reference.Reads as reads
-use Rattle.printing.proofs.net.print_reference.Lts as lts
-use Rattle.printing.proofs.decimals.print_decimal.Reads as print-decimal-reads
-use Rattle.printing.proofs.header.print_name.Reads as print-name-reads
 
 print-name-requires : tie.Need-print-name-requires
 print-name-requires c κs =

@@ -4,18 +4,13 @@ use Prim.Native.Nat.{ℕ}
 use mathlib.Core.List.{List, [], _∷_, _++_}
 use borrow.Author.Needs.{needs}
 use Rattle.rules.specs.Text.{space}
-use Rattle.rules.specs.Sheets.{referenceText}
-use Rattle.nets.specs.Forms.{headerOf}
+use Rattle.printing.specs.Names.{referenceIn}
 use Rattle.printing.specs.Put.{Left, all-left, put-left, room-for, room-byte, last-put}
 use Rattle.printing.proofs.net.print_wire.Statement.{statement}
 use Rattle.printing.proofs.net.print_wire.Tie as tie
-use Rattle.printing.proofs.net.print_wire.Reads as reads
-use Rattle.printing.proofs.net.print_wire.Lts as lts
-use Rattle.printing.proofs.net.print_reference.Reads as print-reference-reads
-use Rattle.printing.proofs.put.put.Reads as put-reads
 
 abbrev field : tie.Start → List ℕ
-field c = referenceText (headerOf (c .args .s .now) (c .args .h) .names) (c .args .r)
+field c = referenceIn (c .args .s .now) (c .args .h) (c .args .r)
 
 start : (c : tie.Start) → Left (c .args .out .now) (c .args .at) (field c ++ (space ∷ [])) (c .args .out .now) (c .args .at) (field c ++ (space ∷ []))
 start c = all-left (c .pre .1)

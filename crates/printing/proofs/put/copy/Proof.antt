@@ -2,13 +2,10 @@
 -- Assumes nothing.
 use Prim.Native.Nat.{_≤_, _-_}
 use native.Mathlib.Omega.{arith}
-use borrow.Author.Needs.{needs}
 use lib.ListN.{length, drop, length-drop}
 use Rattle.printing.specs.Put.{Left, all-left, next-left, past-left}
 use Rattle.printing.proofs.put.copy.Statement.{statement}
 use Rattle.printing.proofs.put.copy.Tie as tie
-use Rattle.printing.proofs.put.copy.Reads as reads
-use Rattle.printing.proofs.put.copy.Lts as lts
 
 abbrev Inv-loop : tie.InvT-loop
 Inv-loop t out₀ at i₀ p₀ out i p = (i ≤ length t) × Left out p (drop i t) out₀ at t

@@ -4,9 +4,6 @@ use Rattle.rules.specs.Text.{digitByte}
 use borrow.Author.Needs.{needs}
 use Rattle.printing.proofs.put.put_digit.Statement.{statement}
 use Rattle.printing.proofs.put.put_digit.Tie as tie
-use Rattle.printing.proofs.put.put_digit.Reads as reads
-use Rattle.printing.proofs.put.put_digit.Lts as lts
-use Rattle.printing.proofs.put.put.Reads as put-reads
 
 -- src/put.rt:20:14
 cast-put : tie.Need-cast-put

@@ -10,9 +10,6 @@ use Rattle.printing.specs.Put.{put-wrote}
 use Rattle.printing.specs.Refusals.{refusalLines, refusal-length}
 use Rattle.printing.proofs.refusal.print_refusal.Statement.{statement}
 use Rattle.printing.proofs.refusal.print_refusal.Tie as tie
-use Rattle.printing.proofs.refusal.print_refusal.Reads as reads
-use Rattle.printing.proofs.refusal.print_refusal.Lts as lts
-use Rattle.printing.proofs.header.print_pair.Reads as print-pair-reads
 
 room : (c : tie.Start) → length (refusalLines (c .args .number) (c .args .place)) ≤ length (c .args .out .now)
 room c = omega (arith, c .pre, refusal-length (c .args .number) (c .args .place) (c .fits .number .fits) (c .fits .place .fits))

@@ -8,9 +8,6 @@ use lib.ListN.{length, getD, set, length-set}
 use Rattle.printing.specs.Odometer.{countUp, count-step, count-carry}
 use Rattle.printing.proofs.table.count_up.Statement.{statement}
 use Rattle.printing.proofs.table.count_up.Tie as tie
-use Rattle.printing.proofs.table.count_up.Reads as reads
-use Rattle.printing.proofs.table.count_up.Lts as lts
-use Rattle.printing.proofs.header.wide.Reads as wide-reads
 
 abbrev Inv-loop : tie.InvT-loop
 Inv-loop m levels₀ i₀ levels i =

@@ -1,7 +1,7 @@
 -- `printing::table::print_row` meets its contract. The loop's invariant: the row from level i on is left to write at p.
 -- Assumes nothing.
-use Prim.Native.Nat.{ℕ, _+_, _-_, _≤_}
-use mathlib.Core.List.{List, [], _∷_}
+use Prim.Native.Nat.{_+_, _-_, _≤_}
+use mathlib.Core.List.{[], _∷_}
 use native.Mathlib.Omega.{arith}
 use lib.ListN.{length, getD, length-set}
 use Rattle.rules.specs.Text.{space, newline, digitByte}
@@ -9,8 +9,6 @@ use Rattle.printing.specs.Put.{Left, parts-left, bytes-left, none-left}
 use Rattle.printing.specs.Rows.{rowText, rowFrom, row-all, row-next, row-end}
 use Rattle.printing.proofs.table.print_row.Statement.{statement}
 use Rattle.printing.proofs.table.print_row.Tie as tie
-use Rattle.printing.proofs.table.print_row.Reads as reads
-use Rattle.printing.proofs.table.print_row.Lts as lts
 
 abbrev Inv-loop : tie.InvT-loop
 Inv-loop levels ink out₀ at i₀ p₀ out i p = (i ≤ length levels) × Left out p (rowFrom levels ink i) out₀ at (rowText levels ink)
@@ -20,8 +18,8 @@ abbrev μ-loop : tie.MeasureT-loop
 
 turn : (c : tie.After-shared-slice-known Inv-loop μ-loop)
     → Left (c .before .before .loop .out) (c .before .before .loop .p)
-      ((48 + getD (c .before .before .before .args .levels .now) (c .before .before .loop .i) 0) ∷ 32 ∷ rowFrom (c .before .before .before .args .levels .now) (c .before .before .before .args .ink) (c .before .before .loop .i + 1))
-      (c .before .before .before .args .out .now) (c .before .before .before .args .at) (rowText (c .before .before .before .args .levels .now) (c .before .before .before .args .ink))
+    ((48 + getD (c .before .before .before .args .levels .now) (c .before .before .loop .i) 0) ∷ 32 ∷ rowFrom (c .before .before .before .args .levels .now) (c .before .before .before .args .ink) (c .before .before .loop .i + 1))
+    (c .before .before .before .args .out .now) (c .before .before .before .args .at) (rowText (c .before .before .before .args .levels .now) (c .before .before .before .args .ink))
 unfolding digitByte space
 turn c = rw (row-next (c .before .before .before .args .levels .now) (c .before .before .before .args .ink) (c .before .before .loop .i) (c .before .loop-test .taken)) at (c .before .before .loop .inv .1)
 

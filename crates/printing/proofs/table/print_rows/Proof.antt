@@ -2,11 +2,10 @@
 -- from k on are left to write at p.
 -- Assumes nothing.
 use Prim.Native.Nat.{ℕ, _+_, _-_, _≤_, _<_}
-use mathlib.Core.Path.{_≡_, refl, sym, ap, _∙_}
+use mathlib.Core.Path.{_≡_, refl, ap, _∙_}
 use mathlib.Core.List.{List, _++_}
 use native.Mathlib.Nat.{sub-zero}
 use native.Mathlib.Omega.{arith}
-use borrow.Author.Needs.{needs}
 use lib.ListN.{length, getD, take, drop, length-append, length-drop}
 use lib.Seq.{take-at}
 use Rattle.rules.specs.Limits.{mostLevels, mostInputs}
@@ -17,10 +16,6 @@ use Rattle.printing.specs.Odometer.{countUp, levels-first, levels-next, 
 use Rattle.printing.specs.Rows.{rowText, rows-next, rows-end}
 use Rattle.printing.proofs.table.print_rows.Statement.{statement}
 use Rattle.printing.proofs.table.print_rows.Tie as tie
-use Rattle.printing.proofs.table.print_rows.Reads as reads
-use Rattle.printing.proofs.table.print_rows.Lts as lts
-use Rattle.printing.proofs.table.count_up.Reads as count-up-reads
-use Rattle.printing.proofs.table.print_row.Reads as print-row-reads
 
 abbrev Inv-loop : tie.InvT-loop
 Inv-loop m n inks out₀ at levels₀ k₀ p₀ out levels k p =
@@ -111,10 +106,11 @@ loop-less c = omega arith
 loop-again : tie.Need-loop-again Inv-loop μ-loop
 loop-again c =
     let levels = c .before .count-up .last .1 .0 in
-    let size : length levels ≡ c .before .before .before .before .before .before .before .before .before .before .before .before .before .before .args .n = ap length (next (c .before)) ∙ levels-length (c .before .before .before .before .before .before .before .before .before .before .before .before .before .before .args .m) (c .before .before .before .before .before .before .before .before .before .before .before .before .before .before .args .n) (c .before .before .before .before .before .before .before .before .before .before .before .loop .k + 1) in
-    (back-length levels (c .before .before .before .before .before .before .before .before .before .before .before .loop .levels) (c .before .before .before .before .before .before .before .before .before .before .before .before .before .before .args .n) size (within (c .before .before .before .before .before .before .before .before .before .before)) ∙ c .before .before .before .before .before .before .before .before .before .before .before .loop .inv .0,
-    take-at levels (drop (c .before .before .before .before .before .before .before .before .before .before .before .before .before .before .args .n - 0) (c .before .before .before .before .before .before .before .before .before .before .before .loop .levels)) (c .before .before .before .before .before .before .before .before .before .before .before .before .before .before .args .n) size ∙ next (c .before),
-    put-left (turn (c .before .before .before .before .before .before .before .before .before .before)) (row-put (c .before .before .before .before .before)))
+    let size : length levels ≡ c .before .before .before .before .before .before .before .before .before .before .before .before .before .before .args .n = ap length (next (c .before)) ∙ levels-length (c .before .before .before .before .before .before .before .before .before .before .before .before .before .before .args .m) (c .before .before .before .before .before .before .before .before .before .before .before .before .before .before .args .n) (c .before .before .before .before .before .before .before .before .before .before .before .loop .k + 1) in (
+      back-length levels (c .before .before .before .before .before .before .before .before .before .before .before .loop .levels) (c .before .before .before .before .before .before .before .before .before .before .before .before .before .before .args .n) size (within (c .before .before .before .before .before .before .before .before .before .before)) ∙ c .before .before .before .before .before .before .before .before .before .before .before .loop .inv .0,
+      take-at levels (drop (c .before .before .before .before .before .before .before .before .before .before .before .before .before .before .args .n - 0) (c .before .before .before .before .before .before .before .before .before .before .before .loop .levels)) (c .before .before .before .before .before .before .before .before .before .before .before .before .before .before .args .n) size ∙ next (c .before),
+      put-left (turn (c .before .before .before .before .before .before .before .before .before .before)) (row-put (c .before .before .before .before .before)),
+    )
 
 same-length : tie.Need-same-length Inv-loop μ-loop
 same-length c = c .before .loop .inv .2 .kept

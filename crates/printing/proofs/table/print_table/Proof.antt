@@ -1,10 +1,9 @@
 -- `printing::table::print_table` meets its contract: after each call, what is left to write.
 -- Assumes nothing.
-use Prim.Native.Nat.{ℕ, _+_, _≤_}
+use Prim.Native.Nat.{ℕ}
 use mathlib.Core.List.{List, [], _∷_, _++_}
 use native.Mathlib.Omega.{arith}
 use borrow.Author.Needs.{needs}
-use lib.ListN.{length}
 use Rattle.rules.specs.Text.{space, newline, text, decimal}
 use Rattle.rules.specs.Printed.{line, printedRows, printedTable}
 use Rattle.nets.specs.Forms.{nameIn}
@@ -13,12 +12,6 @@ use Rattle.printing.specs.Lines.{spacedFrom}
 use Rattle.printing.specs.Tables.{tableIn, table-parts}
 use Rattle.printing.proofs.table.print_table.Statement.{statement}
 use Rattle.printing.proofs.table.print_table.Tie as tie
-use Rattle.printing.proofs.table.print_table.Reads as reads
-use Rattle.printing.proofs.table.print_table.Lts as lts
-use Rattle.printing.proofs.header.print_names.Reads as print-names-reads
-use Rattle.printing.proofs.header.print_pair.Reads as print-pair-reads
-use Rattle.printing.proofs.put.copy.Reads as copy-reads
-use Rattle.printing.proofs.table.print_rows.Reads as print-rows-reads
 
 abbrev firstTwo : tie.Start → List ℕ
 firstTwo c = line (text "levels" ∷ text "inputs" ∷ []) ++ line (decimal (c .args .h .levels) ∷ decimal (c .args .h .inputs) ∷ [])

@@ -1,20 +1,15 @@
 -- `printing::table::table_length` meets its contract.
 -- Assumes nothing.
 use Prim.Native.Nat.{ℕ, _+_, _*_, _≤_}
-use mathlib.Core.Path.{_≡_, sym, ap, _∙_}
+use mathlib.Core.Path.{ap}
 use native.Mathlib.Nat.{mul-le-mul}
 use native.Mathlib.Omega.{arith}
 use borrow.Author.Needs.{needs}
-use lib.ListN.{length}
 use Rattle.rules.specs.Limits.{mostInputs, mostCells}
 use Rattle.printing.specs.Names.{names-total}
 use Rattle.printing.specs.Tables.{table-length}
 use Rattle.printing.proofs.table.table_length.Statement.{statement}
 use Rattle.printing.proofs.table.table_length.Tie as tie
-use Rattle.printing.proofs.table.table_length.Reads as reads
-use Rattle.printing.proofs.table.table_length.Lts as lts
-use Rattle.printing.proofs.decimals.decimal_length.Reads as decimal-length-reads
-use Rattle.printing.proofs.header.names_length.Reads as names-length-reads
 
 -- bounds far above the limits, which suffice for the sums
 inputs : (c : tie.Start) → c .args .h .inputs ≤ 64
