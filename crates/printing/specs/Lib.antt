@@ -1,3 +1,6 @@
+-- `Put`: text written at a place, part by part. `Decimals`, `Maps`, `Lines`, `Names`, `Gates`, `Odometer`, `Rows`, `Tables` and `Refusals`: the
+-- texts in the parts in which they are written. `Kept`: what keeps the rules can be printed.
+-- Assumes nothing.
 pub mod Put
 pub mod Decimals
 pub mod Maps
@@ -8,3 +11,4 @@ pub mod Odometer
 pub mod Rows
 pub mod Tables
 pub mod Refusals
+pub mod Kept

@@ -28,13 +28,13 @@ pub record Left (out : List ℕ) (at : ℕ) (t : List ℕ) (out₀ : List ℕ) (
   pub kept : length out ≡ length out₀
 
 -- to write t and then u behind it is to write t ++ u
-pub sets-append : (t u l : List ℕ) (at : ℕ) → sets l at (t ++ u) ≡ sets (sets l at t) (at + length t) u
+sets-append : (t u l : List ℕ) (at : ℕ) → sets l at (t ++ u) ≡ sets (sets l at t) (at + length t) u
 sets-append [] u l at = ap (λ (k : ℕ). sets l k u) (sym (add-zero at))
 sets-append (b ∷ t) u l at =
     sets-append t u (set l at b) (suc at)
     ∙ ap (λ (k : ℕ). sets (sets (set l at b) (suc at) t) k u) (suc-add at (length t) ∙ sym (add-suc at (length t)))
 
-pub put-length : {before t after : List ℕ} {at next : ℕ} → Put before at t after next → length after ≡ length before
+put-length : {before t after : List ℕ} {at next : ℕ} → Put before at t after next → length after ≡ length before
 put-length {before} {t} {after} {at} p = ap length (p .text) ∙ length-sets before at t
 
 pub all-left : {out : List ℕ} {at : ℕ} {t : List ℕ} → Room out at t → Left out at t out at t
@@ -46,7 +46,7 @@ parts-left {out} {at} {t} e h = subst (λ (w : List ℕ). Left out at w out at t
 
 module _ {out : List ℕ} {at : ℕ} {out₀ : List ℕ} {at₀ : ℕ} {t₀ : List ℕ} where
   -- one byte
-  pub byte-left : {b : ℕ} {t : List ℕ} → Left out at (b ∷ t) out₀ at₀ t₀ → Left (set out at b) (at + 1) t out₀ at₀ t₀
+  byte-left : {b : ℕ} {t : List ℕ} → Left out at (b ∷ t) out₀ at₀ t₀ → Left (set out at b) (at + 1) t out₀ at₀ t₀
   byte-left {b} {t} h =
       record {
         text = ap (λ (k : ℕ). sets (set out at b) k t) (add-one at) ∙ h .text;

@@ -40,7 +40,7 @@ table-parts s h inks = rw (line-last (map (nameIn s h) (range 0 (h .inputs))) (t
 one-row : (m n p ink : ℕ) → length (printedRow m n p ink) ≡ 2 * n + 2
 one-row m n p ink = ap length (row-text m n p ink) ∙ row-length (levelsAt m n p) ink ∙ ap (λ (k : ℕ). 2 * k + 2) (levels-length m n p)
 
-pub rows-length : (m n p : ℕ) (inks : List ℕ) → length (printedRows m n p inks) ≡ length inks * (2 * n + 2)
+rows-length : (m n p : ℕ) (inks : List ℕ) → length (printedRows m n p inks) ≡ length inks * (2 * n + 2)
 unfolding printedRows
 rows-length m n p [] = sym (zero-mul (2 * n + 2))
 rows-length m n p (ink ∷ inks) =

@@ -1,4 +1,4 @@
-// Decimal values.
+// Decimal values, without a needless leading zero.
 ghost use mathlib.Core.Path.{_≡_};
 ghost use Prim.Native.Nat.{_≤_};
 ghost use lib.ListN.{length};
@@ -6,7 +6,6 @@ ghost use Rattle.rules.specs.Text.{decimal};
 ghost use Rattle.printing.specs.Put.{Put, Room};
 use crate::put::put_digit;
 
-// Writes k without a leading zero at `at`.
 pub fn print_decimal(k: usize, out: &mut [u8], at: usize) -> usize
     requires { ⌜ Room (now out) at (decimal k) ⌝ }
     ensures { λ r. ⌜ Put (now (out .entry)) at (decimal k) (now (out .exit)) r ⌝ }

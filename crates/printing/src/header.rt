@@ -1,4 +1,4 @@
-// The first three lines.
+// The first three lines of a sheet.
 ghost use mathlib.Core.Path.{_≡_};
 ghost use Prim.Native.Nat.{_*_, _≤_, _<_};
 ghost use mathlib.Core.List.{[], _∷_, _++_};
@@ -28,6 +28,7 @@ pub fn print_pair(head: &[u8], a: usize, b: usize, out: &mut [u8], at: usize) ->
     put(b'\n', out, p)
 }
 
+// Name i.
 pub fn print_name(s: &[u8], h: Header, i: usize, out: &mut [u8], at: usize) -> usize
     requires { ⌜ NamesInside (now s) h × (i < h .inputs) × Room (now out) at (nameIn (now s) h i) ⌝ }
     ensures { λ r. ⌜ Put (now (out .entry)) at (nameIn (now (s .entry)) h i) (now (out .exit)) r ⌝ }

@@ -5,6 +5,7 @@ ghost use lib.ListN.{length};
 ghost use Rattle.rules.specs.Text.{digitByte};
 ghost use Rattle.printing.specs.Put.{Put, Room};
 
+// One byte.
 pub fn put(b: u8, out: &mut [u8], at: usize) -> usize
     requires { ⌜ at < length (now out) ⌝ }
     ensures { λ r. ⌜ Put (now (out .entry)) at (b ∷ []) (now (out .exit)) r ⌝ }
@@ -13,6 +14,7 @@ pub fn put(b: u8, out: &mut [u8], at: usize) -> usize
     at + 1
 }
 
+// One digit.
 pub fn put_digit(d: usize, out: &mut [u8], at: usize) -> usize
     requires { ⌜ (d < 10) × (at < length (now out)) ⌝ }
     ensures { λ r. ⌜ Put (now (out .entry)) at (digitByte d ∷ []) (now (out .exit)) r ⌝ }
@@ -20,6 +22,7 @@ pub fn put_digit(d: usize, out: &mut [u8], at: usize) -> usize
     put(48 + d as u8, out, at)
 }
 
+// All of t.
 pub fn copy(t: &[u8], out: &mut [u8], at: usize) -> usize
     requires { ⌜ Room (now out) at (now t) ⌝ }
     ensures { λ r. ⌜ Put (now (out .entry)) at (now (t .entry)) (now (out .exit)) r ⌝ }

@@ -13,39 +13,30 @@ Inv-loop t out₀ at i₀ p₀ out i p = (i ≤ length t) × Left out p (drop i 
 abbrev μ-loop : tie.MeasureT-loop
 μ-loop t out₀ at i₀ p₀ out i p = length t - i
 
--- src/put.rt:21:5
 loop-holds : tie.Need-loop-holds Inv-loop μ-loop
 loop-holds c = (omega arith, all-left (c .pre))
 
--- src/put.rt:22:18
 shared-slice-read-out : tie.Need-shared-slice-read-out Inv-loop μ-loop
 shared-slice-read-out c = omega arith
 
--- src/put.rt:22:9
 slice-write-out : tie.Need-slice-write-out Inv-loop μ-loop
 slice-write-out c = omega (arith, length-drop (c .before .before .loop .i) (c .before .before .before .args .t .now))
 
--- src/put.rt:23:9
 add-i : tie.Need-add-i Inv-loop μ-loop
 add-i c = omega arith
 
--- src/put.rt:24:9
 add-p : tie.Need-add-p Inv-loop μ-loop
 add-p c = omega (arith, length-drop (c .before .before .loop .i) (c .before .before .before .args .t .now))
 
--- src/put.rt:21:5
 loop-less : tie.Need-loop-less Inv-loop μ-loop
 loop-less c = omega arith
 
--- src/put.rt:21:5
 loop-again : tie.Need-loop-again Inv-loop μ-loop
 loop-again c = (omega arith, next-left (c .before .before .before .args .t .now) (c .before .before .loop .i) (omega arith) (c .before .before .loop .inv .1))
 
--- src/put.rt:15:1
 same-length : tie.Need-same-length Inv-loop μ-loop
 same-length c = c .before .loop .inv .1 .kept
 
--- src/put.rt:15:1
 returns : tie.Need-returns Inv-loop μ-loop
 returns c = past-left (c .before .before .args .t .now) (c .before .loop .i) (c .loop-test .left) (c .before .loop .inv .1)
 
