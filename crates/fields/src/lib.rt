@@ -1,0 +1,5 @@
+// Reading a sheet field by field, as document 01 judges it, up to the end of line 3.
+pub mod ends;
+pub mod runs;
+pub mod same;
+pub mod steps;
