@@ -1,5 +1,9 @@
 // Reading a sheet field by field, as document 01 judges it, up to the end of line 3.
 pub mod ends;
+pub mod limits;
+pub mod numbers;
 pub mod runs;
 pub mod same;
 pub mod steps;
+pub mod values;
+pub mod words;

@@ -11,3 +11,9 @@ pub enum Step {
     On { value: usize, next: usize },
     Back { number: usize, place: usize },
 }
+
+// What a search comes to.
+pub enum Found {
+    At(usize),
+    Nowhere,
+}
