@@ -15,6 +15,7 @@ range-first r end h = ap (range r) (counted r end h) ∙ ap {B = List ℕ} (λ k
   where
     counted : (r end : ℕ) → r < end → end - r ≡ suc (end - (r + 1))
     counted r end h = omega arith
+
     next : (r : ℕ) → suc r ≡ r + 1
     next r = omega arith
 

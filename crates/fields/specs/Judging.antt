@@ -58,7 +58,7 @@ module _ {A : Type 0} (judge : Judge A) (due : ℕ) (s : List ℕ) (at end : ℕ
   unfolding field
   full h =
       let sized : length (take (end - at) (drop at s)) ≡ end - at =
-              length-take-le (end - at) (drop at s) (rw length-drop (omega (arith, found .within (omega (arith, found .from))))) in
+      length-take-le (end - at) (drop at s) (rw length-drop (omega (arith, found .within (omega (arith, found .from))))) in
       rw (found .word, found .rest)
       (field-of judge due (take (end - at) (drop at s)) (drop end s) at (omega (arith, found .from))
       ∙ ap (λ k. afterField (judge (take (end - at) (drop at s))) due (drop end s) at k) (ap (λ k. at + k) sized ∙ omega (arith, found .from)))

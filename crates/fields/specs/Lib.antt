@@ -3,6 +3,8 @@ pub mod Decimals
 pub mod Ends
 pub mod Finding
 pub mod Judging
+pub mod Names
+pub mod Passing
 pub mod Runs
 pub mod Steps
 pub mod Values

@@ -73,8 +73,10 @@ module _ (s : List ℕ) (at end : ℕ) (scanned : Scanned s at end) where
     where
       longer : run (drop end s) ≡ (getD s end 0 ∷ []) ++ run (drop (end + 1) s)
       longer = ap run (drop-cons s end 0 h) ∙ (run-goes _ _ e ∙ ap {B = List ℕ} (λ k. getD s end 0 ∷ run (drop k s)) (sym (add-one end)))
+
       found : getD (drop at s) (end - at) 0 ≡ getD s end 0
       found = getD-drop at s (end - at) 0 ∙ ap (λ k. getD s k 0) (omega (arith, scanned .from))
+
       taken : take (end - at) (drop at s) ++ (getD s end 0 ∷ []) ≡ take (end + 1 - at) (drop at s)
       taken =
           sym

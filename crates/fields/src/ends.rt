@@ -3,7 +3,8 @@ ghost use mathlib.Core.Path.{_≡_};
 ghost use lib.ListN.{drop};
 ghost use Rattle.rules.specs.Fields.{afterField};
 ghost use Rattle.fields.specs.Steps.{judgedAs, stepAs, itself};
-use crate::steps::{Step, Verdict};
+use crate::steps::Step;
+use crate::steps::Verdict;
 
 // The field from `at` to `end` was judged: a bad one turns the sheet back, and after a good one stands `due`.
 pub fn after_field(s: &[u8], verdict: Verdict, due: u8, at: usize, end: usize) -> Step

@@ -7,9 +7,15 @@ ghost use Rattle.rules.specs.Sheets.{levelsField, inputsOf, inputsField};
 ghost use Rattle.fields.specs.Steps.{judgedAs, stepAs, itself, optionOf};
 use crate::ends::after_field;
 use crate::limits;
-use crate::numbers::{is_decimal, power, wide};
-use crate::runs::{NEWLINE, SPACE, field_end};
-use crate::steps::{Found, Step, Verdict};
+use crate::numbers::is_decimal;
+use crate::numbers::power;
+use crate::numbers::wide;
+use crate::runs::NEWLINE;
+use crate::runs::SPACE;
+use crate::runs::field_end;
+use crate::steps::Found;
+use crate::steps::Step;
+use crate::steps::Verdict;
 
 pub fn judge_levels(w: &[u8]) -> Verdict
     ensures { λ r. ⌜ judgedAs itself r ≡ levelsField (now (w .entry)) ⌝ }

@@ -6,7 +6,8 @@ ghost use Rattle.fields.specs.Steps.{judgedAs, stepAs, nothing, spelled}
 use crate::ends::after_field;
 use crate::runs::field_end;
 use crate::same::same_bytes;
-use crate::steps::{Step, Verdict};
+use crate::steps::Step;
+use crate::steps::Verdict;
 
 pub fn judge_word(w: &[u8], word: &[u8]) -> Verdict
     ensures { λ r. ⌜ judgedAs nothing r ≡ spelled (now (word .entry)) (now (w .entry)) ⌝ }
