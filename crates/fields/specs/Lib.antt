@@ -3,6 +3,7 @@ pub mod Decimals
 pub mod Ends
 pub mod Finding
 pub mod Judging
+pub mod Lines
 pub mod Names
 pub mod Passing
 pub mod Runs

@@ -7,7 +7,7 @@ use mathlib.Core.List.{List, [], _∷_}
 use native.Mathlib.Omega.{arith}
 use lib.ListN.{length, getD}
 use lib.Dec.{leb, ltb}
-use borrow.Author.Tests.{le-leb, lt-leb}
+use borrow.Author.Tests.{le-leb, lt-leb, leb-true}
 use Rattle.rules.specs.Lists.{all, any, same}
 use Rattle.rules.specs.Text.{isDigit, text}
 use Rattle.rules.specs.Sheets.{isLetter, letterFirst, isName}
@@ -70,3 +70,14 @@ module _ (w : List ℕ) (short : length w ≤ 8) (some : length w ≡ 0 → ⊥)
   pub name-good : isLetter (getD w 0 0) ≡ true → all isNameByte w ≡ true → not (same w (text "ink")) ≡ isName w
   unfolding isName
   name-good e q = simp (le-leb (length w) 8 short, first-letter w some, e, q)
+
+and-left : (a b : Bool) → (a && b) ≡ true → a ≡ true
+and-left true b e = refl
+and-left false b e = e
+
+pub name-short : (w : List ℕ) → isName w ≡ true → length w ≤ 8
+unfolding isName
+name-short w e = leb-true (length w) 8 (and-left _ (letterFirst w) (and-left _ (all isNameByte w) (and-left _ (not (same w (text "ink"))) e)))
+
+pub new-short : (earlier : List (List ℕ)) (w : List ℕ) → isNew earlier w ≡ true → length w ≤ 8
+new-short earlier w e = name-short w (and-left _ (not (any (same w) earlier)) e)
