@@ -7,7 +7,7 @@ use mathlib.Core.List.{List, [], _∷_, _++_}
 use native.Mathlib.Omega.{arith}
 use lib.ListN.{length, getD}
 use lib.Dec.{eqb, ltb}
-use borrow.Author.Tests.{lt-ltb, le-ltb, eq-eqb, ne-eqb}
+use borrow.Author.Tests.{lt-ltb, le-ltb, eq-eqb, ne-eqb, ltb-true, ltb-false}
 use Rattle.rules.specs.Lists.{same}
 use Rattle.rules.specs.Text.{digitByte, decimal, decimalF}
 use Rattle.fields.specs.Compared.{same-length}
@@ -58,3 +58,10 @@ module _ (w : List ℕ) (n : ℕ) (h : 10 ≤ n) (k : n < 100) where
 
   pub two-same : (b d : ℕ) → length w ≡ 2 → b ≡ getD w 0 0 → b ≡ 48 + n / 10 → d ≡ getD w 1 0 → eqb d (48 + n % 10) ≡ same w (decimal n)
   two-same b d e q p r = rw (decimal-two n h k, same-two w (48 + n / 10) (48 + n % 10) e, eq-eqb (getD w 0 0) (48 + n / 10) (sym q ∙ p), r) refl
+
+pub decimal-length : (n : ℕ) → n < 100 → length (decimal n) ≤ 2
+decimal-length n h = go (ltb n 10) refl
+  where
+    go : (t : Bool) → ltb n 10 ≡ t → length (decimal n) ≤ 2
+    go true e = rw (decimal-one n (ltb-true n 10 e)) (omega arith)
+    go false e = rw (decimal-two n (ltb-false n 10 e) h) (omega arith)

@@ -37,7 +37,7 @@ module _ (s : List ℕ) (v : Verdict) (value due at end : ℕ) (good : v ≡ Goo
   after-missing h = rw (good, drop-of-length-le s h)
 
 -- what a separator that was there tells
-separator-read : {A : Type 0} (a v : A) (due : ℕ) (t rest : List ℕ) (place next : ℕ)
+pub separator-read : {A : Type 0} (a v : A) (due : ℕ) (t rest : List ℕ) (place next : ℕ)
     → separator a due t place ≡ read v rest next → (v ≡ a) × (next ≡ suc place) × (0 < length t)
 unfolding separator
 separator-read a v due [] rest place next e = let z : _≡_ {A = ℕ} 0 1 = cc in absurd (omega arith)

@@ -11,6 +11,7 @@ use borrow.Author.Tests.{le-leb, lt-leb, leb-true}
 use Rattle.rules.specs.Lists.{all, any, same}
 use Rattle.rules.specs.Text.{isDigit, text}
 use Rattle.rules.specs.Sheets.{isLetter, letterFirst, isName}
+use Rattle.fields.specs.Both.{and-left}
 use Rattle.nets.specs.declared.forms.Header.{Header}
 
 abbrev pub isNameByte : ℕ → Bool
@@ -70,10 +71,6 @@ module _ (w : List ℕ) (short : length w ≤ 8) (some : length w ≡ 0 → ⊥)
   pub name-good : isLetter (getD w 0 0) ≡ true → all isNameByte w ≡ true → not (same w (text "ink")) ≡ isName w
   unfolding isName
   name-good e q = simp (le-leb (length w) 8 short, first-letter w some, e, q)
-
-and-left : (a b : Bool) → (a && b) ≡ true → a ≡ true
-and-left true b e = refl
-and-left false b e = e
 
 pub name-short : (w : List ℕ) → isName w ≡ true → length w ≤ 8
 unfolding isName
