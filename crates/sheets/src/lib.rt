@@ -1,0 +1,2 @@
+// Reading a net sheet.
+pub mod references;
