@@ -8,7 +8,7 @@ use native.Mathlib.Numerals.{add-one}
 use lib.ListN.{length, drop, getD, drop-of-length-le}
 use lib.Seq.{drop-cons}
 use Rattle.rules.specs.Lists.{range, all, any}
-use Rattle.fields.specs.Finding.{range-first, range-none}
+use Rattle.fields.specs.Ranges.{range-first, range-none}
 
 module _ (test : ℕ → Bool) (w : List ℕ) (i : ℕ) where
   pub all-next : i < length w → test (getD w i 0) ≡ true → all test (drop i w) ≡ all test (drop (i + 1) w)

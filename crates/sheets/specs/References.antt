@@ -8,13 +8,13 @@ use mathlib.Core.List.{List, [], _∷_, map}
 use native.Mathlib.Nat.{add-zero, zero-add}
 use native.Mathlib.Omega.{arith}
 use borrow.Author.Tests.{lt-ltb, le-ltb, eq-eqb, ne-eqb}
-use lib.ListN.{length, getD}
+use lib.ListN.{length, getD, length-map}
 use lib.Dec.{eqb, ltb}
 use Rattle.rules.specs.Lists.{range, find, any, same}
 use Rattle.rules.specs.Text.{decimal}
 use Rattle.rules.specs.Fields.{good, bad}
 use Rattle.laws.specs.Ranges.{range-length}
-use Rattle.fields.specs.Finding.{range-first, range-none}
+use Rattle.fields.specs.Ranges.{range-first, range-none, map-range-at}
 use Rattle.fields.specs.Steps.{optionOf}
 use Rattle.fields.specs.declared.steps.Found.{Found}
 use Rattle.fields.specs.declared.steps.Found.the-variants.{At, Nowhere}
@@ -29,18 +29,8 @@ namesOf s h = map (nameIn s h) (range 0 (h .inputs))
 
 -- ---- what is referred to
 
-map-length : {A B : Type 0} (f : A → B) (xs : List A) → length (map f xs) ≡ length xs
-map-length f [] = refl
-map-length f (x ∷ xs) = ap suc (map-length f xs)
-
 pub names-count : (s : List ℕ) (h : Header) → length (namesOf s h) ≡ h .inputs
-names-count s h = map-length (nameIn s h) (range 0 (h .inputs)) ∙ range-length 0 (h .inputs)
-
-map-range-at : {A : Type 0} (f : ℕ → A) (d : A) (from count k : ℕ) → k < count → getD (map f (range from count)) k d ≡ f (from + k)
-unfolding range
-map-range-at f d from zero k h = absurd (omega arith)
-map-range-at f d from (suc count) zero h = ap f (sym (add-zero from))
-map-range-at f d from (suc count) (suc k) h = map-range-at f d (suc from) count k (omega arith) ∙ ap f (omega arith)
+names-count s h = length-map (range 0 (h .inputs)) (nameIn s h) ∙ range-length 0 (h .inputs)
 
 module _ (s : List ℕ) (h : Header) (w : List ℕ) (r : ℕ) where
   pub refers-input : r < h .inputs → same w (nameIn s h r) ≡ same w (referenceText (namesOf s h) r)

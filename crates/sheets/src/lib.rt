@@ -1,2 +1,4 @@
 // Reading a net sheet.
+pub mod digits;
+pub mod gates;
 pub mod references;
