@@ -37,8 +37,8 @@ areDigits s at count = (i : ℕ) → i < count → 48 ≤ getD s (at + i) 0
 pub record DigitsRead (s : List ℕ) (at m : ℕ) (r : Step) : Type 0 where
   pub reads : stepAs (λ count. digitsAt s at count) s r ≡ field (digitsField m) 10 (drop at s) at
   pub count : (count next : ℕ) → r ≡ On count next → count ≡ m * m
-  pub within : (count next : ℕ) → r ≡ On count next → at + count ≤ length s
-  pub digits : (count next : ℕ) → r ≡ On count next → areDigits s at count
+  pub within : (count next : ℕ) → r ≡ On count next → at + m * m ≤ length s
+  pub digits : (count next : ℕ) → r ≡ On count next → areDigits s at (m * m)
 
 -- ---- a digit below m
 
@@ -116,11 +116,11 @@ module _ (s : List ℕ) (at end m : ℕ) (found : FieldEnd s at end) where
                 field-judged (digitsField m) 10 s at end found (λ count. digitsAt s at count) (Good (end - at)) r some
                 (rw (long, eq-eqb (end - at) (m * m) counted, e) refl) after;
             count = λ count next q. told count next q .0 ∙ counted;
-            within = λ count next q. omega (arith, told count next q .0, found .within (omega (arith, found .from)), found .from);
+            within = λ count next q. omega (arith, counted, found .within (omega (arith, found .from)), found .from);
             digits = λ count next q i h.
                 digit-least m (getD s (at + i) 0)
-                (rw (← getD-drop at s i 0, ← getD-take (end - at) (drop at s) i 0 (omega (arith, told count next q .0)))
-                (all-at (isDigit m) (take (end - at) (drop at s)) i e (rw long (omega (arith, told count next q .0)))));
+                (rw (← getD-drop at s i 0, ← getD-take (end - at) (drop at s) i 0 (rw counted h))
+                (all-at (isDigit m) (take (end - at) (drop at s)) i e (rw (long, counted) h)));
           }
         where
           told : (count next : ℕ) → r ≡ On count next → (count ≡ end - at) × (next ≡ end + 1) × (end < length s)

@@ -1,3 +1,4 @@
 pub mod Digits
 pub mod Gates
 pub mod References
+pub mod Room

@@ -8,14 +8,18 @@ use mathlib.Core.List.{List, [], _∷_, map}
 use native.Mathlib.Nat.{add-zero, zero-add}
 use native.Mathlib.Omega.{arith}
 use borrow.Author.Tests.{lt-ltb, le-ltb, eq-eqb, ne-eqb}
-use lib.ListN.{length, getD, length-map}
+use lib.ListN.{length, drop, getD, length-map}
 use lib.Dec.{eqb, ltb}
 use Rattle.rules.specs.Lists.{range, find, any, same}
 use Rattle.rules.specs.Text.{decimal}
-use Rattle.rules.specs.Fields.{good, bad}
+use Rattle.rules.specs.Fields.{Read, Judged, good, bad, judged, field, run}
 use Rattle.laws.specs.Ranges.{range-length}
 use Rattle.fields.specs.Ranges.{range-first, range-none, map-range-at}
-use Rattle.fields.specs.Steps.{optionOf}
+use Rattle.fields.specs.Finding.{found-in}
+use Rattle.fields.specs.Steps.{stepAs, itself, optionOf}
+use Rattle.fields.specs.Taken.{field-read, judged-good}
+use Rattle.fields.specs.declared.steps.Step.{Step}
+use Rattle.fields.specs.declared.steps.Step.the-variants.{On, Back}
 use Rattle.fields.specs.declared.steps.Found.{Found}
 use Rattle.fields.specs.declared.steps.Found.the-variants.{At, Nowhere}
 use Rattle.rules.specs.Sheets.{referenceText, referenceOf, referenceField, usedBy}
@@ -101,3 +105,43 @@ module _ (names : List (List ℕ)) (earlier taken : ℕ) (used w : List ℕ) (r 
     pub judged-free : any (eqb r) used ≡ false → good r ≡ referenceField names earlier (taken ∷ used) w
     unfolding referenceField any
     judged-free p = rw (refers-to, referenceField) (rw (ne-eqb r taken free, any) (rw p refl))
+
+-- ---- what a reference is
+
+module _ (names : List (List ℕ)) (earlier : ℕ) (used w : List ℕ) where
+  told : (value : ℕ) (o : Option ℕ) → referenceOf names earlier w ≡ o
+      → _≡_ {A = Judged ℕ} (elim o [ none ↦ bad 7 | some r ↦ judged (not (any (eqb r) used)) r 8 ]) (good value) → value < length names + earlier
+  unfolding referenceOf
+  told value none e q = let z : _≡_ {A = ℕ} 0 1 = cc in absurd (omega arith)
+  told value (some r) e q =
+      let found = found-in (λ k. same w (referenceText names k)) 0 (length names + earlier) r e in
+      omega (arith, found .1, judged-good (not (any (eqb r) used)) r value 8 q .1)
+
+  reference-told : (value : ℕ) → referenceField names earlier used w ≡ good value → value < length names + earlier
+  unfolding referenceField
+  reference-told value e = told value (referenceOf names earlier w) refl e
+
+  module _ (nowhere : ℕ) (beyond : length names + earlier ≤ nowhere) where
+    not-there : (o : Option ℕ) → referenceOf names earlier w ≡ o
+        → _≡_ {A = Judged ℕ} (elim o [ none ↦ bad 7 | some r ↦ judged (not (any (eqb r) (nowhere ∷ used))) r 8 ])
+        (elim o [ none ↦ bad 7 | some r ↦ judged (not (any (eqb r) used)) r 8 ])
+    unfolding referenceOf any
+    not-there none e = refl
+    not-there (some r) e =
+        let found = found-in (λ k. same w (referenceText names k)) 0 (length names + earlier) r e in
+        rw (ne-eqb r nowhere (λ p. omega (arith, found .1, p)), any) refl
+
+    spare-at : referenceField names earlier (nowhere ∷ used) w ≡ referenceField names earlier used w
+    unfolding referenceField
+    spare-at = not-there (referenceOf names earlier w) refl
+
+-- what no field refers to counts as used or not, all the same
+pub spare : (names : List (List ℕ)) (earlier : ℕ) (used : List ℕ) (nowhere : ℕ) → length names + earlier ≤ nowhere
+    → referenceField names earlier (nowhere ∷ used) ≡ referenceField names earlier used
+spare names earlier used nowhere beyond = λ i w. spare-at names earlier used w nowhere beyond i
+
+pub reference-below : (s : List ℕ) (step : Step) (at : ℕ) (names : List (List ℕ)) (earlier : ℕ) (used : List ℕ) (due value next : ℕ)
+    → stepAs itself s step ≡ field (referenceField names earlier used) due (drop at s) at → step ≡ On value next → value < length names + earlier
+reference-below s step at names earlier used due value next reads e =
+    reference-told names earlier used (run (drop at s)) value
+    (field-read (referenceField names earlier used) value due (drop at s) (drop next s) at next (sym reads ∙ ap (stepAs itself s) e) .0)

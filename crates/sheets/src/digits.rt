@@ -8,8 +8,10 @@ ghost use Rattle.rules.specs.Text.{isDigit};
 ghost use Rattle.sheets.specs.Digits.{DigitsRead, areDigits, digitsAt};
 use fields::ends::after_field;
 use fields::numbers::wide;
-use fields::runs::{NEWLINE, field_end};
-use fields::steps::{Step, Verdict};
+use fields::runs::NEWLINE;
+use fields::runs::field_end;
+use fields::steps::Step;
+use fields::steps::Verdict;
 
 // Is every byte of w a digit below m?
 pub fn are_digits(w: &[u8], m: usize) -> bool

@@ -4,11 +4,15 @@ ghost use Prim.Native.Nat.{_+_, _*_, _≤_, _<_};
 ghost use lib.ListN.{length};
 ghost use Rattle.fields.specs.Header.{HeaderHeld};
 ghost use Rattle.sheets.specs.Digits.{areDigits, digitsAt};
-ghost use Rattle.sheets.specs.Gates.{NetForm, Grown};
-use crate::digits::{copy_digits, digits_field};
+ghost use Rattle.nets.specs.Forms.{gatesOf};
+ghost use Rattle.sheets.specs.Gates.{NetForm, Grown, GateRest, GateRoom, fromDigits, fromRight, oneGate};
+ghost use Rattle.sheets.specs.References.{namesOf};
+use crate::digits::copy_digits;
+use crate::digits::digits_field;
 use crate::references::reference_field;
 use fields::steps::Step;
-use nets::forms::{Header, Net};
+use nets::forms::Header;
+use nets::forms::Net;
 
 // No reference: every reference is below it.
 const NO_REFERENCE: usize = 255;
@@ -39,5 +43,51 @@ pub fn with_gate(s: &[u8], at: usize, net: Net, left: usize, right: usize) -> Ne
         left: lefts,
         right: rights,
         digits,
+    }
+}
+
+// From a gate's table field on.
+pub fn from_digits(s: &[u8], at: usize, net: Net, left: usize, right: usize) -> GatesRead
+    requires { ⌜ NetForm net × (net .gates < 10) × ((net .gates + 1) * (net .levels * net .levels) ≤ 162) × (net .levels ≤ 9) × (left < 256) × (right < 256) ⌝ }
+    ensures { λ r. ⌜ GateRest (now (s .entry)) at (fromDigits (net .levels) (gatesOf net) left right) net r ⌝ }
+{
+    let step = digits_field(s, at, net.levels);
+    match step {
+        Step::Back {
+            number: _,
+            place: _,
+        } => GatesRead { step, net },
+        Step::On { value: _, next: _ } => {
+            let more = with_gate(s, at, net, left, right);
+            GatesRead { step, net: more }
+        }
+    }
+}
+
+// From a gate's right field on.
+pub fn from_right(s: &[u8], at: usize, header: Header, net: Net, left: usize) -> GatesRead
+    requires { ⌜ GateRoom (now s) header net × (left < 256) ⌝ }
+    ensures { λ r. ⌜ GateRest (now (s .entry)) at (fromRight (net .levels) (namesOf (now (s .entry)) header) (gatesOf net) left) net r ⌝ }
+{
+    match reference_field(s, at, header, net, left) {
+        Step::Back { number, place } => GatesRead {
+            step: Step::Back { number, place },
+            net,
+        },
+        Step::On { value, next } => from_digits(s, next, net, left, value),
+    }
+}
+
+// One gate line.
+pub fn gate_line(s: &[u8], at: usize, header: Header, net: Net) -> GatesRead
+    requires { ⌜ GateRoom (now s) header net ⌝ }
+    ensures { λ r. ⌜ GateRest (now (s .entry)) at (oneGate (net .levels) (namesOf (now (s .entry)) header) (gatesOf net)) net r ⌝ }
+{
+    match reference_field(s, at, header, net, NO_REFERENCE) {
+        Step::Back { number, place } => GatesRead {
+            step: Step::Back { number, place },
+            net,
+        },
+        Step::On { value, next } => from_right(s, next, header, net, value),
     }
 }

@@ -43,9 +43,11 @@ loop-again : tie.Need-loop-again Inv-loop μ-loop
 loop-again c =
     let a = c .before .before .before .args in
     let i = c .before .before .loop .i in
-    let pre = c .before .before .before .pre in
-    (ap (λ l. set l (a .from + i) (getD (a .s .now) (a .at + i) 0 - 48)) (c .before .before .loop .inv .0)
-    ∙ digits-copied (a .s .now) (a .at) (a .count) (a .digits .now) (a .from) i (pre .0) (omega (arith, pre .1, pre .2)) (c .before .loop-test .taken), omega arith)
+    let pre = c .before .before .before .pre in (
+      ap (λ l. set l (a .from + i) (getD (a .s .now) (a .at + i) 0 - 48)) (c .before .before .loop .inv .0)
+          ∙ digits-copied (a .s .now) (a .at) (a .count) (a .digits .now) (a .from) i (pre .0) (omega (arith, pre .1, pre .2)) (c .before .loop-test .taken),
+      omega arith,
+    )
 
 returns : tie.Need-returns Inv-loop μ-loop
 returns c =

@@ -1,45 +1,39 @@
+-- `sheets::gates::with_gate` meets its contract: the digits are pasted after those of the gates before.
+-- Assumes nothing.
 use borrow.Author.Needs.{needs}
+use Rattle.sheets.specs.Digits.{digits-count}
+use Rattle.sheets.specs.Gates.{gates-grown}
 use Rattle.sheets.proofs.gates.with_gate.Statement.{statement}
 use Rattle.sheets.proofs.gates.with_gate.Tie as tie
-use Rattle.sheets.proofs.gates.with_gate.Reads as reads
-use Rattle.sheets.proofs.gates.with_gate.Lts as lts
-use Rattle.sheets.proofs.digits.copy_digits.Reads as copy-digits-reads
 
--- src/gates.rt:28:16
 mul-size : tie.Need-mul-size
 mul-size c = search needs
 
--- src/gates.rt:30:43
 mul-copy-digits : tie.Need-mul-copy-digits
 mul-copy-digits c = search needs
 
--- src/gates.rt:30:5
 copy-digits-requires : tie.Need-copy-digits-requires
 copy-digits-requires c κs = search needs
 
--- src/gates.rt:33:20
 cast-lefts : tie.Need-cast-lefts
 cast-lefts c = search needs
 
--- src/gates.rt:33:5
 array-write-lefts : tie.Need-array-write-lefts
 array-write-lefts c = search needs
 
--- src/gates.rt:34:21
 cast-rights : tie.Need-cast-rights
 cast-rights c = search needs
 
--- src/gates.rt:34:5
 array-write-rights : tie.Need-array-write-rights
 array-write-rights c = search needs
 
--- src/gates.rt:38:16
 add-t13 : tie.Need-add-t13
 add-t13 c = search needs
 
--- src/gates.rt:23:1
 returns : tie.Need-returns
-returns c = ?
+returns c =
+    let pre = c .before .before .before .before .before .before .before .pre in
+    gates-grown _ _ _ _ _ (pre .0) (pre .1) (pre .2) (digits-count _ _ _ (pre .6)) (c .before .before .copy-digits .ensures)
 
 pub with-gate-spec : {M : Type 1} → statement M
 with-gate-spec =
