@@ -1,4 +1,5 @@
 pub mod Digits
+pub mod GateLines
 pub mod Gates
 pub mod References
 pub mod Room

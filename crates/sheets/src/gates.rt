@@ -6,6 +6,7 @@ ghost use Rattle.fields.specs.Header.{HeaderHeld};
 ghost use Rattle.sheets.specs.Digits.{areDigits, digitsAt};
 ghost use Rattle.nets.specs.Forms.{gatesOf};
 ghost use Rattle.sheets.specs.Gates.{NetForm, Grown, GateRest, GateRoom, fromDigits, fromRight, oneGate};
+ghost use Rattle.sheets.specs.GateLines.{noGates, GatesAll};
 ghost use Rattle.sheets.specs.References.{namesOf};
 use crate::digits::copy_digits;
 use crate::digits::digits_field;
@@ -89,5 +90,49 @@ pub fn gate_line(s: &[u8], at: usize, header: Header, net: Net) -> GatesRead
             net,
         },
         Step::On { value, next } => from_right(s, next, header, net, value),
+    }
+}
+
+// A net with no gate yet.
+pub fn no_gates(levels: usize, inputs: usize) -> Net
+    ensures { λ r. ⌜ r ≡ noGates levels inputs ⌝ }
+{
+    Net {
+        levels,
+        inputs,
+        gates: 0,
+        left: [0u8; 10],
+        right: [0u8; 10],
+        digits: [0u8; 162],
+    }
+}
+
+// The gate lines of a sheet with this header.
+pub fn gate_lines(s: &[u8], at: usize, header: Header) -> GatesRead
+    requires { ⌜ HeaderHeld (now s) header ⌝ }
+    ensures { λ r. ⌜ GatesAll (now (s .entry)) at header r ⌝ }
+{
+    let inputs = header.inputs;
+    let mut net = no_gates(header.levels, inputs);
+    let mut place = at;
+    let mut k: usize = 1;
+    while k < inputs {
+        let read = gate_line(s, place, header, net);
+        let step = read.step;
+        match step {
+            Step::Back { number: _, place: _ } => return read,
+            Step::On { value: _, next } => {
+                net = read.net;
+                place = next;
+                k += 1;
+            }
+        }
+    }
+    GatesRead {
+        step: Step::On {
+            value: 0,
+            next: place,
+        },
+        net,
     }
 }
