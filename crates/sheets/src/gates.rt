@@ -120,7 +120,10 @@ pub fn gate_lines(s: &[u8], at: usize, header: Header) -> GatesRead
         let read = gate_line(s, place, header, net);
         let step = read.step;
         match step {
-            Step::Back { number: _, place: _ } => return read,
+            Step::Back {
+                number: _,
+                place: _,
+            } => return read,
             Step::On { value: _, next } => {
                 net = read.net;
                 place = next;
