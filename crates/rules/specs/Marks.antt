@@ -6,7 +6,7 @@ use mathlib.Core.Option.{Option, none, some}
 use mathlib.Core.List.{List, [], _∷_, _++_}
 use lib.ListN.{getD, drop, length}
 use lib.Dec.{eqb, leb, ltb}
-use Rattle.rules.specs.Lists.{range, all, any, those, concatMap, find}
+use Rattle.rules.specs.Lists.{range, all, any, those, concatMap, find, firstPlace}
 use Rattle.rules.specs.Groups.{member, size, multiplicity, wholeGroup}
 
 -- every member of a is a member of g

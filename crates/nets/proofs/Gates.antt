@@ -1,0 +1,164 @@
+-- One turn of `value`: k gates have their values. Assumes nothing.
+use Prim.Native.Nat.{ℕ, zero, suc, _+_, _-_, _*_, _≤_, _<_}
+use mathlib.Core.Path.{_≡_, sym, ap, ap₂, _∙_}
+use mathlib.Core.List.{List, [], _∷_, _++_, map}
+use native.Mathlib.Nat.{zero-add, add-zero, add-assoc, mul-pos, le-antisymm}
+use native.Mathlib.Omega.{arith}
+use native.Mathlib.Numerals.{add-one}
+use lib.ListN.{length, getD, take, drop, set, length-append, take-append-drop, length-take, length-drop, length-map, List·getD-append}
+use lib.Seq.{length-take-le, drop-cons, append-snoc, set-at, getD-take, getD-drop}
+use lib.Arith.{digits-lt}
+use Rattle.rules.specs.Lists.{range}
+use Rattle.rules.specs.Sheets.{Gate}
+use Rattle.rules.specs.Kept.{GateTable, Tables, RefersBack}
+use Rattle.rules.specs.Value.{gateValue, withGates}
+use Rattle.laws.specs.Concat.{map-append}
+use Rattle.laws.specs.Ranges.{range-length, range-suc}
+use Rattle.nets.specs.declared.forms.Net.{Net}
+use Rattle.nets.specs.Forms.{gateOf, gatesOf}
+use Rattle.nets.specs.Sound.{levels-pos, gates-count}
+use Rattle.nets.specs.Evaluating.{Ready, Valued}
+use Rattle.nets.specs.Values.{with-snoc, with-length, below-all, with-below, AreLevels}
+
+-- ---- what holds of a gate list holds of each gate
+
+module _ (f : ℕ → Gate) where
+  table-at : (m from count k : ℕ) → k < count → Tables m (map f (range from count)) → GateTable m (f (from + k) .digits)
+  unfolding range
+  table-at m from zero k h t = absurd (omega arith)
+  table-at m from (suc count) zero h t = rw add-zero (t .0)
+  table-at m from (suc count) (suc k) h t =
+      let e : from + suc k ≡ suc from + k = omega arith in
+      rw e (table-at m (suc from) count k (omega arith) (t .1))
+
+  tables-front : (m from k count : ℕ) → k ≤ count → Tables m (map f (range from count)) → Tables m (map f (range from k))
+  unfolding range
+  tables-front m from zero count h t = tt
+  tables-front m from (suc k) zero h t = absurd (omega arith)
+  tables-front m from (suc k) (suc count) h t = (t .0, tables-front m (suc from) k count (omega arith) (t .1))
+
+  back-at : (i from count k : ℕ) → k < count → RefersBack i (map f (range from count)) → (f (from + k) .left < i + k) × (f (from + k) .right < i + k)
+  unfolding range
+  back-at i from zero k h b = absurd (omega arith)
+  back-at i from (suc count) zero h b = simp add-zero (b .0, b .1)
+  back-at i from (suc count) (suc k) h b =
+      let e : from + suc k ≡ suc from + k = omega arith in
+      let e′ : i + suc k ≡ suc i + k = omega arith in
+      rw (e, e′) (back-at (suc i) (suc from) count k (omega arith) (b .2))
+
+-- ---- the turn
+
+module _ (net : Net) (vs : List ℕ) where
+  -- the values of the inputs and of the first k gates
+  abbrev pub known : ℕ → List ℕ
+  known k = withGates (net .levels) (take (net .inputs) vs) (map (gateOf net) (range 0 k))
+
+  -- `values` after k gates
+  abbrev pub after : ℕ → List ℕ
+  after k = known k ++ drop (net .inputs + k) vs
+
+module _ (net : Net) (vs : List ℕ) (ready : Ready net vs) where
+  pos : 0 < net .levels
+  pos = levels-pos net (ready .sound)
+
+  tables : Tables (net .levels) (map (gateOf net) (range 0 (net .gates)))
+  unfolding gatesOf
+  tables = ready .sound .gates .rules .tables
+
+  front-length : length (take (net .inputs) vs) ≡ net .inputs
+  front-length = length-take-le (net .inputs) vs (omega (arith, ready .room))
+
+  known-length : (k : ℕ) → length (known net vs k) ≡ net .inputs + k
+  known-length k =
+      with-length (net .levels) (take (net .inputs) vs) (map (gateOf net) (range 0 k))
+      ∙ ap₂ (λ (a b : ℕ). a + b) front-length (length-map (range 0 k) (gateOf net) ∙ range-length 0 k)
+
+  pub after-length : (k : ℕ) → k ≤ net .gates → length (after net vs k) ≡ length vs
+  after-length k h =
+      length-append (known net vs k) (drop (net .inputs + k) vs)
+      ∙ omega (arith, known-length k, length-drop (net .inputs + k) vs, ready .room)
+
+  pub after-none : after net vs 0 ≡ vs
+  unfolding range withGates
+  after-none = rw add-zero (take-append-drop (net .inputs) vs)
+
+  -- a reference's value
+  known-at : (k i : ℕ) → i < net .inputs + k → getD (after net vs k) i 0 ≡ getD (known net vs k) i 0
+  known-at k i h = List·getD-append (known net vs k) (drop (net .inputs + k) vs) 0 i (rw (known-length k) h)
+
+  known-below : (k : ℕ) → k ≤ net .gates → AreLevels (net .levels) (known net vs k)
+  known-below k g =
+      with-below (net .levels) pos (take (net .inputs) vs) (map (gateOf net) (range 0 k))
+      (tables-front (gateOf net) (net .levels) 0 k (net .gates) g tables)
+      (below-all (net .levels) pos (take (net .inputs) vs) (λ j l. let l′ : j < net .inputs = rw front-length at l in rw getD-take (ready .levels j l′)))
+
+  module _ (k : ℕ) (turn : k < net .gates) where
+    pub refers : (getD (net .left) k 0 < net .inputs + k) × (getD (net .right) k 0 < net .inputs + k)
+    unfolding gatesOf gateOf
+    refers = rw zero-add at (back-at (gateOf net) (net .inputs) 0 (net .gates) k turn (ready .sound .gates .rules .back))
+
+    digits-length : length (take (net .levels * net .levels) (drop (k * (net .levels * net .levels)) (net .digits))) ≡ net .levels * net .levels
+    unfolding gateOf
+    digits-length = rw zero-add at (table-at (gateOf net) (net .levels) 0 (net .gates) k turn tables .count)
+
+    -- the gate's digits lie within the net's
+    pub table-within : k * (net .levels * net .levels) + net .levels * net .levels ≤ length (net .digits)
+    table-within = omega (arith, mul-pos pos pos, simp (length-take, length-drop) at digits-length)
+
+    known-more : known net vs (k + 1) ≡ known net vs k ++ (gateValue (net .levels) (known net vs k) (gateOf net k) ∷ [])
+    known-more = rw (add-one, range-suc, map-append, with-snoc, zero-add)
+
+    -- the digit that the code reads is the gate's value
+    digit-read : (u v : ℕ) → u ≡ getD (known net vs k) (getD (net .left) k 0) 0 → v ≡ getD (known net vs k) (getD (net .right) k 0) 0
+        → u < net .levels → v < net .levels
+        → getD (net .digits) (k * (net .levels * net .levels) + u * net .levels + v) 0 ≡ gateValue (net .levels) (known net vs k) (gateOf net k)
+    unfolding gateValue gateOf
+    digit-read u v eu ev hu hv =
+        let size = net .levels * net .levels in
+        rw (add-assoc, ← (getD-drop (k * size) (net .digits) (u * net .levels + v) 0), ← (getD-take size (drop (k * size) (net .digits)) (u * net .levels + v) 0 (digits-lt hu hv)), eu, ev)
+
+    -- The turn's reads: l and r are the references, u and v their values, and the gate's digits begin at `from`.
+    module _ (l u r v from : ℕ) (values : List ℕ)
+        (el : l ≡ getD (net .left) k 0) (eu : u ≡ getD values l 0) (er : r ≡ getD (net .right) k 0) (ev : v ≡ getD values r 0)
+        (ef : from ≡ k * (net .levels * net .levels)) (es : values ≡ after net vs k) where
+      left-read : u ≡ getD (known net vs k) (getD (net .left) k 0) 0
+      left-read = rw (eu, es, el) (known-at k (getD (net .left) k 0) (refers .0))
+
+      right-read : v ≡ getD (known net vs k) (getD (net .right) k 0) 0
+      right-read = rw (ev, es, er) (known-at k (getD (net .right) k 0) (refers .1))
+
+      left-below : u < net .levels
+      left-below = rw left-read (known-below k (omega arith) (getD (net .left) k 0))
+
+      right-below : v < net .levels
+      right-below = rw right-read (known-below k (omega arith) (getD (net .right) k 0))
+
+      -- the digit read lies within the net's
+      pub digit-within : from + u * net .levels + v < length (net .digits)
+      digit-within = omega (arith, digits-lt left-below right-below, table-within)
+
+      -- with that digit stored, one gate more has its value
+      pub after-more : set values (net .inputs + k) (getD (net .digits) (from + u * net .levels + v) 0) ≡ after net vs (k + 1)
+      after-more =
+          let d = gateValue (net .levels) (known net vs k) (gateOf net k) in
+          let room : net .inputs + k < length vs = omega (arith, ready .room) in
+          let next : net .inputs + (k + 1) ≡ suc (net .inputs + k) = omega arith in
+          rw (
+            es,
+            ef,
+            digit-read u v left-read right-read left-below right-below,
+            drop-cons vs (net .inputs + k) 0 room,
+            set-at (known net vs k) (getD vs (net .inputs + k) 0) (drop (suc (net .inputs + k)) vs) d (net .inputs + k) (known-length k),
+            next,
+            known-more,
+          )
+          (sym (append-snoc (known net vs k) d (drop (suc (net .inputs + k)) vs)))
+
+  -- every gate has its value
+  pub after-all : (k : ℕ) (values : List ℕ) → k ≤ net .gates → net .gates ≤ k → values ≡ after net vs k
+      → Valued net vs values (getD values (net .inputs + net .gates - 1) 0)
+  unfolding gatesOf
+  after-all k values most least es =
+      let all : values ≡ after net vs (net .gates) = es ∙ ap (after net vs) (le-antisymm most least) in
+      let last : net .inputs + net .gates - 1 < net .inputs + net .gates = omega (arith, gates-count net (ready .sound)) in
+      record { result = rw all (known-at (net .gates) _ last); values = all }

@@ -1,0 +1,3 @@
+mod Cells
+mod Gates
+mod Stepping

@@ -1,0 +1,124 @@
+-- `nets::values::fill` meets its contract. The loop's invariant: the first p cells are the table's, and `values` begins with the levels of
+-- index p. Assumes nothing.
+use Prim.Native.Nat.{_+_, _-_, _^_, _≤_, _<_}
+use mathlib.Core.Path.{_≡_, refl, sym, ap, _∙_}
+use native.Mathlib.Nat.{one-le-pow}
+use native.Mathlib.Omega.{arith}
+use lib.ListN.{length, take}
+use Rattle.rules.specs.Lists.{range}
+use Rattle.rules.specs.Limits.{mostLevels, mostInputs}
+use Rattle.rules.specs.Sheets.{levelsAt}
+use Rattle.laws.specs.Levels.{zeros-front}
+use Rattle.nets.specs.Sound.{sound-size, levels-pos, gates-count}
+use Rattle.nets.specs.Evaluating.{netOf}
+use Rattle.nets.specs.Counting.{ready-at, value-at, front-next}
+use Rattle.nets.proofs.Cells.{filled, filled-length, filled-more, filled-all}
+use Rattle.nets.proofs.values.fill.Statement.{statement}
+use Rattle.nets.proofs.values.fill.Tie as tie
+
+abbrev Inv-loop : tie.InvT-loop
+Inv-loop m n gates left right digits cells₀ values₀ last p₀ cells values p =
+    (p ≤ m ^ n)
+    × (length values ≡ 32)
+    × (take n values ≡ levelsAt m n p)
+    × (cells ≡ filled (netOf m n gates left right digits) cells₀ p)
+
+abbrev μ-loop : tie.MeasureT-loop
+μ-loop m n gates left right digits cells₀ values₀ last p₀ cells values p = m ^ n - p
+
+-- the function's entry, seen from the loop's head
+abbrev start : tie.At-loop Inv-loop μ-loop → tie.Start Inv-loop μ-loop
+start c = c .before .before .before .before .before .before
+
+power-requires : tie.Need-power-requires Inv-loop μ-loop
+unfolding mostLevels mostInputs
+power-requires c κs = omega (arith, sound-size _ (c .before .before .before .before .pre .0))
+
+cells-pos : (c : tie.After-power Inv-loop μ-loop) → 0 < c .before .before .before .before .before .args .m ^ c .before .before .before .before .before .args .n
+cells-pos c = one-le-pow _ _ (levels-pos _ (c .before .before .before .before .before .pre .0))
+
+sub-last : tie.Need-sub-last Inv-loop μ-loop
+sub-last c = omega (arith, c .power .ensures, cells-pos c)
+
+-- room for the values of the inputs and the gates
+room : (c : tie.At-loop Inv-loop μ-loop) → start c .args .n + start c .args .gates ≤ length (c .loop .values)
+unfolding mostInputs
+room c = omega (arith, c .loop .inv .1, gates-count _ (start c .pre .0), sound-size _ (start c .pre .0) .inputs-most)
+
+loop-holds : tie.Need-loop-holds Inv-loop μ-loop
+unfolding mostInputs range
+loop-holds c =
+    let start = c .before .before .before .before .before in
+    (omega arith, refl, zeros-front (start .args .m) (start .args .n) 32 (omega (arith, sound-size _ (start .pre .0) .inputs-most)), refl)
+
+-- `cells` keeps its length
+kept : (c : tie.At-loop Inv-loop μ-loop) → length (c .loop .cells) ≡ length (start c .args .cells .now)
+kept c = ap length (c .loop .inv .3) ∙ filled-length _ _ (c .loop .p) (omega (arith, start c .pre .3))
+
+-- a turn's index is a cell's
+below : (c : tie.In-loop Inv-loop μ-loop) → c .before .loop .p < start (c .before) .args .m ^ start (c .before) .args .n
+below c = omega (arith, c .before .before .power .ensures, cells-pos (c .before .before))
+
+slice-aggregate-value : tie.Need-slice-aggregate-value Inv-loop μ-loop
+slice-aggregate-value c = sym (c .before .before .loop .inv .1)
+
+value-requires : tie.Need-value-requires Inv-loop μ-loop
+value-requires c κs =
+    let head = c .before .before in
+    ready-at _ (start head .pre .0) (head .loop .p) (head .loop .values) (room head) (head .loop .inv .2) (start head .pre .1) (start head .pre .2)
+
+slice-write-cells : tie.Need-slice-write-cells Inv-loop μ-loop
+slice-write-cells c = omega (arith, kept (c .before .before .before .before), below (c .before .before .before), start (c .before .before .before .before) .pre .3)
+
+slice-aggregate-next-levels : tie.Need-slice-aggregate-next-levels Inv-loop μ-loop
+slice-aggregate-next-levels c = sym (c .before .before .value .kept .1 .1 .1 .1 .1 .1 .0 ∙ c .before .before .before .before .before .loop .inv .1)
+
+next-levels-requires : tie.Need-next-levels-requires Inv-loop μ-loop
+unfolding mostLevels
+next-levels-requires c κs =
+    let head = c .before .before .before .before .before in
+    omega (arith, sound-size _ (start head .pre .0) .levels-most, c .before .before .value .kept, room head)
+
+add-p : tie.Need-add-p Inv-loop μ-loop
+add-p c = omega (arith, below (c .before .before .before .before .before .before), start (c .before .before .before .before .before .before .before))
+
+loop-less : tie.Need-loop-less Inv-loop μ-loop
+loop-less c = omega (arith, below (c .before .before .before .before .before .before))
+
+loop-again : tie.Need-loop-again Inv-loop μ-loop
+loop-again c =
+    let turn = c .before .before .before .before .before .before in
+    let head = turn .before in
+    let valued = c .before .before .before .before .value in (
+      omega (arith, below turn),
+      c .before .next-levels .kept .1 .1 .0 ∙ valued .kept .1 .1 .1 .1 .1 .1 .0 ∙ head .loop .inv .1,
+      front-next _ (start head .pre .0) (head .loop .p) (head .loop .values) (room head) (head .loop .inv .2) _ _ (valued .ensures) _ (c .before .next-levels .ensures),
+      filled-more _ _ (head .loop .p) _ (head .loop .cells) (omega (arith, below turn, start head .pre .3)) (head .loop .inv .3)
+          (value-at _ (start head .pre .0) (head .loop .p) (head .loop .values) (room head) (head .loop .inv .2) _ _ (valued .ensures)),
+    )
+
+same-length : tie.Need-same-length Inv-loop μ-loop
+same-length c = kept (c .before)
+
+returns : tie.Need-returns Inv-loop μ-loop
+returns c = filled-all _ _ (c .before .loop .p) (c .before .loop .cells) (omega (arith, c .before .before .power .ensures)) (c .before .loop .inv .3)
+
+pub fill-spec : {M : Type 1} → statement M
+fill-spec =
+    tie.close
+    (tie.spec
+    Inv-loop
+    μ-loop
+    power-requires
+    sub-last
+    loop-holds
+    slice-aggregate-value
+    value-requires
+    slice-write-cells
+    slice-aggregate-next-levels
+    next-levels-requires
+    add-p
+    loop-less
+    loop-again
+    same-length
+    returns)

@@ -1,0 +1,39 @@
+-- What reading and settling show of a net.
+-- Assumes nothing.
+use Prim.Native.Nat.{suc, _<_}
+use mathlib.Core.Path.{_≡_, sym, ap, _∙_}
+use mathlib.Core.Bool.{true}
+use native.Mathlib.Omega.{arith}
+use lib.ListN.{length, length-map}
+use Rattle.rules.specs.Lists.{range}
+use Rattle.rules.specs.Limits.{fewestLevels, fewestInputs, sizeFits}
+use Rattle.rules.specs.Kept.{IsNet}
+use Rattle.laws.specs.Ranges.{range-length}
+use Rattle.laws.specs.Sizes.{Size, sized}
+use Rattle.nets.specs.declared.forms.Net.{Net}
+use Rattle.nets.specs.Forms.{gateOf, gatesOf}
+
+-- the net of an accepted sheet
+pub record Sound (net : Net) : Type 0 where
+  pub size : sizeFits (net .levels) (net .inputs) ≡ true
+  pub gates : IsNet (net .levels) (net .inputs) (gatesOf net)
+
+pub gates-length : (net : Net) → length (gatesOf net) ≡ net .gates
+unfolding gatesOf
+gates-length net = length-map (range 0 (net .gates)) (gateOf net) ∙ range-length 0 (net .gates)
+
+module _ (net : Net) (sound : Sound net) where
+  pub sound-size : Size (net .levels) (net .inputs)
+  sound-size = sized (net .levels) (net .inputs) (sound .size)
+
+  pub levels-pos : 0 < net .levels
+  unfolding fewestLevels
+  levels-pos = omega (arith, sound-size .levels-least)
+
+  -- "Then n − 1 gate lines"
+  pub gates-count : suc (net .gates) ≡ net .inputs
+  gates-count = ap suc (sym (gates-length net)) ∙ sound .gates .count
+
+  pub gates-pos : 0 < net .gates
+  unfolding fewestInputs
+  gates-pos = omega (arith, gates-count, sound-size .inputs-least)

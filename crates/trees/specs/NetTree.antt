@@ -1,0 +1,147 @@
+-- A net is a tree: a gate list in which each reference is an input or an earlier gate, none is used twice and every gate but
+-- the last is used. "The 2n − 2 references then use every input and every gate but the last once".
+-- Assumes nothing.
+use Prim.Native.Nat.{ℕ, suc, _+_, _-_, _≤_, _<_}
+use native.Mathlib.Omega.{arith}
+use native.Mathlib.Decide.{decLt}
+use mathlib.Core.Path.{_≡_, refl, sym, _∙_}
+use mathlib.Core.Bool.{true, false≢true}
+use mathlib.Core.List.{List, [], _∷_}
+use lib.ListN.{length}
+use lib.Dec.{eqb}
+use borrow.Author.Tests.{eqb-true, eq-eqb, ne-eqb}
+use Rattle.rules.specs.Lists.{any}
+use Rattle.rules.specs.Sheets.{Gate, usedBy}
+use Rattle.rules.specs.Value.{value}
+use Rattle.rules.specs.Groups.{member, wholeGroup}
+use Rattle.rules.specs.Settled.{groupOf}
+use Rattle.rules.specs.Kept.{RefersBack, GateRules, EarlierUsed, IsNet}
+use Rattle.trees.specs.Trees.{Tree, wiringIn, treeValue, EachOnce, Filled}
+use Rattle.trees.specs.Members.{member-ext, member-single, member-whole, whole-below}
+use Rattle.trees.specs.Wirings.{group-below}
+use Rattle.trees.specs.Distinct.{In, NotIn, cons-not-in, not-false-true, all-stand}
+use Rattle.trees.specs.Forest.{treeAt, withTrees, inputTrees, trees-length, inputs-length, last-value}
+use Rattle.trees.specs.Homes.{Home, Grown, groupAt, grown-inputs, grown-gates}
+
+-- the tree that a gate list is
+pub record TreeOf (m n : ℕ) (gates : List Gate) : Type 0 where
+  pub tree : Tree
+  pub once : EachOnce n (wiringIn tree)
+  pub filled : Filled m tree
+  -- its leaves are the inputs that the gates use
+  pub leaves : (i : ℕ) → i < n → member i (groupOf (wiringIn tree)) ≡ any (eqb i) (usedBy gates)
+  pub same : (p : ℕ) → value m n gates p ≡ treeValue m n tree p
+
+-- ---- the references
+
+-- the last gate's reference, and what is past it, is not used; `k` references stand before the gates
+past-unused : (k : ℕ) (gates : List Gate) → RefersBack k gates → (r : ℕ) → k + length gates ≤ suc r → NotIn r (usedBy gates)
+unfolding usedBy any
+past-unused k [] back r h = refl
+past-unused k (g ∷ gates) back r h =
+    cons-not-in r (g .left) (g .right ∷ usedBy gates) (λ e. omega arith)
+    (cons-not-in r (g .right) (usedBy gates) (λ e. omega arith) (past-unused (suc k) gates (back .2) r (omega arith)))
+
+-- each gate uses two references
+used-length : (gates : List Gate) → length (usedBy gates) ≡ length gates + length gates
+unfolding usedBy
+used-length [] = refl
+used-length (g ∷ gates) = omega (arith, used-length gates)
+
+-- ---- the tree
+
+module _ (m n : ℕ) (gates : List Gate) (rules : GateRules m n gates) where
+  -- the trees of all references
+  abbrev forest : List Tree
+  forest = withTrees (inputTrees n) gates
+
+  -- the last gate's reference
+  abbrev last : ℕ
+  last = n + length gates - 1
+
+  forest-length : length forest ≡ n + length gates
+  forest-length = trees-length (inputTrees n) gates ∙ rw inputs-length
+
+  -- after all gates, each input is below exactly one reference that is not used
+  grown : Grown m n (usedBy gates) forest
+  grown = grown-gates m n gates [] (inputTrees n) (grown-inputs m n) (rw inputs-length (rules .back)) (rules .once) (rules .tables)
+
+  module _ (i : ℕ) (i< : i < n) where
+    abbrev home : Home (usedBy gates) forest i
+    home = grown .home i i<
+
+    -- an input that is not used is its own home
+    own-home : NotIn i (usedBy gates) → home .at ≡ i
+    unfolding groupOf
+    own-home free =
+        eqb-true (home .at) i (sym (home .sole i (omega (arith, forest-length)) free)
+        ∙ rw (grown .inputs i i<) (member-single i i ∙ eq-eqb i i refl))
+
+    -- and an input that is a home is its own
+    home-input : home .at < n → home .at ≡ i
+    unfolding groupOf
+    home-input low =
+        sym (eqb-true i (home .at) (sym (member-single i (home .at))
+        ∙ rw (grown .inputs (home .at) low) at (home .sole (home .at) (home .below) (home .unused)) ∙ eq-eqb (home .at) (home .at) refl))
+
+    -- no home is a gate before the last
+    home-late : EarlierUsed n gates → n ≤ home .at → home .at < last → ⊥
+    home-late used high early =
+        let place : n + (home .at - n) ≡ home .at = omega arith in
+        false≢true (sym (home .unused) ∙ rw place at (used (home .at - n) (omega arith)))
+
+    -- so an input's home is the last gate if it is used, and the input itself if it is not
+    last-member : 0 < length gates → EarlierUsed n gates → member i (groupAt forest last) ≡ any (eqb i) (usedBy gates)
+    last-member some used =
+        home .sole last (omega (arith, forest-length)) (past-unused n gates (rules .back) last (omega arith))
+        ∙ go (decLt (home .at) n) (decLt (home .at) last)
+      where
+        go : Dec (home .at < n) → Dec (home .at < last) → eqb (home .at) last ≡ any (eqb i) (usedBy gates)
+        go (yes low) _ = ne-eqb (home .at) last (λ e. omega arith) ∙ sym (rw (home-input low) at (home .unused))
+        go (no high) (yes early) = absurd (home-late used (omega arith) early)
+        go (no high) (no late) =
+            eq-eqb (home .at) last (omega (arith, home .below, forest-length))
+            ∙ sym (not-false-true (any (eqb i) (usedBy gates)) (λ free. omega (arith, own-home free)))
+
+-- the tree of the last gate
+pub net-is-tree : (m n : ℕ) (gates : List Gate) → 0 < length gates → GateRules m n gates → EarlierUsed n gates → TreeOf m n gates
+net-is-tree m n gates some rules used =
+    let trees = grown m n gates rules in
+    let last = n + length gates - 1 in
+    let last< : last < length (withTrees (inputTrees n) gates) = omega (arith, forest-length m n gates rules) in
+    record {
+      tree = treeAt (withTrees (inputTrees n) gates) last;
+      once = trees .once last last<;
+      filled = trees .filled last last<;
+      leaves = λ i i<. last-member m n gates rules i i< some used;
+      same = λ p. last-value m n p gates some (rules .back);
+    }
+
+-- ---- a net
+
+-- every reference below the last gate's is used
+net-uses : (m n : ℕ) (gates : List Gate) → IsNet m n gates → (r : ℕ) → suc r < n + length gates → In r (usedBy gates)
+net-uses m n gates net r h =
+    all-stand (length gates + length gates) (usedBy gates) (net .rules .once)
+    (λ z k. past-unused n gates (net .rules .back) z (omega (arith, net .count)))
+    (omega (arith, used-length gates)) r (omega (arith, net .count))
+
+-- "The 2n − 2 references then use every input and every gate but the last once"
+pub net-uses-gates : (m n : ℕ) (gates : List Gate) → IsNet m n gates → EarlierUsed n gates
+net-uses-gates m n gates net k h = net-uses m n gates net (n + k) (omega arith)
+
+-- where there are two inputs or more: with one there is no gate to use it
+pub net-uses-inputs : (m n : ℕ) (gates : List Gate) → 1 < n → IsNet m n gates → (i : ℕ) → i < n → any (eqb i) (usedBy gates) ≡ true
+net-uses-inputs m n gates h net i i< = net-uses m n gates net i (omega (arith, net .count))
+
+-- a net's tree
+pub net-tree : (m n : ℕ) (gates : List Gate) → 1 < n → IsNet m n gates → TreeOf m n gates
+net-tree m n gates h net = net-is-tree m n gates (omega (arith, net .count)) (net .rules) (net-uses-gates m n gates net)
+
+-- its leaves are all inputs
+pub net-whole : (m n : ℕ) (gates : List Gate) (h : 1 < n) (net : IsNet m n gates)
+    → groupOf (wiringIn (net-tree m n gates h net .tree)) ≡ wholeGroup n
+net-whole m n gates h net =
+    let t = net-tree m n gates h net in
+    member-ext n (groupOf (wiringIn (t .tree))) (wholeGroup n) (group-below n (wiringIn (t .tree)) (t .once)) (whole-below n)
+    (λ i i<. t .leaves i i< ∙ net-uses-inputs m n gates h net i i< ∙ sym (member-whole i n i<))

@@ -1,0 +1,79 @@
+-- The settled net depends on the table alone: two nets have the same settled net exactly when they compute the same table.
+-- Assumes nothing.
+use Prim.Native.Nat.{ℕ, zero, suc, _+_, _^_, _<_}
+use mathlib.Core.Path.{_≡_, refl, sym, ap, _∙_, subst, subst⁻¹}
+use mathlib.Core.Logic.{_↔_}
+use mathlib.Core.List.{List, [], _∷_, map}
+use native.Mathlib.Nat.{zero-add}
+use native.Mathlib.Omega.{arith}
+use lib.ListN.{length, getD, length-map}
+use lib.Seq.{ext-getD}
+use Rattle.rules.specs.Lists.{range}
+use Rattle.rules.specs.Sheets.{Gate, Net, Table}
+use Rattle.rules.specs.Value.{value, tableOf}
+use Rattle.rules.specs.Groups.{wholeGroup}
+use Rattle.rules.specs.Marks.{markIn, marksOf}
+use Rattle.rules.specs.Settled.{settledGates}
+use Rattle.rules.specs.Calls.{inkIn}
+use Rattle.rules.specs.Kept.{IsNet}
+use Rattle.trees.specs.Trees.{Computes, treeValue}
+use Rattle.trees.specs.Rows.{range-length, range-at, map-at}
+use Rattle.trees.specs.NetTree.{TreeOf, net-tree}
+use Rattle.trees.specs.Wirings.{tree-below}
+use Rattle.trees.specs.MarkRule.{marked}
+use Rattle.trees.specs.Existence.{net-marks, settled-net}
+
+module _ (m n : ℕ) where
+  pub table-length : (gates : List Gate) → length (tableOf m n gates) ≡ m ^ n
+  unfolding tableOf
+  table-length gates = length-map (range 0 (m ^ n)) (value m n gates) ∙ range-length 0 (m ^ n)
+
+  -- the table's entry at an index is the value there
+  pub table-at : (gates : List Gate) (p : ℕ) → p < m ^ n → inkIn (tableOf m n gates) p ≡ value m n gates p
+  unfolding tableOf
+  table-at gates p h =
+      map-at (value m n gates) (range 0 (m ^ n)) p 0 0 (subst⁻¹ (λ (k : ℕ). p < k) (range-length 0 (m ^ n)) h)
+      ∙ ap (value m n gates) (range-at 0 (m ^ n) p 0 h ∙ zero-add p)
+
+  -- a list of m to the n inks is the table of the gates that compute it
+  pub table-is : (gates : List Gate) (inks : List ℕ) → length inks ≡ m ^ n → Computes m n gates (inkIn inks) → tableOf m n gates ≡ inks
+  table-is gates inks count has =
+      ext-getD 0 (tableOf m n gates) inks (table-length gates ∙ sym count)
+      (λ p h. let h' : p < m ^ n = subst (λ (k : ℕ). p < k) (table-length gates) h in table-at gates p h' ∙ has p h')
+
+-- the settled net of the table that a gate list computes
+unfoldable pub settledOf : ℕ → ℕ → List Gate → List Gate
+settledOf m n gates = settledGates m n (inkIn (tableOf m n gates)) (marksOf m n (inkIn (tableOf m n gates)))
+
+module _ (m n : ℕ) (pos : 0 < m) (several : 1 < n) where
+  -- a net's inks are below m
+  pub net-inks : (gates : List Gate) → IsNet m n gates → (p : ℕ) → p < m ^ n → inkIn (tableOf m n gates) p < m
+  net-inks gates net p h =
+      let t : TreeOf m n gates = net-tree m n gates several net in
+      subst⁻¹ (λ (k : ℕ). k < m) (table-at m n gates p h ∙ t .same p)
+      (tree-below m n pos (λ k. k) (t .tree) (t .filled) p)
+
+  -- a net's table gives the whole group mark 2
+  pub net-two : (gates : List Gate) → IsNet m n gates → marked m n pos (inkIn (tableOf m n gates)) (wholeGroup n) ≡ 2
+  net-two gates net = net-marks m n pos several (inkIn (tableOf m n gates)) gates net (λ p h. sym (table-at m n gates p h))
+
+  -- a net settles to a net with its table
+  pub settled-is-net : (gates : List Gate) → IsNet m n gates → IsNet m n (settledOf m n gates)
+  unfolding settledOf
+  settled-is-net gates net =
+      settled-net m n pos several (inkIn (tableOf m n gates)) (net-inks gates net) (net-two gates net) .0
+
+  pub settled-table : (gates : List Gate) → IsNet m n gates → tableOf m n (settledOf m n gates) ≡ tableOf m n gates
+  unfolding settledOf
+  settled-table gates net =
+      table-is m n (settledOf m n gates) (tableOf m n gates) (table-length m n gates)
+      (settled-net m n pos several (inkIn (tableOf m n gates)) (net-inks gates net) (net-two gates net) .1)
+
+  -- Two nets have the same settled net exactly when they compute the same table.
+  pub settled-unique : (g h : List Gate) → IsNet m n g → IsNet m n h
+      → (settledOf m n g ≡ settledOf m n h) ↔ (tableOf m n g ≡ tableOf m n h)
+  unfolding settledOf
+  settled-unique g h net-g net-h = (
+    λ e. sym (settled-table g net-g) ∙ ap (tableOf m n) e ∙ settled-table h net-h,
+    λ e. ap (λ (inks : List ℕ). settledGates m n (inkIn inks) (marksOf m n (inkIn inks))) e,
+  )

@@ -1,0 +1,1 @@
+// The theory of the definitions in `rules`, in specs/. This crate has no code.

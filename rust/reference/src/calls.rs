@@ -1,0 +1,141 @@
+//! Every call of document 01, with the buffers lent to it.
+//!
+//! "15 and 16 leave cells and marks written where the call has them, the output
+//! untouched. Every other refusal changes no buffer. Longer buffers keep their
+//! further bytes."
+
+use crate::groups::{capped_multiplicity, whole};
+use crate::limits::cell_count;
+use crate::marks::{self, first_stuck, marks_of};
+use crate::net::Table;
+use crate::refusal::{self, require, Refusal};
+use crate::settled::settled_net;
+use crate::sheet::{print_net_sheet, print_table_sheet, read_net_sheet, read_table_sheet, Header};
+
+/// What a check answers: "agreement or the lowest index that differs".
+#[derive(Clone, Copy, Debug, PartialEq, Eq)]
+pub enum Verdict {
+    Agree,
+    Differ(u64),
+}
+
+/// The classes of a group of bare cells, m + 1 if they are over m.
+/// Refusals 9, 10, 11.
+pub fn multiplicity(m: u64, n: u64, cells: &[u8], group: u64) -> Result<u64, Refusal> {
+    let table = bare_table(m, n, cells)?;
+    if group == 0 || group > whole(table.n) as u64 {
+        return Err(Refusal::new(refusal::GROUP, 0));
+    }
+    Ok(capped_multiplicity(&table, group as usize) as u64)
+}
+
+/// "Marking takes bare cells, writes the marks buffer and answers the whole
+/// group's mark." Refusals 9, 10, 14.
+pub fn marking(m: u64, n: u64, cells: &[u8], marks: &mut [u8]) -> Result<u8, Refusal> {
+    let table = bare_table(m, n, cells)?;
+    require(refusal::MARKS_SHORT, marks.len(), marks::needed(table.n))?;
+    let of_groups = marks_of(&table);
+    marks::store(&of_groups, marks);
+    Ok(of_groups[whole(table.n)])
+}
+
+/// A net sheet to the settled net sheet of its table.
+/// Refusals 1 to 8, 13, 14, 15.
+pub fn settle(
+    sheet: &[u8],
+    cells: &mut [u8],
+    marks: &mut [u8],
+    out: &mut [u8],
+) -> Result<usize, Refusal> {
+    let (header, net) = read_net_sheet(sheet)?;
+    write_settled(&header, &net.table(), cells, marks, out)
+}
+
+/// A table sheet to the settled net sheet of its table.
+/// Refusals 1 to 6, 13, 14, 16, 15.
+pub fn make(
+    sheet: &[u8],
+    cells: &mut [u8],
+    marks: &mut [u8],
+    out: &mut [u8],
+) -> Result<usize, Refusal> {
+    let (header, table) = read_table_sheet(sheet)?;
+    write_settled(&header, &table, cells, marks, out)
+}
+
+/// What settling and making share: the table into the cells, the marks into the
+/// marks, the settled sheet into the output.
+fn write_settled(
+    header: &Header,
+    table: &Table,
+    cells: &mut [u8],
+    marks: &mut [u8],
+    out: &mut [u8],
+) -> Result<usize, Refusal> {
+    require(refusal::CELLS_SHORT, cells.len(), table.inks.len())?;
+    require(refusal::MARKS_SHORT, marks.len(), marks::needed(table.n))?;
+    let of_groups = marks_of(table);
+    put(cells, &table.inks);
+    marks::store(&of_groups, marks);
+    let net = settled_net(table, &of_groups).ok_or_else(|| no_tree(&of_groups, table.n))?;
+    write_sheet(&print_net_sheet(header, &net), out)
+}
+
+fn no_tree(marks: &[u8], n: usize) -> Refusal {
+    let stuck = first_stuck(marks, n)
+        .expect("the whole group has at most m inks, so it has mark 1 when it has not 2");
+    Refusal::new(refusal::NO_TREE, stuck as u64)
+}
+
+/// A net sheet against a table sheet. "It puts the table sheet's inks in the
+/// cells buffer", whether they agree or not.
+/// Refusals: the net's 1 to 8, the table's 1 to 6, 12, 13.
+pub fn check(net_sheet: &[u8], table_sheet: &[u8], cells: &mut [u8]) -> Result<Verdict, Refusal> {
+    let (net_header, net) = read_net_sheet(net_sheet)?;
+    let (table_header, table) = read_table_sheet(table_sheet)?;
+    if net_header != table_header {
+        return Err(Refusal::new(refusal::UNLIKE_SHEETS, 0));
+    }
+    require(refusal::CELLS_SHORT, cells.len(), table.inks.len())?;
+    put(cells, &table.inks);
+    let values = net.table().inks;
+    let differing = (0..values.len()).find(|&index| values[index] != table.inks[index]);
+    Ok(match differing {
+        Some(index) => Verdict::Differ(index as u64),
+        None => Verdict::Agree,
+    })
+}
+
+/// A net sheet to the table sheet of its table. Refusals 1 to 8, 15.
+pub fn write_table(net_sheet: &[u8], out: &mut [u8]) -> Result<usize, Refusal> {
+    let (header, net) = read_net_sheet(net_sheet)?;
+    write_sheet(&print_table_sheet(&header, &net.table()), out)
+}
+
+/// "A call that writes a sheet answers its length, and the sheet is that many
+/// bytes from the front of the output."
+fn write_sheet(sheet: &[u8], out: &mut [u8]) -> Result<usize, Refusal> {
+    require(refusal::OUTPUT_SHORT, out.len(), sheet.len())?;
+    put(out, sheet);
+    Ok(sheet.len())
+}
+
+fn put(buffer: &mut [u8], bytes: &[u8]) {
+    buffer[..bytes.len()].copy_from_slice(bytes);
+}
+
+/// Bare cells as a table. 9: "m, n or the cell count outside a sheet's bounds,
+/// or length not m to the n". 10: "bare cell not below m; place its index".
+fn bare_table(m: u64, n: u64, cells: &[u8]) -> Result<Table, Refusal> {
+    if cell_count(m, n) != Some(cells.len() as u64) {
+        return Err(Refusal::new(refusal::BARE_SIZE, 0));
+    }
+    if let Some(index) = cells.iter().position(|&cell| u64::from(cell) >= m) {
+        return Err(Refusal::new(refusal::BARE_CELL, index as u64));
+    }
+    Ok(Table {
+        m: m as usize,
+        n: n as usize,
+        inks: cells.to_vec(),
+    })
+}

@@ -1,0 +1,206 @@
+//! Damaged sheets: what the readers of sheets are tried on.
+
+use crate::generate::Generator;
+use std::ops::Range;
+
+/// One way to spoil a sheet. The result may by chance still be a good sheet.
+#[derive(Clone, Copy, Debug, PartialEq, Eq)]
+pub enum Damage {
+    ChangeByte,
+    DropByte,
+    DoubleByte,
+    Cut,
+    SwapFields,
+    LeadingZero,
+    BadName,
+    BadReference,
+    AddLine,
+    DropLine,
+}
+
+impl Damage {
+    pub const ALL: [Damage; 10] = [
+        Damage::ChangeByte,
+        Damage::DropByte,
+        Damage::DoubleByte,
+        Damage::Cut,
+        Damage::SwapFields,
+        Damage::LeadingZero,
+        Damage::BadName,
+        Damage::BadReference,
+        Damage::AddLine,
+        Damage::DropLine,
+    ];
+}
+
+/// Bytes that tell readers apart: separators, look-alikes of separators, digits,
+/// letters, and bytes outside ASCII.
+pub const TELLING_BYTES: [u8; 13] = [
+    b' ', b'\n', b'\r', b'\t', 0, b'0', b'1', b'9', b'a', b'i', b'A', 0x80, 0xff,
+];
+
+impl Generator {
+    /// The sheet with one damage of a random kind.
+    pub fn damaged(&mut self, sheet: &[u8]) -> Vec<u8> {
+        let damage = *self.rng.pick(&Damage::ALL);
+        self.damage(sheet, damage)
+    }
+
+    /// The sheet with one damage of the given kind; unchanged if it has nothing
+    /// that can be damaged so.
+    pub fn damage(&mut self, sheet: &[u8], damage: Damage) -> Vec<u8> {
+        let fields = fields(sheet);
+        if fields.is_empty() {
+            return sheet.to_vec();
+        }
+        match damage {
+            Damage::ChangeByte => self.change_byte(sheet),
+            Damage::DropByte => drop_byte(sheet, self.rng.below(sheet.len())),
+            Damage::DoubleByte => double_byte(sheet, self.rng.below(sheet.len())),
+            Damage::Cut => sheet[..self.rng.below(sheet.len())].to_vec(),
+            Damage::SwapFields => self.swap_fields(sheet, &fields),
+            Damage::LeadingZero => self.leading_zero(sheet, &fields),
+            Damage::BadName => self.bad_name(sheet),
+            Damage::BadReference => self.bad_reference(sheet),
+            Damage::AddLine => self.add_line(sheet),
+            Damage::DropLine => self.drop_line(sheet),
+        }
+    }
+
+    fn change_byte(&mut self, sheet: &[u8]) -> Vec<u8> {
+        let place = self.rng.below(sheet.len());
+        change_byte(sheet, place, *self.rng.pick(&TELLING_BYTES))
+    }
+
+    fn swap_fields(&mut self, sheet: &[u8], fields: &[Range<usize>]) -> Vec<u8> {
+        let first = self.rng.pick(fields).clone();
+        let second = self.rng.pick(fields).clone();
+        let (early, late) = if first.start < second.start {
+            (first, second)
+        } else {
+            (second, first)
+        };
+        // The later field first, so that the earlier one's place still holds.
+        let swapped = replace(sheet, &late, &sheet[early.clone()]);
+        replace(&swapped, &early, &sheet[late])
+    }
+
+    fn leading_zero(&mut self, sheet: &[u8], fields: &[Range<usize>]) -> Vec<u8> {
+        let start = self.rng.pick(fields).start;
+        replace(sheet, &(start..start), b"0")
+    }
+
+    /// A name of line 3 made empty, too long, `ink`, or another name of line 3.
+    fn bad_name(&mut self, sheet: &[u8]) -> Vec<u8> {
+        let names = fields_of_line(sheet, 2);
+        if names.is_empty() {
+            return sheet.to_vec();
+        }
+        let name = self.rng.pick(&names).clone();
+        let other = self.rng.pick(&names).clone();
+        let choices: [&[u8]; 4] = [b"", b"ninebytes", b"ink", &sheet[other]];
+        let text = *self.rng.pick(&choices);
+        replace(sheet, &name, text)
+    }
+
+    /// A field that is a reference if this is a net sheet (an input level if it
+    /// is a table sheet) made a number that no reference may be.
+    fn bad_reference(&mut self, sheet: &[u8]) -> Vec<u8> {
+        let lines = lines(sheet).len();
+        if lines < 5 {
+            return sheet.to_vec();
+        }
+        let line = 4 + self.rng.below(lines - 4);
+        let fields = fields_of_line(sheet, line);
+        if fields.len() < 2 {
+            return sheet.to_vec();
+        }
+        let own = line - 3;
+        let choices = [
+            "0".to_string(),
+            "01".to_string(),
+            own.to_string(),
+            (own + 1).to_string(),
+            "123456789012345678901234567890".to_string(),
+        ];
+        let text = self.rng.pick(&choices).clone();
+        replace(sheet, &fields[self.rng.below(2)], text.as_bytes())
+    }
+
+    /// Some line again, before some line or at the end.
+    fn add_line(&mut self, sheet: &[u8]) -> Vec<u8> {
+        let mut lines = lines(sheet);
+        let line = *self.rng.pick(&lines);
+        lines.insert(self.rng.below(lines.len() + 1), line);
+        lines.concat()
+    }
+
+    fn drop_line(&mut self, sheet: &[u8]) -> Vec<u8> {
+        let mut lines = lines(sheet);
+        lines.remove(self.rng.below(lines.len()));
+        lines.concat()
+    }
+}
+
+/// Every sheet that differs from this one by one byte changed to a telling byte,
+/// dropped or doubled, and every shorter front part of it.
+pub fn byte_damages(sheet: &[u8]) -> impl Iterator<Item = Vec<u8>> + '_ {
+    (0..sheet.len()).flat_map(move |place| {
+        let changed = TELLING_BYTES.map(|byte| change_byte(sheet, place, byte));
+        let others = [
+            drop_byte(sheet, place),
+            double_byte(sheet, place),
+            sheet[..place].to_vec(),
+        ];
+        changed.into_iter().chain(others)
+    })
+}
+
+/// The lines of a sheet, each with its line feed if it has one.
+fn lines(sheet: &[u8]) -> Vec<&[u8]> {
+    sheet.split_inclusive(|&byte| byte == b'\n').collect()
+}
+
+/// Where the fields of a sheet lie.
+fn fields(sheet: &[u8]) -> Vec<Range<usize>> {
+    let mut fields = Vec::new();
+    let mut start = 0;
+    for (place, &byte) in sheet.iter().chain(b"\n").enumerate() {
+        if byte == b' ' || byte == b'\n' {
+            if start < place {
+                fields.push(start..place);
+            }
+            start = place + 1;
+        }
+    }
+    fields
+}
+
+/// Where the fields of one line lie, lines counted from 0.
+fn fields_of_line(sheet: &[u8], line: usize) -> Vec<Range<usize>> {
+    let lines = lines(sheet);
+    if line >= lines.len() {
+        return Vec::new();
+    }
+    let start = lines[..line].concat().len();
+    fields(lines[line])
+        .into_iter()
+        .map(|field| start + field.start..start + field.end)
+        .collect()
+}
+
+fn replace(sheet: &[u8], part: &Range<usize>, with: &[u8]) -> Vec<u8> {
+    [&sheet[..part.start], with, &sheet[part.end..]].concat()
+}
+
+fn change_byte(sheet: &[u8], place: usize, byte: u8) -> Vec<u8> {
+    replace(sheet, &(place..place + 1), &[byte])
+}
+
+fn drop_byte(sheet: &[u8], place: usize) -> Vec<u8> {
+    replace(sheet, &(place..place + 1), b"")
+}
+
+fn double_byte(sheet: &[u8], place: usize) -> Vec<u8> {
+    replace(sheet, &(place..place), &[sheet[place]])
+}

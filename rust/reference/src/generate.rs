@@ -1,0 +1,178 @@
+//! Seeded good sheets of every allowed size; `damage` spoils them. The same seed
+//! gives the same sheets.
+
+use crate::limits::{allowed_sizes, MOST_NAME_BYTES};
+use crate::net::{Gate, Net, Table, Wire};
+use crate::rng::Rng;
+use crate::sheet::{print_net_sheet, print_table_sheet, Header};
+
+/// Where a table comes from.
+#[derive(Clone, Copy, Debug, PartialEq, Eq)]
+pub enum TableKind {
+    /// The table of a random net: it has a tree.
+    OfNet,
+    /// The same with one ink changed.
+    OneInkChanged,
+    /// Any inks: at the larger sizes hardly ever with a tree.
+    Random,
+    /// One ink everywhere: every wiring computes it.
+    Constant,
+    /// The sum of the levels modulo m: every wiring computes it.
+    Sum,
+    /// Least and greatest by turns down the list of inputs.
+    MinMaxChain,
+}
+
+impl TableKind {
+    pub const ALL: [TableKind; 6] = [
+        TableKind::OfNet,
+        TableKind::OneInkChanged,
+        TableKind::Random,
+        TableKind::Constant,
+        TableKind::Sum,
+        TableKind::MinMaxChain,
+    ];
+}
+
+pub struct Generator {
+    pub rng: Rng,
+}
+
+impl Generator {
+    pub fn new(seed: u64) -> Generator {
+        Generator {
+            rng: Rng::new(seed),
+        }
+    }
+
+    /// Some allowed (m, n).
+    pub fn size(&mut self) -> (usize, usize) {
+        let (m, n) = *self.rng.pick(&allowed_sizes());
+        (m as usize, n as usize)
+    }
+
+    /// n different good names of 1 to 8 bytes.
+    pub fn names(&mut self, n: usize) -> Vec<Vec<u8>> {
+        let mut names: Vec<Vec<u8>> = Vec::new();
+        while names.len() < n {
+            let name = self.name();
+            if name != b"ink" && !names.contains(&name) {
+                names.push(name);
+            }
+        }
+        names
+    }
+
+    fn name(&mut self) -> Vec<u8> {
+        let mut name = vec![b'a' + self.rng.below(26) as u8];
+        for _ in 0..self.rng.below(MOST_NAME_BYTES) {
+            name.push(*self.rng.pick(b"abcdefghijklmnopqrstuvwxyz0123456789"));
+        }
+        name
+    }
+
+    pub fn header(&mut self, m: usize, n: usize) -> Header {
+        let names = self.names(n);
+        Header { m, n, names }
+    }
+
+    /// A net of any wiring: two loose ends are joined by a gate until one is
+    /// left, so the gates stand in a random order that is valid.
+    pub fn net(&mut self, m: usize, n: usize) -> Net {
+        let mut loose: Vec<Wire> = (0..n).map(Wire::Input).collect();
+        let mut gates = Vec::new();
+        while loose.len() > 1 {
+            let left = loose.swap_remove(self.rng.below(loose.len()));
+            let right = loose.swap_remove(self.rng.below(loose.len()));
+            let digits = self.digits(m);
+            gates.push(Gate {
+                left,
+                right,
+                digits,
+            });
+            loose.push(Wire::Gate(gates.len()));
+        }
+        Net { m, n, gates }
+    }
+
+    /// A gate's digits. Random digits alone would make deep nets nearly
+    /// constant, so many gates carry on all they are given.
+    fn digits(&mut self, m: usize) -> Vec<u8> {
+        let kind = self.rng.below(5);
+        let shift = self.rng.below(m);
+        let mut digits = Vec::new();
+        for u in 0..m {
+            for v in 0..m {
+                let digit = match kind {
+                    0 => (u + v + shift) % m,
+                    1 => u.min(v),
+                    2 => u.max(v),
+                    _ => self.rng.below(m),
+                };
+                digits.push(digit as u8);
+            }
+        }
+        digits
+    }
+
+    pub fn table(&mut self, m: usize, n: usize, kind: TableKind) -> Table {
+        match kind {
+            TableKind::OfNet => self.net(m, n).table(),
+            TableKind::OneInkChanged => self.one_ink_changed(m, n),
+            TableKind::Random => self.random_table(m, n),
+            TableKind::Constant => {
+                let ink = self.rng.level(m);
+                Table::of(m, n, |_| ink)
+            }
+            TableKind::Sum => Table::of(m, n, |levels| sum(levels, m)),
+            TableKind::MinMaxChain => Table::of(m, n, min_max_chain),
+        }
+    }
+
+    fn one_ink_changed(&mut self, m: usize, n: usize) -> Table {
+        let mut table = self.net(m, n).table();
+        let cell = self.rng.below(table.inks.len());
+        let step = 1 + self.rng.below(m - 1);
+        table.inks[cell] = ((usize::from(table.inks[cell]) + step) % m) as u8;
+        table
+    }
+
+    fn random_table(&mut self, m: usize, n: usize) -> Table {
+        let mut table = Table::of(m, n, |_| 0);
+        for ink in &mut table.inks {
+            *ink = self.rng.level(m);
+        }
+        table
+    }
+
+    /// A good net sheet.
+    pub fn net_sheet(&mut self, m: usize, n: usize) -> Vec<u8> {
+        let header = self.header(m, n);
+        let net = self.net(m, n);
+        print_net_sheet(&header, &net)
+    }
+
+    /// A good table sheet.
+    pub fn table_sheet(&mut self, m: usize, n: usize, kind: TableKind) -> Vec<u8> {
+        let header = self.header(m, n);
+        let table = self.table(m, n, kind);
+        print_table_sheet(&header, &table)
+    }
+}
+
+fn sum(levels: &[u8], m: usize) -> u8 {
+    let total: usize = levels.iter().map(|&level| usize::from(level)).sum();
+    (total % m) as u8
+}
+
+fn min_max_chain(levels: &[u8]) -> u8 {
+    let mut value = levels[0];
+    for (turn, &level) in levels[1..].iter().enumerate() {
+        value = if turn % 2 == 0 {
+            value.min(level)
+        } else {
+            value.max(level)
+        };
+    }
+    value
+}

@@ -1,0 +1,43 @@
+//! The second implementation of document 01 ("Shade nets"), written from its
+//! text alone. The proved implementation is held against this one.
+//!
+//! One module for one section of the document:
+//!
+//! | module     | document 01                                               |
+//! |------------|-----------------------------------------------------------|
+//! | `limits`   | "Sheets": the bounds, each in one place                   |
+//! | `refusal`  | "Turned back": a number, a place, the sheet it names      |
+//! | `fields`   | "Sheets": how a single field is judged                    |
+//! | `sheet`    | "Sheets": reading from the front, and printing            |
+//! | `net`      | "Value of a net"                                          |
+//! | `groups`   | "Groups": alike, classes, multiplicity                    |
+//! | `marks`    | "Marks", and how a mark is stored                         |
+//! | `settled`  | "The settled net"                                         |
+//! | `calls`    | every call with the buffers lent to it                    |
+//! | `lister`   | "Listing"                                                 |
+//! | `programs` | "Two programs"                                            |
+//! | `rng`, `generate`, `damage` | seeded sheets, good and damaged, for tests |
+//!
+//! Plain rather than quick: an assignment is a list of levels, a group's class
+//! is a column of inks, and nothing is reckoned that the text does not name.
+
+pub mod calls;
+pub mod damage;
+pub mod fields;
+pub mod generate;
+pub mod groups;
+pub mod limits;
+pub mod lister;
+pub mod marks;
+pub mod net;
+pub mod programs;
+pub mod refusal;
+pub mod rng;
+pub mod settled;
+pub mod sheet;
+
+pub use calls::{check, make, marking, multiplicity, settle, write_table, Verdict};
+pub use limits::allowed_sizes;
+pub use lister::Lister;
+pub use programs::{make_program, settle_program};
+pub use refusal::{Refusal, Sheet};

@@ -1,0 +1,51 @@
+//! The bounds of a sheet. Every bound of document 01 stands here and nowhere
+//! else, since a later request (K6) moves two of them.
+
+/// "Levels, written m, is one digit from 2 to 9."
+pub const LEAST_LEVELS: u64 = 2;
+pub const MOST_LEVELS: u64 = 9;
+
+/// "Inputs, written n, is 2 to 11 without leading zero."
+pub const LEAST_INPUTS: u64 = 2;
+pub const MOST_INPUTS: u64 = 11;
+
+/// "m to the power n, the number of cells, is at most 2,187."
+pub const MOST_CELLS: u64 = 2_187;
+
+/// "A name has 1 to 8 bytes."
+pub const MOST_NAME_BYTES: usize = 8;
+
+/// "The settled sheet's length, which is never over 512."
+pub const MOST_NET_SHEET_BYTES: usize = 512;
+
+/// "Two programs read standard input, at most its first 65,536 bytes."
+pub const PROGRAM_BYTES: usize = 65_536;
+
+/// The number of cells, if m, n and that number are within a sheet's bounds.
+/// Any two numbers may come in: the power stops growing at the bound.
+pub fn cell_count(m: u64, n: u64) -> Option<u64> {
+    if !(LEAST_LEVELS..=MOST_LEVELS).contains(&m) || !(LEAST_INPUTS..=MOST_INPUTS).contains(&n) {
+        return None;
+    }
+    let mut cells = 1;
+    for _ in 0..n {
+        cells *= m;
+        if cells > MOST_CELLS {
+            return None;
+        }
+    }
+    Some(cells)
+}
+
+/// Every (m, n) that a sheet may have, by rising m, then rising n.
+pub fn allowed_sizes() -> Vec<(u64, u64)> {
+    let mut sizes = Vec::new();
+    for m in LEAST_LEVELS..=MOST_LEVELS {
+        for n in LEAST_INPUTS..=MOST_INPUTS {
+            if cell_count(m, n).is_some() {
+                sizes.push((m, n));
+            }
+        }
+    }
+    sizes
+}

@@ -1,0 +1,73 @@
+//! "Marks": which groups have few enough classes, and which of them can be
+//! built from inputs.
+
+use crate::groups::{capped_multiplicity, is_member, members, whole};
+use crate::net::Table;
+
+/// "0 if it is empty or its multiplicity is over m."
+pub const NONE: u8 = 0;
+/// "1 otherwise": few enough classes, but no split into two of mark 2.
+pub const STUCK: u8 = 1;
+/// "2 if it has one member, or its multiplicity is at most m and it parts into
+/// two non-empty groups that both have mark 2."
+pub const TREE: u8 = 2;
+
+/// The mark of every group, at the group's number.
+pub fn marks_of(table: &Table) -> Vec<u8> {
+    let mut marks = Vec::new();
+    for group in 0..=whole(table.n) {
+        // A part of a group has a lower number, so its mark is there already.
+        let mark = mark_of(table, group, &marks);
+        marks.push(mark);
+    }
+    marks
+}
+
+fn mark_of(table: &Table, group: usize, marks: &[u8]) -> u8 {
+    let size = members(group, table.n).len();
+    if size == 0 || capped_multiplicity(table, group) > table.m {
+        return NONE;
+    }
+    if size == 1 || split(marks, group, table.n).is_some() {
+        return TREE;
+    }
+    STUCK
+}
+
+/// A split of a group into (A, B), both of mark 2, "A holding its first-listed
+/// input, A of lowest number". As one of the two parts of any split holds the
+/// first-listed input, the group has a split at all exactly when it has one of
+/// these.
+pub fn split(marks: &[u8], group: usize, n: usize) -> Option<(usize, usize)> {
+    let first = *members(group, n).first()?;
+    for a in 1..group {
+        let is_part = a & group == a;
+        if is_part && is_member(a, first) && marks[a] == TREE && marks[group - a] == TREE {
+            return Some((a, group - a));
+        }
+    }
+    None
+}
+
+/// The place of refusal 16: "the group of fewest members, then lowest number,
+/// with mark 1".
+pub fn first_stuck(marks: &[u8], n: usize) -> Option<usize> {
+    (0..marks.len())
+        .filter(|&group| marks[group] == STUCK)
+        .min_by_key(|&group| (members(group, n).len(), group))
+}
+
+// How marks lie in a lent buffer: "one byte, at its number". A later request
+// (K7) changes this, and only the two functions below.
+
+/// The length that the marks of n inputs need.
+pub fn needed(n: usize) -> usize {
+    1 << n
+}
+
+/// Writes the marks to the front of a buffer that has the needed length.
+pub fn store(marks: &[u8], buffer: &mut [u8]) {
+    for (group, &mark) in marks.iter().enumerate() {
+        buffer[group] = mark;
+    }
+}

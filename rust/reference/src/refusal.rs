@@ -1,0 +1,62 @@
+//! What turns a call back: document 01's number and place.
+
+/// The sheet that a refusal names.
+///
+/// "A call that refuses either of two sheets judges the net first, and names
+/// the sheet it refuses; 12 names neither." Numbers 1 to 8 are about a sheet
+/// and name it, in the calls with one sheet too; 9 to 16 name neither.
+#[derive(Clone, Copy, Debug, PartialEq, Eq)]
+pub enum Sheet {
+    Net,
+    Table,
+    Neither,
+}
+
+#[derive(Clone, Copy, Debug, PartialEq, Eq)]
+pub struct Refusal {
+    pub number: u8,
+    pub place: u64,
+    pub sheet: Sheet,
+}
+
+// The numbers of document 01's two tables.
+pub const LAYOUT: u8 = 1;
+pub const LEVELS: u8 = 2;
+pub const INPUTS: u8 = 3;
+pub const NAME: u8 = 4;
+pub const COUNT: u8 = 5;
+pub const DIGITS: u8 = 6;
+pub const NO_REFERENT: u8 = 7;
+pub const USED_BEFORE: u8 = 8;
+pub const BARE_SIZE: u8 = 9;
+pub const BARE_CELL: u8 = 10;
+pub const GROUP: u8 = 11;
+pub const UNLIKE_SHEETS: u8 = 12;
+pub const CELLS_SHORT: u8 = 13;
+pub const MARKS_SHORT: u8 = 14;
+pub const OUTPUT_SHORT: u8 = 15;
+pub const NO_TREE: u8 = 16;
+
+impl Refusal {
+    /// A refusal that names no sheet (yet).
+    pub fn new(number: u8, place: u64) -> Refusal {
+        Refusal {
+            number,
+            place,
+            sheet: Sheet::Neither,
+        }
+    }
+
+    /// The same refusal, naming the sheet it is about.
+    pub fn naming(self, sheet: Sheet) -> Refusal {
+        Refusal { sheet, ..self }
+    }
+}
+
+/// "The place of 13 to 15 is the length needed."
+pub fn require(number: u8, lent: usize, needed: usize) -> Result<(), Refusal> {
+    if lent < needed {
+        return Err(Refusal::new(number, needed as u64));
+    }
+    Ok(())
+}

@@ -1,0 +1,221 @@
+//! "Sheets": reading them with the number and place of what is wrong, and
+//! printing them.
+//!
+//! "Sheets are judged from the front, field by field. An empty field is 1.
+//! Otherwise the field is judged, then the byte after it."
+
+use crate::fields::{
+    count_field, digit, digits_field, fixed_word, ink_field, inputs_field, levels_field,
+    name_field, reference_field, Judged,
+};
+use crate::net::{all_inputs, count_up, Gate, Net, Table, Wire};
+use crate::refusal::{self, Refusal, Sheet};
+
+const SPACE: u8 = b' ';
+const LINE_FEED: u8 = b'\n';
+
+/// The first three lines of a sheet, `ink` aside. Two headers are equal when m,
+/// n and the names in their order are.
+#[derive(Clone, Debug, PartialEq, Eq)]
+pub struct Header {
+    pub m: usize,
+    pub n: usize,
+    pub names: Vec<Vec<u8>>,
+}
+
+struct Reader<'a> {
+    sheet: &'a [u8],
+    at: usize,
+}
+
+impl<'a> Reader<'a> {
+    /// "A field is a longest run of bytes other than space and line feed": the
+    /// run that starts here, up to the sheet's end if need be.
+    fn run(&self) -> &'a [u8] {
+        let rest = &self.sheet[self.at..];
+        let ends = |&byte: &u8| byte == SPACE || byte == LINE_FEED;
+        let length = rest.iter().position(ends).unwrap_or(rest.len());
+        &rest[..length]
+    }
+
+    /// One field and the one byte due after it. "The place is the field's first
+    /// byte, or the byte where the separator should stand."
+    fn field<T>(
+        &mut self,
+        judge: impl FnOnce(&'a [u8]) -> Judged<T>,
+        separator: u8,
+    ) -> Result<T, Refusal> {
+        let field = self.run();
+        if field.is_empty() {
+            return Err(self.refuse(refusal::LAYOUT));
+        }
+        let value = judge(field).map_err(|number| self.refuse(number))?;
+        self.at += field.len();
+        if self.sheet.get(self.at) != Some(&separator) {
+            return Err(self.refuse(refusal::LAYOUT));
+        }
+        self.at += 1;
+        Ok(value)
+    }
+
+    /// "With nothing after its last line"; otherwise 1 at "the first byte after
+    /// the last line".
+    fn end(&self) -> Result<(), Refusal> {
+        if self.at < self.sheet.len() {
+            return Err(self.refuse(refusal::LAYOUT));
+        }
+        Ok(())
+    }
+
+    fn refuse(&self, number: u8) -> Refusal {
+        Refusal::new(number, self.at as u64)
+    }
+
+    /// The first two lines: m and n.
+    fn size(&mut self) -> Result<(usize, usize), Refusal> {
+        self.field(|field| fixed_word(field, b"levels"), SPACE)?;
+        self.field(|field| fixed_word(field, b"inputs"), LINE_FEED)?;
+        let m = self.field(levels_field, SPACE)?;
+        let n = self.field(|field| inputs_field(field, m), LINE_FEED)?;
+        Ok((m as usize, n as usize))
+    }
+
+    /// n names, the last with the given byte after it.
+    fn names(&mut self, n: usize, after_last: u8) -> Result<Vec<Vec<u8>>, Refusal> {
+        let mut names: Vec<Vec<u8>> = Vec::new();
+        for input in 0..n {
+            let separator = if input + 1 < n { SPACE } else { after_last };
+            let name = self.field(|field| name_field(field, &names), separator)?;
+            names.push(name.to_vec());
+        }
+        Ok(names)
+    }
+
+    /// The n - 1 gate lines.
+    fn gates(&mut self, header: &Header) -> Result<Vec<Gate>, Refusal> {
+        let mut used: Vec<Wire> = Vec::new();
+        let mut gates = Vec::new();
+        for number in 1..header.n {
+            let left = self.reference(header, number, &mut used)?;
+            let right = self.reference(header, number, &mut used)?;
+            let digits = self.field(|field| digits_field(field, header.m), LINE_FEED)?;
+            gates.push(Gate {
+                left,
+                right,
+                digits,
+            });
+        }
+        Ok(gates)
+    }
+
+    /// One of the references of the gate line of this number.
+    fn reference(
+        &mut self,
+        header: &Header,
+        number: usize,
+        used: &mut Vec<Wire>,
+    ) -> Result<Wire, Refusal> {
+        let wire = self.field(|field| reference_field(field, header, number, used), SPACE)?;
+        used.push(wire);
+        Ok(wire)
+    }
+
+    /// "Then one line for each cell: n input levels and the ink level. The input
+    /// levels count upward from all zeros, last input fastest."
+    fn inks(&mut self, header: &Header) -> Result<Vec<u8>, Refusal> {
+        let inputs = all_inputs(header.n);
+        let mut levels = vec![0; header.n];
+        let mut inks = Vec::new();
+        loop {
+            for &level in &levels {
+                self.field(|field| count_field(field, level), SPACE)?;
+            }
+            inks.push(self.field(|field| ink_field(field, header.m), LINE_FEED)?);
+            if !count_up(&mut levels, &inputs, header.m) {
+                return Ok(inks);
+            }
+        }
+    }
+}
+
+/// Reads a net sheet; a refusal names it.
+pub fn read_net_sheet(sheet: &[u8]) -> Result<(Header, Net), Refusal> {
+    read_net(sheet).map_err(|refusal| refusal.naming(Sheet::Net))
+}
+
+fn read_net(sheet: &[u8]) -> Result<(Header, Net), Refusal> {
+    let mut reader = Reader { sheet, at: 0 };
+    let (m, n) = reader.size()?;
+    let names = reader.names(n, LINE_FEED)?;
+    let header = Header { m, n, names };
+    reader.field(|field| fixed_word(field, b"left"), SPACE)?;
+    reader.field(|field| fixed_word(field, b"right"), SPACE)?;
+    reader.field(|field| fixed_word(field, b"table"), LINE_FEED)?;
+    let gates = reader.gates(&header)?;
+    reader.end()?;
+    Ok((header, Net { m, n, gates }))
+}
+
+/// Reads a table sheet; a refusal names it.
+pub fn read_table_sheet(sheet: &[u8]) -> Result<(Header, Table), Refusal> {
+    read_table(sheet).map_err(|refusal| refusal.naming(Sheet::Table))
+}
+
+fn read_table(sheet: &[u8]) -> Result<(Header, Table), Refusal> {
+    let mut reader = Reader { sheet, at: 0 };
+    let (m, n) = reader.size()?;
+    let names = reader.names(n, SPACE)?;
+    let header = Header { m, n, names };
+    reader.field(|field| fixed_word(field, b"ink"), LINE_FEED)?;
+    let inks = reader.inks(&header)?;
+    reader.end()?;
+    Ok((header, Table { m, n, inks }))
+}
+
+fn push_line(sheet: &mut Vec<u8>, fields: &[Vec<u8>]) {
+    sheet.extend(fields.join(&SPACE));
+    sheet.push(LINE_FEED);
+}
+
+/// The first two lines.
+fn print_size(header: &Header) -> Vec<u8> {
+    format!("levels inputs\n{} {}\n", header.m, header.n).into_bytes()
+}
+
+/// The net sheet with this header and these gates.
+pub fn print_net_sheet(header: &Header, net: &Net) -> Vec<u8> {
+    let mut sheet = print_size(header);
+    push_line(&mut sheet, &header.names);
+    sheet.extend(b"left right table\n");
+    for gate in &net.gates {
+        let left = reference_text(header, gate.left);
+        let right = reference_text(header, gate.right);
+        let digits = gate.digits.iter().map(|&level| digit(level)).collect();
+        push_line(&mut sheet, &[left, right, digits]);
+    }
+    sheet
+}
+
+fn reference_text(header: &Header, wire: Wire) -> Vec<u8> {
+    match wire {
+        Wire::Input(input) => header.names[input].clone(),
+        Wire::Gate(number) => number.to_string().into_bytes(),
+    }
+}
+
+/// The table sheet with this header and these inks.
+pub fn print_table_sheet(header: &Header, table: &Table) -> Vec<u8> {
+    let mut sheet = print_size(header);
+    let mut names = header.names.clone();
+    names.push(b"ink".to_vec());
+    push_line(&mut sheet, &names);
+    let inputs = all_inputs(header.n);
+    let mut levels = vec![0; header.n];
+    for &ink in &table.inks {
+        let row: Vec<u8> = levels.iter().chain([&ink]).map(|&l| digit(l)).collect();
+        let fields: Vec<Vec<u8>> = row.iter().map(|&byte| vec![byte]).collect();
+        push_line(&mut sheet, &fields);
+        count_up(&mut levels, &inputs, header.m);
+    }
+    sheet
+}

@@ -1,0 +1,157 @@
+//! The two calls on bare cells: refusals 9, 10 and 11, and the count of classes.
+
+mod common;
+
+use common::*;
+use reference::generate::{Generator, TableKind};
+use reference::{allowed_sizes, marking, multiplicity};
+use std::collections::{HashMap, HashSet};
+
+/// Sizes that would wrap round to a small number of cells, and all others that
+/// are out of bounds.
+#[test]
+fn refusal_9_bare_sizes() {
+    let huge = u64::MAX;
+    let sizes = [
+        [(0, 2), (1, 2), (10, 2), (2, 0), (2, 1), (2, 12)],
+        [(3, 8), (4, 6), (5, 5), (6, 5), (7, 4), (8, 4)],
+        [(9, 4), (0, 0), (1, 1), (2, 64), (2, 65), (4, 32)],
+        [
+            (huge, 2),
+            (2, huge),
+            (huge, huge),
+            (1 << 32, 2),
+            (9, huge),
+            (1, huge),
+        ],
+    ];
+    for (m, n) in sizes.concat() {
+        let power = (m as u128).checked_pow(n.min(1 << 20) as u32);
+        let full = power.filter(|&cells| cells < 10_000).unwrap_or(0) as usize;
+        for length in [0, 1, full, 2_187, 4_096] {
+            let cells = vec![0; length];
+            let mut marks = [7; 4_096];
+            assert_eq!(
+                multiplicity(m, n, &cells, 1),
+                Err(of_neither(9, 0)),
+                "{m} {n}"
+            );
+            assert_eq!(
+                marking(m, n, &cells, &mut marks),
+                Err(of_neither(9, 0)),
+                "{m} {n}"
+            );
+            assert_eq!(marks, [7; 4_096]);
+        }
+    }
+}
+
+#[test]
+fn refusal_9_bare_lengths() {
+    for (m, n, need) in [(2, 2, 4), (2, 11, 2_048), (3, 7, 2_187), (9, 3, 729)] {
+        for length in [0, need - 1, need + 1] {
+            // Not below m, group 0 and no marks: 9 is judged before them all.
+            let cells = vec![200; length];
+            assert_eq!(multiplicity(m, n, &cells, 0), Err(of_neither(9, 0)));
+            assert_eq!(marking(m, n, &cells, &mut []), Err(of_neither(9, 0)));
+        }
+        assert_eq!(multiplicity(m, n, &vec![0; need], 1), Ok(1));
+    }
+}
+
+#[test]
+fn refusal_10_the_lowest_cell_not_below_m() {
+    for bad in [3, 4, 9, 255] {
+        for index in 0..9 {
+            let mut cells = [2; 9];
+            cells[index..].fill(bad);
+            let refusal = of_neither(10, index as u64);
+            // Before 11 and before 14.
+            assert_eq!(multiplicity(3, 2, &cells, 0), Err(refusal));
+            assert_eq!(multiplicity(3, 2, &cells, 1), Err(refusal));
+            assert_eq!(marking(3, 2, &cells, &mut []), Err(refusal));
+            let mut marks = [7; 4];
+            assert_eq!(marking(3, 2, &cells, &mut marks), Err(refusal));
+            assert_eq!(marks, [7; 4]);
+        }
+    }
+}
+
+#[test]
+fn refusal_11_groups() {
+    for (m, n) in [(2, 2), (2, 11), (3, 7), (9, 3)] {
+        let cells = vec![1; (m as usize).pow(n as u32)];
+        for group in [
+            0,
+            1 << n,
+            (1 << n) + 1,
+            1 << 32,
+            (1 << 32) + 1,
+            1 << 63,
+            u64::MAX,
+        ] {
+            assert_eq!(multiplicity(m, n, &cells, group), Err(of_neither(11, 0)));
+        }
+        for group in [1, (1 << n) - 1] {
+            assert_eq!(multiplicity(m, n, &cells, group), Ok(1));
+        }
+    }
+}
+
+/// "It answers the multiplicity if it is at most m, and otherwise m + 1."
+#[test]
+fn multiplicity_counts_up_to_m_and_one_more() {
+    for m in 2..=9 {
+        for count in 1..=m * m {
+            // The first input's group has m classes at most; the two together
+            // have as many as there are inks.
+            let inks = inks_of(m, 2, |x| (x[0] * m + x[1]).min(count - 1) % m);
+            let distinct = count.min(m) as u64;
+            assert_eq!(
+                multiplicity(m as u64, 2, &inks, 3),
+                Ok(distinct),
+                "{m} {count}"
+            );
+        }
+        // Three inputs, each pair of levels of the first two another column.
+        let inks = inks_of(m, 3, |x| if x[2] == 0 { x[0] } else { x[1] });
+        assert_eq!(multiplicity(m as u64, 3, &inks, 3), Ok(m as u64 + 1));
+        assert_eq!(multiplicity(m as u64, 3, &inks, 4), Ok(2));
+    }
+}
+
+/// The number of different columns: the cells parted by the levels of the
+/// group's members.
+fn count_of_columns(m: usize, n: usize, inks: &[u8], group: usize) -> usize {
+    let mut columns: HashMap<Vec<usize>, Vec<u8>> = HashMap::new();
+    for (index, &ink) in inks.iter().enumerate() {
+        let levels = levels_of(index, m, n);
+        let members = (0..n).filter(|input| group & (1 << input) != 0);
+        let column = members.map(|input| levels[input]).collect();
+        columns.entry(column).or_default().push(ink);
+    }
+    columns.into_values().collect::<HashSet<_>>().len()
+}
+
+#[test]
+fn multiplicity_of_groups_at_every_size() {
+    let seed = 131;
+    println!("seed {seed}");
+    let mut generator = Generator::new(seed);
+    let (mut few, mut many) = (0, 0);
+    for (m, n) in allowed_sizes() {
+        for kind in TableKind::ALL {
+            let inks = generator.table(m as usize, n as usize, kind).inks;
+            for _ in 0..6 {
+                let group = 1 + generator.rng.below((1 << n) - 1);
+                let count = count_of_columns(m as usize, n as usize, &inks, group) as u64;
+                let answer = multiplicity(m, n, &inks, group as u64);
+                assert_eq!(answer, Ok(count.min(m + 1)), "{m} {n} {kind:?} {group}");
+                few += usize::from(count <= m);
+                many += usize::from(count > m);
+            }
+        }
+    }
+    println!("{few} groups with at most m classes, {many} with more");
+    assert!(few > 100 && many > 100);
+}

@@ -1,0 +1,258 @@
+//! What every call leaves in the buffers lent to it: each length around each
+//! need, with the bytes beyond the need and the bytes after a refusal.
+
+mod common;
+
+use common::*;
+use reference::{check, make, marking, settle, write_table, Refusal, Verdict};
+
+/// A lent buffer with something in it: no two neighbours are equal, and none is
+/// a level, a mark or a byte of a sheet.
+fn lent(length: usize) -> Vec<u8> {
+    (0..length).map(|place| 200 + (place % 50) as u8).collect()
+}
+
+/// What the buffer holds after `front` was written to it.
+fn written(length: usize, front: &[u8]) -> Vec<u8> {
+    let mut buffer = lent(length);
+    buffer[..front.len()].copy_from_slice(front);
+    buffer
+}
+
+/// 0, one less than the need, the need, one more, many more.
+fn lengths(need: usize) -> [usize; 5] {
+    [0, need - 1, need, need + 1, need + 60]
+}
+
+type Call = fn(&[u8], &mut [u8], &mut [u8], &mut [u8]) -> Result<usize, Refusal>;
+
+/// A sheet with what settling or making is to write from it.
+struct Example {
+    call: Call,
+    sheet: Vec<u8>,
+    cells: Vec<u8>,
+    marks: Vec<u8>,
+    /// The settled sheet, or refusal 16.
+    result: Result<Vec<u8>, Refusal>,
+}
+
+impl Example {
+    /// Document 01's order: 13, 14, 16, 15.
+    fn expected(&self, cells: usize, marks: usize, out: usize) -> Result<usize, Refusal> {
+        if cells < self.cells.len() {
+            return Err(of_neither(13, self.cells.len() as u64));
+        }
+        if marks < self.marks.len() {
+            return Err(of_neither(14, self.marks.len() as u64));
+        }
+        let length = self.result.as_ref().map_err(|refusal| *refusal)?.len();
+        if out < length {
+            return Err(of_neither(15, length as u64));
+        }
+        Ok(length)
+    }
+
+    fn assert_lengths(&self, cells: usize, marks: usize, out: usize) {
+        let (mut c, mut k, mut o) = (lent(cells), lent(marks), lent(out));
+        let result = (self.call)(&self.sheet, &mut c, &mut k, &mut o);
+        assert_eq!(result, self.expected(cells, marks, out));
+        let turned_back_early = result.is_err_and(|r| r.number == 13 || r.number == 14);
+        if turned_back_early {
+            assert_eq!((c, k), (lent(cells), lent(marks)));
+        } else {
+            assert_eq!(c, written(cells, &self.cells));
+            assert_eq!(k, written(marks, &self.marks));
+        }
+        match (result, &self.result) {
+            (Ok(_), Ok(sheet)) => assert_eq!(o, written(out, sheet)),
+            _ => assert_eq!(o, lent(out)),
+        }
+    }
+
+    fn assert_all_lengths(&self) {
+        let out_need = self.result.as_ref().map_or(300, Vec::len);
+        for cells in lengths(self.cells.len()) {
+            for marks in lengths(self.marks.len()) {
+                for out in lengths(out_need) {
+                    self.assert_lengths(cells, marks, out);
+                }
+            }
+        }
+    }
+}
+
+/// The exclusive or of three inputs: every group of several has two classes and
+/// a tree.
+#[test]
+fn settle_at_every_length() {
+    Example {
+        call: settle,
+        sheet: net_sheet(2, "a b c", "a b 0110/1 c 0110"),
+        cells: vec![0, 1, 1, 0, 1, 0, 0, 1],
+        marks: vec![0, 2, 2, 2, 2, 2, 2, 2],
+        result: Ok(net_sheet(2, "a b c", "b c 0110/a 1 0110")),
+    }
+    .assert_all_lengths();
+}
+
+/// Case 7, from its table.
+#[test]
+fn make_at_every_length() {
+    let rule = |x: &[usize]| {
+        let e = if x[3] == 0 { 0 } else { x[0] };
+        let most = e.max(x[1]);
+        usize::from((x[2] == 0 && most >= 1) || (x[2] == 1 && most == 2))
+    };
+    let gates = "a d 000011022/1 b 012112222/2 c 000100110";
+    Example {
+        call: make,
+        sheet: rule_sheet(3, "a b c d", rule),
+        cells: inks_of(3, 4, rule),
+        // {a, d}, {a, b, d} and the whole have trees, {a, b, c} has none.
+        marks: vec![0, 2, 2, 0, 2, 0, 0, 1, 2, 2, 0, 2, 0, 0, 0, 2],
+        result: Ok(net_sheet(3, "a b c d", gates)),
+    }
+    .assert_all_lengths();
+}
+
+/// Case 5: 16 comes before 15, and leaves cells and marks written.
+#[test]
+fn make_without_a_tree_at_every_length() {
+    let rule = |x: &[usize]| usize::from(x.iter().sum::<usize>() >= 2);
+    Example {
+        call: make,
+        sheet: rule_sheet(2, "a b c", rule),
+        cells: vec![0, 0, 0, 1, 0, 1, 1, 1],
+        marks: vec![0, 2, 2, 0, 2, 0, 0, 1],
+        result: Err(of_neither(16, 7)),
+    }
+    .assert_all_lengths();
+}
+
+/// The lengths needed at the largest sizes.
+#[test]
+fn settle_and_make_at_the_largest_sizes() {
+    for (m, n, cells) in [(2, 11, 2_048), (3, 7, 2_187), (9, 3, 729)] {
+        let names: Vec<String> = (0..n).map(|input| format!("x{input}")).collect();
+        let sheet = rule_sheet(m, &names.join(" "), |x| x.iter().sum::<usize>() % m);
+        let settled_sheet = made(&sheet).expect("a sum has a tree");
+        let marks = [vec![0], vec![2; (1 << n) - 1]].concat();
+        for (call, sheet) in [(settle as Call, settled_sheet.clone()), (make, sheet)] {
+            let example = Example {
+                call,
+                sheet,
+                cells: inks_of(m, n, |x| x.iter().sum::<usize>() % m),
+                marks: marks.clone(),
+                result: Ok(settled_sheet.clone()),
+            };
+            assert_eq!(example.cells.len(), cells);
+            let out = settled_sheet.len();
+            example.assert_lengths(cells, 1 << n, out);
+            example.assert_lengths(cells + 1, (1 << n) + 1, out + 1);
+            example.assert_lengths(cells - 1, 1 << n, out);
+            example.assert_lengths(cells, (1 << n) - 1, out);
+            example.assert_lengths(cells, 1 << n, out - 1);
+        }
+    }
+}
+
+/// 1 to 8 come before 13 to 15 and change no buffer.
+#[test]
+fn a_refused_sheet_changes_no_buffer() {
+    let sheets = [
+        "",
+        "levels inputs/1 2/",
+        "levels inputs/2 1/",
+        "levels inputs/2 2/a a",
+        "levels inputs/2 2/a b ink/1",
+        "levels inputs/2 2/a b ink/0 0 0/0 1 0/1 0 0/1 1 2/",
+        "levels inputs/2 2/a b ink/0 0 0/0 1 0/1 0 0/1 1 0/x",
+        "levels inputs/2 2/a b/left right table/a c",
+        "levels inputs/2 2/a b/left right table/a a",
+        "levels inputs/2 2/a b/left right table/a b 0002/",
+        "levels inputs/2 2/a b/left right table/a b 0001/x",
+    ];
+    for sheet in sheets.map(lines) {
+        for length in [0, 1, 100] {
+            for call in [settle as Call, make] {
+                let (mut c, mut k, mut o) = (lent(length), lent(length), lent(length));
+                let refusal = call(&sheet, &mut c, &mut k, &mut o).expect_err("a bad sheet");
+                assert!((1..=8).contains(&refusal.number));
+                assert_eq!([c, k, o], [(); 3].map(|_| lent(length)));
+            }
+            let mut out = lent(length);
+            let refusal = write_table(&sheet, &mut out).expect_err("a bad sheet");
+            assert!((1..=8).contains(&refusal.number));
+            assert_eq!(out, lent(length));
+            let mut cells = lent(length);
+            let refusal = check(&sheet, &sheet, &mut cells).expect_err("a bad sheet");
+            assert!((1..=8).contains(&refusal.number));
+            assert_eq!(cells, lent(length));
+        }
+    }
+}
+
+#[test]
+fn write_table_at_every_length() {
+    let net = net_sheet(3, "in out", "out in 001122012");
+    let table = lines(
+        "levels inputs/3 2/in out ink/0 0 0/0 1 1/0 2 0/1 0 0/1 1 2/1 2 1/2 0 1/2 1 2/2 2 2/",
+    );
+    for length in lengths(table.len()) {
+        let mut out = lent(length);
+        let result = write_table(&net, &mut out);
+        if length < table.len() {
+            assert_eq!(result, Err(of_neither(15, table.len() as u64)));
+            assert_eq!(out, lent(length));
+        } else {
+            assert_eq!(result, Ok(table.len()));
+            assert_eq!(out, written(length, &table));
+        }
+    }
+}
+
+/// "It puts the table sheet's inks in the cells buffer", agreeing or not.
+#[test]
+fn check_at_every_length() {
+    let net = net_sheet(2, "a b", "a b 0110");
+    let examples = [
+        ([0, 1, 1, 0], Verdict::Agree),
+        ([0, 1, 1, 1], Verdict::Differ(3)),
+        ([1, 0, 0, 1], Verdict::Differ(0)),
+    ];
+    for (inks, verdict) in examples {
+        let table = table_sheet(2, "a b", &inks);
+        for length in lengths(4) {
+            let mut cells = lent(length);
+            let result = check(&net, &table, &mut cells);
+            if length < 4 {
+                assert_eq!(result, Err(of_neither(13, 4)));
+                assert_eq!(cells, lent(length));
+            } else {
+                assert_eq!(result, Ok(verdict));
+                assert_eq!(cells, written(length, &inks));
+            }
+        }
+    }
+}
+
+#[test]
+fn marking_at_every_length() {
+    let examples: [(&[u8], &[u8], u8); 2] = [
+        (&[0, 0, 0, 1, 0, 1, 1, 1], &[0, 2, 2, 0, 2, 0, 0, 1], 1),
+        (&[0, 1, 1, 0, 1, 0, 0, 1], &[0, 2, 2, 2, 2, 2, 2, 2], 2),
+    ];
+    for (cells, expected, whole) in examples {
+        for length in lengths(8) {
+            let mut marks = lent(length);
+            let result = marking(2, 3, cells, &mut marks);
+            if length < 8 {
+                assert_eq!(result, Err(of_neither(14, 8)));
+                assert_eq!(marks, lent(length));
+            } else {
+                assert_eq!(result, Ok(whole));
+                assert_eq!(marks, written(length, expected));
+            }
+        }
+    }
+}

@@ -1,0 +1,106 @@
+//! Sheets spelled out, and the calls with buffers that are long enough. The
+//! sheets are spelled here without the library's printers, so that those are
+//! tested too.
+#![allow(dead_code)] // every test file uses its own part of this one
+
+use reference::limits::{MOST_CELLS, MOST_INPUTS, MOST_NET_SHEET_BYTES};
+use reference::{make, settle, write_table, Refusal, Sheet};
+
+/// Longer than any need of any allowed size: cells, marks, a net sheet, a table
+/// sheet.
+pub const CELLS: usize = MOST_CELLS as usize + 20;
+pub const MARKS: usize = (1 << MOST_INPUTS) + 20;
+pub const NET_SHEET: usize = MOST_NET_SHEET_BYTES + 20;
+pub const TABLE_SHEET: usize = 150_000;
+
+/// Document 01 parts lines by `/`.
+pub fn lines(text: &str) -> Vec<u8> {
+    text.replace('/', "\n").into_bytes()
+}
+
+/// A net sheet from m, the names parted by spaces, and gate lines parted by `/`.
+pub fn net_sheet(m: usize, names: &str, gates: &str) -> Vec<u8> {
+    let n = names.split(' ').count();
+    lines(&format!(
+        "levels inputs/{m} {n}/{names}/left right table/{gates}/"
+    ))
+}
+
+/// The levels of the cell with this index.
+pub fn levels_of(index: usize, m: usize, n: usize) -> Vec<usize> {
+    let mut rest = index;
+    let mut levels = vec![0; n];
+    for input in (0..n).rev() {
+        levels[input] = rest % m;
+        rest /= m;
+    }
+    levels
+}
+
+/// The inks of a rule, in index order.
+pub fn inks_of(m: usize, n: usize, rule: impl Fn(&[usize]) -> usize) -> Vec<u8> {
+    (0..m.pow(n as u32))
+        .map(|index| rule(&levels_of(index, m, n)) as u8)
+        .collect()
+}
+
+/// A table sheet from m, the names parted by spaces, and the inks.
+pub fn table_sheet(m: usize, names: &str, inks: &[u8]) -> Vec<u8> {
+    let n = names.split(' ').count();
+    let mut text = format!("levels inputs\n{m} {n}\n{names} ink\n");
+    for (index, ink) in inks.iter().enumerate() {
+        for level in levels_of(index, m, n) {
+            text += &format!("{level} ");
+        }
+        text += &format!("{ink}\n");
+    }
+    text.into_bytes()
+}
+
+/// A table sheet from a rule.
+pub fn rule_sheet(m: usize, names: &str, rule: impl Fn(&[usize]) -> usize) -> Vec<u8> {
+    let n = names.split(' ').count();
+    table_sheet(m, names, &inks_of(m, n, rule))
+}
+
+pub fn settled(sheet: &[u8]) -> Result<Vec<u8>, Refusal> {
+    let (mut cells, mut marks, mut out) = ([7; CELLS], [7; MARKS], [7; NET_SHEET]);
+    let length = settle(sheet, &mut cells, &mut marks, &mut out)?;
+    Ok(out[..length].to_vec())
+}
+
+pub fn made(sheet: &[u8]) -> Result<Vec<u8>, Refusal> {
+    let (mut cells, mut marks, mut out) = ([7; CELLS], [7; MARKS], [7; NET_SHEET]);
+    let length = make(sheet, &mut cells, &mut marks, &mut out)?;
+    Ok(out[..length].to_vec())
+}
+
+pub fn table_written(sheet: &[u8]) -> Result<Vec<u8>, Refusal> {
+    let mut out = vec![7; TABLE_SHEET];
+    let length = write_table(sheet, &mut out)?;
+    Ok(out[..length].to_vec())
+}
+
+pub fn of_net(number: u8, place: u64) -> Refusal {
+    Refusal {
+        number,
+        place,
+        sheet: Sheet::Net,
+    }
+}
+
+pub fn of_table(number: u8, place: u64) -> Refusal {
+    Refusal {
+        number,
+        place,
+        sheet: Sheet::Table,
+    }
+}
+
+pub fn of_neither(number: u8, place: u64) -> Refusal {
+    Refusal {
+        number,
+        place,
+        sheet: Sheet::Neither,
+    }
+}

@@ -1,0 +1,201 @@
+//! The seeded generator: good sheets are accepted, damaged ones are judged.
+
+mod common;
+
+use common::*;
+use reference::damage::{byte_damages, Damage};
+use reference::generate::{Generator, TableKind};
+use reference::sheet::{print_net_sheet, print_table_sheet, read_net_sheet, read_table_sheet};
+use reference::{allowed_sizes, Refusal};
+use std::collections::HashMap;
+
+/// All sizes, and no other, as document 01's numbers give them.
+#[test]
+fn the_allowed_sizes() {
+    let most_inputs = [
+        (2, 11),
+        (3, 7),
+        (4, 5),
+        (5, 4),
+        (6, 4),
+        (7, 3),
+        (8, 3),
+        (9, 3),
+    ];
+    let mut expected = Vec::new();
+    for (m, most) in most_inputs {
+        expected.extend((2..=most).map(|n| (m, n)));
+    }
+    assert_eq!(allowed_sizes(), expected);
+}
+
+#[test]
+fn good_sheets_are_accepted_at_every_size() {
+    for seed in 1..=3 {
+        println!("seed {seed}");
+        let mut generator = Generator::new(seed);
+        for (m, n) in allowed_sizes() {
+            let (m, n) = (m as usize, n as usize);
+            let net = generator.net_sheet(m, n);
+            let (header, gates) = read_net_sheet(&net).expect("a good net sheet");
+            assert_eq!((header.m, header.n), (m, n));
+            assert_eq!(print_net_sheet(&header, &gates), net);
+            for kind in TableKind::ALL {
+                let sheet = generator.table_sheet(m, n, kind);
+                let (header, table) = read_table_sheet(&sheet).expect("a good table sheet");
+                assert_eq!((header.m, header.n), (m, n));
+                assert_eq!(print_table_sheet(&header, &table), sheet);
+            }
+        }
+    }
+}
+
+#[test]
+fn the_same_seed_gives_the_same_sheets() {
+    let sheets = |seed| {
+        let mut generator = Generator::new(seed);
+        let (m, n) = generator.size();
+        let net = generator.net_sheet(m, n);
+        let damaged = generator.damaged(&net);
+        (net, damaged)
+    };
+    assert_eq!(sheets(5), sheets(5));
+    assert_ne!(sheets(5), sheets(6));
+}
+
+/// What has a tree by its making is made; what has none by chance is refused.
+#[test]
+fn tables_are_made_or_refused_as_their_kind_tells() {
+    let seed = 91;
+    println!("seed {seed}");
+    let mut generator = Generator::new(seed);
+    for (m, n) in allowed_sizes() {
+        for kind in TableKind::ALL {
+            let result = made(&generator.table_sheet(m as usize, n as usize, kind));
+            match kind {
+                TableKind::Random if n >= 4 => {
+                    assert_eq!(result.expect_err("no tree").number, 16, "{m} {n}")
+                }
+                TableKind::Random | TableKind::OneInkChanged => {}
+                _ => assert!(result.is_ok(), "{m} {n} {kind:?}"),
+            }
+        }
+    }
+}
+
+/// The end of the run of bytes that starts at the refused place.
+fn end_of_field(sheet: &[u8], place: usize) -> usize {
+    let rest = &sheet[place..];
+    let ends = |&byte: &u8| byte == b' ' || byte == b'\n';
+    place + rest.iter().position(ends).unwrap_or(rest.len())
+}
+
+/// "Sheets are judged from the front": what lies behind the refused field and
+/// the byte after it does not matter.
+fn assert_judged_from_the_front(
+    sheet: &[u8],
+    refusal: Refusal,
+    judge: impl Fn(&[u8]) -> Result<(), Refusal>,
+) {
+    let place = refusal.place as usize;
+    assert!(place <= sheet.len());
+    let end = end_of_field(sheet, place);
+    if end < sheet.len() {
+        let front = &sheet[..=end];
+        assert_eq!(judge(front), Err(refusal));
+        assert_eq!(judge(&[front, b"\n\xff 12345 x\n"].concat()), Err(refusal));
+    }
+}
+
+fn judge_net(sheet: &[u8]) -> Result<(), Refusal> {
+    let (header, net) = read_net_sheet(sheet)?;
+    // An accepted sheet is the one print of what was read from it.
+    assert_eq!(print_net_sheet(&header, &net), sheet);
+    Ok(())
+}
+
+fn judge_table(sheet: &[u8]) -> Result<(), Refusal> {
+    let (header, table) = read_table_sheet(sheet)?;
+    assert_eq!(print_table_sheet(&header, &table), sheet);
+    Ok(())
+}
+
+/// Judges a damaged sheet as a net and as a table; counts what was answered.
+fn judge_both(sheet: &[u8], answers: &mut HashMap<u8, usize>) {
+    for judge in [judge_net, judge_table] {
+        let number = match judge(sheet) {
+            Ok(()) => 0,
+            Err(refusal) => {
+                assert_judged_from_the_front(sheet, refusal, judge);
+                refusal.number
+            }
+        };
+        *answers.entry(number).or_default() += 1;
+    }
+}
+
+/// Every number of a sheet turns up, and so does acceptance.
+fn assert_all_answers(answers: &HashMap<u8, usize>) {
+    println!("answers: {answers:?}");
+    for number in 0..=8 {
+        assert!(answers.contains_key(&number), "{number}");
+    }
+}
+
+#[test]
+fn damaged_sheets_are_judged() {
+    let mut answers = HashMap::new();
+    for seed in 100..104 {
+        println!("seed {seed}");
+        let mut generator = Generator::new(seed);
+        for (m, n) in allowed_sizes() {
+            let (m, n) = (m as usize, n as usize);
+            let net = generator.net_sheet(m, n);
+            let table = generator.table_sheet(m, n, TableKind::OfNet);
+            for damage in Damage::ALL {
+                for sheet in [&net, &table] {
+                    let once = generator.damage(sheet, damage);
+                    judge_both(&once, &mut answers);
+                    judge_both(&generator.damaged(&once), &mut answers);
+                }
+            }
+        }
+    }
+    assert_all_answers(&answers);
+}
+
+#[test]
+fn every_byte_of_a_sheet_damaged() {
+    let mut generator = Generator::new(110);
+    let mut answers = HashMap::new();
+    for (m, n) in [(2, 4), (3, 3), (2, 11), (9, 2)] {
+        let net = generator.net_sheet(m, n);
+        byte_damages(&net).for_each(|sheet| judge_both(&sheet, &mut answers));
+    }
+    for (m, n) in [(2, 4), (3, 2)] {
+        let table = generator.table_sheet(m, n, TableKind::Random);
+        byte_damages(&table).for_each(|sheet| judge_both(&sheet, &mut answers));
+    }
+    assert_all_answers(&answers);
+}
+
+/// Damaged sheets through the calls themselves, buffers and all.
+#[test]
+fn damaged_sheets_go_through_the_calls() {
+    let seed = 120;
+    println!("seed {seed}");
+    let mut generator = Generator::new(seed);
+    for _ in 0..400 {
+        let (m, n) = generator.size();
+        let net = generator.net_sheet(m, n);
+        let damaged = generator.damaged(&net);
+        assert_eq!(settled(&damaged).map(drop), judge_net(&damaged));
+        let table = generator.table_sheet(m, n, TableKind::OfNet);
+        let damaged = generator.damaged(&table);
+        let result = made(&damaged).map(drop);
+        match judge_table(&damaged) {
+            Err(refusal) => assert_eq!(result, Err(refusal)),
+            Ok(()) => assert!(result.is_ok() || result.is_err_and(|r| r.number == 16)),
+        }
+    }
+}

@@ -1,0 +1,86 @@
+//! The binary: standard input to standard output, exit status 0 at both kinds of
+//! end.
+
+mod common;
+
+use common::*;
+use reference::{make_program, settle_program};
+use std::io::Write;
+use std::process::{Command, Stdio};
+use std::thread::sleep;
+use std::time::Duration;
+
+/// Runs `reference NAME` with the pieces on standard input, one write a piece.
+fn run(name: &str, pieces: &[&[u8]]) -> Vec<u8> {
+    let mut child = Command::new(env!("CARGO_BIN_EXE_reference"))
+        .arg(name)
+        .stdin(Stdio::piped())
+        .stdout(Stdio::piped())
+        .spawn()
+        .expect("the binary starts");
+    let mut stdin = child.stdin.take().expect("a pipe");
+    for piece in pieces {
+        // The program may have read all it wants and gone.
+        let _ = stdin.write_all(piece);
+        let _ = stdin.flush();
+        sleep(Duration::from_millis(5));
+    }
+    drop(stdin);
+    let output = child.wait_with_output().expect("the binary ends");
+    assert!(output.status.success());
+    output.stdout
+}
+
+const CASE_2: &str = "levels inputs/2 3/a b c/left right table/a b 0110/1 c 0110/";
+const CASE_2_SETTLED: &str = "levels inputs/2 3/a b c/left right table/b c 0110/a 1 0110/";
+
+#[test]
+fn settle_prints_the_settled_sheet() {
+    assert_eq!(run("settle", &[&lines(CASE_2)]), lines(CASE_2_SETTLED));
+}
+
+#[test]
+fn make_prints_the_settled_sheet() {
+    let table = table_written(&lines(CASE_2)).expect("accepted");
+    assert_eq!(run("make", &[&table]), lines(CASE_2_SETTLED));
+}
+
+#[test]
+fn a_short_read_is_not_the_end() {
+    let sheet = lines(CASE_2);
+    let pieces: Vec<&[u8]> = sheet.chunks(7).collect();
+    assert_eq!(run("settle", &pieces), lines(CASE_2_SETTLED));
+}
+
+#[test]
+fn a_refusal_is_two_lines() {
+    let sheet = lines("levels inputs/2 2/a b/left right table/a a 0001/");
+    assert_eq!(run("settle", &[&sheet]), b"number place\n8 41\n");
+    assert_eq!(run("settle", &[]), b"number place\n1 0\n");
+    let rule = |x: &[usize]| usize::from(x.iter().sum::<usize>() >= 2);
+    let table = rule_sheet(2, "a b c", rule);
+    assert_eq!(run("make", &[&table]), b"number place\n16 7\n");
+}
+
+/// A sheet that goes on past the first 65,536 bytes is turned back like its
+/// front part, and the rest need not be read.
+#[test]
+fn more_bytes_than_are_read() {
+    let sheet = lines(CASE_2);
+    let refusal = format!("number place\n1 {}\n", sheet.len()).into_bytes();
+    let long = [sheet, vec![b'x'; 200_000]].concat();
+    assert_eq!(run("settle", &[&long]), refusal);
+    assert_eq!(settle_program(&long), refusal);
+    assert_eq!(settle_program(&long[..65_536]), refusal);
+    assert_eq!(make_program(&vec![b' '; 100_000]), b"number place\n1 0\n");
+}
+
+/// The largest table sheet, with names of 8 bytes, is within the bytes read.
+#[test]
+fn the_largest_table_sheet_goes_through_the_program() {
+    let names: Vec<String> = (0..11).map(|input| format!("longna{input:02}")).collect();
+    let table = rule_sheet(2, &names.join(" "), |x| x.iter().sum::<usize>() % 2);
+    assert!(table.len() < 65_536);
+    let net = made(&table).expect("a sum has a tree");
+    assert_eq!(run("make", &[&table]), net);
+}

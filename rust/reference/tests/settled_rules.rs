@@ -1,0 +1,218 @@
+//! Every sentence of "The settled net", held against the settled sheet itself at
+//! every size: the wiring, the order of the gate lines, the digits.
+
+mod common;
+
+use common::*;
+use reference::generate::{Generator, TableKind};
+use reference::{allowed_sizes, make, marking};
+
+/// A gate line as it stands on the sheet, with the group of inputs below it.
+struct Line {
+    left: String,
+    right: String,
+    digits: Vec<usize>,
+    left_group: usize,
+    right_group: usize,
+}
+
+struct Settled {
+    m: usize,
+    n: usize,
+    names: Vec<String>,
+    inks: Vec<u8>,
+    marks: Vec<u8>,
+    gates: Vec<Line>,
+}
+
+impl Settled {
+    /// Makes the table; none if it has no tree.
+    fn made_from(m: usize, n: usize, inks: Vec<u8>) -> Option<Settled> {
+        // The first-listed name is not the first in the alphabet.
+        let names: Vec<String> = (0..n).map(|input| format!("z{}", n - input)).collect();
+        let mut marks = vec![9; 1 << n];
+        marking(m as u64, n as u64, &inks, &mut marks).expect("good cells");
+        let sheet = table_sheet(m, &names.join(" "), &inks);
+        let (mut cells, mut k, mut out) = ([7; CELLS], [7; MARKS], [7; NET_SHEET]);
+        let length = make(&sheet, &mut cells, &mut k, &mut out).ok()?;
+        let text = String::from_utf8(out[..length].to_vec()).expect("ASCII");
+        let mut settled = Settled {
+            m,
+            n,
+            names,
+            inks,
+            marks,
+            gates: Vec::new(),
+        };
+        text.lines().skip(4).for_each(|line| settled.add(line));
+        Some(settled)
+    }
+
+    fn add(&mut self, line: &str) {
+        let [left, right, digits] = line.split(' ').collect::<Vec<_>>()[..] else {
+            panic!("three fields");
+        };
+        let digits = digits.bytes().map(|byte| usize::from(byte - b'0'));
+        self.gates.push(Line {
+            left_group: self.group(left),
+            right_group: self.group(right),
+            left: left.to_string(),
+            right: right.to_string(),
+            digits: digits.collect(),
+        });
+    }
+
+    /// The inputs below a reference.
+    fn group(&self, reference: &str) -> usize {
+        match self.gate(reference) {
+            Some(gate) => gate.left_group | gate.right_group,
+            None => {
+                1 << self
+                    .names
+                    .iter()
+                    .position(|n| n == reference)
+                    .expect("an input")
+            }
+        }
+    }
+
+    fn gate(&self, reference: &str) -> Option<&Line> {
+        let number: usize = reference.parse().ok()?;
+        Some(&self.gates[number - 1])
+    }
+
+    fn value(&self, reference: &str, levels: &[usize]) -> usize {
+        match self.gate(reference) {
+            Some(gate) => {
+                let left = self.value(&gate.left, levels);
+                let right = self.value(&gate.right, levels);
+                gate.digits[left * self.m + right]
+            }
+            None => {
+                levels[self
+                    .names
+                    .iter()
+                    .position(|n| n == reference)
+                    .expect("an input")]
+            }
+        }
+    }
+
+    /// "A's, then B's, then the group's own": the numbers of the gates below a
+    /// reference in that order.
+    fn due_order(&self, reference: &str) -> Vec<usize> {
+        let Some(gate) = self.gate(reference) else {
+            return Vec::new();
+        };
+        let own = reference.parse().expect("a gate's number");
+        let (left, right) = (self.due_order(&gate.left), self.due_order(&gate.right));
+        [left, right, vec![own]].concat()
+    }
+
+    /// "A holding its first-listed input, A of lowest number", both of mark 2.
+    fn assert_split(&self, gate: &Line) {
+        let (a, b) = (gate.left_group, gate.right_group);
+        let first = 1 << (a | b).trailing_zeros();
+        let good = |a: usize| {
+            let b = gate.left_group + gate.right_group - a;
+            a & first != 0 && self.marks[a] == 2 && self.marks[b] == 2
+        };
+        let lowest = (1..a | b)
+            .filter(|part| part & !(a | b) == 0)
+            .find(|&a| good(a));
+        assert_eq!(lowest, Some(a));
+    }
+
+    /// Every assignment of all inputs in which the inputs outside the group
+    /// stand at 0; index order counts the group, first-listed slowest.
+    fn assignments(&self, group: usize) -> Vec<Vec<usize>> {
+        let all = (0..self.inks.len()).map(|index| levels_of(index, self.m, self.n));
+        let outside_at_0 =
+            |levels: &Vec<usize>| (0..self.n).all(|i| levels[i] == 0 || group & (1 << i) != 0);
+        all.filter(outside_at_0).collect()
+    }
+
+    /// "A gate below the last gives its group's classes, numbered from 0 in the
+    /// order in which they first appear."
+    fn assert_classes(&self, number: usize) {
+        let reference = number.to_string();
+        let group = self.group(&reference);
+        let others = self.assignments((1 << self.n) - 1 - group);
+        let mut columns: Vec<Vec<u8>> = Vec::new();
+        for levels in self.assignments(group) {
+            let column: Vec<u8> = others
+                .iter()
+                .map(|rest| self.inks[self.index_of_sum(&levels, rest)])
+                .collect();
+            if !columns.contains(&column) {
+                columns.push(column.clone());
+            }
+            let value = self.value(&reference, &levels);
+            assert_eq!(columns.get(value), Some(&column));
+        }
+    }
+
+    /// The index of an assignment given in two parts.
+    fn index_of_sum(&self, one: &[usize], other: &[usize]) -> usize {
+        let levels = one.iter().zip(other).map(|(a, b)| a + b);
+        levels.fold(0, |index, level| index * self.m + level)
+    }
+
+    /// "A digit that no assignment reaches is 0." Answers how many there are.
+    fn assert_free_digits(&self, gate: &Line) -> usize {
+        let mut reached = vec![false; self.m * self.m];
+        for levels in self.assignments(gate.left_group | gate.right_group) {
+            let left = self.value(&gate.left, &levels);
+            let right = self.value(&gate.right, &levels);
+            reached[left * self.m + right] = true;
+        }
+        for (digit, reached) in gate.digits.iter().zip(&reached) {
+            assert!(*reached || *digit == 0);
+        }
+        reached.iter().filter(|reached| !**reached).count()
+    }
+
+    /// All of it; answers the number of free digits.
+    fn assert_rules(&self) -> usize {
+        let output = self.gates.len().to_string();
+        let numbers: Vec<usize> = (1..self.n).collect();
+        assert_eq!(self.due_order(&output), numbers);
+        for (index, &ink) in self.inks.iter().enumerate() {
+            let levels = levels_of(index, self.m, self.n);
+            assert_eq!(self.value(&output, &levels), usize::from(ink));
+        }
+        for number in 1..self.gates.len() {
+            self.assert_classes(number);
+        }
+        self.gates.iter().for_each(|gate| self.assert_split(gate));
+        let free = self.gates.iter().map(|gate| self.assert_free_digits(gate));
+        free.sum()
+    }
+}
+
+#[test]
+fn every_settled_sheet_keeps_the_rules() {
+    let seed = 141;
+    println!("seed {seed}");
+    let mut generator = Generator::new(seed);
+    let (mut sheets, mut free) = (0, 0);
+    for (m, n) in allowed_sizes() {
+        let (m, n) = (m as usize, n as usize);
+        let rounds = (4_000 / m.pow(n as u32)).clamp(4, 60);
+        for round in 0..rounds {
+            let kind = match round % 8 {
+                0 => TableKind::Constant,
+                1 => TableKind::MinMaxChain,
+                2 => TableKind::OneInkChanged,
+                _ => TableKind::OfNet,
+            };
+            let inks = generator.table(m, n, kind).inks;
+            if let Some(settled) = Settled::made_from(m, n, inks) {
+                free += settled.assert_rules();
+                sheets += 1;
+            }
+        }
+    }
+    println!("{sheets} settled sheets, {free} free digits");
+    assert!(sheets > 500 && free > 500);
+}

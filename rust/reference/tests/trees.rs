@@ -1,0 +1,189 @@
+//! 2 levels, 3 and 4 inputs: every table against every wiring and every gate.
+//!
+//! A table of n inputs is a number here, its bit p the ink at index p, so that a
+//! tree is filled and evaluated for all assignments at once. Nothing of the
+//! library's groups and marks is used to tell what has a tree.
+
+mod common;
+
+use common::*;
+use reference::marking;
+use std::collections::HashSet;
+
+/// A tree without digits over some inputs.
+#[derive(Clone)]
+enum Wiring {
+    Leaf(usize),
+    Node(Box<Wiring>, Box<Wiring>),
+}
+
+/// Every wiring over a set of inputs (as a sum of powers of 2), left and right
+/// told apart.
+fn wirings(inputs: usize) -> Vec<Wiring> {
+    if inputs.count_ones() == 1 {
+        return vec![Wiring::Leaf(inputs.trailing_zeros() as usize)];
+    }
+    let mut all = Vec::new();
+    for left in (1..inputs).filter(|left| left & !inputs == 0) {
+        for l in wirings(left) {
+            for r in wirings(inputs & !left) {
+                all.push(Wiring::Node(Box::new(l.clone()), Box::new(r)));
+            }
+        }
+    }
+    all
+}
+
+/// The table that is an input's own level.
+fn projection(input: usize, n: usize) -> u16 {
+    let level = |p: usize| levels_of(p, 2, n)[input];
+    (0..1 << n).fold(0, |table, p| table | (level(p) as u16) << p)
+}
+
+fn mask(n: usize) -> u16 {
+    u16::MAX >> (16 - (1 << n))
+}
+
+/// A gate over two tables; bit 2u + v of the gate is its digit at (u, v).
+fn joined(gate: u16, left: u16, right: u16, n: usize) -> u16 {
+    let mut table = 0;
+    for (digit, here) in [!left & !right, !left & right, left & !right, left & right]
+        .into_iter()
+        .enumerate()
+    {
+        if gate >> digit & 1 == 1 {
+            table |= here;
+        }
+    }
+    table & mask(n)
+}
+
+/// The tables of a wiring under every filling of its gates.
+fn tables_of(wiring: &Wiring, n: usize) -> HashSet<u16> {
+    match wiring {
+        Wiring::Leaf(input) => HashSet::from([projection(*input, n)]),
+        Wiring::Node(left, right) => {
+            let (lefts, rights) = (tables_of(left, n), tables_of(right, n));
+            let mut tables = HashSet::new();
+            for &l in &lefts {
+                for &r in &rights {
+                    tables.extend((0..16).map(|gate| joined(gate, l, r, n)));
+                }
+            }
+            tables
+        }
+    }
+}
+
+/// For every set of inputs, the tables that some tree over just them computes.
+fn computable(n: usize) -> Vec<HashSet<u16>> {
+    let mut by_inputs = vec![HashSet::new()];
+    for inputs in 1..1 << n {
+        let mut tables = HashSet::new();
+        for wiring in wirings(inputs) {
+            tables.extend(tables_of(&wiring, n));
+        }
+        by_inputs.push(tables);
+    }
+    by_inputs
+}
+
+/// The classes of a set of inputs as a table, if there are at most two: at each
+/// index, whether the assignment there is alike with the all-zero one.
+fn class_table(table: u16, inputs: usize, n: usize) -> Option<u16> {
+    // Input i stands at bit n - 1 - i of an index.
+    let held = (0..n)
+        .filter(|i| inputs >> i & 1 == 1)
+        .fold(0, |held, i| held | 1 << (n - 1 - i));
+    let ink = |p: usize| table >> p & 1;
+    let points: Vec<usize> = (0..1 << n).collect();
+    let alike = |p: usize, q: usize| {
+        let mut rests = points.iter().filter(|&&rest| rest & held == 0);
+        rests.all(|rest| ink(p & held | rest) == ink(q & held | rest))
+    };
+    let differing = points.iter().find(|&&p| !alike(p, 0));
+    let Some(&second) = differing else {
+        return Some(0);
+    };
+    let mut classes = 0;
+    for &p in &points {
+        if !alike(p, 0) {
+            if !alike(p, second) {
+                return None;
+            }
+            classes |= 1 << p;
+        }
+    }
+    Some(classes)
+}
+
+/// The place of refusal 16 from trees alone: a group of several members with at
+/// most two classes has mark 1 when no tree over it tells its classes.
+fn stuck_group(table: u16, n: usize, computable: &[HashSet<u16>]) -> Option<usize> {
+    let several = |group: &usize| group.count_ones() >= 2;
+    let mut groups: Vec<usize> = (1..1 << n).filter(several).collect();
+    groups.sort_by_key(|group| (group.count_ones(), *group));
+    groups.into_iter().find(|&group| {
+        class_table(table, group, n).is_some_and(|classes| !computable[group].contains(&classes))
+    })
+}
+
+/// Holds making against the enumeration for one table; whether it was made.
+fn assert_table(table: u16, n: usize, names: &str, computable: &[HashSet<u16>]) -> bool {
+    let inks: Vec<u8> = (0..1 << n).map(|p| (table >> p & 1) as u8).collect();
+    let sheet = table_sheet(2, names, &inks);
+    let has_tree = computable.last().expect("all inputs").contains(&table);
+    match made(&sheet) {
+        Ok(net) => {
+            assert!(has_tree, "{table} was made and has no tree");
+            assert_eq!(table_written(&net), Ok(sheet), "{table}");
+            assert_eq!(settled(&net), Ok(net), "{table}");
+        }
+        Err(refusal) => {
+            assert!(!has_tree, "{table} was refused and has a tree");
+            let place = stuck_group(table, n, computable).expect("a stuck group");
+            assert_eq!(refusal, of_neither(16, place as u64), "{table}");
+        }
+    }
+    has_tree
+}
+
+fn assert_every_table(n: usize, names: &str) -> usize {
+    let computable = computable(n);
+    let tables = 0..=mask(n);
+    tables
+        .filter(|&table| assert_table(table, n, names, &computable))
+        .count()
+}
+
+#[test]
+fn the_wirings_are_all_there() {
+    // Ordered binary trees over n labelled leaves: (2n - 2)! / (n - 1)!.
+    assert_eq!(wirings(0b111).len(), 12);
+    assert_eq!(wirings(0b1111).len(), 120);
+}
+
+#[test]
+fn three_inputs_every_table() {
+    assert_eq!(assert_every_table(3, "a b c"), 152);
+}
+
+#[test]
+fn four_inputs_every_table() {
+    assert_eq!(assert_every_table(4, "a b c d"), 2_680);
+}
+
+/// "Place: the group of fewest members, then lowest number, with mark 1": two of
+/// four has no tree and the lower number, two of three has none and fewer
+/// members.
+#[test]
+fn the_place_of_16_is_the_smallest_group() {
+    let at_least_two = |levels: &[usize]| usize::from(levels.iter().sum::<usize>() >= 2);
+    let rule = |x: &[usize]| at_least_two(&x[..4]) ^ at_least_two(&x[4..]);
+    let sheet = rule_sheet(2, "a b c d e f g", rule);
+    assert_eq!(made(&sheet), Err(of_neither(16, 0b111_0000)));
+    let mut marks = [9; 128];
+    assert_eq!(marking(2, 7, &inks_of(2, 7, rule), &mut marks), Ok(1));
+    let stuck: Vec<usize> = (0..128).filter(|&group| marks[group] == 1).collect();
+    assert_eq!(stuck, [0b000_1111, 0b111_0000, 0b111_1111]);
+}
