@@ -1,0 +1,5 @@
+pub mod Inks
+pub mod Levels
+pub mod Row
+pub mod Rows
+pub mod Answers
