@@ -1,11 +1,11 @@
 // A whole table sheet. Its names stay in the sheet, and its inks go to a buffer.
 ghost use mathlib.Core.Path.{_≡_};
 ghost use mathlib.Core.Bool.{true};
-ghost use Prim.Native.Nat.{_^_, _≤_};
-ghost use lib.ListN.{length, drop};
+ghost use Prim.Native.Nat.{_≤_};
+ghost use lib.ListN.{length};
 ghost use Rattle.rules.specs.Limits.{sizeFits, mostCells};
-ghost use Rattle.rules.specs.Calls.{answered};
-ghost use Rattle.tables.specs.Answers.{outcomeAs};
+ghost use Rattle.nets.specs.Forms.{headerOf};
+ghost use Rattle.tables.specs.Answers.{TableRest, TableAnswered, fromInk, fromRows};
 use crate::rows::rows;
 use fields::header::header_lines;
 use fields::runs::NEWLINE;
@@ -19,7 +19,7 @@ pub enum Outcome {
     Refused { number: usize, place: usize },
 }
 
-// What reading a table sheet comes to: on acceptance the header is whole.
+// What reading a table sheet comes to: of an accepted one the header is whole.
 pub struct TableRead {
     pub outcome: Outcome,
     pub header: Header,
@@ -27,6 +27,8 @@ pub struct TableRead {
 
 // From the first row on. Nothing stands after the last one.
 pub fn from_rows(s: &[u8], at: usize, header: Header, cells: &mut [u8]) -> Outcome
+    requires { ⌜ (sizeFits (header .levels) (header .inputs) ≡ true) × (mostCells ≤ length (now cells)) ⌝ }
+    ensures { λ r. ⌜ TableRest (now (s .entry)) at (fromRows (headerOf (now (s .entry)) header)) header (now (cells .exit)) r ⌝ }
 {
     match rows(s, at, header.levels, header.inputs, cells) {
         Step::Back { number, place } => Outcome::Refused { number, place },
@@ -44,6 +46,8 @@ pub fn from_rows(s: &[u8], at: usize, header: Header, cells: &mut [u8]) -> Outco
 
 // From the word `ink` of line 3 on.
 pub fn from_ink(s: &[u8], at: usize, header: Header, cells: &mut [u8]) -> Outcome
+    requires { ⌜ (sizeFits (header .levels) (header .inputs) ≡ true) × (mostCells ≤ length (now cells)) ⌝ }
+    ensures { λ r. ⌜ TableRest (now (s .entry)) at (fromInk (headerOf (now (s .entry)) header)) header (now (cells .exit)) r ⌝ }
 {
     match word_field(s, at, b"ink", NEWLINE) {
         Step::Back { number, place } => Outcome::Refused { number, place },
@@ -53,6 +57,8 @@ pub fn from_ink(s: &[u8], at: usize, header: Header, cells: &mut [u8]) -> Outcom
 
 // Reads a table sheet from any bytes; its inks go to the front of `cells`.
 pub fn read_table(s: &[u8], cells: &mut [u8]) -> TableRead
+    requires { ⌜ mostCells ≤ length (now cells) ⌝ }
+    ensures { λ r. ⌜ TableAnswered (now (s .entry)) (now (cells .exit)) r ⌝ }
 {
     let read = header_lines(s, SPACE);
     let header = read.header;
