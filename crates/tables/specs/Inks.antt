@@ -1,21 +1,18 @@
 -- An ink field, by its byte.
 -- Assumes nothing.
 use Prim.Native.Nat.{ℕ, _+_, _-_, _≤_, _<_}
-use mathlib.Core.Path.{_≡_, refl, sym, ap, _∙_}
-use mathlib.Core.Bool.{Bool, true, false, _&&_, and-false}
+use mathlib.Core.Path.{_≡_, refl}
+use mathlib.Core.Bool.{and-false}
 use mathlib.Core.List.{List, [], _∷_}
 use native.Mathlib.Omega.{arith}
-use lib.ListN.{length, drop, getD}
+use lib.ListN.{length, getD}
 use lib.Dec.{leb, ltb}
 use borrow.Author.Tests.{le-leb, lt-leb, lt-ltb, le-ltb, leb-true, ltb-true}
 use Rattle.rules.specs.Text.{isDigit}
 use Rattle.rules.specs.Fields.{read, good, bad, field, run}
 use Rattle.rules.specs.Sheets.{inkField}
 use Rattle.fields.specs.Both.{and-left, and-right}
-use Rattle.fields.specs.Steps.{stepAs, itself}
 use Rattle.fields.specs.Taken.{field-read, judged-good}
-use Rattle.fields.specs.declared.steps.Step.{Step}
-use Rattle.fields.specs.declared.steps.Step.the-variants.{On}
 
 pub ink-long : (m : ℕ) (w : List ℕ) → (length w ≡ 1 → ⊥) → bad 6 ≡ inkField m w
 unfolding inkField

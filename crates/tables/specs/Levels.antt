@@ -1,7 +1,7 @@
 -- A level field, by its byte.
 -- Assumes nothing.
-use Prim.Native.Nat.{ℕ, _+_, _-_, _≤_, _<_}
-use mathlib.Core.Path.{_≡_, refl, sym, ap, _∙_}
+use Prim.Native.Nat.{ℕ, _+_, _-_, _<_}
+use mathlib.Core.Path.{_≡_, refl}
 use mathlib.Core.Bool.{Bool, true, false}
 use mathlib.Core.List.{List, [], _∷_}
 use native.Mathlib.Omega.{arith}
@@ -9,14 +9,14 @@ use lib.ListN.{length, take, drop, getD}
 use lib.Seq.{drop-cons}
 use borrow.Author.Tests.{eq-eqb, ne-eqb}
 use Rattle.rules.specs.Text.{digitByte}
-use Rattle.rules.specs.Fields.{Read, read, good, bad, field}
+use Rattle.rules.specs.Fields.{read, good, bad, field}
 use Rattle.rules.specs.Sheets.{levelField}
 use Rattle.fields.specs.Compared.{same-length}
 use Rattle.fields.specs.Decimals.{same-one}
 use Rattle.fields.specs.Ends.{after-due}
 use Rattle.fields.specs.Judging.{field-judged}
 use Rattle.fields.specs.Runs.{FieldEnd, scan-start, scan-next, scan-stop, is-space, is-neither}
-use Rattle.fields.specs.Steps.{stepAs, nothing}
+use Rattle.fields.specs.Steps.{nothing}
 use Rattle.fields.specs.declared.steps.Step.the-variants.{On}
 use Rattle.fields.specs.declared.steps.Verdict.the-variants.{Good}
 

@@ -1,6 +1,6 @@
 -- The rows, one after the other.
 -- Assumes nothing.
-use Prim.Native.Nat.{ℕ, zero, suc, _+_, _-_, _^_, _≤_, _<_}
+use Prim.Native.Nat.{ℕ, suc, _+_, _-_, _^_, _≤_, _<_}
 use mathlib.Core.Path.{_≡_, refl, sym, ap, _∙_}
 use mathlib.Core.List.{List, [], _∷_, _++_}
 use native.Mathlib.Omega.{arith}
@@ -10,11 +10,12 @@ use lib.ListN.{length, take, drop, set, replicate}
 use lib.Seq.{length-take-le, take-suc-set, take-at}
 use Rattle.laws.specs.Bounds.{Below, below-append}
 use Rattle.laws.specs.Levels.{nextLevels, next-length, levels-next, zeros-front}
-use Rattle.rules.specs.Fields.{Read, read, turnedBack, Reader, then, _>>=_, give, field}
-use Rattle.rules.specs.Sheets.{levelsAt, inkField, levelFields, rowLines}
+use Rattle.rules.specs.Fields.{then}
+use Rattle.rules.specs.Sheets.{levelsAt, levelFields, rowLines}
 use Rattle.fields.specs.Steps.{stepAs, itself}
 use Rattle.fields.specs.declared.steps.Step.{Step}
 use Rattle.fields.specs.declared.steps.Step.the-variants.{On, Back}
+use Rattle.tables.specs.Chained.{then-then}
 use Rattle.tables.specs.Row.{rowLine, row-ink}
 
 -- reading all rows from `at` on; their inks stand at the front of `cells`
@@ -22,15 +23,10 @@ pub record RowsRead (s : List ℕ) (at m n : ℕ) (cells : List ℕ) (r : Step) 
   pub reads : stepAs (λ _. take (m ^ n) cells) s r ≡ rowLines m n 0 (m ^ n) [] (drop at s) at
   pub held : (value next : ℕ) → r ≡ On value next → Below m (take (m ^ n) cells)
 
-then-then : {A B C : Type 0} (x : Read A) (f : A → Reader B) (g : B → Reader C) → then x (λ a. f a >>= g) ≡ then (then x f) g
-unfolding then
-then-then (read a rest place) f g = refl
-then-then (turnedBack number place) f g = refl
-
 rows-more : (m n p count : ℕ) (inks t : List ℕ) (q : ℕ)
     → rowLines m n p (suc count) inks t q ≡ then (rowLine m (levelsAt m n p) t q) (λ ink. rowLines m n (suc p) count (inks ++ (ink ∷ [])))
 unfolding rowLines rowLine
-rows-more m n p count inks t q = then-then (levelFields (levelsAt m n p) t q) _ _
+rows-more m n p count inks t q = sym (then-then (levelFields (levelsAt m n p) t q) _ _)
 
 -- p rows are read, and the rows from here are the rows from the start
 pub record InRows (s : List ℕ) (at m n : ℕ) (cells levels : List ℕ) (place p : ℕ) : Type 0 where

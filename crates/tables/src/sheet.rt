@@ -5,7 +5,7 @@ ghost use Prim.Native.Nat.{_≤_};
 ghost use lib.ListN.{length};
 ghost use Rattle.rules.specs.Limits.{sizeFits, mostCells};
 ghost use Rattle.nets.specs.Forms.{headerOf};
-ghost use Rattle.tables.specs.Answers.{TableRest, TableAnswered, fromInk, fromRows};
+ghost use Rattle.tables.specs.Answers.{TableReads, TableRest, fromInk, fromRows};
 use crate::rows::rows;
 use fields::header::header_lines;
 use fields::runs::NEWLINE;
@@ -58,7 +58,7 @@ pub fn from_ink(s: &[u8], at: usize, header: Header, cells: &mut [u8]) -> Outcom
 // Reads a table sheet from any bytes; its inks go to the front of `cells`.
 pub fn read_table(s: &[u8], cells: &mut [u8]) -> TableRead
     requires { ⌜ mostCells ≤ length (now cells) ⌝ }
-    ensures { λ r. ⌜ TableAnswered (now (s .entry)) (now (cells .exit)) r ⌝ }
+    ensures { λ r. ⌜ TableReads (now (s .entry)) (now (cells .exit)) r ⌝ }
 {
     let read = header_lines(s, SPACE);
     let header = read.header;

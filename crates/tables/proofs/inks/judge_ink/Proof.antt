@@ -1,5 +1,6 @@
 -- `tables::inks::judge_ink` meets its contract, by the field's length and byte.
 -- Assumes nothing.
+use native.Mathlib.Omega.{arith}
 use borrow.Author.Needs.{needs}
 use Rattle.tables.specs.Inks.{ink-long, ink-low, ink-high, ink-good}
 use Rattle.tables.proofs.inks.judge_ink.Statement.{statement}
@@ -18,10 +19,10 @@ returns-2 : tie.Need-returns-2
 returns-2 c = ink-low _ _ _ (c .before .before .before .if1 .left) (c .before .wide .ensures) (c .if2 .taken)
 
 returns-3 : tie.Need-returns-3
-returns-3 c = ink-high _ _ _ (c .before .before .before .before .if1 .left) (c .before .before .wide .ensures) (c .before .if2 .left) (c .if3 .taken)
+returns-3 c = ink-high _ _ _ (c .before .before .before .before .if1 .left) (c .before .before .wide .ensures) (c .before .if2 .left) (omega (arith, c .if3 .taken))
 
 returns-4 : tie.Need-returns-4
-returns-4 c = ink-good _ _ _ (c .before .before .before .before .if1 .left) (c .before .before .wide .ensures) (c .before .if2 .left) (c .if3 .left)
+returns-4 c = ink-good _ _ _ (c .before .before .before .before .if1 .left) (c .before .before .wide .ensures) (c .before .if2 .left) (omega (arith, c .if3 .left))
 
 pub judge-ink-spec : {M : Type 1} → statement M
 judge-ink-spec =

@@ -41,7 +41,7 @@ power-requires c κs = omega (arith, size (c .before .before))
 
 loop-holds : tie.Need-loop-holds Inv-loop μ-loop
 unfolding mostInputs
-loop-holds c = (refl, refl, rows-start _ _ _ _ 11 _ (omega (arith, size (c .before .before .before) .inputs-most)))
+loop-holds c = (refl, refl, rows-start _ _ _ _ mostInputs _ (size (c .before .before .before) .inputs-most))
 
 slice-aggregate-row : tie.Need-slice-aggregate-row Inv-loop μ-loop
 slice-aggregate-row c = sym (c .before .before .loop .inv .1)

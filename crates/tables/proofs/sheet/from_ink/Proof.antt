@@ -4,7 +4,7 @@ use mathlib.Core.Path.{_∙_}
 use borrow.Author.Needs.{needs}
 use Rattle.rules.specs.Text.{newline, text}
 use Rattle.fields.specs.Header.{spelled-word}
-use Rattle.tables.specs.Answers.{ink-refused, ink-on}
+use Rattle.tables.specs.Parts.{ink-refused, ink-on}
 use Rattle.tables.proofs.sheet.from_ink.Statement.{statement}
 use Rattle.tables.proofs.sheet.from_ink.Tie as tie
 

@@ -3,7 +3,7 @@
 use native.Mathlib.Nat.{le-trans}
 use borrow.Author.Needs.{needs}
 use Rattle.laws.specs.Sizes.{sized}
-use Rattle.tables.specs.Answers.{rows-refused, rows-over, rows-closed}
+use Rattle.tables.specs.Parts.{rows-refused, rows-over, rows-closed}
 use Rattle.tables.proofs.sheet.from_rows.Statement.{statement}
 use Rattle.tables.proofs.sheet.from_rows.Tie as tie
 

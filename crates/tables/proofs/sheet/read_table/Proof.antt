@@ -2,7 +2,7 @@
 -- Assumes nothing.
 use borrow.Author.Needs.{needs}
 use Rattle.rules.specs.Text.{space}
-use Rattle.tables.specs.Answers.{header-refused, header-on}
+use Rattle.tables.specs.Parts.{header-refused, header-on}
 use Rattle.tables.proofs.sheet.read_table.Statement.{statement}
 use Rattle.tables.proofs.sheet.read_table.Tie as tie
 
