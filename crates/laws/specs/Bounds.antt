@@ -1,0 +1,37 @@
+-- Lists all of whose numbers are below a bound.
+-- Assumes nothing.
+use Prim.Native.Nat.{ℕ, zero, suc, _+_, _≤_, _<_}
+use mathlib.Core.Path.{_≡_, refl, sym, ap, _∙_}
+use mathlib.Core.List.{List, [], _∷_, _++_, map}
+use native.Mathlib.Omega.{arith}
+use lib.ListN.{length, getD, take, drop}
+
+abbrev pub Below : ℕ → List ℕ → Type 0
+Below b [] = Unit {0}
+Below b (x ∷ xs) = (x < b) × Below b xs
+
+pub below-at : (b : ℕ) (xs : List ℕ) → Below b xs → (k : ℕ) → k < length xs → getD xs k 0 < b
+below-at b [] h k l = absurd (omega arith)
+below-at b (x ∷ xs) h zero l = h .0
+below-at b (x ∷ xs) h (suc k) l = below-at b xs (h .1) k (omega arith)
+
+pub at-below : (b : ℕ) (xs : List ℕ) → ((k : ℕ) → k < length xs → getD xs k 0 < b) → Below b xs
+at-below b [] h = tt
+at-below b (x ∷ xs) h = (h 0 (omega arith), at-below b xs (λ k l. h (suc k) (omega arith)))
+
+pub below-append : (b : ℕ) (xs ys : List ℕ) → Below b xs → Below b ys → Below b (xs ++ ys)
+below-append b [] ys h k = k
+below-append b (x ∷ xs) ys h k = (h .0, below-append b xs ys (h .1) k)
+
+pub below-map : (b c : ℕ) (f : ℕ → ℕ) → ((x : ℕ) → x < b → f x < c) → (xs : List ℕ) → Below b xs → Below c (map f xs)
+below-map b c f e [] h = tt
+below-map b c f e (x ∷ xs) h = (e x (h .0), below-map b c f e xs (h .1))
+
+pub below-take : (b k : ℕ) (xs : List ℕ) → Below b xs → Below b (take k xs)
+below-take b zero xs h = tt
+below-take b (suc k) [] h = tt
+below-take b (suc k) (x ∷ xs) h = (h .0, below-take b k xs (h .1))
+
+pub below-more : (b c : ℕ) → b ≤ c → (xs : List ℕ) → Below b xs → Below c xs
+below-more b c e [] h = tt
+below-more b c e (x ∷ xs) h = (omega arith, below-more b c e xs (h .1))

@@ -1,0 +1,106 @@
+-- The loop of `offsets` over plain lists: before input i is looked at, the offsets are those of the inputs from i on.
+-- Assumes nothing.
+use Prim.Native.Nat.{ℕ, suc, _-_, _*_, _^_, _≤_, _<_}
+use mathlib.Core.Path.{_≡_, refl, sym, ap, ap₂, _∙_, subst⁻¹, subst₂}
+use mathlib.Core.Bool.{true, false}
+use mathlib.Core.List.{List, [], _∷_}
+use native.Mathlib.Nat.{pow-zero, pow-suc, pow-le-pow-right, mul-le-mul-right, le-trans}
+use native.Mathlib.Omega.{arith}
+use lib.ListN.{length, getD, take, set}
+use lib.Seq.{getD-take}
+use Rattle.rules.specs.Groups.{member, points}
+use Rattle.laws.specs.Bounds.{below-at}
+use Rattle.radix.specs.Offsets.{widened, widened-length, tail, tail-member, tail-other, tail-below, tail-length, points-tail}
+
+module _ (m n g : ℕ) where
+  -- what is built before input i is looked at
+  pub record Built (out : List ℕ) (len w i : ℕ) : Type 0 where
+    pub low : i ≤ n
+    pub weight : w ≡ m ^ (n - i)
+    pub count : len ≡ length (tail m g i (n - i))
+    pub front : take len out ≡ tail m g i (n - i)
+
+  pub built-none : (out : List ℕ) → 0 < length out → Built (set out 0 0) 1 1 n
+  unfolding tail
+  built-none [] h = absurd (omega arith)
+  built-none (x ∷ out) h =
+      record {
+        low = omega arith;
+        weight = subst⁻¹ (λ (k : ℕ). 1 ≡ m ^ k) none (sym (pow-zero m));
+        count = subst⁻¹ (λ (k : ℕ). 1 ≡ length (tail m g n k)) none refl;
+        front = subst⁻¹ (λ (k : ℕ). 0 ∷ [] ≡ tail m g n k) none refl;
+      }
+    where
+      none : n - n ≡ 0
+      none = omega arith
+
+  -- all is built
+  pub built-all : (out : List ℕ) (len w i : ℕ) → i ≤ 0 → Built out len w i
+      → (len ≡ length (points m n g)) × (take len out ≡ points m n g)
+  built-all out len w i h b =
+      let e : tail m g i (n - i) ≡ points m n g = ap₂ (tail m g) at-zero all ∙ sym (points-tail m n g) in
+      (b .count ∙ ap length e, b .front ∙ e)
+    where
+      at-zero : i ≡ 0
+      at-zero = omega arith
+
+      all : n - i ≡ n
+      all = omega arith
+
+  module _ (pos : 0 < m) (out : List ℕ) (len w i : ℕ) (b : Built out len w i) where
+    pub built-some : 0 < len
+    built-some = subst⁻¹ (λ (k : ℕ). 0 < k) (b .count) (tail-length m g i (n - i) pos .0)
+
+    pub built-weight : w ≤ m ^ n
+    built-weight = subst⁻¹ (λ (k : ℕ). k ≤ m ^ n) (b .weight) (pow-le-pow-right pos (omega arith))
+
+    -- each is below the weight
+    pub built-below : (k : ℕ) → k < len → getD out k 0 < w
+    built-below k h =
+        subst₂ (λ (x y : ℕ). x < y)
+        (ap (λ (l : List ℕ). getD l k 0) (sym (b .front)) ∙ getD-take len out k 0 h)
+        (sym (b .weight))
+        (below-at (m ^ (n - i)) (tail m g i (n - i)) (tail-below m g i (n - i) pos) k (omega (arith, b .count)))
+
+    module _ (more : 0 < i) where
+      steps : n - (i - 1) ≡ suc (n - i)
+      steps = omega (arith, b .low)
+
+      back : suc (i - 1) ≡ i
+      back = omega arith
+
+      next-weight : w * m ≡ m ^ (n - (i - 1))
+      next-weight = ap (λ (k : ℕ). k * m) (b .weight) ∙ sym (pow-suc m (n - i)) ∙ ap (λ (k : ℕ). m ^ k) (sym steps)
+
+      -- the next weight is still that of an input, or of all
+      pub built-next : w * m ≤ m ^ n
+      built-next = subst⁻¹ (λ (k : ℕ). k ≤ m ^ n) next-weight (pow-le-pow-right pos (omega arith))
+
+      -- there is room for the widened list
+      pub built-room : len * m ≤ m ^ n
+      built-room = le-trans (mul-le-mul-right m (subst⁻¹ (λ (k : ℕ). k ≤ w) (b .count) (subst⁻¹ (λ (k : ℕ). length (tail m g i (n - i)) ≤ k) (b .weight) (tail-length m g i (n - i) pos .1)))) built-next
+
+      next-member : member (i - 1) g ≡ true → tail m g (i - 1) (n - (i - 1)) ≡ widened m w (take len out)
+      next-member e =
+          ap (tail m g (i - 1)) steps
+          ∙ tail-member m g (i - 1) (n - i) e
+          ∙ ap₂ (widened m) (sym (b .weight)) (ap (λ (k : ℕ). tail m g k (n - i)) back ∙ sym (b .front))
+
+      -- a member
+      pub built-member : (out′ : List ℕ) (len′ : ℕ) → member (i - 1) g ≡ true → len′ ≡ len * m
+          → take (len * m) out′ ≡ widened m w (take len out) → Built out′ len′ (w * m) (i - 1)
+      built-member out′ len′ e l f =
+          record {
+            low = omega (arith, b .low);
+            weight = next-weight;
+            count = l ∙ ap (λ (k : ℕ). k * m) (b .count ∙ ap length (sym (b .front))) ∙ sym (widened-length m w (take len out)) ∙ ap length (sym (next-member e));
+            front = ap (λ (k : ℕ). take k out′) l ∙ f ∙ sym (next-member e);
+          }
+
+      -- one that is none
+      pub built-other : member (i - 1) g ≡ false → Built out len (w * m) (i - 1)
+      built-other e =
+          record { low = omega (arith, b .low); weight = next-weight; count = b .count ∙ ap length same; front = b .front ∙ same }
+        where
+          same : tail m g i (n - i) ≡ tail m g (i - 1) (n - (i - 1))
+          same = sym (ap (tail m g (i - 1)) steps ∙ tail-other m g (i - 1) (n - i) e ∙ ap (λ (k : ℕ). tail m g k (n - i)) back)

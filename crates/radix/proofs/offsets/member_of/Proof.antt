@@ -1,0 +1,16 @@
+-- `radix::offsets::member_of` meets its contract: a shift is a division by a power of two. Assumes nothing.
+use mathlib.Core.Path.{refl}
+use borrow.Author.Needs.{needs}
+use Rattle.rules.specs.Groups.{member}
+use Rattle.radix.proofs.offsets.member_of.Statement.{statement}
+use Rattle.radix.proofs.offsets.member_of.Tie as tie
+
+shr-result : tie.Need-shr-result
+shr-result c = search needs
+
+returns : tie.Need-returns
+unfolding member
+returns c = refl
+
+pub member-of-spec : {M : Type 1} → statement M
+member-of-spec = tie.close (tie.spec shr-result returns)

@@ -1,0 +1,136 @@
+-- `radix::offsets::offsets` meets its contract. The loop's invariant: the offsets are those of the inputs from `i` on.
+-- Assumes nothing.
+use mathlib.Core.Path.{_≡_, refl, sym, _∙_}
+use native.Mathlib.Omega.{arith}
+use native.Mathlib.Nat.{one-le-pow}
+use lib.ListN.{length, length-set}
+use Rattle.radix.proofs.Building.{Built, built-none, built-all, built-some, built-weight, built-below, built-next, built-room, built-member, built-other}
+use Rattle.radix.proofs.offsets.offsets.Statement.{statement}
+use Rattle.radix.proofs.offsets.offsets.Tie as tie
+
+abbrev Inv-loop : tie.InvT-loop
+Inv-loop m n g out₀ len₀ w₀ i₀ out len w i = (length out ≡ length out₀) × Built m n g out len w i
+
+abbrev μ-loop : tie.MeasureT-loop
+μ-loop m n g out₀ len₀ w₀ i₀ out len w i = i
+
+slice-write-out : tie.Need-slice-write-out Inv-loop μ-loop
+slice-write-out c = omega (arith, one-le-pow (c .before .args .n) (c .before .args .m) (c .before .pre .0))
+
+loop-holds : tie.Need-loop-holds Inv-loop μ-loop
+loop-holds c =
+    let a = c .before .args in
+    (refl, built-none (a .m) (a .n) (a .g) (a .out .now) (omega (arith, one-le-pow (a .n) (a .m) (c .before .pre .0))))
+
+sub-member-of : tie.Need-sub-member-of Inv-loop μ-loop
+sub-member-of c = omega arith
+
+member-of-requires : tie.Need-member-of-requires Inv-loop μ-loop
+member-of-requires c κs = omega arith
+
+cast-widen : tie.Need-cast-widen Inv-loop μ-loop
+cast-widen c =
+    let start = c .before .before .before .before .before .before in
+    let a = start .args in
+    let l = c .before .before .before .before .loop in
+    omega (arith, built-weight (a .m) (a .n) (a .g) (start .pre .0) (l .out) (l .len) (l .w) (l .i) (l .inv .1))
+
+widen-requires : tie.Need-widen-requires Inv-loop μ-loop
+widen-requires c κs =
+    let start = c .before .before .before .before .before .before in
+    let a = start .args in
+    let pos = start .pre .0 in
+    let l = c .before .before .before .before .loop in
+    let more = c .before .before .before .loop-test .taken in (
+      built-some (a .m) (a .n) (a .g) pos (l .out) (l .len) (l .w) (l .i) (l .inv .1),
+      pos,
+      omega (arith, built-room (a .m) (a .n) (a .g) pos (l .out) (l .len) (l .w) (l .i) (l .inv .1) more, length-set (a .out .now) 0 0, l .inv .0, start .pre),
+      omega (arith, built-next (a .m) (a .n) (a .g) pos (l .out) (l .len) (l .w) (l .i) (l .inv .1) more, start .pre),
+      built-below (a .m) (a .n) (a .g) pos (l .out) (l .len) (l .w) (l .i) (l .inv .1),
+    )
+
+mul-w : tie.Need-mul-w Inv-loop μ-loop
+mul-w c =
+    let start = c .before .before .before .before .before .before .before .before .before in
+    let a = start .args in
+    let l = c .before .before .before .before .before .before .before .loop in
+    omega (
+      arith,
+      built-next (a .m) (a .n) (a .g) (start .pre .0) (l .out) (l .len) (l .w) (l .i) (l .inv .1)
+          (c .before .before .before .before .before .before .loop-test .taken),
+      start .pre,
+    )
+
+sub-i : tie.Need-sub-i Inv-loop μ-loop
+sub-i c = omega (arith, c .before .before .before .before .before .before .loop-test .taken)
+
+loop-less : tie.Need-loop-less Inv-loop μ-loop
+loop-less c = omega (arith, c .before .before .before .before .before .before .loop-test .taken)
+
+loop-again : tie.Need-loop-again Inv-loop μ-loop
+loop-again c =
+    let start = c .before .before .before .before .before .before .before .before .before in
+    let a = start .args in
+    let l = c .before .before .before .before .before .before .before .loop in
+    let widen = c .before .before .widen in
+    let test = c .before .before .before .before in (
+      widen .kept .0 ∙ l .inv .0,
+      built-member (a .m) (a .n) (a .g) (start .pre .0) (l .out) (l .len) (l .w) (l .i) (l .inv .1)
+          (c .before .before .before .before .before .before .loop-test .taken) (widen .last .0) (widen .result)
+          (sym (test .before .member-of .ensures) ∙ test .if1 .taken) (widen .ensures .0) (widen .ensures .1),
+    )
+
+mul-w-2 : tie.Need-mul-w-2 Inv-loop μ-loop
+mul-w-2 c =
+    let start = c .before .before .before .before .before in
+    let a = start .args in
+    let l = c .before .before .before .loop in
+    omega (arith, built-next (a .m) (a .n) (a .g) (start .pre .0) (l .out) (l .len) (l .w) (l .i) (l .inv .1) (c .before .before .loop-test .taken), start .pre)
+
+sub-i-2 : tie.Need-sub-i-2 Inv-loop μ-loop
+sub-i-2 c = omega arith
+
+loop-less-2 : tie.Need-loop-less-2 Inv-loop μ-loop
+loop-less-2 c = omega arith
+
+loop-again-2 : tie.Need-loop-again-2 Inv-loop μ-loop
+loop-again-2 c =
+    let start = c .before .before .before .before .before in
+    let a = start .args in
+    let l = c .before .before .before .loop in (
+      l .inv .0,
+      built-other (a .m) (a .n) (a .g) (start .pre .0) (l .out) (l .len) (l .w) (l .i) (l .inv .1) (c .before .before .loop-test .taken)
+          (sym (c .before .member-of .ensures) ∙ c .if1 .left),
+    )
+
+same-length : tie.Need-same-length Inv-loop μ-loop
+same-length c = c .before .loop .inv .0 ∙ length-set (c .before .before .before .args .out .now) 0 0
+
+returns : tie.Need-returns Inv-loop μ-loop
+returns c =
+    let a = c .before .before .before .args in
+    let l = c .before .loop in
+    built-all (a .m) (a .n) (a .g) (l .out) (l .len) (l .w) (l .i) (c .loop-test .left) (l .inv .1)
+
+pub offsets-spec : {M : Type 1} → statement M
+offsets-spec =
+    tie.close
+    (tie.spec
+    Inv-loop
+    μ-loop
+    slice-write-out
+    loop-holds
+    sub-member-of
+    member-of-requires
+    cast-widen
+    widen-requires
+    mul-w
+    sub-i
+    loop-less
+    loop-again
+    mul-w-2
+    sub-i-2
+    loop-less-2
+    loop-again-2
+    same-length
+    returns)

@@ -1,0 +1,109 @@
+-- `radix::offsets::widen` meets its contract. The loop's invariant: the front `j` entries are those of the widened list.
+-- Assumes nothing.
+use Prim.Native.Nat.{ℕ, _≤_, _<_, _*_, _-_, _^_}
+use mathlib.Core.Path.{_≡_, refl, _∙_, subst, subst⁻¹}
+use native.Mathlib.Nat.{mul-le-mul-left, mul-one}
+use native.Mathlib.Omega.{arith}
+use lib.ListN.{length, take, length-set}
+use lib.Seq.{take-all}
+use Rattle.radix.proofs.Widening.{whole, whole-length, starts, entry, turn, small}
+use Rattle.radix.proofs.offsets.widen.Statement.{statement}
+use Rattle.radix.proofs.offsets.widen.Tie as tie
+
+abbrev Inv-loop : tie.InvT-loop
+Inv-loop out₀ len w m end j₀ out j = (len ≤ j) × (j ≤ len * m) × (end ≡ len * m) × (length out ≡ length out₀) × (take j out ≡ take j (Rattle.radix.specs.Offsets.widened m w (take len out₀)))
+
+abbrev μ-loop : tie.MeasureT-loop
+μ-loop out₀ len w m end j₀ out j = end - j
+
+mul-end : tie.Need-mul-end Inv-loop μ-loop
+mul-end c = omega arith
+
+loop-holds : tie.Need-loop-holds Inv-loop μ-loop
+loop-holds c =
+    let a = c .args in (
+      omega arith,
+      omega (arith, mul-le-mul-left (a .len) (c .pre .1), mul-one (a .len)),
+      refl,
+      refl,
+      starts (a .out .now) (a .len) (a .w) (a .m) (c .pre .1) (c .pre .2),
+    )
+
+sub-out : tie.Need-sub-out Inv-loop μ-loop
+sub-out c = omega arith
+
+mul-out : tie.Need-mul-out Inv-loop μ-loop
+mul-out c = omega arith
+
+slice-read-out : tie.Need-slice-read-out Inv-loop μ-loop
+slice-read-out c = omega arith
+
+add-out : tie.Need-add-out Inv-loop μ-loop
+add-out c =
+    let a = c .before .before .before .args in
+    let pre = c .before .before .before .pre in
+    let l = c .before .before .loop in
+    record {
+      fits = subst⁻¹ (λ (x : ℕ). x < 2 ^ 16)
+          (entry (a .out .now) (a .len) (a .w) (a .m) (pre .1) (pre .2) (l .out) (l .j) (l .inv .0) (pre .0) (omega arith) (l .inv .4))
+          (omega (arith, small (a .out .now) (a .len) (a .w) (a .m) (pre .1) (pre .2) (pre .4) (l .j) (omega arith)));
+    }
+
+mul-out-2 : tie.Need-mul-out-2 Inv-loop μ-loop
+mul-out-2 c = omega arith
+
+slice-write-out : tie.Need-slice-write-out Inv-loop μ-loop
+slice-write-out c = omega arith
+
+add-j : tie.Need-add-j Inv-loop μ-loop
+add-j c = omega arith
+
+loop-less : tie.Need-loop-less Inv-loop μ-loop
+loop-less c = omega arith
+
+loop-again : tie.Need-loop-again Inv-loop μ-loop
+loop-again c =
+    let a = c .before .before .before .args in
+    let pre = c .before .before .before .pre in
+    let l = c .before .before .loop in (
+      omega arith,
+      omega arith,
+      refl,
+      length-set (l .out) (l .j) _ ∙ l .inv .3,
+      turn (a .out .now) (a .len) (a .w) (a .m) (pre .1) (pre .2) (l .out) (l .j) _ (omega arith) (omega arith) (l .inv .4)
+          (entry (a .out .now) (a .len) (a .w) (a .m) (pre .1) (pre .2) (l .out) (l .j) (l .inv .0) (pre .0) (omega arith) (l .inv .4)),
+    )
+
+same-length : tie.Need-same-length Inv-loop μ-loop
+same-length c = c .before .loop .inv .3
+
+returns : tie.Need-returns Inv-loop μ-loop
+returns c =
+    let a = c .before .before .args in
+    let pre = c .before .before .pre in
+    let l = c .before .loop in
+    let end : l .j ≡ a .len * a .m = omega arith in (
+      refl,
+      subst (λ (k : ℕ). take k (l .out) ≡ take k (whole (a .out .now) (a .len) (a .w) (a .m) (pre .1) (pre .2))) end (l .inv .4)
+          ∙ take-all (a .len * a .m) _ (omega (arith, whole-length (a .out .now) (a .len) (a .w) (a .m) (pre .1) (pre .2))),
+    )
+
+pub widen-spec : {M : Type 1} → statement M
+widen-spec =
+    tie.close
+    (tie.spec
+    Inv-loop
+    μ-loop
+    mul-end
+    loop-holds
+    sub-out
+    mul-out
+    slice-read-out
+    add-out
+    mul-out-2
+    slice-write-out
+    add-j
+    loop-less
+    loop-again
+    same-length
+    returns)

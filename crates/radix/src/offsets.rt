@@ -1,0 +1,51 @@
+// A group's assignments as offsets into the cells, in the order of their count.
+ghost use mathlib.Core.Path.{_≡_};
+ghost use Prim.Native.Nat.{ℕ, _*_, _^_, _≤_, _<_};
+ghost use lib.ListN.{length, take, getD};
+ghost use Rattle.rules.specs.Groups.{member, points};
+ghost use Rattle.radix.specs.Offsets.{widened};
+
+// Is input i a member of group g?
+pub fn member_of(g: usize, i: usize) -> bool
+    requires { ⌜ i < 64 ⌝ }
+    ensures { λ r. ⌜ r ≡ member i g ⌝ }
+{
+    (g >> i) % 2 == 1
+}
+
+// The first `len` offsets, all below w, become m times as many: for each level of one more input of weight w, all of them plus
+// that level times w.
+fn widen(out: &mut [u16], len: usize, w: u16, m: usize) -> usize
+    requires { ⌜ (0 < len) × (0 < m) × (len * m ≤ length (now out)) × (w * m ≤ 65536) × ((k : ℕ) → k < len → getD (now out) k 0 < w) ⌝ }
+    ensures { λ r. ⌜ (r ≡ len * m) × (take (len * m) (now (out .exit)) ≡ widened m w (take len (now (out .entry)))) ⌝ }
+{
+    let end = len * m;
+    let mut j = len;
+    while j < end {
+        out[j] = out[j - len] + w;
+        j += 1;
+    }
+    end
+}
+
+// Writes the assignments of group g to the front of `out`, and answers how many there are.
+pub fn offsets(m: usize, n: usize, g: usize, out: &mut [u16]) -> usize
+    requires { ⌜ (0 < m) × (n ≤ 16) × (m ^ n ≤ 32768) × (m ^ n ≤ length (now out)) ⌝ }
+    ensures { λ r. ⌜ (r ≡ length (points m n g)) × (take r (now (out .exit)) ≡ points m n g) ⌝ }
+{
+    let mut len: usize = 1;
+    let mut w: usize = 1;
+    let mut i = n;
+    out[0] = 0;
+    while 0 < i {
+        if member_of(g, i - 1) {
+            len = widen(out, len, w as u16, m);
+            w = w * m;
+            i -= 1;
+        } else {
+            w = w * m;
+            i -= 1;
+        }
+    }
+    len
+}

@@ -1,0 +1,38 @@
+// Powers, and whether m, n and the number of cells are within a sheet's bounds.
+ghost use mathlib.Core.Path.{_≡_};
+ghost use Prim.Native.Nat.{_^_, _≤_};
+ghost use Rattle.rules.specs.Limits.{sizeFits};
+use crate::limits;
+
+// m to the power n, for a digit m and n small enough that it fits.
+pub fn power(m: usize, n: usize) -> usize
+    requires { ⌜ (m ≤ 9) × (n ≤ 16) ⌝ }
+    ensures { λ r. ⌜ r ≡ m ^ n ⌝ }
+{
+    let mut p: usize = 1;
+    let mut i: usize = 0;
+    while i < n {
+        p = p * m;
+        i += 1;
+    }
+    p
+}
+
+// Are m, n and the number of cells within a sheet's bounds? Any numbers may come in.
+pub fn size_fits(m: usize, n: usize) -> bool
+    ensures { λ r. ⌜ r ≡ sizeFits m n ⌝ }
+{
+    if m < limits::FEWEST_LEVELS {
+        return false;
+    }
+    if limits::MOST_LEVELS < m {
+        return false;
+    }
+    if n < limits::FEWEST_INPUTS {
+        return false;
+    }
+    if limits::MOST_INPUTS < n {
+        return false;
+    }
+    power(m, n) <= limits::MOST_CELLS
+}
