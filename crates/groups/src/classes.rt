@@ -1,0 +1,31 @@
+// The first of each class of a group's assignments, and how many there are, counted no further than m + 1.
+ghost use Prim.Native.Nat.{ℕ, _≤_, _<_};
+ghost use lib.ListN.{length, getD};
+ghost use Rattle.rules.specs.Calls.{inkIn};
+ghost use Rattle.groups.specs.Firsts.{classesOver, Counted};
+ghost use Rattle.groups.specs.Within.{Within};
+use crate::alike;
+
+// Goes through the assignments xs and puts the first of each class to the front of `firsts`, m of them at most. Answers how
+// many classes there are, or m + 1 where they are more than m.
+pub fn class_firsts(cells: &[u8], xs: &[u16], ys: &[u16], m: usize, firsts: &mut [u16]) -> usize
+    requires { ⌜ (m ≤ length (now firsts)) × ((i : ℕ) → i < length (now xs) → Within (length (now cells)) (now ys) (getD (now xs) i 0)) ⌝ }
+    ensures { λ r. ⌜ Counted m (classesOver (inkIn (now (cells .entry))) (now (ys .entry)) (now (xs .entry))) r (now (firsts .exit)) ⌝ }
+{
+    let mut count: usize = 0;
+    let mut i: usize = 0;
+    while i < xs.len() {
+        let p = xs[i];
+        if alike::class_of(cells, ys, firsts, count, alike::wide(p)) < count {
+            i += 1;
+        } else {
+            if count == m {
+                return m + 1;
+            }
+            firsts[count] = p;
+            count += 1;
+            i += 1;
+        }
+    }
+    count
+}
