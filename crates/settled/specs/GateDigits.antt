@@ -1,0 +1,165 @@
+-- A gate's digits from the samples of its two wires alone: the digit at (u, v) is what the gate gives at the sum of left's sample u
+-- and right's sample v, and 0 where one of the two has no such sample.
+-- Assumes nothing.
+use Prim.Native.Nat.{ℕ, _+_, _*_, _/_, _%_, _^_, _≤_, _<_}
+use mathlib.Core.Path.{_≡_, refl, sym, ap, ap₂, _∙_, subst}
+use mathlib.Core.Logic.{_⊎_, inl, inr}
+use mathlib.Core.Bool.{Bool, true, false, cond, not, _&&_, true≢false}
+use mathlib.Core.List.{List, map}
+use native.Mathlib.Nat.{add-comm, zero-add, mod-lt, div-add-mod', div-lt-iff-lt-mul, lt-irrefl}
+use native.Mathlib.Decide.{decLt}
+use native.Mathlib.Omega.{arith}
+use borrow.Author.Tests.{lt-ltb, le-ltb}
+use lib.Dec.{ltb}
+use lib.ListN.{length, getD, length-map}
+use lib.Seq.{ext-getD}
+use Rattle.rules.specs.Lists.{range, firstPlace}
+use Rattle.rules.specs.Sheets.{level}
+use Rattle.rules.specs.Groups.{member, part, others, points, alikeOver, classes}
+use Rattle.rules.specs.Settled.{Wiring, gate, groupOf, carried, classNumber, gateDigits}
+use Rattle.laws.specs.Ranges.{range-length, range-at}
+use Rattle.trees.specs.Rows.{map-at}
+use Rattle.trees.specs.Trees.{Apart, EachOnce, EachGate, mix, fill, treeValue}
+use Rattle.trees.specs.Members.{member-others}
+use Rattle.trees.specs.Levels.{level-ext, level-part, part-below, part-mix, mix-below, mix-zero, mix-join}
+use Rattle.trees.specs.Joins.{apart-sym}
+use Rattle.trees.specs.Digits.{digits-count, digits-have}
+use Rattle.trees.specs.Wirings.{Few, group-below, sufficiency}
+use Rattle.settled.specs.Samples.{Sampled}
+
+-- ---- the definition
+
+-- what a gate gives at its group's assignment p: the ink at the last, and else its class's number, where ys are the assignments of
+-- the other inputs and firsts the first of each class
+unfoldable pub given : (ℕ → ℕ) → List ℕ → List ℕ → Bool → ℕ → ℕ
+given f ys firsts true p = f p
+given f ys firsts false p = firstPlace (alikeOver f ys p) firsts
+
+unfoldable pub sampledDigit : List ℕ → List ℕ → (ℕ → ℕ) → ℕ → ℕ → ℕ
+sampledDigit left right own u v = cond (ltb u (length left)) (cond (ltb v (length right)) (own (getD left u 0 + getD right v 0)) 0) 0
+
+-- "left's level slowest"
+unfoldable pub sampledDigits : ℕ → List ℕ → List ℕ → (ℕ → ℕ) → List ℕ
+sampledDigits m left right own = map (λ k. sampledDigit left right own (k / m) (k % m)) (range 0 (m * m))
+
+-- ---- assignments of two groups that share no input, added
+
+module _ (m n : ℕ) (pos : 0 < m) where
+  -- an assignment of b has level 0 at a's members
+  outside : (a b : ℕ) → a < 2 ^ n → Apart n a b → (y : ℕ) → part m n b y ≡ y → part m n (others n a) y ≡ y
+  outside a b a< apart y own =
+      level-ext m n pos (part m n (others n a) y) y (part-below m n pos (others n a) y) (rw own at (part-below m n pos b y)) at
+    where
+      same : (c d : Bool) → (c && d) ≡ false → (x : ℕ) → cond (not c) (cond d x 0) 0 ≡ cond d x 0
+      same true true e x = absurd (true≢false e)
+      same true false e x = refl
+      same false d e x = refl
+
+      at : (i : ℕ) → i < n → level m n (part m n (others n a) y) i ≡ level m n y i
+      at i h =
+          let e : level m n y i ≡ cond (member i b) (level m n y i) 0 = ap (λ (q : ℕ). level m n q i) (sym own) ∙ level-part m n pos b y i h in
+          level-part m n pos (others n a) y i h
+          ∙ ap₂ (λ (c : Bool) (x : ℕ). cond c x 0) (member-others i n a h a<) e
+          ∙ same (member i a) (member i b) (apart i h) (level m n y i)
+          ∙ sym e
+
+  module _ (a b : ℕ) (a< : a < 2 ^ n) (b< : b < 2 ^ n) (apart : Apart n a b) (x y : ℕ) (x-own : part m n a x ≡ x) (y-own : part m n b y ≡ y) where
+    -- their sum is a mix
+    sum-mix : mix m n a x y ≡ x + y
+    unfolding mix
+    sum-mix = ap₂ (λ (p q : ℕ). p + q) x-own (outside a b a< apart y y-own)
+
+    pub sum-below : x + y < m ^ n
+    sum-below = subst (λ (p : ℕ). p < m ^ n) sum-mix (mix-below m n pos a x y a<)
+
+    -- it gives the one group the one
+    pub sum-left : part m n a (x + y) ≡ x
+    sum-left = ap (part m n a) (sym sum-mix) ∙ part-mix m n pos a x y a< ∙ x-own
+
+  module _ (a b : ℕ) (a< : a < 2 ^ n) (b< : b < 2 ^ n) (apart : Apart n a b) (x y : ℕ) (x-own : part m n a x ≡ x) (y-own : part m n b y ≡ y) where
+    -- and the other the other
+    pub sum-right : part m n b (x + y) ≡ y
+    sum-right = ap (part m n b) (add-comm x y) ∙ sum-left b a b< a< (apart-sym n a b apart) y x y-own x-own
+
+    -- and is an assignment of the two together
+    pub sum-own : part m n (a + b) (x + y) ≡ x + y
+    unfolding mix
+    sum-own =
+        sym (mix-zero m n pos (a + b) (x + y))
+        ∙ mix-join m n pos a b a< b< apart (x + y) 0
+        ∙ ap (mix m n a (x + y)) (mix-zero m n pos b (x + y) ∙ sum-right)
+        ∙ ap₂ (λ (p q : ℕ). p + q) (sum-left a b a< b< apart x y x-own y-own) (outside a b a< apart y y-own)
+
+-- ---- the gate's digits
+
+module _ (m n : ℕ) (pos : 0 < m) (f : ℕ → ℕ) (last : Bool) (a b : Wiring) (once : EachOnce n (gate a b)) (few : EachGate (Few m n f) (gate a b)) where
+  a< : groupOf a < 2 ^ n
+  a< = group-below n a (once .1)
+
+  b< : groupOf b < 2 ^ n
+  b< = group-below n b (once .2)
+
+  -- the digit for what the two sides carry at p is what the gate gives there
+  digit-carried : (p : ℕ) → getD (gateDigits m n f last a b) (carried m n f false a p * m + carried m n f false b p) 0
+      ≡ carried m n f last (gate a b) p
+  unfolding treeValue fill
+  digit-carried p =
+      ap₂ (λ (u v : ℕ). getD (gateDigits m n f last a b) (u * m + v) 0)
+      (sym (sufficiency m n pos f a (once .1) (few .1) false p)) (sym (sufficiency m n pos f b (once .2) (few .2) false p))
+      ∙ sufficiency m n pos f (gate a b) once few last p
+
+  -- nothing carries u or nothing carries v: the digit is free
+  digit-free : (u v : ℕ) → u < m → v < m
+      → ((p : ℕ) → carried m n f false a p ≡ u → carried m n f false b p ≡ v → ⊥) → getD (gateDigits m n f last a b) (u * m + v) 0 ≡ 0
+  digit-free u v u< v< none = digits-have m n f last a b (λ x. x ≡ 0) u v u< v< (λ q d e. absurd (none q d e)) (λ _. refl)
+
+  module _ (left right : List ℕ) (lefts : Sampled m n f a left) (rights : Sampled m n f b right) (own : ℕ → ℕ)
+      (gives : (p : ℕ) → part m n (groupOf (gate a b)) p ≡ p → own p ≡ carried m n f last (gate a b) p) where
+    digit : (u v : ℕ) → u < m → v < m → getD (gateDigits m n f last a b) (u * m + v) 0 ≡ sampledDigit left right own u v
+    unfolding sampledDigit groupOf
+    digit u v u< v< = go (decLt u (length left)) (decLt v (length right))
+      where
+        go : Dec (u < length left) → Dec (v < length right) → getD (gateDigits m n f last a b) (u * m + v) 0 ≡ sampledDigit left right own u v
+        go (yes h) (yes k) =
+            let x = getD left u 0 in
+            let y = getD right v 0 in
+            let x-own = lefts .own u h in
+            let y-own = rights .own v k in
+            let at-a = lefts .carries u (x + y) h (sum-left m n pos (groupOf a) (groupOf b) a< b< (once .0) x y x-own y-own) in
+            let at-b = rights .carries v (x + y) k (sum-right m n pos (groupOf a) (groupOf b) a< b< (once .0) x y x-own y-own) in
+            rw (sampledDigit, lt-ltb u (length left) h, lt-ltb v (length right) k)
+            (ap₂ (λ (s t : ℕ). getD (gateDigits m n f last a b) (s * m + t) 0) (sym at-a) (sym at-b)
+            ∙ digit-carried (x + y)
+            ∙ sym (gives (x + y) (sum-own m n pos (groupOf a) (groupOf b) a< b< (once .0) x y x-own y-own)))
+        go (yes h) (no k) =
+            rw (sampledDigit, lt-ltb u (length left) h, le-ltb v (length right) (omega arith))
+            (digit-free u v u< v< (λ p d e. omega (arith, rights .all p)))
+        go (no h) _ =
+            rw (sampledDigit, le-ltb u (length left) (omega arith)) (digit-free u v u< v< (λ p d e. omega (arith, lefts .all p)))
+
+    pub digits-sampled : gateDigits m n f last a b ≡ sampledDigits m left right own
+    unfolding sampledDigits
+    digits-sampled =
+        let count = digits-count m n f last a b in
+        let at : (k : ℕ) → ℕ = λ k. sampledDigit left right own (k / m) (k % m) in
+        ext-getD 0 (gateDigits m n f last a b) (map at (range 0 (m * m)))
+        (count ∙ sym (length-map (range 0 (m * m)) at ∙ range-length 0 (m * m)))
+        (λ k h.
+        let k< : k < m * m = rw count at h in
+        ap (λ (i : ℕ). getD (gateDigits m n f last a b) i 0) (sym (div-add-mod' k m))
+        ∙ digit (k / m) (k % m) (div-lt-iff-lt-mul pos .1 k<) (mod-lt k pos)
+        ∙ sym (map-at at (range 0 (m * m)) k 0 0 (rw range-length k<) ∙ ap at (range-at 0 (m * m) k 0 k< ∙ zero-add k)))
+
+-- ---- what the code computes for a gate's value
+
+pub given-last : (f : ℕ → ℕ) (ys firsts : List ℕ) (m n : ℕ) (a b : Wiring) (p : ℕ) → part m n (groupOf (gate a b)) p ≡ p
+    → given f ys firsts true p ≡ carried m n f true (gate a b) p
+unfolding given carried
+given-last f ys firsts m n a b p own = sym (ap f own)
+
+pub given-class : (m n : ℕ) (f : ℕ → ℕ) (a b : Wiring) (p : ℕ) → part m n (groupOf (gate a b)) p ≡ p
+    → given f (points m n (others n (groupOf (gate a b)))) (classes m n f (groupOf (gate a b))) false p ≡ carried m n f false (gate a b) p
+unfolding given carried classNumber
+given-class m n f a b p own =
+    let g = groupOf (gate a b) in
+    ap (λ (q : ℕ). firstPlace (alikeOver f (points m n (others n g)) q) (classes m n f g)) (sym own)

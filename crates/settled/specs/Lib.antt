@@ -1,0 +1,2 @@
+pub mod GateDigits
+pub mod Samples

@@ -1,0 +1,1 @@
+// The settled net of a table.
