@@ -1,14 +1,13 @@
 -- The loop of `class_firsts` over plain lists: what is kept, and the assignments that are left, give the classes of all.
 -- Assumes nothing.
-use Prim.Native.Nat.{ℕ, suc, _+_, _≤_, _<_}
-use mathlib.Core.Path.{_≡_, refl, sym, ap, ap₂, _∙_, subst, subst⁻¹}
+use Prim.Native.Nat.{ℕ, _+_, _≤_, _<_}
+use mathlib.Core.Path.{_≡_, refl, sym, ap, _∙_, subst, subst⁻¹}
 use mathlib.Core.List.{List, [], _∷_, _++_}
-use mathlib.Core.Logic.{⊎-elim}
 use native.Mathlib.Numerals.{add-one}
 use native.Mathlib.Omega.{arith}
 use native.Mathlib.Decide.{ℕ-discrete}
 use lib.ListN.{length, getD, take, drop, set, length-set, length-append, drop-of-length-le}
-use lib.Seq.{drop-cons, take-suc-set, length-take-le, getD-set-same, getD-set-other}
+use lib.Seq.{take-suc-set, length-take-le, getD-set-same, getD-set-other}
 use Rattle.rules.specs.Lists.{firstPlace}
 use Rattle.rules.specs.Groups.{alikeOver, firsts, capped}
 use Rattle.groups.specs.Firsts.{classesOver, Counted, firsts-known, firsts-new, firsts-more, capped-few, capped-many}
@@ -86,11 +85,11 @@ module _ (f : ℕ → ℕ) (b : ℕ) (ys xs : List ℕ) (m : ℕ) where
         pub kept-over : count ≡ m → Counted m (classesOver f ys xs) (m + 1) fs
         kept-over e =
             let over : m < length (classesOver f ys xs) =
-              omega (
-                arith,
-                subst (λ (l : List ℕ). length (take count fs ++ (getD xs i 0 ∷ [])) ≤ length l) joins
-                (firsts-more (alikeOver f ys) (take count fs ++ (getD xs i 0 ∷ [])) (drop (i + 1) xs)),
-                length-append (take count fs) (getD xs i 0 ∷ []),
-                kept-length,
-              ) in
+            omega (
+              arith,
+              subst (λ (l : List ℕ). length (take count fs ++ (getD xs i 0 ∷ [])) ≤ length l) joins
+                  (firsts-more (alikeOver f ys) (take count fs ++ (getD xs i 0 ∷ [])) (drop (i + 1) xs)),
+              length-append (take count fs) (getD xs i 0 ∷ []),
+              kept-length,
+            ) in
             record { answer = sym (capped-many m (length (classesOver f ys xs)) over); found = λ h. absurd (omega arith) }

@@ -1,3 +1,4 @@
+pub mod Answers
 pub mod Firsts
 pub mod Walks
 pub mod Within

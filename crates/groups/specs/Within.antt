@@ -1,9 +1,37 @@
 -- An assignment of a group plus one of the other inputs is inside the cells.
 -- Assumes nothing.
-use Prim.Native.Nat.{ℕ, _+_, _<_}
+use Prim.Native.Nat.{ℕ, _+_, _^_, _≤_, _<_}
 use mathlib.Core.List.{List}
+use native.Mathlib.Omega.{arith}
 use lib.ListN.{length, getD}
+use Rattle.rules.specs.Groups.{others, points}
+use Rattle.trees.specs.Trees.{mix}
+use Rattle.trees.specs.Levels.{mix-below}
+use Rattle.trees.specs.ListLaws.{mem-getD}
+use Rattle.trees.specs.Points.{points-are-parts}
 
 -- p with each of ys added is below b
 abbrev pub Within : ℕ → List ℕ → ℕ → Type 0
 Within b ys p = (k : ℕ) → k < length ys → p + getD ys k 0 < b
+
+-- the other inputs' assignments, added to one of the group's
+pub points-within : (m n : ℕ) → 0 < m → (g : ℕ) → g < 2 ^ n → (b : ℕ) → m ^ n ≤ b
+    → (i : ℕ) → i < length (points m n g) → Within b (points m n (others n g)) (getD (points m n g) i 0)
+unfolding mix
+points-within m n pos g g< b room i i< k k< =
+    let p = getD (points m n g) i 0 in
+    let y = getD (points m n (others n g)) k 0 in
+    let p-part = points-are-parts m n pos g p (mem-getD (points m n g) i 0 i<) .0 in
+    let y-part = points-are-parts m n pos (others n g) y (mem-getD (points m n (others n g)) k 0 k<) .0 in
+    omega (arith, mix-below m n pos g p y g<, p-part, y-part)
+
+-- Room to count the classes of a group of m levels and n inputs: the cells, and work arrays for the group's assignments, those of
+-- the other inputs, and the first of each class. Offsets are below 2 to the 16.
+pub record Room (m n : ℕ) (cells xs ys firsts : List ℕ) : Type 0 where
+  pub some : 0 < m
+  pub inputs : n ≤ 16
+  pub small : m ^ n ≤ 32_768
+  pub for-cells : m ^ n ≤ length cells
+  pub for-xs : m ^ n ≤ length xs
+  pub for-ys : m ^ n ≤ length ys
+  pub for-firsts : m ≤ length firsts

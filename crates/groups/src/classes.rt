@@ -1,10 +1,13 @@
 // The first of each class of a group's assignments, and how many there are, counted no further than m + 1.
-ghost use Prim.Native.Nat.{ℕ, _≤_, _<_};
+ghost use Prim.Native.Nat.{ℕ, _^_, _≤_, _<_};
 ghost use lib.ListN.{length, getD};
+ghost use Rattle.rules.specs.Groups.{classes};
 ghost use Rattle.rules.specs.Calls.{inkIn};
 ghost use Rattle.groups.specs.Firsts.{classesOver, Counted};
-ghost use Rattle.groups.specs.Within.{Within};
+ghost use Rattle.groups.specs.Within.{Within, Room};
 use crate::alike;
+use radix::offsets;
+use radix::powers;
 
 // Goes through the assignments xs and puts the first of each class to the front of `firsts`, m of them at most. Answers how
 // many classes there are, or m + 1 where they are more than m.
@@ -28,4 +31,24 @@ pub fn class_firsts(cells: &[u8], xs: &[u16], ys: &[u16], m: usize, firsts: &mut
         }
     }
     count
+}
+
+// The classes of group g: the first of each to the front of `firsts`, and how many there are, or m + 1 where they are more than m.
+// `xs` and `ys` are work arrays.
+pub fn group_classes(
+    m: usize,
+    n: usize,
+    cells: &[u8],
+    g: usize,
+    xs: &mut [u16],
+    ys: &mut [u16],
+    firsts: &mut [u16],
+) -> usize
+    requires { ⌜ (Room m n (now cells) (now xs) (now ys) (now firsts)) × (g < 2 ^ n) ⌝ }
+    ensures { λ r. ⌜ Counted m (classes m n (inkIn (now (cells .entry))) g) r (now (firsts .exit)) ⌝ }
+{
+    let rest = powers::power(2, n) - 1 - g;
+    let count = offsets::offsets(m, n, g, xs);
+    let other = offsets::offsets(m, n, rest, ys);
+    class_firsts(cells, &xs[0..count], &ys[0..other], m, firsts)
 }

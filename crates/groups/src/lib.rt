@@ -1,3 +1,5 @@
 // Alike assignments, the classes of a group, bare cells, and the multiplicity call.
 pub mod alike;
+pub mod bare;
+pub mod call;
 pub mod classes;

@@ -1,2 +1,3 @@
 pub mod GateDigits
+pub mod Ready
 pub mod Samples

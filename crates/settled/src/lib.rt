@@ -1,1 +1,2 @@
-// The settled net of a table.
+// The settled net of a table, from its cells and marks.
+pub mod digits;

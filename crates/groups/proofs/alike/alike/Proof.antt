@@ -9,9 +9,6 @@ use Rattle.rules.specs.Calls.{inkIn}
 use Rattle.rules.specs.Groups.{alikeOver}
 use Rattle.groups.proofs.alike.alike.Statement.{statement}
 use Rattle.groups.proofs.alike.alike.Tie as tie
-use Rattle.groups.proofs.alike.alike.Reads as reads
-use Rattle.groups.proofs.alike.alike.Lts as lts
-use Rattle.groups.proofs.alike.wide.Reads as wide-reads
 
 abbrev Inv-loop : tie.InvT-loop
 Inv-loop cells ys p q k₀ k = (k ≤ length ys) × (alikeOver (inkIn cells) (drop k ys) p q ≡ alikeOver (inkIn cells) ys p q)
@@ -19,19 +16,15 @@ Inv-loop cells ys p q k₀ k = (k ≤ length ys) × (alikeOver (inkIn cells) (dr
 abbrev μ-loop : tie.MeasureT-loop
 μ-loop cells ys p q k₀ k = length ys - k
 
--- src/alike.rt:22:5
 loop-holds : tie.Need-loop-holds Inv-loop μ-loop
 loop-holds c = (omega arith, refl)
 
--- src/alike.rt:23:22
 mul-wide : tie.Need-mul-wide Inv-loop μ-loop
 mul-wide c = omega arith
 
--- src/alike.rt:23:22
 shared-slice-read-wide : tie.Need-shared-slice-read-wide Inv-loop μ-loop
 shared-slice-read-wide c = omega arith
 
--- src/alike.rt:23:13
 wide-requires : tie.Need-wide-requires Inv-loop μ-loop
 wide-requires c κs = tt
 
@@ -45,23 +38,18 @@ in-cells c =
     let h = c .before .before .loop-test .taken in
     (omega (arith, start .pre .0 k h, c .wide .ensures), omega (arith, start .pre .1 k h, c .wide .ensures))
 
--- src/alike.rt:24:18
 add-if1 : tie.Need-add-if1 Inv-loop μ-loop
 add-if1 c = omega (arith, in-cells c)
 
--- src/alike.rt:24:12
 shared-slice-read-if1 : tie.Need-shared-slice-read-if1 Inv-loop μ-loop
 shared-slice-read-if1 c = in-cells (c .before) .0
 
--- src/alike.rt:24:34
 add-if1-2 : tie.Need-add-if1-2 Inv-loop μ-loop
 add-if1-2 c = omega (arith, in-cells (c .before))
 
--- src/alike.rt:24:28
 shared-slice-read-if1-2 : tie.Need-shared-slice-read-if1-2 Inv-loop μ-loop
 shared-slice-read-if1-2 c = in-cells (c .before .before) .1
 
--- src/alike.rt:25:13
 returns : tie.Need-returns Inv-loop μ-loop
 unfolding alikeOver
 returns c =
@@ -70,15 +58,12 @@ returns c =
     sym (all-stop _ (a .ys .now) (l .k) (c .before .before .before .before .before .loop-test .taken)
     (ne-eqb _ _ (subst (λ (y : ℕ). inkIn (a .cells .now) (a .p + y) ≡ inkIn (a .cells .now) (a .q + y) → ⊥) (c .before .before .before .wide .ensures) (c .if1 .taken)))) ∙ l .inv .1
 
--- src/alike.rt:27:9
 add-k : tie.Need-add-k Inv-loop μ-loop
 add-k c = omega arith
 
--- src/alike.rt:22:5
 loop-less : tie.Need-loop-less Inv-loop μ-loop
 loop-less c = omega arith
 
--- src/alike.rt:22:5
 loop-again : tie.Need-loop-again Inv-loop μ-loop
 unfolding alikeOver
 loop-again c =
@@ -87,7 +72,6 @@ loop-again c =
     let more = c .before .before .before .before .before .loop-test .taken in
     (omega arith, all-next _ (a .ys .now) (l .k) more (eq-eqb _ _ (subst (λ (y : ℕ). inkIn (a .cells .now) (a .p + y) ≡ inkIn (a .cells .now) (a .q + y)) (c .before .before .before .wide .ensures) (c .if1 .left))) ∙ l .inv .1)
 
--- src/alike.rt:17:1
 returns-2 : tie.Need-returns-2 Inv-loop μ-loop
 unfolding alikeOver
 returns-2 c = sym (all-end _ (c .before .before .before .before .args .ys .now) (c .before .loop .k) (c .loop-test .left)) ∙ c .before .loop .inv .1

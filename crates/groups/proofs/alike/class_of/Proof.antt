@@ -1,9 +1,8 @@
 -- `groups::alike::class_of` meets its contract. The loop's invariant: what is left of the first `count` decides.
 -- Assumes nothing.
-use Prim.Native.Nat.{ℕ, _+_, _-_, _≤_, _<_}
-use mathlib.Core.Path.{_≡_, refl, sym, subst⁻¹, ap, _∙_}
+use Prim.Native.Nat.{_+_, _-_, _≤_}
+use mathlib.Core.Path.{_≡_, sym, subst⁻¹, ap, _∙_}
 use mathlib.Core.Bool.{Bool, true, false}
-use mathlib.Core.List.{List}
 use native.Mathlib.Nat.{zero-add}
 use native.Mathlib.Omega.{arith}
 use lib.ListN.{length, getD, take, drop}
@@ -15,10 +14,6 @@ use Rattle.groups.specs.Walks.{place-next, place-stop, place-end}
 use Rattle.groups.specs.Within.{Within}
 use Rattle.groups.proofs.alike.class_of.Statement.{statement}
 use Rattle.groups.proofs.alike.class_of.Tie as tie
-use Rattle.groups.proofs.alike.class_of.Reads as reads
-use Rattle.groups.proofs.alike.class_of.Lts as lts
-use Rattle.groups.proofs.alike.alike.Reads as alike-reads
-use Rattle.groups.proofs.alike.wide.Reads as wide-reads
 
 abbrev Inv-loop : tie.InvT-loop
 Inv-loop cells ys firsts count p j₀ j =
@@ -27,23 +22,18 @@ Inv-loop cells ys firsts count p j₀ j =
 abbrev μ-loop : tie.MeasureT-loop
 μ-loop cells ys firsts count p j₀ j = count - j
 
--- src/alike.rt:39:5
 loop-holds : tie.Need-loop-holds Inv-loop μ-loop
 loop-holds c = (omega arith, zero-add _)
 
--- src/alike.rt:40:37
 mul-wide : tie.Need-mul-wide Inv-loop μ-loop
 mul-wide c = omega arith
 
--- src/alike.rt:40:37
 shared-slice-read-wide : tie.Need-shared-slice-read-wide Inv-loop μ-loop
 shared-slice-read-wide c = omega arith
 
--- src/alike.rt:40:32
 wide-requires : tie.Need-wide-requires Inv-loop μ-loop
 wide-requires c κs = tt
 
--- src/alike.rt:40:12
 alike-requires : tie.Need-alike-requires Inv-loop μ-loop
 alike-requires c κs =
     let start = c .before .before .before .before .before .before .before in
@@ -53,7 +43,6 @@ alike-requires c κs =
       subst⁻¹ (Within (length (a .cells .now)) (a .ys .now)) (c .wide .ensures) (start .pre .2 (l .j) (c .before .before .loop-test .taken)),
     )
 
--- src/alike.rt:41:13
 -- what the code's test says of the front's entry j
 says : (c : tie.After-alike Inv-loop μ-loop) →
     let a = c .before .before .before .before .before .before .before .before .args in
@@ -75,27 +64,22 @@ returns c =
     (says (c .before) true (c .if1 .taken)))
     ∙ l .inv .1
 
--- src/alike.rt:43:9
 add-j : tie.Need-add-j Inv-loop μ-loop
 add-j c = omega arith
 
--- src/alike.rt:39:5
 loop-less : tie.Need-loop-less Inv-loop μ-loop
 loop-less c = omega arith
 
--- src/alike.rt:39:5
 loop-again : tie.Need-loop-again Inv-loop μ-loop
 loop-again c =
     let start = c .before .before .before .before .before .before .before .before .before in
-    let l = c .before .before .before .before .before .loop in
-    (
+    let l = c .before .before .before .before .before .loop in (
       omega arith,
       place-next _ (take (start .args .count) (start .args .firsts .now)) (l .j) (omega (arith, length-take-le (start .args .count) (start .args .firsts .now) (start .pre .0)))
-      (says (c .before) false (c .if1 .left))
-      ∙ l .inv .1,
+          (says (c .before) false (c .if1 .left))
+          ∙ l .inv .1,
     )
 
--- src/alike.rt:33:1
 returns-2 : tie.Need-returns-2 Inv-loop μ-loop
 returns-2 c =
     let start = c .before .before .before .before .before in

@@ -1,7 +1,7 @@
 -- `groups::classes::class_firsts` meets its contract. The loop's invariant: what is kept, and the assignments that are left, give
 -- the classes of all.
 -- Assumes nothing.
-use Prim.Native.Nat.{ℕ, _+_, _-_, _≤_, _<_}
+use Prim.Native.Nat.{ℕ, _-_}
 use mathlib.Core.Path.{_≡_, refl, ap, subst⁻¹, _∙_}
 use native.Mathlib.Omega.{arith}
 use lib.ListN.{length, getD, take, length-set}
@@ -12,10 +12,6 @@ use Rattle.groups.specs.Within.{Within}
 use Rattle.groups.proofs.Counting.{Kept, kept-none, kept-all, kept-known, kept-new, kept-over}
 use Rattle.groups.proofs.classes.class_firsts.Statement.{statement}
 use Rattle.groups.proofs.classes.class_firsts.Tie as tie
-use Rattle.groups.proofs.classes.class_firsts.Reads as reads
-use Rattle.groups.proofs.classes.class_firsts.Lts as lts
-use Rattle.groups.proofs.alike.class_of.Reads as class-of-reads
-use Rattle.groups.proofs.alike.wide.Reads as wide-reads
 
 abbrev Inv-loop : tie.InvT-loop
 Inv-loop cells xs ys m firsts₀ count₀ i₀ firsts count i = (length firsts ≡ length firsts₀) × Kept (inkIn cells) (length cells) ys xs m firsts count i
@@ -23,26 +19,21 @@ Inv-loop cells xs ys m firsts₀ count₀ i₀ firsts count i = (length firsts �
 abbrev μ-loop : tie.MeasureT-loop
 μ-loop cells xs ys m firsts₀ count₀ i₀ firsts count i = length xs - i
 
--- src/classes.rt:17:5
 loop-holds : tie.Need-loop-holds Inv-loop μ-loop
 loop-holds c =
     let start = c .before .before .before .before in
     let a = start .args in
     (refl, kept-none (inkIn (a .cells .now)) (length (a .cells .now)) (a .ys .now) (a .xs .now) (a .m) (a .firsts .now) (start .pre .0))
 
--- src/classes.rt:18:17
 mul-p : tie.Need-mul-p Inv-loop μ-loop
 mul-p c = omega arith
 
--- src/classes.rt:18:17
 shared-slice-read-p : tie.Need-shared-slice-read-p Inv-loop μ-loop
 shared-slice-read-p c = omega arith
 
--- src/classes.rt:19:54
 wide-requires : tie.Need-wide-requires Inv-loop μ-loop
 wide-requires c κs = tt
 
--- src/classes.rt:19:12
 class-of-requires : tie.Need-class-of-requires Inv-loop μ-loop
 class-of-requires c κs =
     let start = c .before .before .before .before .before .before .before .before .before in
@@ -63,33 +54,27 @@ place c =
     let l = c .before .before .before .before .before .loop in
     c .class-of .ensures ∙ ap (λ (p : ℕ). firstPlace (alikeOver (inkIn (a .cells .now)) (a .ys .now) p) (take (l .count) (l .firsts))) (c .before .wide .ensures)
 
--- src/classes.rt:20:13
 add-i : tie.Need-add-i Inv-loop μ-loop
 add-i c = omega arith
 
--- src/classes.rt:17:5
 loop-less : tie.Need-loop-less Inv-loop μ-loop
 loop-less c = omega arith
 
--- src/classes.rt:17:5
 loop-again : tie.Need-loop-again Inv-loop μ-loop
 loop-again c =
     let a = c .before .before .before .before .before .before .before .before .before .before .before .args in
     let l = c .before .before .before .before .before .before .loop in (
       l .inv .0,
       kept-known (inkIn (a .cells .now)) (length (a .cells .now)) (a .ys .now) (a .xs .now) (a .m) (l .firsts) (l .count) (l .i) (l .inv .1)
-      (c .before .before .before .before .before .loop-test .taken) (c .before .class-of .result) (place (c .before)) (c .if1 .taken),
+          (c .before .before .before .before .before .loop-test .taken) (c .before .class-of .result) (place (c .before)) (c .if1 .taken),
     )
 
--- src/classes.rt:23:24
 add-result : tie.Need-add-result Inv-loop μ-loop
 add-result c = omega arith
 
--- src/classes.rt:23:17
 same-length : tie.Need-same-length Inv-loop μ-loop
 same-length c = c .before .before .before .before .before .before .before .loop .inv .0
 
--- src/classes.rt:23:17
 returns : tie.Need-returns Inv-loop μ-loop
 returns c =
     let a = c .before .before .before .before .before .before .before .before .before .before .before .before .args in
@@ -97,27 +82,21 @@ returns c =
     kept-over (inkIn (a .cells .now)) (length (a .cells .now)) (a .ys .now) (a .xs .now) (a .m) (l .firsts) (l .count) (l .i) (l .inv .1)
     (c .before .before .before .before .before .before .loop-test .taken) (c .before .before .class-of .result) (place (c .before .before)) (c .before .if1 .left) (c .if2 .taken)
 
--- src/classes.rt:25:13
 mul-firsts : tie.Need-mul-firsts Inv-loop μ-loop
 mul-firsts c = omega arith
 
--- src/classes.rt:25:13
 slice-write-firsts : tie.Need-slice-write-firsts Inv-loop μ-loop
 slice-write-firsts c = omega arith
 
--- src/classes.rt:26:13
 add-count : tie.Need-add-count Inv-loop μ-loop
 add-count c = omega arith
 
--- src/classes.rt:27:13
 add-i-2 : tie.Need-add-i-2 Inv-loop μ-loop
 add-i-2 c = omega arith
 
--- src/classes.rt:17:5
 loop-less-2 : tie.Need-loop-less-2 Inv-loop μ-loop
 loop-less-2 c = omega arith
 
--- src/classes.rt:17:5
 loop-again-2 : tie.Need-loop-again-2 Inv-loop μ-loop
 loop-again-2 c =
     let start = c .before .before .before .before .before .before .before .before .before .before .before .before in
@@ -126,15 +105,13 @@ loop-again-2 c =
     let more = c .before .before .before .before .before .before .loop-test .taken in (
       length-set (l .firsts) (l .count) _ ∙ l .inv .0,
       kept-new (inkIn (a .cells .now)) (length (a .cells .now)) (a .ys .now) (a .xs .now) (a .m) (l .firsts) (l .count) (l .i) (l .inv .1)
-      more (c .before .before .class-of .result) (place (c .before .before)) (c .before .if1 .left)
-      (omega (arith, l .inv .1 .few, c .if2 .left)) (start .pre .1 (l .i) more),
+          more (c .before .before .class-of .result) (place (c .before .before)) (c .before .if1 .left)
+          (omega (arith, l .inv .1 .few, c .if2 .left)) (start .pre .1 (l .i) more),
     )
 
--- src/classes.rt:11:1
 same-length-2 : tie.Need-same-length-2 Inv-loop μ-loop
 same-length-2 c = c .before .loop .inv .0
 
--- src/classes.rt:11:1
 returns-2 : tie.Need-returns-2 Inv-loop μ-loop
 returns-2 c =
     let a = c .before .before .before .before .before .before .args in

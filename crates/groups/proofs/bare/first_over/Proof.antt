@@ -1,0 +1,74 @@
+-- `groups::bare::first_over` meets its contract. The loop's invariant: the cells that are left decide. Assumes nothing.
+use Prim.Native.Nat.{_+_, _-_, _≤_}
+use mathlib.Core.Path.{_≡_, sym, ap, _∙_}
+use mathlib.Core.Bool.{not}
+use native.Mathlib.Nat.{zero-add}
+use native.Mathlib.Omega.{arith}
+use lib.Dec.{ltb}
+use lib.ListN.{length, drop}
+use borrow.Author.Tests.{lt-ltb, le-ltb}
+use Rattle.rules.specs.Lists.{firstPlace}
+use Rattle.groups.specs.Walks.{place-next, place-stop, place-end}
+use Rattle.groups.proofs.bare.first_over.Statement.{statement}
+use Rattle.groups.proofs.bare.first_over.Tie as tie
+
+abbrev Inv-loop : tie.InvT-loop
+Inv-loop m cells k₀ k =
+    (k ≤ length cells) × (k + firstPlace (λ c. not (ltb c m)) (drop k cells) ≡ firstPlace (λ c. not (ltb c m)) cells)
+
+abbrev μ-loop : tie.MeasureT-loop
+μ-loop m cells k₀ k = length cells - k
+
+loop-holds : tie.Need-loop-holds Inv-loop μ-loop
+loop-holds c = (omega arith, zero-add _)
+
+shared-slice-read-wide : tie.Need-shared-slice-read-wide Inv-loop μ-loop
+shared-slice-read-wide c = omega arith
+
+wide-requires : tie.Need-wide-requires Inv-loop μ-loop
+wide-requires c κs = tt
+
+returns : tie.Need-returns Inv-loop μ-loop
+returns c =
+    let a = c .before .before .before .before .before .before .args in
+    let l = c .before .before .before .before .loop in
+    sym (place-stop (λ x. not (ltb x (a .m))) (a .cells .now) (l .k) (c .before .before .before .loop-test .taken)
+    (ap not (le-ltb _ (a .m) (omega (arith, c .before .wide .ensures)))))
+    ∙ l .inv .1
+
+add-k : tie.Need-add-k Inv-loop μ-loop
+add-k c = omega arith
+
+loop-less : tie.Need-loop-less Inv-loop μ-loop
+loop-less c = omega arith
+
+loop-again : tie.Need-loop-again Inv-loop μ-loop
+loop-again c =
+    let a = c .before .before .before .before .before .before .args in
+    let l = c .before .before .before .before .loop in (
+      omega arith,
+      place-next (λ x. not (ltb x (a .m))) (a .cells .now) (l .k) (c .before .before .before .loop-test .taken)
+          (ap not (lt-ltb _ (a .m) (omega (arith, c .before .wide .ensures))))
+          ∙ l .inv .1,
+    )
+
+returns-2 : tie.Need-returns-2 Inv-loop μ-loop
+returns-2 c =
+    let a = c .before .before .before .args in
+    let l = c .before .loop in
+    sym (place-end (λ x. not (ltb x (a .m))) (a .cells .now) (l .k) (c .loop-test .left)) ∙ l .inv .1
+
+pub first-over-spec : {M : Type 1} → statement M
+first-over-spec =
+    tie.close
+    (tie.spec
+    Inv-loop
+    μ-loop
+    loop-holds
+    shared-slice-read-wide
+    wide-requires
+    returns
+    add-k
+    loop-less
+    loop-again
+    returns-2)

@@ -1,0 +1,59 @@
+-- `groups::call::group_answer` meets its contract: refusal 11, or the count of the group's classes, for which the work arrays have
+-- room.
+-- Assumes nothing.
+use native.Mathlib.Omega.{arith}
+use Rattle.rules.specs.Limits.{fewestLevels, mostLevels, mostInputs, mostCells}
+use Rattle.rules.specs.Groups.{multiplicity}
+use Rattle.radix.specs.Sizes.{sizes}
+use Rattle.groups.specs.Answers.{group-empty, group-past, group-counted}
+use borrow.Author.Needs.{needs}
+use Rattle.groups.proofs.call.group_answer.Statement.{statement}
+use Rattle.groups.proofs.call.group_answer.Tie as tie
+
+returns : tie.Need-returns
+returns c = group-empty _ _ _ _ (c .if1 .taken)
+
+power-requires : tie.Need-power-requires
+unfolding mostInputs
+power-requires c κs =
+    let start = c .before .before in
+    let fit = sizes (start .args .m) (start .args .n) (start .pre .0) in
+    omega (arith, fit .inputs)
+
+returns-2 : tie.Need-returns-2
+returns-2 c = group-past _ _ _ _ (omega (arith, c .before .power .ensures, c .if2 .taken))
+
+slice-aggregate-group-classes : tie.Need-slice-aggregate-group-classes
+slice-aggregate-group-classes c = search needs
+
+slice-aggregate-group-classes-2 : tie.Need-slice-aggregate-group-classes-2
+slice-aggregate-group-classes-2 c = search needs
+
+slice-aggregate-group-classes-3 : tie.Need-slice-aggregate-group-classes-3
+slice-aggregate-group-classes-3 c = search needs
+
+group-classes-requires : tie.Need-group-classes-requires
+unfolding fewestLevels mostLevels mostInputs mostCells
+group-classes-requires c κs =
+    let start = c .before .before .before .before .before .before .before in
+    let fit = sizes (start .args .m) (start .args .n) (start .pre .0) in
+    omega (arith, fit .some-levels, fit .levels, fit .inputs, fit .cells, start .pre .1, c .before .before .before .before .power .ensures)
+
+returns-3 : tie.Need-returns-3
+unfolding multiplicity
+returns-3 c =
+    group-counted _ _ _ _ _ (c .before .before .before .before .before .before .before .before .before .if1 .left) (omega (arith, c .before .before .before .before .before .before .before .before .power .ensures, c .before .before .before .before .before .before .before .if2 .left))
+    (c .before .before .before .group-classes .ensures .answer)
+
+pub group-answer-spec : {M : Type 1} → statement M
+group-answer-spec =
+    tie.close
+    (tie.spec
+    returns
+    power-requires
+    returns-2
+    slice-aggregate-group-classes
+    slice-aggregate-group-classes-2
+    slice-aggregate-group-classes-3
+    group-classes-requires
+    returns-3)

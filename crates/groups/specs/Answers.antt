@@ -1,0 +1,108 @@
+-- What the code's answers stand for, and what follows of bare cells that are accepted.
+-- Assumes nothing.
+use Prim.Native.Nat.{ℕ, zero, suc, _^_, _≤_, _<_}
+use mathlib.Core.Path.{_≡_, refl, sym, ap, _∙_}
+use mathlib.Core.Bool.{Bool, true, false, not, _||_, and-false, or-true}
+use mathlib.Core.List.{List, [], _∷_}
+use native.Mathlib.Omega.{arith}
+use lib.Dec.{eqb, leb, ltb, leb·suc-suc}
+use lib.ListN.{length}
+use borrow.Author.Tests.{eqb-true, eqb-false, eq-eqb, ne-eqb, lt-ltb, le-ltb, le-leb, lt-leb}
+use Rattle.rules.specs.Lists.{all, firstPlace}
+use Rattle.rules.specs.Limits.{sizeFits}
+use Rattle.rules.specs.Groups.{multiplicity, capped}
+use Rattle.rules.specs.Calls as calls
+use Rattle.rules.specs.Calls.{inkIn, bareCells, multiplicityCall}
+use Rattle.groups.specs.declared.bare.Bare.{Bare}
+use Rattle.groups.specs.declared.bare.Bare.the-variants as bare
+use Rattle.groups.specs.declared.call.Answer.{Answer}
+use Rattle.groups.specs.declared.call.Answer.the-variants.{Accepted, Refused}
+
+abbrev pub answerOf : Answer → calls.Answer ℕ
+answerOf (Accepted value) = calls.accepted value
+answerOf (Refused number place) = calls.refused number place
+
+abbrev pub bareOf : Bare → calls.Answer (Unit {0})
+bareOf bare.Good = calls.accepted tt
+bareOf (bare.Refused number place) = calls.refused number place
+
+-- the multiplicity call once the bare cells are accepted
+unfoldable pub groupAnswer : ℕ → ℕ → List ℕ → ℕ → calls.Answer ℕ
+groupAnswer m n cells g =
+    elim (eqb g 0 || leb (2 ^ n) g) [
+      | true ↦ calls.refused 11 0
+      | false ↦ calls.accepted (capped m (multiplicity m n (inkIn cells) g))
+    ]
+
+-- ---- bare cells
+
+-- every element passes exactly when none is the first that does not
+all-place : (test : ℕ → Bool) (xs : List ℕ) → all test xs ≡ not (ltb (firstPlace (λ x. not (test x)) xs) (length xs))
+unfolding all firstPlace
+all-place test [] = refl
+all-place test (x ∷ xs) = go (test x) (all-place test xs)
+  where
+    rest : ℕ
+    rest = firstPlace (λ x. not (test x)) xs
+
+    go : (b : Bool) → all test xs ≡ not (ltb rest (length xs))
+        → elim b as (λ _. Bool) [ true ↦ all test xs | false ↦ false ]
+        ≡ not (ltb (elim (not b) as (λ _. ℕ) [ true ↦ zero | false ↦ suc rest ]) (suc (length xs)))
+    go true later = later ∙ ap not (sym (leb·suc-suc (suc rest) (length xs)))
+    go false later = ap not (sym (lt-ltb zero (suc (length xs)) (omega arith)))
+
+module _ (m n : ℕ) (cells : List ℕ) where
+  pub bare-size : sizeFits m n ≡ false → calls.refused 9 0 ≡ bareCells m n cells
+  unfolding bareCells
+  bare-size e = rw (e, bareCells)
+
+  pub bare-length : (length cells ≡ m ^ n → ⊥) → calls.refused 9 0 ≡ bareCells m n cells
+  unfolding bareCells
+  bare-length ne = rw (ne-eqb (length cells) (m ^ n) ne, and-false (sizeFits m n), bareCells)
+
+  module _ (fits : sizeFits m n ≡ true) (count : length cells ≡ m ^ n) (k : ℕ)
+      (over : k ≡ firstPlace (λ c. not (ltb c m)) cells) where
+    pub bare-cell : k < length cells → calls.refused 10 k ≡ bareCells m n cells
+    unfolding bareCells
+    bare-cell h =
+        rw (fits, eq-eqb (length cells) (m ^ n) count, all-place (λ c. ltb c m) cells, ← over, lt-ltb k (length cells) h, bareCells) (ap (calls.refused 10) over)
+
+    pub bare-good : length cells ≤ k → calls.accepted tt ≡ bareCells m n cells
+    unfolding bareCells
+    bare-good h =
+        rw (fits, eq-eqb (length cells) (m ^ n) count, all-place (λ c. ltb c m) cells, ← over, le-ltb k (length cells) h, bareCells)
+
+  never : calls.accepted tt ≡ bareCells m n cells → calls.refused 9 0 ≡ bareCells m n cells → ⊥
+  never e r = let z : _≡_ {A = ℕ} 0 1 = cc in omega arith
+
+  pub bare-accepted : calls.accepted tt ≡ bareCells m n cells → (sizeFits m n ≡ true) × (length cells ≡ m ^ n)
+  bare-accepted e = go (sizeFits m n) refl (eqb (length cells) (m ^ n)) refl
+    where
+      go : (s : Bool) → sizeFits m n ≡ s → (t : Bool) → eqb (length cells) (m ^ n) ≡ t → (sizeFits m n ≡ true) × (length cells ≡ m ^ n)
+      go true fits true count = (fits, eqb-true _ _ count)
+      go true fits false count = absurd (never e (bare-length (eqb-false _ _ count)))
+      go false fits t count = absurd (never e (bare-size fits))
+
+  -- ---- the multiplicity call
+
+  pub multiplicity-refused : (g number place : ℕ) → calls.refused number place ≡ bareCells m n cells
+      → calls.refused number place ≡ multiplicityCall m n cells g
+  unfolding multiplicityCall calls.onward
+  multiplicity-refused g number place e = rw (← e)
+
+  pub multiplicity-judged : (g : ℕ) → calls.accepted tt ≡ bareCells m n cells → groupAnswer m n cells g ≡ multiplicityCall m n cells g
+  unfolding multiplicityCall calls.onward groupAnswer
+  multiplicity-judged g e = rw (← e)
+
+  pub group-empty : (g : ℕ) → g ≡ 0 → calls.refused 11 0 ≡ groupAnswer m n cells g
+  unfolding groupAnswer
+  group-empty g e = rw (eq-eqb g 0 e, groupAnswer)
+
+  pub group-past : (g : ℕ) → 2 ^ n ≤ g → calls.refused 11 0 ≡ groupAnswer m n cells g
+  unfolding groupAnswer
+  group-past g h = rw (le-leb (2 ^ n) g h, or-true (eqb g 0), groupAnswer)
+
+  pub group-counted : (g r : ℕ) → (g ≡ 0 → ⊥) → g < 2 ^ n → r ≡ capped m (multiplicity m n (inkIn cells) g)
+      → calls.accepted r ≡ groupAnswer m n cells g
+  unfolding groupAnswer
+  group-counted g r some below e = rw (ne-eqb g 0 some, lt-leb (2 ^ n) g below, e, groupAnswer)

@@ -1,0 +1,60 @@
+// Bare cells: m, n and one byte a cell in index order. Any numbers and bytes may come in.
+ghost use mathlib.Core.Path.{_≡_};
+ghost use mathlib.Core.Bool.{not};
+ghost use lib.Dec.{ltb};
+ghost use Rattle.rules.specs.Lists.{firstPlace};
+ghost use Rattle.rules.specs.Calls.{bareCells};
+ghost use Rattle.groups.specs.Answers.{bareOf};
+use radix::powers;
+
+pub enum Bare {
+    Good,
+    Refused { number: usize, place: usize },
+}
+
+fn wide(x: u8) -> usize
+    ensures { λ r. ⌜ r ≡ x ⌝ }
+{
+    x as usize
+}
+
+// The index of the first cell that is not below m, or the number of cells.
+fn first_over(m: usize, cells: &[u8]) -> usize
+    ensures { λ r. ⌜ r ≡ firstPlace (λ c. not (ltb c m)) (now (cells .entry)) ⌝ }
+{
+    let mut k: usize = 0;
+    while k < cells.len() {
+        if m <= wide(cells[k]) {
+            return k;
+        }
+        k += 1;
+    }
+    k
+}
+
+// Refusals 9 and 10.
+pub fn bare_cells(m: usize, n: usize, cells: &[u8]) -> Bare
+    ensures { λ r. ⌜ bareOf r ≡ bareCells m n (now (cells .entry)) ⌝ }
+{
+    if !powers::size_fits(m, n) {
+        return Bare::Refused {
+            number: 9,
+            place: 0,
+        };
+    }
+    if cells.len() != powers::power(m, n) {
+        return Bare::Refused {
+            number: 9,
+            place: 0,
+        };
+    }
+    let k = first_over(m, cells);
+    if k < cells.len() {
+        Bare::Refused {
+            number: 10,
+            place: k,
+        }
+    } else {
+        Bare::Good
+    }
+}

@@ -1,0 +1,53 @@
+// The multiplicity call.
+ghost use mathlib.Core.Path.{_≡_};
+ghost use mathlib.Core.Bool.{true};
+ghost use Prim.Native.Nat.{_^_};
+ghost use lib.ListN.{length};
+ghost use Rattle.rules.specs.Limits.{sizeFits};
+ghost use Rattle.rules.specs.Calls.{multiplicityCall};
+ghost use Rattle.groups.specs.Answers.{answerOf, groupAnswer};
+use crate::bare;
+use crate::bare::Bare;
+use crate::classes;
+use radix::limits;
+use radix::powers;
+
+// What a call answers: a value, or a refusal's number and place.
+pub enum Answer {
+    Accepted(usize),
+    Refused { number: usize, place: usize },
+}
+
+// Refusal 11, or the group's multiplicity.
+fn group_answer(m: usize, n: usize, cells: &[u8], group: usize) -> Answer
+    requires { ⌜ (sizeFits m n ≡ true) × (length (now cells) ≡ m ^ n) ⌝ }
+    ensures { λ r. ⌜ answerOf r ≡ groupAnswer m n (now (cells .entry)) group ⌝ }
+{
+    if group == 0 {
+        return Answer::Refused {
+            number: 11,
+            place: 0,
+        };
+    }
+    if powers::power(2, n) <= group {
+        return Answer::Refused {
+            number: 11,
+            place: 0,
+        };
+    }
+    let mut xs = [0u16; limits::MOST_CELLS];
+    let mut ys = [0u16; limits::MOST_CELLS];
+    let mut firsts = [0u16; limits::MOST_LEVELS];
+    Answer::Accepted(classes::group_classes(m, n, cells, group, &mut xs, &mut ys, &mut firsts))
+}
+
+// The number of classes of a group if it is at most m, and otherwise m + 1. Any arguments may come in.
+pub fn multiplicity(m: usize, n: usize, cells: &[u8], group: usize) -> Answer
+    ensures { λ r. ⌜ answerOf r ≡ multiplicityCall m n (now (cells .entry)) group ⌝ }
+{
+    let judged = bare::bare_cells(m, n, cells);
+    match judged {
+        Bare::Refused { number, place } => Answer::Refused { number, place },
+        Bare::Good => group_answer(m, n, cells, group),
+    }
+}
