@@ -1,11 +1,11 @@
 -- A gate's digits from the samples of its two wires alone: the digit at (u, v) is what the gate gives at the sum of left's sample u
 -- and right's sample v, and 0 where one of the two has no such sample.
 -- Assumes nothing.
-use Prim.Native.Nat.{ℕ, _+_, _*_, _/_, _%_, _^_, _≤_, _<_}
+use Prim.Native.Nat.{ℕ, zero, suc, _+_, _*_, _/_, _%_, _^_, _≤_, _<_}
 use mathlib.Core.Path.{_≡_, refl, sym, ap, ap₂, _∙_, subst}
 use mathlib.Core.Logic.{_⊎_, inl, inr}
 use mathlib.Core.Bool.{Bool, true, false, cond, not, _&&_, true≢false}
-use mathlib.Core.List.{List, map}
+use mathlib.Core.List.{List, [], _∷_, map}
 use native.Mathlib.Nat.{add-comm, zero-add, mod-lt, div-add-mod', div-lt-iff-lt-mul, lt-irrefl}
 use native.Mathlib.Decide.{decLt}
 use native.Mathlib.Omega.{arith}
@@ -41,6 +41,48 @@ sampledDigit left right own u v = cond (ltb u (length left)) (cond (ltb v (lengt
 -- "left's level slowest"
 unfoldable pub sampledDigits : ℕ → List ℕ → List ℕ → (ℕ → ℕ) → List ℕ
 sampledDigits m left right own = map (λ k. sampledDigit left right own (k / m) (k % m)) (range 0 (m * m))
+
+place-at-most : (test : ℕ → Bool) (xs : List ℕ) → firstPlace test xs ≤ length xs
+unfolding firstPlace
+place-at-most test [] = omega arith
+place-at-most test (x ∷ xs) = go (test x) (place-at-most test xs)
+  where
+    go : (b : Bool) → firstPlace test xs ≤ length xs → elim b as (λ _. ℕ) [ true ↦ zero | false ↦ suc (firstPlace test xs) ] ≤ suc (length xs)
+    go true later = omega arith
+    go false later = omega arith
+
+-- a class's number is at most the number of classes
+pub given-at-most : (f : ℕ → ℕ) (ys firsts : List ℕ) (p : ℕ) → given f ys firsts false p ≤ length firsts
+unfolding given
+given-at-most f ys firsts p = place-at-most (alikeOver f ys p) firsts
+
+pub digit-sum : (left right : List ℕ) (own : ℕ → ℕ) (u v : ℕ) → u < length left → v < length right
+    → sampledDigit left right own u v ≡ own (getD left u 0 + getD right v 0)
+unfolding sampledDigit
+digit-sum left right own u v h k = rw (sampledDigit, lt-ltb u (length left) h, lt-ltb v (length right) k)
+
+pub no-right : (left right : List ℕ) (own : ℕ → ℕ) (u v : ℕ) → length right ≤ v → sampledDigit left right own u v ≡ 0
+unfolding sampledDigit
+no-right left right own u v h = rw (sampledDigit, le-ltb v (length right) h) (either (ltb u (length left)))
+  where
+    either : (t : Bool) → cond {A = ℕ} t 0 0 ≡ 0
+    either true = refl
+    either false = refl
+
+pub no-left : (left right : List ℕ) (own : ℕ → ℕ) (u v : ℕ) → length left ≤ u → sampledDigit left right own u v ≡ 0
+unfolding sampledDigit
+no-left left right own u v h = rw (sampledDigit, le-ltb u (length left) h)
+
+module _ (m : ℕ) (left right : List ℕ) (own : ℕ → ℕ) where
+  pub sampled-length : length (sampledDigits m left right own) ≡ m * m
+  unfolding sampledDigits
+  sampled-length = length-map (range 0 (m * m)) _ ∙ range-length 0 (m * m)
+
+  pub sampled-at : (k : ℕ) → k < m * m → getD (sampledDigits m left right own) k 0 ≡ sampledDigit left right own (k / m) (k % m)
+  unfolding sampledDigits
+  sampled-at k h =
+      map-at (λ i. sampledDigit left right own (i / m) (i % m)) (range 0 (m * m)) k 0 0 (rw range-length h)
+      ∙ ap (λ i. sampledDigit left right own (i / m) (i % m)) (range-at 0 (m * m) k 0 h ∙ zero-add k)
 
 -- ---- assignments of two groups that share no input, added
 
@@ -116,7 +158,7 @@ module _ (m n : ℕ) (pos : 0 < m) (f : ℕ → ℕ) (last : Bool) (a b : Wiring
   module _ (left right : List ℕ) (lefts : Sampled m n f a left) (rights : Sampled m n f b right) (own : ℕ → ℕ)
       (gives : (p : ℕ) → part m n (groupOf (gate a b)) p ≡ p → own p ≡ carried m n f last (gate a b) p) where
     digit : (u v : ℕ) → u < m → v < m → getD (gateDigits m n f last a b) (u * m + v) 0 ≡ sampledDigit left right own u v
-    unfolding sampledDigit groupOf
+    unfolding groupOf
     digit u v u< v< = go (decLt u (length left)) (decLt v (length right))
       where
         go : Dec (u < length left) → Dec (v < length right) → getD (gateDigits m n f last a b) (u * m + v) 0 ≡ sampledDigit left right own u v
@@ -127,28 +169,23 @@ module _ (m n : ℕ) (pos : 0 < m) (f : ℕ → ℕ) (last : Bool) (a b : Wiring
             let y-own = rights .own v k in
             let at-a = lefts .carries u (x + y) h (sum-left m n pos (groupOf a) (groupOf b) a< b< (once .0) x y x-own y-own) in
             let at-b = rights .carries v (x + y) k (sum-right m n pos (groupOf a) (groupOf b) a< b< (once .0) x y x-own y-own) in
-            rw (sampledDigit, lt-ltb u (length left) h, lt-ltb v (length right) k)
-            (ap₂ (λ (s t : ℕ). getD (gateDigits m n f last a b) (s * m + t) 0) (sym at-a) (sym at-b)
+            ap₂ (λ (s t : ℕ). getD (gateDigits m n f last a b) (s * m + t) 0) (sym at-a) (sym at-b)
             ∙ digit-carried (x + y)
-            ∙ sym (gives (x + y) (sum-own m n pos (groupOf a) (groupOf b) a< b< (once .0) x y x-own y-own)))
-        go (yes h) (no k) =
-            rw (sampledDigit, lt-ltb u (length left) h, le-ltb v (length right) (omega arith))
-            (digit-free u v u< v< (λ p d e. omega (arith, rights .all p)))
-        go (no h) _ =
-            rw (sampledDigit, le-ltb u (length left) (omega arith)) (digit-free u v u< v< (λ p d e. omega (arith, lefts .all p)))
+            ∙ sym (gives (x + y) (sum-own m n pos (groupOf a) (groupOf b) a< b< (once .0) x y x-own y-own))
+            ∙ sym (digit-sum left right own u v h k)
+        go (yes h) (no k) = digit-free u v u< v< (λ p d e. omega (arith, rights .all p)) ∙ sym (no-right left right own u v (omega arith))
+        go (no h) _ = digit-free u v u< v< (λ p d e. omega (arith, lefts .all p)) ∙ sym (no-left left right own u v (omega arith))
 
     pub digits-sampled : gateDigits m n f last a b ≡ sampledDigits m left right own
-    unfolding sampledDigits
     digits-sampled =
         let count = digits-count m n f last a b in
-        let at : (k : ℕ) → ℕ = λ k. sampledDigit left right own (k / m) (k % m) in
-        ext-getD 0 (gateDigits m n f last a b) (map at (range 0 (m * m)))
-        (count ∙ sym (length-map (range 0 (m * m)) at ∙ range-length 0 (m * m)))
+        ext-getD 0 (gateDigits m n f last a b) (sampledDigits m left right own)
+        (count ∙ sym (sampled-length m left right own))
         (λ k h.
         let k< : k < m * m = rw count at h in
         ap (λ (i : ℕ). getD (gateDigits m n f last a b) i 0) (sym (div-add-mod' k m))
         ∙ digit (k / m) (k % m) (div-lt-iff-lt-mul pos .1 k<) (mod-lt k pos)
-        ∙ sym (map-at at (range 0 (m * m)) k 0 0 (rw range-length k<) ∙ ap at (range-at 0 (m * m) k 0 k< ∙ zero-add k)))
+        ∙ sym (sampled-at m left right own k k<))
 
 -- ---- what the code computes for a gate's value
 
