@@ -2,10 +2,10 @@
 -- each class.
 -- Assumes nothing.
 use Prim.Native.Nat.{ℕ, zero, suc, _+_, _-_, _*_, _/_, _%_, _^_, _≤_, _<_}
-use mathlib.Core.Path.{_≡_, refl, sym, ap, _∙_, subst}
+use mathlib.Core.Path.{_≡_, refl, sym, ap, _∙_, subst⁻¹}
 use mathlib.Core.Bool.{Bool, true, false}
 use mathlib.Core.List.{List, [], _∷_, _++_, map, map-map, append-nil}
-use native.Mathlib.Nat.{zero-mul, zero-add, mul-one, pow-zero, pow-suc, le-refl, le-step, mul-assoc, mul-div-cancel, mod-eq-of-lt, one-le-pow}
+use native.Mathlib.Nat.{zero-mul, zero-add, mul-one, pow-zero, pow-suc, le-refl, le-step, mul-assoc, mul-div-cancel, mul-comm, mod-eq-of-lt, one-le-pow, pow-le-pow-right}
 use native.Mathlib.Decide.{decLt}
 use native.Mathlib.Omega.{arith}
 use borrow.Author.Tests.{eq-eqb, ne-eqb}
@@ -14,12 +14,12 @@ use lib.Dec.{eqb}
 use Rattle.rules.specs.Lists.{range, concatMap}
 use Rattle.rules.specs.Sheets.{level}
 use Rattle.rules.specs.Groups.{member, points, part, size, classes, multiplicity}
-use Rattle.rules.specs.Settled.{Wiring, input, gate, groupOf, carried, classNumber, gatesIn}
+use Rattle.rules.specs.Settled.{Wiring, input, gate, groupOf, carried, classNumber, gatesIn, firstInput}
 use Rattle.laws.specs.Concat.{map-same}
 use Rattle.laws.specs.Ranges.{range-length, range-at}
 use Rattle.trees.specs.ListLaws.{mem-getD}
 use Rattle.trees.specs.Rows.{map-at}
-use Rattle.trees.specs.Members.{member-single, single-below, size-single}
+use Rattle.trees.specs.Members.{member-single, size-single, size-one, first-member}
 use Rattle.trees.specs.Levels.{level-below, level-part-in}
 use Rattle.trees.specs.Points.{points-are-parts}
 use Rattle.trees.specs.Classes.{classes-are-points, class-below, class-part, class-listed, listed-once}
@@ -69,6 +69,27 @@ points-single m (suc n) i h = go (decLt i n) (points-single m n i)
 unfoldable pub samples : ℕ → ℕ → (ℕ → ℕ) → ℕ → List ℕ
 samples m n f g = elim (eqb (size n g) 1) [ true ↦ points m n g | false ↦ classes m n f g ]
 
+pub level-points-length : (m w : ℕ) → length (levelPoints m w) ≡ m
+level-points-length m w = length-map (range 0 m) (λ l. l * w) ∙ range-length 0 m
+
+-- an input's weight, times m, is within the cells
+pub weight-fits : (m n i : ℕ) → 0 < m → i < n → m * m ^ (n - 1 - i) ≤ m ^ n
+weight-fits m n i pos h =
+    subst⁻¹ (λ (k : ℕ). k ≤ m ^ n) (mul-comm m (m ^ (n - 1 - i)) ∙ sym (pow-suc m (n - 1 - i))) (pow-le-pow-right pos (omega arith))
+
+module _ (m n : ℕ) (f : ℕ → ℕ) (g : ℕ) (g< : g < 2 ^ n) where
+  -- a group that is the first-listed of its inputs
+  pub samples-single : 0 < g → g ≡ 2 ^ firstInput n g → samples m n f g ≡ levelPoints m (m ^ (n - 1 - firstInput n g))
+  unfolding samples
+  samples-single some one =
+      let first = first-member n g g< some .0 in
+      rw (samples, eq-eqb (size n g) 1 (ap (size n) one ∙ size-single (firstInput n g) n first)) (ap (points m n) one ∙ points-single m n (firstInput n g) first)
+
+  -- any other
+  pub samples-several : (g ≡ 2 ^ firstInput n g → ⊥) → samples m n f g ≡ classes m n f g
+  unfolding samples
+  samples-several several = rw (samples, ne-eqb (size n g) 1 (λ one. several (size-one n g g< one .1)))
+
 -- what they are for a wire: all that it carries is below their number, and where what an index gives the wire's group is sample u,
 -- the wire carries u
 pub record Sampled (m n : ℕ) (f : ℕ → ℕ) (w : Wiring) (xs : List ℕ) : Type 0 where
@@ -83,7 +104,7 @@ module _ (m n : ℕ) (pos : 0 < m) (f : ℕ → ℕ) where
   unfolding carried groupOf level
   sampled-input i h =
       let w = m ^ (n - 1 - i) in
-      let count : length (points m n (2 ^ i)) ≡ m = ap length (points-single m n i h) ∙ length-map (range 0 m) (λ l. l * w) ∙ range-length 0 m in
+      let count : length (points m n (2 ^ i)) ≡ m = ap length (points-single m n i h) ∙ level-points-length m w in
       let at : (u : ℕ) → u < m → getD (points m n (2 ^ i)) u 0 ≡ u * w =
           λ u u<. rw (points-single m n i h, map-at (λ l. l * w) (range 0 m) u 0 0 (rw range-length u<), range-at 0 m u 0 u<, zero-add) in
       record {

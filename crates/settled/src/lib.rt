@@ -1,2 +1,3 @@
 // The settled net of a table, from its cells and marks.
 pub mod digits;
+pub mod samples;
