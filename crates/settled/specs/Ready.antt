@@ -1,12 +1,91 @@
--- What a gate's digits are made of stands inside the cells.
+-- What stands inside the cells, and what is asked of the two parts that a gate joins.
 -- Assumes nothing.
-use Prim.Native.Nat.{ℕ, _+_, _≤_, _<_}
-use mathlib.Core.List.{List}
+use Prim.Native.Nat.{ℕ, _+_, _^_, _≤_, _<_}
+use mathlib.Core.Path.{_≡_, subst}
+use mathlib.Core.List.{List, []}
+use native.Mathlib.Nat.{lt-of-lt-of-le}
+use native.Mathlib.Omega.{arith}
 use lib.ListN.{length, getD}
-use Rattle.groups.specs.Within.{Within}
+use Rattle.rules.specs.Limits.{mostLevels, mostInputs, mostCells}
+use Rattle.rules.specs.Groups.{part, points, others, classes, multiplicity}
+use Rattle.groups.specs.Within.{Within, Room, part-within}
+use Rattle.trees.specs.Trees.{Apart}
+use Rattle.trees.specs.Levels.{part-below}
+use Rattle.trees.specs.Points.{points-are-parts}
+use Rattle.trees.specs.Classes.{classes-are-points}
+use Rattle.trees.specs.Wirings.{Few}
 
+-- the cells of a table within a sheet's bounds
+pub record Sized (m n : ℕ) (cells : List ℕ) : Type 0 where
+  pub some : 0 < m
+  pub levels : m ≤ mostLevels
+  pub inputs : n ≤ mostInputs
+  pub small : m ^ n ≤ mostCells
+  pub count : m ^ n ≤ length cells
+
+-- the work arrays that counting classes takes
+pub room : (m n : ℕ) (cells xs ys firsts : List ℕ) → Sized m n cells → m ^ n ≤ length xs → m ^ n ≤ length ys → m ≤ length firsts
+    → Room m n cells xs ys firsts
+unfolding mostInputs mostCells
+room m n cells xs ys firsts sized for-xs for-ys for-firsts =
+    record {
+      some = sized .some;
+      inputs = omega (arith, sized .inputs);
+      small = omega (arith, sized .small);
+      for-cells = sized .count;
+      for-xs = for-xs;
+      for-ys = for-ys;
+      for-firsts = for-firsts;
+    }
+
+-- two groups that share no input, each and both together with at most m classes
+pub record Parts (m n : ℕ) (f : ℕ → ℕ) (a b : ℕ) : Type 0 where
+  pub some-a : 0 < a
+  pub some-b : 0 < b
+  pub a-below : a < 2 ^ n
+  pub b-below : b < 2 ^ n
+  pub apart : Apart n a b
+  pub few-a : Few m n f a
+  pub few-b : Few m n f b
+  pub few : Few m n f (a + b)
+
+-- the sum of one of the left list and one of the right is an assignment of group g
+abbrev pub Sums : ℕ → ℕ → ℕ → List ℕ → List ℕ → Type 0
+Sums m n g left right =
+    (u v : ℕ) → u < length left → v < length right → part m n g (getD left u 0 + getD right v 0) ≡ getD left u 0 + getD right v 0
+
+-- a gate's digits are made of what stands inside the cells
 pub record Ready (cells ys firsts left right : List ℕ) : Type 0 where
   pub few : length firsts ≤ 255
   pub kept : (j : ℕ) → j < length firsts → Within (length cells) ys (getD firsts j 0)
   pub inside : (u v : ℕ) → u < length left → v < length right → getD left u 0 + getD right v 0 < length cells
   pub within : (u v : ℕ) → u < length left → v < length right → Within (length cells) ys (getD left u 0 + getD right v 0)
+
+-- ---- a gate below the last
+
+module _ (m n : ℕ) (cells : List ℕ) (f : ℕ → ℕ) (g : ℕ) (left right : List ℕ) (sized : Sized m n cells) (sums : Sums m n g left right) where
+  sum-inside : (u v : ℕ) → u < length left → v < length right → getD left u 0 + getD right v 0 < length cells
+  sum-inside u v u< v< = lt-of-lt-of-le (subst (λ (p : ℕ). p < m ^ n) (sums u v u< v<) (part-below m n (sized .some) g _)) (sized .count)
+
+  pub class-ready : g < 2 ^ n → Few m n f g → Ready cells (points m n (others n g)) (classes m n f g) left right
+  unfolding multiplicity mostLevels
+  class-ready g< few =
+      let own : (j : ℕ) → j < length (classes m n f g) → part m n g (getD (classes m n f g) j 0) ≡ getD (classes m n f g) j 0 =
+          λ j j<. points-are-parts m n (sized .some) g _ (classes-are-points m n (sized .some) f g g< j j<) .0 in
+      record {
+        few = omega (arith, sized .levels);
+        kept = λ j j<. part-within m n (sized .some) g g< (length cells) (sized .count) _ (own j j<);
+        inside = sum-inside;
+        within = λ u v u< v<. part-within m n (sized .some) g g< (length cells) (sized .count) _ (sums u v u< v<);
+      }
+
+  -- ---- the last gate: no class is looked for
+
+  pub last-ready : Ready cells [] [] left right
+  last-ready =
+      record {
+        few = omega arith;
+        kept = λ j j<. absurd (omega arith);
+        inside = sum-inside;
+        within = λ u v u< v< k k<. absurd (omega arith);
+      }

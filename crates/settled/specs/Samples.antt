@@ -9,7 +9,7 @@ use native.Mathlib.Nat.{zero-mul, zero-add, mul-one, pow-zero, pow-suc, le-refl,
 use native.Mathlib.Decide.{decLt}
 use native.Mathlib.Omega.{arith}
 use borrow.Author.Tests.{eq-eqb, ne-eqb}
-use lib.ListN.{length, getD, length-map}
+use lib.ListN.{length, getD, take, length-map}
 use lib.Dec.{eqb}
 use Rattle.rules.specs.Lists.{range, concatMap}
 use Rattle.rules.specs.Sheets.{level}
@@ -17,6 +17,7 @@ use Rattle.rules.specs.Groups.{member, points, part, size, classes, multiplicit
 use Rattle.rules.specs.Settled.{Wiring, input, gate, groupOf, carried, classNumber, gatesIn, firstInput}
 use Rattle.laws.specs.Concat.{map-same}
 use Rattle.laws.specs.Ranges.{range-length, range-at}
+use Rattle.groups.specs.Firsts.{Counted, capped-few}
 use Rattle.trees.specs.ListLaws.{mem-getD}
 use Rattle.trees.specs.Rows.{map-at}
 use Rattle.trees.specs.Members.{member-single, size-single, size-one, first-member}
@@ -76,6 +77,14 @@ level-points-length m w = length-map (range 0 m) (λ l. l * w) ∙ range-length 
 pub weight-fits : (m n i : ℕ) → 0 < m → i < n → m * m ^ (n - 1 - i) ≤ m ^ n
 weight-fits m n i pos h =
     subst⁻¹ (λ (k : ℕ). k ≤ m ^ n) (mul-comm m (m ^ (n - 1 - i)) ∙ sym (pow-suc m (n - 1 - i))) (pow-le-pow-right pos (omega arith))
+
+-- a count of classes that did not stop
+pub counted-all : (m : ℕ) (list : List ℕ) (count : ℕ) (out : List ℕ) → length list ≤ m → Counted m list count out
+    → (count ≤ m) × (length list ≡ count) × (take count out ≡ list)
+counted-all m list count out few found =
+    let e : length list ≡ count = sym (found .answer ∙ capped-few m (length list) few) in
+    let low : count ≤ m = omega arith in
+    (low, e, found .found low)
 
 module _ (m n : ℕ) (f : ℕ → ℕ) (g : ℕ) (g< : g < 2 ^ n) where
   -- a group that is the first-listed of its inputs

@@ -1,13 +1,21 @@
 // A gate's digits from the samples of its two wires.
 ghost use mathlib.Core.Path.{_≡_};
-ghost use Prim.Native.Nat.{ℕ, _+_, _*_, _≤_, _<_};
+ghost use Prim.Native.Nat.{ℕ, _+_, _*_, _^_, _≤_, _<_};
+ghost use mathlib.Core.Bool.{false};
 ghost use lib.ListN.{length, getD};
 ghost use lib.Seq.{paste};
 ghost use Rattle.rules.specs.Calls.{inkIn};
+ghost use Rattle.rules.specs.Groups.{others, points, classes};
 ghost use Rattle.groups.specs.Within.{Within};
+ghost use Rattle.trees.specs.Wirings.{Few};
 ghost use Rattle.settled.specs.GateDigits.{given, sampledDigit, sampledDigits};
-ghost use Rattle.settled.specs.Ready.{Ready};
+ghost use Rattle.settled.specs.Ready.{Sized, Parts, Sums, Ready};
 use groups::alike;
+use groups::classes;
+use radix::limits;
+use radix::offsets;
+use radix::powers;
+use crate::samples;
 
 // What a gate gives at its group's assignment p: the ink at the last, and else its class's number. `ys` are the assignments of the
 // other inputs, `firsts` the first of each class.
@@ -51,4 +59,19 @@ fn write_digits(m: usize, cells: &[u8], ys: &[u16], firsts: &[u16], last: bool, 
         digits[at + k] = digit(cells, ys, firsts, last, left, right, k / m, k % m);
         k += 1;
     }
+}
+
+// The same for a gate below the last, of group g. `xs` and `ys` are work arrays.
+fn class_digits(m: usize, n: usize, cells: &[u8], g: usize, left: &[u16], right: &[u16], xs: &mut [u16], ys: &mut [u16], at: usize, digits: &mut [u8])
+    requires { ⌜ (Sized m n (now cells)) × (m ^ n ≤ length (now xs)) × (m ^ n ≤ length (now ys)) × (g < 2 ^ n) × (Few m n (inkIn (now cells)) g)
+        × (Sums m n g (now left) (now right)) × (at + m * m ≤ length (now digits)) ⌝ }
+    ensures { λ _. ⌜ now (digits .exit) ≡ paste (now (digits .entry)) at
+        (sampledDigits m (now (left .entry)) (now (right .entry))
+        (given (inkIn (now (cells .entry))) (points m n (others n g)) (classes m n (inkIn (now (cells .entry))) g) false)) (m * m) ⌝ }
+{
+    let mut firsts = [0u16; limits::MOST_LEVELS];
+    let rest = powers::power(2, n) - 1 - g;
+    let count = classes::group_classes(m, n, cells, g, xs, ys, &mut firsts);
+    let other = offsets::offsets(m, n, rest, ys);
+    write_digits(m, cells, &ys[0..other], &firsts[0..count], false, left, right, at, digits);
 }

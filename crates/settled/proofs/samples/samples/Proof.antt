@@ -1,16 +1,14 @@
 -- `settled::samples::samples` meets its contract: the test tells a single input from several. Assumes nothing.
 use Prim.Native.Nat.{ℕ, _-_, _*_, _^_, _≤_, _<_}
 use mathlib.Core.Path.{_≡_, sym, ap, _∙_, subst}
-use mathlib.Core.List.{List}
 use native.Mathlib.Omega.{arith}
 use borrow.Author.Needs.{needs}
-use lib.ListN.{length, take}
+use lib.ListN.{length}
 use Rattle.rules.specs.Groups.{multiplicity, classes}
 use Rattle.rules.specs.Calls.{inkIn}
 use Rattle.rules.specs.Settled.{firstInput}
-use Rattle.groups.specs.Firsts.{Counted, capped-few}
 use Rattle.trees.specs.Members.{first-member}
-use Rattle.settled.specs.Samples.{samples, levelPoints, level-points-length, weight-fits, samples-single, samples-several}
+use Rattle.settled.specs.Samples.{samples, levelPoints, level-points-length, weight-fits, counted-all, samples-single, samples-several}
 use Rattle.settled.proofs.samples.samples.Statement.{statement}
 use Rattle.settled.proofs.samples.samples.Tie as tie
 
@@ -23,14 +21,6 @@ first c =
 -- the test's power of 2
 power : (c : tie.After-power) → c .power .result ≡ 2 ^ firstInput (c .before .before .before .before .before .before .args .n) (c .before .before .before .before .before .before .args .g)
 power c = c .power .ensures ∙ ap (λ (i : ℕ). 2 ^ i) (c .before .first-input .ensures)
-
--- a count of classes that did not stop
-counted : (m : ℕ) (list : List ℕ) (count : ℕ) (out : List ℕ) → length list ≤ m → Counted m list count out
-    → (count ≤ m) × (length list ≡ count) × (take count out ≡ list)
-counted m list count out few found =
-    let e : length list ≡ count = sym (found .answer ∙ capped-few m (length list) few) in
-    let low : count ≤ m = omega arith in
-    (low, e, found .found low)
 
 first-input-requires : tie.Need-first-input-requires
 first-input-requires c κs = search needs
@@ -93,7 +83,7 @@ returns-2 c =
     let f = inkIn (a .cells .now) in
     let same : samples (a .m) (a .n) f (a .g) ≡ classes (a .m) (a .n) f (a .g) =
         samples-several (a .m) (a .n) f (a .g) (start .pre .3) (λ e. c .before .before .before .before .before .before .before .before .before .before .if1 .left (e ∙ sym (power (c .before .before .before .before .before .before .before .before .before .before .before)))) in
-    let found = counted (a .m) (classes (a .m) (a .n) f (a .g)) _ _ (start .pre .4) (c .before .before .before .before .before .before .group-classes .ensures) in
+    let found = counted-all (a .m) (classes (a .m) (a .n) f (a .g)) _ _ (start .pre .4) (c .before .before .before .before .before .before .group-classes .ensures) in
     (found .0, ap length same ∙ found .1, found .2 ∙ sym same)
 
 pub samples-spec : {M : Type 1} → statement M
