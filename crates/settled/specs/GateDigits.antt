@@ -2,7 +2,7 @@
 -- and right's sample v, and 0 where one of the two has no such sample.
 -- Assumes nothing.
 use Prim.Native.Nat.{ℕ, zero, suc, _+_, _*_, _/_, _%_, _^_, _≤_, _<_}
-use mathlib.Core.Path.{_≡_, refl, sym, ap, ap₂, _∙_, subst}
+use mathlib.Core.Path.{_≡_, refl, sym, ap, ap₂, _∙_, subst, subst₂}
 use mathlib.Core.Logic.{_⊎_, inl, inr}
 use mathlib.Core.Bool.{Bool, true, false, cond, not, _&&_, true≢false}
 use mathlib.Core.List.{List, [], _∷_, map}
@@ -25,7 +25,7 @@ use Rattle.trees.specs.Levels.{level-ext, level-part, part-below, part-mix, mix
 use Rattle.trees.specs.Joins.{apart-sym}
 use Rattle.trees.specs.Digits.{digits-count, digits-have}
 use Rattle.trees.specs.Wirings.{Few, group-below, sufficiency}
-use Rattle.settled.specs.Samples.{Sampled}
+use Rattle.settled.specs.Samples.{samples, samples-own, Sampled, sampled}
 
 -- ---- the definition
 
@@ -155,8 +155,20 @@ module _ (m n : ℕ) (pos : 0 < m) (f : ℕ → ℕ) (last : Bool) (a b : Wiring
       → ((p : ℕ) → carried m n f false a p ≡ u → carried m n f false b p ≡ v → ⊥) → getD (gateDigits m n f last a b) (u * m + v) 0 ≡ 0
   digit-free u v u< v< none = digits-have m n f last a b (λ x. x ≡ 0) u v u< v< (λ q d e. absurd (none q d e)) (λ _. refl)
 
-  module _ (left right : List ℕ) (lefts : Sampled m n f a left) (rights : Sampled m n f b right) (own : ℕ → ℕ)
-      (gives : (p : ℕ) → part m n (groupOf (gate a b)) p ≡ p → own p ≡ carried m n f last (gate a b) p) where
+  -- the samples of the two sides
+  abbrev left : List ℕ
+  left = samples m n f (groupOf a)
+
+  abbrev right : List ℕ
+  right = samples m n f (groupOf b)
+
+  lefts : Sampled m n f a left
+  lefts = sampled m n pos f a (once .1) (few .1)
+
+  rights : Sampled m n f b right
+  rights = sampled m n pos f b (once .2) (few .2)
+
+  module _ (own : ℕ → ℕ) (gives : (p : ℕ) → part m n (groupOf (gate a b)) p ≡ p → own p ≡ carried m n f last (gate a b) p) where
     digit : (u v : ℕ) → u < m → v < m → getD (gateDigits m n f last a b) (u * m + v) 0 ≡ sampledDigit left right own u v
     unfolding groupOf
     digit u v u< v< = go (decLt u (length left)) (decLt v (length right))
@@ -165,8 +177,8 @@ module _ (m n : ℕ) (pos : 0 < m) (f : ℕ → ℕ) (last : Bool) (a b : Wiring
         go (yes h) (yes k) =
             let x = getD left u 0 in
             let y = getD right v 0 in
-            let x-own = lefts .own u h in
-            let y-own = rights .own v k in
+            let x-own = samples-own m n f (groupOf a) a< pos u h in
+            let y-own = samples-own m n f (groupOf b) b< pos v k in
             let at-a = lefts .carries u (x + y) h (sum-left m n pos (groupOf a) (groupOf b) a< b< (once .0) x y x-own y-own) in
             let at-b = rights .carries v (x + y) k (sum-right m n pos (groupOf a) (groupOf b) a< b< (once .0) x y x-own y-own) in
             ap₂ (λ (s t : ℕ). getD (gateDigits m n f last a b) (s * m + t) 0) (sym at-a) (sym at-b)
@@ -176,27 +188,38 @@ module _ (m n : ℕ) (pos : 0 < m) (f : ℕ → ℕ) (last : Bool) (a b : Wiring
         go (yes h) (no k) = digit-free u v u< v< (λ p d e. omega (arith, rights .all p)) ∙ sym (no-right left right own u v (omega arith))
         go (no h) _ = digit-free u v u< v< (λ p d e. omega (arith, lefts .all p)) ∙ sym (no-left left right own u v (omega arith))
 
-    pub digits-sampled : gateDigits m n f last a b ≡ sampledDigits m left right own
+    digits-sampled : sampledDigits m left right own ≡ gateDigits m n f last a b
     digits-sampled =
         let count = digits-count m n f last a b in
-        ext-getD 0 (gateDigits m n f last a b) (sampledDigits m left right own)
-        (count ∙ sym (sampled-length m left right own))
+        ext-getD 0 (sampledDigits m left right own) (gateDigits m n f last a b)
+        (sampled-length m left right own ∙ sym count)
         (λ k h.
-        let k< : k < m * m = rw count at h in
-        ap (λ (i : ℕ). getD (gateDigits m n f last a b) i 0) (sym (div-add-mod' k m))
-        ∙ digit (k / m) (k % m) (div-lt-iff-lt-mul pos .1 k<) (mod-lt k pos)
-        ∙ sym (sampled-at m left right own k k<))
+        let k< : k < m * m = rw sampled-length at h in
+        sampled-at m left right own k k<
+        ∙ sym (digit (k / m) (k % m) (div-lt-iff-lt-mul pos .1 k<) (mod-lt k pos))
+        ∙ ap (λ (i : ℕ). getD (gateDigits m n f last a b) i 0) (div-add-mod' k m))
 
--- ---- what the code computes for a gate's value
+-- ---- for any wirings of two groups
 
-pub given-last : (f : ℕ → ℕ) (ys firsts : List ℕ) (m n : ℕ) (a b : Wiring) (p : ℕ) → part m n (groupOf (gate a b)) p ≡ p
-    → given f ys firsts true p ≡ carried m n f true (gate a b) p
-unfolding given carried
-given-last f ys firsts m n a b p own = sym (ap f own)
+module _ (m n : ℕ) (pos : 0 < m) (f : ℕ → ℕ) (left right : Wiring) (a b : ℕ) (of-a : groupOf left ≡ a) (of-b : groupOf right ≡ b)
+    (once : EachOnce n (gate left right)) (few : EachGate (Few m n f) (gate left right)) where
+  -- the last gate gives the ink
+  pub last-digits : (ys firsts : List ℕ)
+      → sampledDigits m (samples m n f a) (samples m n f b) (given f ys firsts true) ≡ gateDigits m n f true left right
+  unfolding given carried
+  last-digits ys firsts =
+      subst₂ (λ (x y : ℕ). sampledDigits m (samples m n f x) (samples m n f y) (given f ys firsts true) ≡ gateDigits m n f true left right)
+      of-a of-b
+      (digits-sampled m n pos f true left right once few (given f ys firsts true) (λ p own. sym (ap f own)))
 
-pub given-class : (m n : ℕ) (f : ℕ → ℕ) (a b : Wiring) (p : ℕ) → part m n (groupOf (gate a b)) p ≡ p
-    → given f (points m n (others n (groupOf (gate a b)))) (classes m n f (groupOf (gate a b))) false p ≡ carried m n f false (gate a b) p
-unfolding given carried classNumber
-given-class m n f a b p own =
-    let g = groupOf (gate a b) in
-    ap (λ (q : ℕ). firstPlace (alikeOver f (points m n (others n g)) q) (classes m n f g)) (sym own)
+  -- a gate below the last gives its group's classes
+  pub class-digits : sampledDigits m (samples m n f a) (samples m n f b) (given f (points m n (others n (a + b))) (classes m n f (a + b)) false)
+      ≡ gateDigits m n f false left right
+  unfolding given carried classNumber groupOf
+  class-digits =
+      subst₂ (λ (x y : ℕ). sampledDigits m (samples m n f x) (samples m n f y) (given f (points m n (others n (x + y))) (classes m n f (x + y)) false)
+        ≡ gateDigits m n f false left right)
+      of-a of-b
+      (digits-sampled m n pos f false left right once few
+      (given f (points m n (others n (groupOf left + groupOf right))) (classes m n f (groupOf left + groupOf right)) false)
+      (λ p own. ap (λ (q : ℕ). firstPlace (alikeOver f (points m n (others n (groupOf left + groupOf right))) q) (classes m n f (groupOf left + groupOf right))) (sym own)))

@@ -1,19 +1,24 @@
 -- What stands inside the cells, and what is asked of the two parts that a gate joins.
 -- Assumes nothing.
-use Prim.Native.Nat.{ℕ, _+_, _^_, _≤_, _<_}
+use Prim.Native.Nat.{ℕ, _+_, _*_, _^_, _≤_, _<_}
 use mathlib.Core.Path.{_≡_, subst}
+use mathlib.Core.Bool.{Bool}
 use mathlib.Core.List.{List, []}
 use native.Mathlib.Nat.{lt-of-lt-of-le}
 use native.Mathlib.Omega.{arith}
 use lib.ListN.{length, getD}
+use lib.Seq.{paste}
 use Rattle.rules.specs.Limits.{mostLevels, mostInputs, mostCells}
 use Rattle.rules.specs.Groups.{part, points, others, classes, multiplicity}
+use Rattle.rules.specs.Settled.{Wiring, gate, groupOf, gateDigits}
 use Rattle.groups.specs.Within.{Within, Room, part-within}
-use Rattle.trees.specs.Trees.{Apart}
+use Rattle.trees.specs.Trees.{Apart, EachOnce, EachGate}
 use Rattle.trees.specs.Levels.{part-below}
 use Rattle.trees.specs.Points.{points-are-parts}
 use Rattle.trees.specs.Classes.{classes-are-points}
 use Rattle.trees.specs.Wirings.{Few}
+use Rattle.settled.specs.Samples.{samples, samples-own}
+use Rattle.settled.specs.GateDigits.{sum-own}
 
 -- the cells of a table within a sheet's bounds
 pub record Sized (m n : ℕ) (cells : List ℕ) : Type 0 where
@@ -54,12 +59,23 @@ abbrev pub Sums : ℕ → ℕ → ℕ → List ℕ → List ℕ → Type 0
 Sums m n g left right =
     (u v : ℕ) → u < length left → v < length right → part m n g (getD left u 0 + getD right v 0) ≡ getD left u 0 + getD right v 0
 
+pub samples-sum : (m n : ℕ) (f : ℕ → ℕ) (a b : ℕ) → 0 < m → Parts m n f a b → Sums m n (a + b) (samples m n f a) (samples m n f b)
+samples-sum m n f a b pos parts u v u< v< =
+    sum-own m n pos a b (parts .a-below) (parts .b-below) (parts .apart) _ _
+    (samples-own m n f a (parts .a-below) pos u u<) (samples-own m n f b (parts .b-below) pos v v<)
+
 -- a gate's digits are made of what stands inside the cells
 pub record Ready (cells ys firsts left right : List ℕ) : Type 0 where
   pub few : length firsts ≤ 255
   pub kept : (j : ℕ) → j < length firsts → Within (length cells) ys (getD firsts j 0)
   pub inside : (u v : ℕ) → u < length left → v < length right → getD left u 0 + getD right v 0 < length cells
   pub within : (u v : ℕ) → u < length left → v < length right → Within (length cells) ys (getD left u 0 + getD right v 0)
+
+-- the digits of the gate that joins groups a and b stand from `at` on, for any wirings of the two groups
+abbrev pub DigitsAt : ℕ → ℕ → (ℕ → ℕ) → Bool → ℕ → ℕ → ℕ → List ℕ → List ℕ → Type 0
+DigitsAt m n f last a b at before after =
+    (left right : Wiring) → groupOf left ≡ a → groupOf right ≡ b → EachOnce n (gate left right) → EachGate (Few m n f) (gate left right)
+    → after ≡ paste before at (gateDigits m n f last left right) (m * m)
 
 -- ---- a gate below the last
 

@@ -99,12 +99,22 @@ module _ (m n : ℕ) (f : ℕ → ℕ) (g : ℕ) (g< : g < 2 ^ n) where
   unfolding samples
   samples-several several = rw (samples, ne-eqb (size n g) 1 (λ one. several (size-one n g g< one .1)))
 
+  -- each is an assignment of the group
+  pub samples-own : 0 < m → (u : ℕ) → u < length (samples m n f g) → part m n g (getD (samples m n f g) u 0) ≡ getD (samples m n f g) u 0
+  unfolding samples multiplicity
+  samples-own pos u = go (eqb (size n g) 1)
+    where
+      go : (one : Bool) →
+          let xs : List ℕ = elim one as (λ _. List ℕ) [ true ↦ points m n g | false ↦ classes m n f g ] in
+          u < length xs → part m n g (getD xs u 0) ≡ getD xs u 0
+      go true u< = points-are-parts m n pos g _ (mem-getD (points m n g) u 0 u<) .0
+      go false u< = points-are-parts m n pos g _ (classes-are-points m n pos f g g< u u<) .0
+
 -- what they are for a wire: all that it carries is below their number, and where what an index gives the wire's group is sample u,
 -- the wire carries u
 pub record Sampled (m n : ℕ) (f : ℕ → ℕ) (w : Wiring) (xs : List ℕ) : Type 0 where
   pub few : length xs ≤ m
   pub all : (p : ℕ) → carried m n f false w p < length xs
-  pub own : (u : ℕ) → u < length xs → part m n (groupOf w) (getD xs u 0) ≡ getD xs u 0
   pub carries : (u p : ℕ) → u < length xs → part m n (groupOf w) p ≡ getD xs u 0 → carried m n f false w p ≡ u
 
 module _ (m n : ℕ) (pos : 0 < m) (f : ℕ → ℕ) where
@@ -119,7 +129,6 @@ module _ (m n : ℕ) (pos : 0 < m) (f : ℕ → ℕ) where
       record {
         few = omega arith;
         all = λ p. rw count (level-below m n pos p i);
-        own = λ u u<. points-are-parts m n pos (2 ^ i) _ (mem-getD (points m n (2 ^ i)) u 0 u<) .0;
         carries = λ u p u< e.
             sym (level-part-in m n pos (2 ^ i) p i h (member-single i i ∙ eq-eqb i i refl))
             ∙ ap (λ (q : ℕ). q / w % m) (e ∙ at u (rw count at u<))
@@ -134,12 +143,9 @@ module _ (m n : ℕ) (pos : 0 < m) (f : ℕ → ℕ) where
   sampled-gate a b once few =
       let g = groupOf (gate a b) in
       let g< = group-below n (gate a b) once in
-      let own : (u : ℕ) → u < multiplicity m n f g → part m n g (getD (classes m n f g) u 0) ≡ getD (classes m n f g) u 0 =
-          λ u u<. points-are-parts m n pos g _ (classes-are-points m n pos f g g< u u<) .0 in
       record {
         few = few;
         all = class-below m n pos f g g<;
-        own = own;
         carries = λ u p u< e.
             sym (class-part m n pos f g g< p)
             ∙ ap (classNumber m n f g) e

@@ -9,7 +9,7 @@ ghost use Rattle.rules.specs.Groups.{others, points, classes};
 ghost use Rattle.groups.specs.Within.{Within};
 ghost use Rattle.trees.specs.Wirings.{Few};
 ghost use Rattle.settled.specs.GateDigits.{given, sampledDigit, sampledDigits};
-ghost use Rattle.settled.specs.Ready.{Sized, Parts, Sums, Ready};
+ghost use Rattle.settled.specs.Ready.{Sized, Parts, Sums, Ready, DigitsAt};
 use groups::alike;
 use groups::classes;
 use radix::limits;
@@ -74,4 +74,22 @@ fn class_digits(m: usize, n: usize, cells: &[u8], g: usize, left: &[u16], right:
     let count = classes::group_classes(m, n, cells, g, xs, ys, &mut firsts);
     let other = offsets::offsets(m, n, rest, ys);
     write_digits(m, cells, &ys[0..other], &firsts[0..count], false, left, right, at, digits);
+}
+
+// Writes the digits of the gate that joins groups a and b from `at` on.
+pub fn gate_digits(m: usize, n: usize, cells: &[u8], a: usize, b: usize, last: bool, at: usize, digits: &mut [u8])
+    requires { ⌜ (Sized m n (now cells)) × (Parts m n (inkIn (now cells)) a b) × (at + m * m ≤ length (now digits)) ⌝ }
+    ensures { λ _. ⌜ DigitsAt m n (inkIn (now (cells .entry))) last a b at (now (digits .entry)) (now (digits .exit)) ⌝ }
+{
+    let mut xs = [0u16; limits::MOST_CELLS];
+    let mut ys = [0u16; limits::MOST_CELLS];
+    let mut left = [0u16; limits::MOST_LEVELS];
+    let mut right = [0u16; limits::MOST_LEVELS];
+    let lefts = samples::samples(m, n, cells, a, &mut xs, &mut ys, &mut left);
+    let rights = samples::samples(m, n, cells, b, &mut xs, &mut ys, &mut right);
+    if last {
+        write_digits(m, cells, &ys[0..0], &xs[0..0], true, &left[0..lefts], &right[0..rights], at, digits);
+    } else {
+        class_digits(m, n, cells, a + b, &left[0..lefts], &right[0..rights], &mut xs, &mut ys, at, digits);
+    }
 }
