@@ -1,3 +1,4 @@
 pub mod GateDigits
+pub mod Growth
 pub mod Ready
 pub mod Samples

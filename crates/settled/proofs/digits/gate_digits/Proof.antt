@@ -146,7 +146,7 @@ add-class-digits c =
     let start = c .before .before .before .before .before .before .before .before .before .before .before .before .before .before .before .before .before in
     let a = start .args in
     let parts = start .pre .1 in
-    record { fits = lt-of-lt-of-le (join-below (a .n) (a .a) (a .b) (parts .a-below) (parts .b-below) (parts .apart)) (pow-mono (omega (arith, start .pre .0 .inputs))) }
+    record { fits = lt-of-lt-of-le (join-below (a .n) (a .a) (a .b) (parts .a-below) (parts .b-below) (parts .apart)) (pow-mono {i = a .n} {j = 64} (omega (arith, start .pre .0 .inputs))) }
 
 sub-class-digits : tie.Need-sub-class-digits
 sub-class-digits c = search needs
