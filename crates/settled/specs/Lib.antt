@@ -2,3 +2,4 @@ pub mod GateDigits
 pub mod Growth
 pub mod Ready
 pub mod Samples
+pub mod Wired

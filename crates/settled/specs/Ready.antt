@@ -1,14 +1,19 @@
 -- What stands inside the cells, and what is asked of the two parts that a gate joins.
 -- Assumes nothing.
-use Prim.Native.Nat.{ℕ, _+_, _*_, _^_, _≤_, _<_}
-use mathlib.Core.Path.{_≡_, subst}
-use mathlib.Core.Bool.{Bool}
+use Prim.Native.Nat.{ℕ, _+_, _-_, _*_, _^_, _≤_, _<_}
+use mathlib.Core.Path.{_≡_, refl, sym, _∙_, subst}
+use mathlib.Core.Bool.{Bool, true, not, _||_}
 use mathlib.Core.List.{List, []}
 use native.Mathlib.Nat.{lt-of-lt-of-le}
 use native.Mathlib.Omega.{arith}
+use borrow.Author.Tests.{leb-true}
+use lib.Dec.{leb}
 use lib.ListN.{length, getD}
 use lib.Seq.{paste}
-use Rattle.rules.specs.Limits.{mostLevels, mostInputs, mostCells}
+use Rattle.rules.specs.Lists.{range, all}
+use Rattle.rules.specs.Limits.{fewestLevels, mostLevels, fewestInputs, mostInputs, mostCells, levelsFit, inputsFit, cellsFit, sizeFits}
+use Rattle.radix.specs.Sizes.{Sizes, sizes}
+use Rattle.trees.specs.ListLaws.{mem-range, all-mem}
 use Rattle.rules.specs.Groups.{part, points, others, classes, multiplicity}
 use Rattle.rules.specs.Settled.{Wiring, gate, groupOf, gateDigits}
 use Rattle.groups.specs.Within.{Within, Room, part-within}
@@ -20,6 +25,10 @@ use Rattle.trees.specs.Wirings.{Few}
 use Rattle.settled.specs.Samples.{samples, samples-own}
 use Rattle.settled.specs.GateDigits.{sum-own}
 
+-- the digits that a net has room for
+abbrev pub mostDigits : ℕ
+mostDigits = 162
+
 -- the cells of a table within a sheet's bounds
 pub record Sized (m n : ℕ) (cells : List ℕ) : Type 0 where
   pub some : 0 < m
@@ -27,6 +36,32 @@ pub record Sized (m n : ℕ) (cells : List ℕ) : Type 0 where
   pub inputs : n ≤ mostInputs
   pub small : m ^ n ≤ mostCells
   pub count : m ^ n ≤ length cells
+  -- all gates' digits have room in a net
+  pub digits : (n - 1) * (m * m) ≤ mostDigits
+
+-- that is so for every size within the bounds: one test over all of them
+roomTest : ℕ → ℕ → Bool
+roomTest m n = not (sizeFits m n) || leb ((n - 1) * (m * m)) mostDigits
+
+all-sizes : all (λ m. all (roomTest m) (range fewestInputs (mostInputs + 1 - fewestInputs))) (range fewestLevels (mostLevels + 1 - fewestLevels)) ≡ true
+unfolding all range roomTest sizeFits levelsFit inputsFit cellsFit fewestLevels mostLevels fewestInputs mostInputs mostCells
+all-sizes = refl
+
+pub sized : (m n : ℕ) (cells : List ℕ) → sizeFits m n ≡ true → m ^ n ≤ length cells → Sized m n cells
+unfolding roomTest fewestLevels mostLevels fewestInputs mostInputs
+sized m n cells fit count =
+    let s = sizes m n fit in
+    let at-m = all-mem (λ k. all (roomTest k) (range fewestInputs (mostInputs + 1 - fewestInputs)))
+        (mem-range fewestLevels (mostLevels + 1 - fewestLevels) m (s .some-levels) (omega (arith, s .levels))) all-sizes in
+    let at-n = all-mem (roomTest m) (mem-range fewestInputs (mostInputs + 1 - fewestInputs) n (s .some-inputs) (omega (arith, s .inputs))) at-m in
+    record {
+      some = omega (arith, s .some-levels);
+      levels = s .levels;
+      inputs = s .inputs;
+      small = s .cells;
+      count = count;
+      digits = leb-true _ _ (rw fit at at-n);
+    }
 
 -- the work arrays that counting classes takes
 pub room : (m n : ℕ) (cells xs ys firsts : List ℕ) → Sized m n cells → m ^ n ≤ length xs → m ^ n ≤ length ys → m ≤ length firsts
