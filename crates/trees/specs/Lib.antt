@@ -28,3 +28,8 @@ pub mod NoTree
 pub mod Existence
 pub mod Uniqueness
 pub mod DistinctInks
+pub mod PartitionMatrix
+pub mod Decompositions
+pub mod FanoutFree
+pub mod Conjecture2
+pub mod Conjecture3

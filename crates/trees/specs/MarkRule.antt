@@ -130,7 +130,7 @@ mark-outcome m n f marks g = go (none-test m n f g) (two-test n marks g)
     go false false = refl
 
 -- the rule reads the marks below the group alone
-mark-agree : (m n : ℕ) (f : ℕ → ℕ) (xs ys : List ℕ) (g : ℕ) → ((a : ℕ) → a < g → markIn xs a ≡ markIn ys a)
+pub mark-agree : (m n : ℕ) (f : ℕ → ℕ) (xs ys : List ℕ) (g : ℕ) → ((a : ℕ) → a < g → markIn xs a ≡ markIn ys a)
     → markOf m n f xs g ≡ markOf m n f ys g
 unfolding partsAt
 mark-agree m n f xs ys g e =

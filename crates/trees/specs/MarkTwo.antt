@@ -21,7 +21,7 @@ use Rattle.trees.specs.MarkRule.{PartsIntoTwos, parts-at-holds, parts-fo
 use Rattle.trees.specs.MarkRule.{Way, to-none, to-two, to-one, marked, way, three-way}
 
 -- the test for document 01's A: a part of mark 2 with a rest of mark 2, that holds the first-listed input
-abbrev isA : ℕ → List ℕ → ℕ → ℕ → Bool
+abbrev pub isA : ℕ → List ℕ → ℕ → ℕ → Bool
 isA n marks g a = partsAt n marks g a && member (firstInput n g) a
 
 -- of two parts with mark 2 the one that holds the first-listed input passes
@@ -38,7 +38,7 @@ in-other-part i n mark g g< i< is parts misses =
     rw misses at (sym either ∙ ap (member i) (parts .joined) ∙ is)
 
 -- one of the two passes
-some-A : (n : ℕ) (marks : List ℕ) (g : ℕ) → g < 2 ^ n → (parts : PartsIntoTwos n (markIn marks) g)
+pub some-A : (n : ℕ) (marks : List ℕ) (g : ℕ) → g < 2 ^ n → (parts : PartsIntoTwos n (markIn marks) g)
     → any (isA n marks g) (range 1 (g - 1)) ≡ true
 unfolding parts-swap
 some-A n marks g g< parts = go (member (firstInput n g) (parts .a)) refl (first-member n g g< (omega arith))

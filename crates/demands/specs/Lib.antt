@@ -1,0 +1,7 @@
+-- The user's demands as theorems about the definitions of the calls. docs/PROMISES.md quotes each sentence beside its theorem.
+-- Assumes nothing.
+pub mod Bounds
+pub mod FirstLines
+pub mod Settles
+pub mod Makes
+pub mod Checks

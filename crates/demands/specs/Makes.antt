@@ -1,0 +1,134 @@
+-- Demand 3, making: "For every accepted table sheet, making refuses the table as having no tree exactly when no fanout-free tree of
+-- two-input gates, each input at just one leaf, computes it, whatever the tree's wiring and gate tables. Otherwise making writes the
+-- very sheet that settling writes from every accepted net sheet with that table, the same levels and the same input names in the
+-- same order."
+-- Assumes nothing.
+use Prim.Native.Nat.{ℕ, _^_, _≤_, _<_}
+use mathlib.Core.Path.{_≡_, refl, sym, ap, _∙_, subst, subst⁻¹}
+use mathlib.Core.Logic.{_↔_}
+use mathlib.Core.List.{List, [], _∷_}
+use native.Mathlib.Omega.{arith}
+use native.Mathlib.Nat.{lt-of-not-le}
+use native.Mathlib.Decide.{decLe}
+use lib.ListN.{length, getD}
+use Rattle.rules.specs.Sheets.{Gate, Net, Table}
+use Rattle.rules.specs.Printed.{printedNet}
+use Rattle.rules.specs.Value.{tableOf}
+use Rattle.rules.specs.Groups.{wholeGroup}
+use Rattle.rules.specs.Marks.{markIn, marksOf, marksLength, storedMarks, noTreePlace}
+use Rattle.rules.specs.Kept.{KeptNet, KeptTable, IsNet}
+use Rattle.rules.specs.Calls.{Answer, accepted, refused, Made, inkIn, written, readNet, readTable, tableOfNet, settledNet, settledInto, writtenSheet, settleCall, makeCall}
+use Rattle.laws.specs.Outcomes.{WholeTwo, marksOfTable, into-marked, marked-16, marked-tree, sheet-15, sheet-written}
+use Rattle.trees.specs.Existence.{TreeExists, tree-exists, settled-net}
+use Rattle.trees.specs.Uniqueness.{table-is, table-length, table-at}
+use Rattle.demands.specs.Bounds.{levels-pos, inputs-several}
+use Rattle.readback.specs.ReadBack.{net-read-back, net-accepted, table-accepted}
+use Rattle.demands.specs.Settles.{sheetOf, Long, settled-written, settles, table-path}
+
+-- some gate list, whatever its wiring and digits, is a net of the table's levels and inputs and computes its inks
+abbrev pub HasTree : Table → Type 0
+HasTree t = TreeExists (t .header .levels) (t .header .inputs) (inkIn (t .inks))
+
+-- some accepted net sheet of the table's levels and names has its inks
+abbrev pub HasSheet : Table → Type 0
+HasSheet t = (r : List ℕ) × (net : Net) × (readNet r ≡ accepted net) × (tableOfNet net ≡ t)
+
+module _ (t : Table) (kept : KeptTable t) where
+  pos : 0 < t .header .levels
+  pos = levels-pos (t .header .levels) (kept .header .levels)
+
+  several : 1 < t .header .inputs
+  several = inputs-several (t .header .inputs) (kept .header .inputs)
+
+  inks-below : (p : ℕ) → p < t .header .levels ^ t .header .inputs → inkIn (t .inks) p < t .header .levels
+  inks-below p h = kept .below p (subst⁻¹ (λ (k : ℕ). p < k) (kept .count) h)
+
+  -- mark 2 at the whole group, a tree, and an accepted net sheet with the table are one
+  pub two-tree : HasTree t ↔ WholeTwo t
+  two-tree = tree-exists (t .header .levels) (t .header .inputs) pos several (inkIn (t .inks)) inks-below
+
+  pub tree-sheet : HasTree t → HasSheet t
+  unfolding tableOfNet
+  tree-sheet tree =
+      let net : Net = record { header = t .header; gates = tree .0 } in
+      let kept-net : KeptNet net = record { header = kept .header; gates = tree .1 } in (
+        printedNet net,
+        net,
+        net-read-back net kept-net,
+        λ i. record { header = t .header; inks = table-is (t .header .levels) (t .header .inputs) (tree .0) (t .inks) (kept .count) (tree .2) i },
+      )
+
+  -- the net made from a table has exactly that table
+  pub made-table : WholeTwo t → tableOfNet (settledNet t) ≡ t
+  unfolding tableOfNet settledNet
+  made-table two =
+      let net = settled-net (t .header .levels) (t .header .inputs) pos several (inkIn (t .inks)) inks-below two in
+      λ i. record { header = t .header; inks = table-is (t .header .levels) (t .header .inputs) (settledNet t .gates) (t .inks) (kept .count) (net .1) i }
+
+pub sheet-tree : (t : Table) → HasSheet t → HasTree t
+unfolding tableOfNet
+sheet-tree t has =
+    let net : Net = has .1 in
+    subst HasTree (has .3) (
+      net .gates,
+      net-accepted (has .0) net (has .2) .1 .gates,
+      λ p h. sym (table-at (net .header .levels) (net .header .inputs) (net .gates) p h),
+    )
+
+-- a call that comes to write a sheet does not give 16
+not-16 : (sheet cells marks output : List ℕ) (place : ℕ) → writtenSheet sheet cells marks output .answer ≡ refused 16 place → ⊥
+not-16 sheet cells marks output place e = go (decLe (length sheet) (length output))
+  where
+    go : Dec (length sheet ≤ length output) → ⊥
+    go (yes h) =
+        let a : _≡_ {A = Answer ℕ} (accepted (length sheet)) (refused 16 place) = sym (ap (λ (made : Made). made .answer) (sheet-written sheet cells marks output h)) ∙ e in
+        let z : _≡_ {A = ℕ} 0 1 = cc in
+        omega arith
+    go (no h) =
+        let a : _≡_ {A = Answer ℕ} (refused 15 (length sheet)) (refused 16 place) = sym (ap (λ (made : Made). made .answer) (sheet-15 sheet cells marks output (lt-of-not-le h))) ∙ e in
+        let z : _≡_ {A = ℕ} 15 16 = cc in
+        omega arith
+
+-- ---- the demand
+
+module _ (s : List ℕ) (t : Table) (reads : readTable s ≡ accepted t) where
+  kept : KeptTable t
+  kept = table-accepted s t reads .1
+
+  make-is : (cells marks output : List ℕ) → makeCall s cells marks output ≡ settledInto t cells marks output
+  unfolding makeCall
+  make-is cells marks output = rw (reads, makeCall)
+
+  -- Making refuses the table with 16 exactly when no gate list, whatever its wiring and its tables, is a net that computes it, ..
+  pub make-refuses : (cells marks output : List ℕ) → t .header .levels ^ t .header .inputs ≤ length cells → marksLength (t .header .inputs) ≤ length marks
+      → ((place : ℕ) × (makeCall s cells marks output .answer ≡ refused 16 place)) ↔ (HasTree t → ⊥)
+  make-refuses cells marks output cells-fit marks-fit =
+      let marked = make-is cells marks output ∙ into-marked t cells marks output cells-fit marks-fit in (
+        λ r tree. not-16 (printedNet (settledNet t)) (written cells (t .inks)) (written marks (storedMarks (marksOfTable t))) output (r .0)
+            (sym (ap (λ (made : Made). made .answer) (marked ∙ marked-tree t cells marks output (two-tree t kept .0 tree))) ∙ r .1),
+        λ none. (noTreePlace (t .header .inputs) (marksOfTable t), ap (λ (made : Made). made .answer) (marked ∙ marked-16 t cells marks output (λ two. none (two-tree t kept .1 two)))),
+      )
+
+  -- .. and so exactly when no accepted net sheet of those levels and names has that table.
+  pub make-refuses-sheets : (cells marks output : List ℕ) → t .header .levels ^ t .header .inputs ≤ length cells → marksLength (t .header .inputs) ≤ length marks
+      → ((place : ℕ) × (makeCall s cells marks output .answer ≡ refused 16 place)) ↔ (HasSheet t → ⊥)
+  make-refuses-sheets cells marks output cells-fit marks-fit =
+      let iff = make-refuses cells marks output cells-fit marks-fit in
+      (λ r has. iff .0 r (sheet-tree t has), λ none. iff .1 (λ tree. none (tree-sheet t kept tree)))
+
+  -- Otherwise making writes the sheet of the table's settled net, ..
+  pub makes : (cells marks output : List ℕ) → HasTree t → Long t cells marks output
+      → sheetOf (makeCall s cells marks output) ≡ accepted (printedNet (settledNet t))
+  makes cells marks output tree long =
+      ap sheetOf (make-is cells marks output) ∙ settled-written t cells marks output (two-tree t kept .0 tree) long
+
+  -- .. the very sheet that settling writes from every accepted net sheet with that table and that header.
+  pub make-as-settle : (r : List ℕ) (net : Net) → readNet r ≡ accepted net → net .header ≡ t .header → tableOfNet net .inks ≡ t .inks
+      → (cells marks output cells' marks' output' : List ℕ) → Long t cells marks output → Long (tableOfNet net) cells' marks' output'
+      → sheetOf (makeCall s cells marks output) ≡ sheetOf (settleCall r cells' marks' output')
+  unfolding tableOfNet
+  make-as-settle r net reads-net header inks cells marks output cells' marks' output' long long' =
+      let same : tableOfNet net ≡ t = table-path (tableOfNet net) t header inks in
+      makes cells marks output (sheet-tree t (r, net, reads-net, same)) long
+      ∙ ap (λ (u : Table). accepted (printedNet (settledNet u))) (sym same)
+      ∙ sym (settles r net reads-net cells' marks' output' long')

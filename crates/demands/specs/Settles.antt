@@ -1,0 +1,139 @@
+-- Demand 3, settling: "Every accepted net sheet settles to the settled net that document 01 fixes for its table, a net with its
+-- own first three lines and its own table. For any two accepted net sheets with the same first three lines, whatever their wiring
+-- and gate tables, the two settled sheets are equal in length and in every byte exactly when the two nets compute the same
+-- table."
+-- Assumes nothing.
+use Prim.Native.Nat.{ℕ, _^_, _≤_, _<_}
+use mathlib.Core.Path.{_≡_, refl, sym, ap, _∙_, subst, subst⁻¹}
+use mathlib.Core.Logic.{_↔_}
+use mathlib.Core.List.{List, [], _∷_, _++_}
+use lib.ListN.{length, getD, take, drop}
+use lib.Seq.{take-at}
+use Rattle.rules.specs.Limits.{mostSettled}
+use Rattle.rules.specs.Sheets.{Header, Net, Table}
+use Rattle.rules.specs.Printed.{printedNet}
+use Rattle.rules.specs.Value.{tableOf}
+use Rattle.rules.specs.Marks.{marksLength, storedMarks}
+use Rattle.rules.specs.Kept.{KeptHeader, KeptNet, KeptTable, IsNet}
+use Rattle.rules.specs.Calls.{Answer, accepted, refused, Made, written, readNet, tableOfNet, settledNet, settledInto, settleCall}
+use Rattle.laws.specs.Outcomes.{WholeTwo, marksOfTable, into-marked, marked-tree, sheet-written}
+use Rattle.trees.specs.Uniqueness.{settledOf, table-length, net-inks, net-two, settled-is-net, settled-table, settled-unique}
+use Rattle.demands.specs.Bounds.{levels-pos, inputs-several}
+use Rattle.demands.specs.FirstLines.{threeLines, three-lines, same-lines}
+use Rattle.readback.specs.ReadBack.{net-read-back, net-accepted}
+use Rattle.readback.specs.Length.{net-length}
+
+-- the sheet that a call wrote: as many bytes from the front of the output as it answers
+unfoldable pub sheetOf : Made → Answer (List ℕ)
+sheetOf made = elim (made .answer) [ accepted count ↦ accepted (take count (made .output)) | refused number place ↦ refused number place ]
+
+-- "Needed: m to the n bytes, 2 to the n bytes, and the settled sheet's length"
+pub record Long (t : Table) (cells marks output : List ℕ) : Type 0 where
+  pub cells-fit : t .header .levels ^ t .header .inputs ≤ length cells
+  pub marks-fit : marksLength (t .header .inputs) ≤ length marks
+  pub output-fits : length (printedNet (settledNet t)) ≤ length output
+
+-- what is written stands at the front
+pub written-front : (buffer bytes : List ℕ) → take (length bytes) (written buffer bytes) ≡ bytes
+unfolding written
+written-front buffer bytes = take-at bytes (drop (length bytes) buffer) (length bytes) refl
+
+-- a table whose whole group has mark 2, and long buffers: the sheet of its settled net is written
+pub settled-written : (t : Table) (cells marks output : List ℕ) → WholeTwo t → Long t cells marks output
+    → sheetOf (settledInto t cells marks output) ≡ accepted (printedNet (settledNet t))
+unfolding sheetOf
+settled-written t cells marks output two long =
+    ap sheetOf
+    (into-marked t cells marks output (long .cells-fit) (long .marks-fit)
+    ∙ marked-tree t cells marks output two
+    ∙ sheet-written (printedNet (settledNet t)) (written cells (t .inks)) (written marks (storedMarks (marksOfTable t))) output (long .output-fits))
+    ∙ ap accepted (written-front output (printedNet (settledNet t)))
+
+module _ (net : Net) (kept : KeptNet net) where
+  pos : 0 < net .header .levels
+  pos = levels-pos (net .header .levels) (kept .header .levels)
+
+  several : 1 < net .header .inputs
+  several = inputs-several (net .header .inputs) (kept .header .inputs)
+
+  -- a net's table keeps a table's rules, and its whole group has mark 2
+  pub kept-table : KeptTable (tableOfNet net)
+  unfolding tableOfNet
+  kept-table =
+      let count = table-length (net .header .levels) (net .header .inputs) (net .gates) in
+      record {
+        header = kept .header;
+        count = count;
+        below = λ k h. net-inks (net .header .levels) (net .header .inputs) pos several (net .gates) (kept .gates) k (subst (λ (l : ℕ). k < l) count h);
+      }
+
+  pub net-whole-two : WholeTwo (tableOfNet net)
+  unfolding tableOfNet
+  net-whole-two = net-two (net .header .levels) (net .header .inputs) pos several (net .gates) (kept .gates)
+
+  -- its settled net keeps a net's rules, and has its table
+  pub settled-kept : KeptNet (settledNet (tableOfNet net))
+  unfolding settledNet tableOfNet settledOf
+  settled-kept = record { header = kept .header; gates = settled-is-net (net .header .levels) (net .header .inputs) pos several (net .gates) (kept .gates) }
+
+  pub settled-has-table : tableOfNet (settledNet (tableOfNet net)) ≡ tableOfNet net
+  unfolding settledNet tableOfNet settledOf
+  settled-has-table = λ i. record { header = net .header; inks = settled-table (net .header .levels) (net .header .inputs) pos several (net .gates) (kept .gates) i }
+
+-- ---- the demand
+
+module _ (s : List ℕ) (net : Net) (reads : readNet s ≡ accepted net) where
+  kept-net : KeptNet net
+  kept-net = net-accepted s net reads .1
+
+  -- an accepted net sheet settles to the sheet of the settled net of its table, ..
+  pub settles : (cells marks output : List ℕ) → Long (tableOfNet net) cells marks output
+      → sheetOf (settleCall s cells marks output) ≡ accepted (printedNet (settledNet (tableOfNet net)))
+  unfolding settleCall
+  settles cells marks output long =
+      ap sheetOf (rw (reads, settleCall)) ∙ settled-written (tableOfNet net) cells marks output (net-whole-two net kept-net) long
+
+  -- .. which is accepted, ..
+  pub settled-accepted : readNet (printedNet (settledNet (tableOfNet net))) ≡ accepted (settledNet (tableOfNet net))
+  settled-accepted = net-read-back (settledNet (tableOfNet net)) (settled-kept net kept-net)
+
+  -- .. and has its own table
+  pub settled-own-table : tableOfNet (settledNet (tableOfNet net)) ≡ tableOfNet net
+  settled-own-table = settled-has-table net kept-net
+
+  -- .. and its own first three lines, ..
+  pub settled-own-lines : threeLines (printedNet (settledNet (tableOfNet net))) ≡ threeLines s
+  unfolding settledNet tableOfNet
+  settled-own-lines =
+      three-lines (settledNet (tableOfNet net)) (settled-kept net kept-net)
+      ∙ sym (ap threeLines (net-accepted s net reads .0) ∙ three-lines net kept-net)
+
+  -- .. and is never over 512 bytes long
+  pub settled-short : length (printedNet (settledNet (tableOfNet net))) ≤ mostSettled
+  settled-short = net-length (settledNet (tableOfNet net)) (settled-kept net kept-net)
+
+accepted-inj : {A : Type 0} (a b : A) → accepted a ≡ accepted b → a ≡ b
+accepted-inj a b e = cc
+
+-- tables under one header are equal when their inks are
+pub table-path : (t u : Table) → t .header ≡ u .header → t .inks ≡ u .inks → t ≡ u
+table-path t u h e = λ i. record { header = h i; inks = e i }
+
+-- Two accepted net sheets with the same first three lines settle to the same bytes exactly when they compute the same table.
+module _ (s r : List ℕ) (net other : Net) (reads : readNet s ≡ accepted net) (reads-other : readNet r ≡ accepted other) (lines : threeLines s ≡ threeLines r) where
+  pub settled-alike : (cells marks output cells' marks' output' : List ℕ) → Long (tableOfNet net) cells marks output → Long (tableOfNet other) cells' marks' output'
+      → (sheetOf (settleCall s cells marks output) ≡ sheetOf (settleCall r cells' marks' output')) ↔ (tableOfNet net .inks ≡ tableOfNet other .inks)
+  unfolding tableOfNet
+  settled-alike cells marks output cells' marks' output' long long' =
+      let first = settles s net reads cells marks output long in
+      let second = settles r other reads-other cells' marks' output' long' in (
+        λ e. ap (λ (t : Table). t .inks)
+            (sym (settled-own-table s net reads)
+            ∙ ap tableOfNet
+            (accepted-inj (settledNet (tableOfNet net)) (settledNet (tableOfNet other))
+            (sym (settled-accepted s net reads)
+            ∙ ap readNet (accepted-inj (printedNet (settledNet (tableOfNet net))) (printedNet (settledNet (tableOfNet other))) (sym first ∙ e ∙ second))
+            ∙ settled-accepted r other reads-other))
+            ∙ settled-own-table r other reads-other),
+        λ e. first ∙ ap (λ (t : Table). accepted (printedNet (settledNet t))) (table-path (tableOfNet net) (tableOfNet other) (same-lines s r net other reads reads-other .0 lines) e) ∙ sym second,
+      )

@@ -1,0 +1,1 @@
+// The user's demands as theorems about the definitions, in specs/. This crate has no code.

@@ -1,0 +1,102 @@
+-- What each call comes to, one law for each outcome.
+-- Assumes nothing.
+use Prim.Native.Nat.{ℕ, _^_, _≤_, _<_}
+use mathlib.Core.Path.{_≡_, refl}
+use mathlib.Core.List.{List}
+use mathlib.Core.Bool.{Bool, true, false}
+use lib.ListN.{length}
+use lib.Dec.{eqb, ltb}
+use borrow.Author.Tests.{lt-ltb, le-ltb, eq-eqb, ne-eqb}
+use Rattle.rules.specs.Sheets.{Net, Table}
+use Rattle.rules.specs.Printed.{printedNet, printedTable}
+use Rattle.rules.specs.Groups.{wholeGroup}
+use Rattle.rules.specs.Marks.{markIn, marksOf, marksLength, storedMarks, noTreePlace}
+use Rattle.rules.specs.Calls.{Answer, accepted, refused, Made, inkIn, written, readNet, readTable, tableOfNet, settledNet, writtenSheet, afterMarks, settledInto, settleCall, makeCall, turnedDown, neither, sameHeader, compared, checkedInto, writeTableCall}
+
+-- ---- settling and making
+
+-- the marks of a table
+abbrev pub marksOfTable : Table → List ℕ
+marksOfTable t = marksOf (t .header .levels) (t .header .inputs) (inkIn (t .inks))
+
+-- the whole group of a table has mark 2
+abbrev pub WholeTwo : Table → Type 0
+WholeTwo t = markIn (marksOfTable t) (wholeGroup (t .header .inputs)) ≡ 2
+
+module _ (t : Table) (cells marks output : List ℕ) where
+  pub into-13 : length cells < t .header .levels ^ t .header .inputs
+      → settledInto t cells marks output
+      ≡ record { answer = refused 13 (t .header .levels ^ t .header .inputs); cells = cells; marks = marks; output = output }
+  unfolding settledInto
+  into-13 h = rw (lt-ltb _ _ h, settledInto)
+
+  pub into-14 : t .header .levels ^ t .header .inputs ≤ length cells → length marks < marksLength (t .header .inputs)
+      → settledInto t cells marks output
+      ≡ record { answer = refused 14 (marksLength (t .header .inputs)); cells = cells; marks = marks; output = output }
+  unfolding settledInto
+  into-14 h k = rw (le-ltb _ _ h, lt-ltb _ _ k, settledInto)
+
+  pub into-marked : t .header .levels ^ t .header .inputs ≤ length cells → marksLength (t .header .inputs) ≤ length marks
+      → settledInto t cells marks output ≡ afterMarks t cells marks output
+  unfolding settledInto
+  into-marked h k = rw (le-ltb _ _ h, le-ltb _ _ k, settledInto)
+
+  pub marked-16 : (WholeTwo t → ⊥)
+      → afterMarks t cells marks output
+      ≡ record {
+        answer = refused 16 (noTreePlace (t .header .inputs) (marksOfTable t));
+        cells = written cells (t .inks);
+        marks = written marks (storedMarks (marksOfTable t));
+        output = output;
+      }
+  unfolding afterMarks
+  marked-16 h = rw (ne-eqb _ _ h, afterMarks)
+
+  pub marked-tree : WholeTwo t
+      → afterMarks t cells marks output
+      ≡ writtenSheet (printedNet (settledNet t)) (written cells (t .inks)) (written marks (storedMarks (marksOfTable t))) output
+  unfolding afterMarks
+  marked-tree h = rw (eq-eqb _ _ h, afterMarks)
+
+module _ (sheet cells marks output : List ℕ) where
+  pub sheet-15 : length output < length sheet
+      → writtenSheet sheet cells marks output ≡ record { answer = refused 15 (length sheet); cells = cells; marks = marks; output = output }
+  unfolding writtenSheet
+  sheet-15 h = rw (lt-ltb _ _ h, writtenSheet)
+
+  pub sheet-written : length sheet ≤ length output
+      → writtenSheet sheet cells marks output
+      ≡ record { answer = accepted (length sheet); cells = cells; marks = marks; output = written output sheet }
+  unfolding writtenSheet
+  sheet-written h = rw (le-ltb _ _ h, writtenSheet)
+
+-- ---- checking
+
+module _ (net : Net) (t : Table) (cells : List ℕ) where
+  pub check-12 : sameHeader (net .header) (t .header) ≡ false → checkedInto net t cells ≡ record { answer = turnedDown neither 12 0; cells = cells }
+  unfolding checkedInto
+  check-12 e = rw (e, checkedInto)
+
+  pub check-13 : sameHeader (net .header) (t .header) ≡ true → length cells < length (t .inks)
+      → checkedInto net t cells ≡ record { answer = turnedDown neither 13 (length (t .inks)); cells = cells }
+  unfolding checkedInto
+  check-13 e h = rw (e, lt-ltb _ _ h, checkedInto)
+
+  pub check-compared : sameHeader (net .header) (t .header) ≡ true → length (t .inks) ≤ length cells
+      → checkedInto net t cells ≡ record { answer = compared (tableOfNet net .inks) (t .inks); cells = written cells (t .inks) }
+  unfolding checkedInto
+  check-compared e h = rw (e, le-ltb _ _ h, checkedInto)
+
+-- ---- table writing
+
+module _ (sheet output : List ℕ) (net : Net) (reads : readNet sheet ≡ accepted net) where
+  pub table-15 : length output < length (printedTable (tableOfNet net))
+      → writeTableCall sheet output ≡ record { answer = refused 15 (length (printedTable (tableOfNet net))); output = output }
+  unfolding writeTableCall
+  table-15 h = rw (reads, lt-ltb _ _ h, writeTableCall)
+
+  pub table-written : length (printedTable (tableOfNet net)) ≤ length output
+      → writeTableCall sheet output
+      ≡ record { answer = accepted (length (printedTable (tableOfNet net))); output = written output (printedTable (tableOfNet net)) }
+  unfolding writeTableCall
+  table-written h = rw (reads, le-ltb _ _ h, writeTableCall)

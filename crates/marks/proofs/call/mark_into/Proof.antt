@@ -1,0 +1,39 @@
+-- `marks::call::mark_into` meets its contract: refusal 14, or what `mark_all` writes and answers. Assumes nothing.
+use native.Mathlib.Omega.{arith}
+use Rattle.rules.specs.Limits.{mostInputs}
+use Rattle.radix.specs.Sizes.{sizes}
+use Rattle.marks.specs.Answers.{marks-short, marks-written}
+use borrow.Author.Needs.{needs}
+use Rattle.marks.proofs.call.mark_into.Statement.{statement}
+use Rattle.marks.proofs.call.mark_into.Tie as tie
+
+marks-length-requires : tie.Need-marks-length-requires
+unfolding mostInputs
+marks-length-requires c κs =
+    let start = c .before .before in
+    omega (arith, sizes (start .args .m) (start .args .n) (start .pre .0) .inputs)
+
+returns : tie.Need-returns
+returns c = marks-short _ _ _ _ (c .before .marks-length .result) (c .before .marks-length .ensures) (c .if1 .taken)
+
+mark-all-requires : tie.Need-mark-all-requires
+mark-all-requires c κs = search needs
+
+wide-requires : tie.Need-wide-requires
+wide-requires c κs = search needs
+
+same-length : tie.Need-same-length
+same-length c = search needs
+
+returns-2 : tie.Need-returns-2
+returns-2 c =
+    let a = c .before .before .before .before .before .before .before .before .before .args in
+    let need = c .before .before .before .before .before .before .marks-length in
+    let did = c .before .before .before .mark-all in
+    marks-written (a .m) (a .n) (a .cells .now) (a .marks .now) (need .result) (need .ensures) (c .before .before .before .before .before .if1 .left) (c .wide .result) (did .result) (did .last .1 .1 .1 .0)
+    (c .wide .ensures) (did .ensures)
+
+pub mark-into-spec : {M : Type 1} → statement M
+mark-into-spec =
+    tie.close
+    (tie.spec marks-length-requires returns mark-all-requires wide-requires same-length returns-2)

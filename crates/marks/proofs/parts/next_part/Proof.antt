@@ -1,0 +1,17 @@
+-- `marks::parts::next_part` meets its contract, by the law of the next part. Assumes nothing.
+use Rattle.marks.specs.Parts.{next-part}
+use borrow.Author.Needs.{needs}
+use Rattle.marks.proofs.parts.next_part.Statement.{statement}
+use Rattle.marks.proofs.parts.next_part.Tie as tie
+
+add-result : tie.Need-add-result
+add-result c = search needs
+
+sub-result : tie.Need-sub-result
+sub-result c = search needs
+
+returns : tie.Need-returns
+returns c = next-part 16 (c .args .all) (c .args .part) (c .pre .0) (c .pre .1) (c .pre .2)
+
+pub next-part-spec : {M : Type 1} → statement M
+next-part-spec = tie.close (tie.spec add-result sub-result returns)

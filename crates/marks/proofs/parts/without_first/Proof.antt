@@ -1,0 +1,14 @@
+-- `marks::parts::without_first` meets its contract, by the law of one less. Assumes nothing.
+use Rattle.marks.specs.Parts.{without-first}
+use borrow.Author.Needs.{needs}
+use Rattle.marks.proofs.parts.without_first.Statement.{statement}
+use Rattle.marks.proofs.parts.without_first.Tie as tie
+
+sub-result : tie.Need-sub-result
+sub-result c = search needs
+
+returns : tie.Need-returns
+returns c = λ n g<. without-first n (c .args .g) (c .pre) g< .1
+
+pub without-first-spec : {M : Type 1} → statement M
+without-first-spec = tie.close (tie.spec sub-result returns)

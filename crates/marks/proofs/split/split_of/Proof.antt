@@ -1,0 +1,99 @@
+-- `marks::split::split_of` meets its contract. The loop's invariant: the search from the part that is looked at on is the search.
+-- Assumes nothing.
+use Prim.Native.Nat.{_-_}
+use mathlib.Core.Path.{sym, _∙_}
+use native.Mathlib.Omega.{arith}
+use Rattle.marks.specs.Stored.{held}
+use Rattle.marks.proofs.Searching.{Sought, sought-none, sought-all, here, sought-found, sought-next}
+use Rattle.marks.proofs.split.split_of.Statement.{statement}
+use Rattle.marks.proofs.split.split_of.Tie as tie
+
+abbrev Inv-loop : tie.InvT-loop
+Inv-loop marks g rest first part₀ part = Sought (held marks) g rest part
+
+abbrev μ-loop : tie.MeasureT-loop
+μ-loop marks g rest first part₀ part = rest - part
+
+without-first-requires : tie.Need-without-first-requires Inv-loop μ-loop
+without-first-requires c κs = c .before .pre .0
+
+sub-first : tie.Need-sub-first Inv-loop μ-loop
+sub-first c = omega (arith, c .without-first .ensures 16 (c .before .before .pre .1))
+
+loop-holds : tie.Need-loop-holds Inv-loop μ-loop
+loop-holds c =
+    let start = c .before .before in
+    let w = c .without-first in
+    sought-none (held (start .args .marks .now)) (start .args .g) (w .result) (start .pre .0) (w .ensures)
+
+add-both-two : tie.Need-add-both-two Inv-loop μ-loop
+add-both-two c =
+    let start = c .before .before .before .before in
+    let l = c .before .loop in
+    let w = c .before .before .without-first in
+    omega (arith, here (held (start .args .marks .now)) (start .args .g) (w .result) (start .pre .0) (w .ensures) (l .part) (l .inv) (c .loop-test .taken) 16 (start .pre .1))
+
+both-two-requires : tie.Need-both-two-requires Inv-loop μ-loop
+both-two-requires c κs =
+    let start = c .before .before .before .before in
+    let l = c .before .loop in
+    let w = c .before .before .without-first in
+    let a = here (held (start .args .marks .now)) (start .args .g) (w .result) (start .pre .0) (w .ensures) (l .part) (l .inv) (c .loop-test .taken) 16 (start .pre .1) in
+    (a .0, a .1, start .pre .2)
+
+add-result : tie.Need-add-result Inv-loop μ-loop
+add-result c =
+    let start = c .before .before .before .before .before .before in
+    let l = c .before .before .before .loop in
+    let w = c .before .before .before .before .without-first in
+    omega (arith, here (held (start .args .marks .now)) (start .args .g) (w .result) (start .pre .0) (w .ensures) (l .part) (l .inv) (c .before .before .loop-test .taken) 16 (start .pre .1))
+
+returns : tie.Need-returns Inv-loop μ-loop
+returns c =
+    let start = c .before .before .before .before .before .before in
+    let l = c .before .before .before .loop in
+    let w = c .before .before .before .before .without-first in
+    sought-found (held (start .args .marks .now)) (start .args .g) (w .result) (start .pre .0) (w .ensures) (l .part) (l .inv) (c .before .before .loop-test .taken) (sym (c .before .both-two .ensures) ∙ c .if1 .taken)
+
+next-part-requires : tie.Need-next-part-requires Inv-loop μ-loop
+next-part-requires c κs =
+    let start = c .before .before .before .before .before .before in
+    let l = c .before .before .before .loop in
+    let w = c .before .before .before .before .without-first in
+    (omega (arith, w .ensures 16 (start .pre .1)), c .before .before .loop-test .taken, l .inv .is-part)
+
+loop-less : tie.Need-loop-less Inv-loop μ-loop
+loop-less c = omega (arith, c .next-part .ensures .above, c .before .before .before .loop-test .taken)
+
+loop-again : tie.Need-loop-again Inv-loop μ-loop
+loop-again c =
+    let start = c .before .before .before .before .before .before .before in
+    let l = c .before .before .before .before .loop in
+    let w = c .before .before .before .before .before .without-first in
+    sought-next (held (start .args .marks .now)) (start .args .g) (w .result) (start .pre .0) (w .ensures) (l .part) (l .inv) (c .before .before .before .loop-test .taken) (sym (c .before .before .both-two .ensures) ∙ c .before .if1 .left)
+    (c .next-part .result) (c .next-part .ensures)
+
+returns-2 : tie.Need-returns-2 Inv-loop μ-loop
+returns-2 c =
+    let start = c .before .before .before .before in
+    let l = c .before .loop in
+    let w = c .before .before .without-first in
+    sought-all (held (start .args .marks .now)) (start .args .g) (w .result) (start .pre .0) (w .ensures) (l .part) (l .inv) (c .loop-test .left)
+
+pub split-of-spec : {M : Type 1} → statement M
+split-of-spec =
+    tie.close
+    (tie.spec
+    Inv-loop
+    μ-loop
+    without-first-requires
+    sub-first
+    loop-holds
+    add-both-two
+    both-two-requires
+    add-result
+    returns
+    next-part-requires
+    loop-less
+    loop-again
+    returns-2)

@@ -1,0 +1,16 @@
+-- `marks::stored::mark_at` meets its contract: a mark is the byte at its group's number. Assumes nothing.
+use mathlib.Core.Path.{refl}
+use Rattle.marks.specs.Stored.{held}
+use Rattle.marks.proofs.stored.mark_at.Statement.{statement}
+use Rattle.marks.proofs.stored.mark_at.Tie as tie
+
+shared-slice-read-result : tie.Need-shared-slice-read-result
+unfolding held
+shared-slice-read-result c = c .before .pre
+
+returns : tie.Need-returns
+unfolding held
+returns c = refl
+
+pub mark-at-spec : {M : Type 1} → statement M
+mark-at-spec = tie.close (tie.spec shared-slice-read-result returns)

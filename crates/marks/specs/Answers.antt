@@ -1,0 +1,51 @@
+-- What the marking call's answer and buffer stand for, and its outcomes.
+-- Assumes nothing.
+use Prim.Native.Nat.{ℕ, _≤_, _<_}
+use mathlib.Core.Path.{_≡_, _∙_}
+use mathlib.Core.Bool.{true, false}
+use mathlib.Core.List.{List}
+use lib.Dec.{ltb}
+use lib.ListN.{length}
+use borrow.Author.Tests.{lt-ltb, le-ltb}
+use Rattle.rules.specs.Groups.{wholeGroup}
+use Rattle.rules.specs.Marks.{markIn, marksOf, marksLength, storedMarks}
+use Rattle.rules.specs.Calls.{Marked, accepted, refused, inkIn, written, bareCells, markingCall}
+use Rattle.groups.specs.declared.call.Answer.{Answer}
+use Rattle.groups.specs.Answers.{answerOf}
+use Rattle.marks.specs.Marking.{Marking}
+
+abbrev pub markedOf : Answer → List ℕ → Marked
+markedOf r marks = record { answer = answerOf r; marks = marks }
+
+-- the marking call once the bare cells are accepted
+unfoldable pub markedInto : ℕ → ℕ → List ℕ → List ℕ → Marked
+markedInto m n cells buffer =
+    elim (ltb (length buffer) (marksLength n)) [
+      | true ↦ record { answer = refused 14 (marksLength n); marks = buffer }
+      | false ↦
+          let marks = marksOf m n (inkIn cells) in
+          record { answer = accepted (markIn marks (wholeGroup n)); marks = written buffer (storedMarks marks) }
+    ]
+
+module _ (m n : ℕ) (cells buffer : List ℕ) where
+  pub marking-refused : (number place : ℕ) → refused number place ≡ bareCells m n cells
+      → record { answer = refused number place; marks = buffer } ≡ markingCall m n cells buffer
+  unfolding markingCall
+  marking-refused number place e = rw (← e, markingCall)
+
+  pub marking-judged : accepted tt ≡ bareCells m n cells → markedInto m n cells buffer ≡ markingCall m n cells buffer
+  unfolding markingCall markedInto
+  marking-judged e = rw (← e, markingCall)
+
+  module _ (need : ℕ) (is-need : need ≡ marksLength n) where
+    pub marks-short : length buffer < need → record { answer = refused 14 need; marks = buffer } ≡ markedInto m n cells buffer
+    unfolding markedInto
+    marks-short h =
+        rw (← is-need, lt-ltb (length buffer) need h, markedInto) (λ i. record { answer = refused 14 (is-need i); marks = buffer })
+
+    pub marks-written : need ≤ length buffer → (value mark : ℕ) (after : List ℕ) → value ≡ mark → Marking m n (inkIn cells) buffer mark after
+        → record { answer = accepted value; marks = after } ≡ markedInto m n cells buffer
+    unfolding markedInto
+    marks-written h value mark after e did =
+        rw (← is-need, le-ltb (length buffer) need h, markedInto)
+        (λ i. record { answer = accepted ((e ∙ did .answer) i); marks = did .buffer i })

@@ -1,0 +1,6 @@
+pub mod Answers
+pub mod Marking
+pub mod Parts
+pub mod Rule
+pub mod Splits
+pub mod Stored

@@ -1,0 +1,145 @@
+-- Groups as bit patterns: the parts of a group in rising order, and a group without its first-listed input.
+-- Assumes nothing.
+use Prim.Native.Nat.{ℕ, zero, suc, _+_, _-_, _*_, _/_, _%_, _^_, _≤_, _<_, min}
+use mathlib.Core.Path.{_≡_, refl, sym, ap, ap₂, _∙_, subst}
+use mathlib.Core.Bool.{Bool, true, false, cond, _&&_}
+use native.Mathlib.Decide.{decLt}
+use native.Mathlib.Omega.{arith}
+use lib.Bits.{bitAnd, and-step, and-zero-r, and-le-l, and-self}
+use Rattle.rules.specs.Groups.{member}
+use Rattle.rules.specs.Settled.{firstInput}
+use Rattle.rules.specs.Marks.{inside}
+use Rattle.trees.specs.Members.{low-bit, low-member, member-suc, member-ext, inside-member, member-inside, first-odd, first-even}
+
+-- every bit of s is one of r
+abbrev pub Part : ℕ → ℕ → Type 0
+Part s r = bitAnd s r ≡ s
+
+-- by the lowest bit, and the half
+part-half : (s r : ℕ) → Part s r → Part (s / 2) (r / 2) × (s % 2 ≤ r % 2)
+part-half s r p = omega (arith, and-step s r, and-le-l (s / 2) (r / 2))
+
+half-part : (s r : ℕ) → Part (s / 2) (r / 2) → s % 2 ≤ r % 2 → Part s r
+half-part s r p low = omega (arith, and-step s r)
+
+-- `bitAnd` by the lowest bits, and of halves that are known
+and-halves : (x r y low : ℕ) → x / 2 ≡ y → min (x % 2) (r % 2) ≡ low → bitAnd x r ≡ bitAnd y (r / 2) * 2 + low
+and-halves x r y low e d = and-step x r ∙ ap₂ (λ (z l : ℕ). bitAnd z (r / 2) * 2 + l) e d
+
+-- ---- the next part
+
+pub record Next (r s t : ℕ) : Type 0 where
+  pub part : Part t r
+  pub above : s < t
+  pub least : (u : ℕ) → s < u → Part u r → t ≤ u
+
+-- a part and all that is not of r, without what is not of r
+fill : (k s r : ℕ) → r < 2 ^ k → Part s r → bitAnd (s + (2 ^ k - 1 - r)) r ≡ s
+fill zero s r r< p =
+    let none : r ≡ 0 = omega arith in
+    let x : ℕ = s + (2 ^ 0 - 1 - r) in
+    ap (bitAnd x) none ∙ and-zero-r x ∙ sym (ap (bitAnd s) none ∙ and-zero-r s) ∙ p
+fill (suc k) s r r< p =
+    let halves = part-half s r p in
+    let x : ℕ = s + (2 ^ suc k - 1 - r) in
+    and-halves x r (s / 2 + (2 ^ k - 1 - r / 2)) (s % 2) (omega (arith, halves .1)) (omega (arith, halves .1))
+    ∙ ap (λ (y : ℕ). y * 2 + s % 2) (fill k (s / 2) (r / 2) (omega arith) (halves .0))
+    ∙ omega arith
+
+-- a part whose lowest bit is free: the next is one more
+next-here : (k r s t : ℕ) → r < 2 ^ suc k → s % 2 < r % 2 → Part (s / 2) (r / 2) → t ≡ bitAnd (s + 2 ^ suc k - r) r → s < r → Next r s t
+next-here k r s t r< free p e s< = record { part = half-part t r (rw half p) (omega arith); above = omega (arith, is); least = λ u s<u q. omega (arith, is) }
+  where
+    x : ℕ
+    x = s + 2 ^ suc k - r
+
+    is : t ≡ s / 2 * 2 + 1
+    is =
+        e
+        ∙ and-halves x r (s / 2 + (2 ^ k - 1 - r / 2)) 1 (omega arith) (omega arith)
+        ∙ ap (λ (y : ℕ). y * 2 + 1) (fill k (s / 2) (r / 2) (omega arith) p)
+
+    half : t / 2 ≡ s / 2
+    half = omega (arith, is)
+
+-- a part whose lowest bit is r's: the next is the half's
+next-on : (r s t : ℕ) → s % 2 ≡ r % 2 → Next (r / 2) (s / 2) t → Next r s (t * 2 + 0)
+next-on r s t low next =
+    record {
+      part = half-part (t * 2 + 0) r (rw half (next .part)) (omega arith);
+      above = omega (arith, next .above);
+      least = λ u s<u q. let halves = part-half u r q in omega (arith, next .least (u / 2) (omega (arith, halves .1)) (halves .0));
+    }
+  where
+    half : (t * 2 + 0) / 2 ≡ t
+    half = omega arith
+
+-- The next part: the carry of an addition runs through all that is not of r.
+pub next-part : (k r s : ℕ) → r < 2 ^ k → s < r → Part s r → Next r s (bitAnd (s + 2 ^ k - r) r)
+next-part zero r s r< s< p = absurd (omega arith)
+next-part (suc k) r s r< s< p = go (part-half s r p) (decLt (s % 2) (r % 2)) (next-part k (r / 2) (s / 2))
+  where
+    x : ℕ
+    x = s + 2 ^ suc k - r
+
+    go : Part (s / 2) (r / 2) × (s % 2 ≤ r % 2) → Dec (s % 2 < r % 2)
+        → (r / 2 < 2 ^ k → s / 2 < r / 2 → Part (s / 2) (r / 2) → Next (r / 2) (s / 2) (bitAnd (s / 2 + 2 ^ k - r / 2) (r / 2)))
+        → Next r s (bitAnd x r)
+    go halves (yes free) next = next-here k r s _ r< free (halves .0) refl s<
+    go halves (no full) next =
+        subst (Next r s) (sym (and-halves x r (s / 2 + 2 ^ k - r / 2) 0 (omega arith) (omega arith)))
+        (next-on r s _ (omega arith) (next (omega arith) (omega arith) (halves .0)))
+
+-- ---- without the first-listed input
+
+-- one less, and the two together: the lowest bit is gone
+pub without-first : (n g : ℕ) → 0 < g → g < 2 ^ n → (2 ^ firstInput n g ≤ g) × (bitAnd g (g - 1) ≡ g - 2 ^ firstInput n g)
+without-first zero g some g< = absurd (omega arith)
+without-first (suc n) g some g< = go (member 0 g) refl (without-first n (g / 2))
+  where
+    go : (b : Bool) → member 0 g ≡ b
+        → (0 < g / 2 → g / 2 < 2 ^ n → (2 ^ firstInput n (g / 2) ≤ g / 2) × (bitAnd (g / 2) (g / 2 - 1) ≡ g / 2 - 2 ^ firstInput n (g / 2)))
+        → (2 ^ firstInput (suc n) g ≤ g) × (bitAnd g (g - 1) ≡ g - 2 ^ firstInput (suc n) g)
+    go true odd later =
+        let low : g % 2 ≡ 1 = low-bit g ∙ ap (λ b. cond b 1 0) odd in
+        let half : (g - 1) / 2 ≡ g / 2 = omega arith in
+        rw (first-odd n g odd) (
+          omega arith,
+          omega (arith, and-step g (g - 1), ap (bitAnd (g / 2)) half ∙ and-self (g / 2)),
+        )
+    go false even later =
+        let low : g % 2 ≡ 0 = low-bit g ∙ ap (λ b. cond b 1 0) even in
+        let half : (g - 1) / 2 ≡ g / 2 - 1 = omega arith in
+        let ih = later (omega arith) (omega arith) in
+        rw (first-even n g even) (
+          omega (arith, ih .0),
+          omega (arith, and-step g (g - 1), ap (bitAnd (g / 2)) half ∙ ih .1, ih .0),
+        )
+
+-- ---- parts by their members
+
+bit-and : (s t : Bool) → min (cond s 1 0) (cond t 1 0) ≡ cond (s && t) 1 0
+bit-and true true = refl
+bit-and true false = refl
+bit-and false true = refl
+bit-and false false = refl
+
+member-and : (i a g : ℕ) → member i (bitAnd a g) ≡ (member i a && member i g)
+member-and zero a g =
+    low-member (bitAnd a g) (member 0 a && member 0 g)
+    (omega (arith, and-step a g) ∙ ap₂ min (low-bit a) (low-bit g) ∙ bit-and (member 0 a) (member 0 g))
+member-and (suc i) a g =
+    member-suc i (bitAnd a g)
+    ∙ ap (member i) (omega (arith, and-step a g))
+    ∙ member-and i (a / 2) (g / 2)
+    ∙ ap₂ _&&_ (sym (member-suc i a)) (sym (member-suc i g))
+
+pub inside-part : (n a g : ℕ) → a < 2 ^ n → inside n a g ≡ true → Part a g
+inside-part n a g a< h = member-ext n (bitAnd a g) a (omega (arith, and-le-l a g)) a< (λ i i<. member-and i a g ∙ go i i< (member i a) refl)
+  where
+    go : (i : ℕ) → i < n → (b : Bool) → member i a ≡ b → (member i a && member i g) ≡ member i a
+    go i i< true e = rw (e, inside-member i n a g h i< e)
+    go i i< false e = rw e
+
+pub part-inside : (n a g : ℕ) → Part a g → inside n a g ≡ true
+part-inside n a g p = member-inside n a g (λ i i< e. rw e at (sym (member-and i a g) ∙ ap (member i) p ∙ e))

@@ -1,0 +1,180 @@
+-- The search for document 01's A among the parts of a group that hold its first-listed input.
+-- Assumes nothing.
+use Prim.Native.Nat.{ℕ, zero, suc, _+_, _-_, _^_, _≤_, _<_}
+use mathlib.Core.Path.{_≡_, refl, sym, ap, ap₂, _∙_}
+use mathlib.Core.Bool.{Bool, true, false, not, _&&_, _||_, and-eq-true-iff, false≢true}
+use mathlib.Core.List.{List}
+use native.Mathlib.Nat.{zero-add, add-zero, suc-add}
+use native.Mathlib.Omega.{arith}
+use lib.Bits.{and-le-r}
+use lib.Dec.{eqb, ltb, leb·suc-suc}
+use borrow.Author.Tests.{eqb-true, eq-eqb}
+use Rattle.rules.specs.Lists.{range, any, firstPlace}
+use Rattle.rules.specs.Groups.{member}
+use Rattle.rules.specs.Marks.{inside, markIn, partsAt}
+use Rattle.rules.specs.Settled.{firstInput, splitOf}
+use Rattle.trees.specs.Trees.{Apart}
+use Rattle.trees.specs.Members.{member-single, single-below, member-join, inside-member, member-inside, inside-le, member-rest, first-member}
+use Rattle.trees.specs.Searches.{any-at, first-passes}
+use Rattle.trees.specs.MarkRule.{search-parts}
+use Rattle.trees.specs.MarkTwo.{isA, some-A}
+use Rattle.groups.specs.Firsts.{any-place}
+use Rattle.laws.specs.Ranges.{range-length}
+use Rattle.marks.specs.Parts.{Part, inside-part, part-inside}
+
+-- ---- parts that hold the first-listed input
+
+module _ (n g : ℕ) (some : 0 < g) (g< : g < 2 ^ n) where
+  first : ℕ
+  first = firstInput n g
+
+  -- the first-listed input by itself
+  abbrev pub alone : ℕ
+  alone = 2 ^ firstInput n g
+
+  is-input : first < n
+  unfolding first
+  is-input = first-member n g g< some .0
+
+  alone-below : alone < 2 ^ n
+  unfolding first
+  alone-below = single-below first n is-input
+
+  -- whatever group holds it has it for a part
+  alone-inside : (u : ℕ) → member first u ≡ true → inside n alone u ≡ true
+  unfolding first
+  alone-inside u e = member-inside n alone u λ i i< is. rw (eqb-true i first (sym (member-single i first) ∙ is)) e
+
+  alone-part : inside n alone g ≡ true
+  unfolding first
+  alone-part = alone-inside g (first-member n g g< some .1)
+
+  -- the rest of a group that holds it
+  rest-member : (i u : ℕ) → i < n → u < 2 ^ n → member first u ≡ true → member i (u - alone) ≡ (member i u && not (eqb i first))
+  unfolding first
+  rest-member i u i< u< e =
+      member-rest i n alone u alone-below u< (alone-inside u e) i< ∙ ap (λ t. member i u && not t) (member-single i first)
+
+  pub holds-part : (u : ℕ) → u < 2 ^ n → inside n u g ≡ true → member (firstInput n g) u ≡ true
+      → (alone ≤ u) × Part (u - alone) (g - alone)
+  unfolding first
+  holds-part u u< h e =
+      (inside-le n alone u alone-below u< (alone-inside u e), inside-part n (u - alone) (g - alone) (omega arith) (member-inside n (u - alone) (g - alone) go))
+    where
+      go : (i : ℕ) → i < n → member i (u - alone) ≡ true → member i (g - alone) ≡ true
+      go i i< is =
+          let both = and-eq-true-iff _ _ .0 (sym (rest-member i u i< u< e) ∙ is) in
+          rest-member i g i< g< (first-member n g g< some .1) ∙ rw (inside-member i n u g h i< (both .0), both .1)
+
+  pub part-holds : (s : ℕ) → Part s (g - alone) → (inside n (alone + s) g ≡ true) × (member (firstInput n g) (alone + s) ≡ true)
+  unfolding first
+  part-holds s p = (
+    member-inside n (alone + s) g (λ i i< is. go i i< (member i alone) refl (sym (joined i i<) ∙ is)),
+    joined first is-input ∙ ap (λ t. t || member first s) (member-single first first ∙ eq-eqb first first refl),
+  )
+    where
+      s< : s < 2 ^ n
+      s< = omega (arith, and-le-r s (g - alone), p, g<)
+
+      -- a member of s is one of g, and not the first-listed
+      rest-of : (i : ℕ) → i < n → member i s ≡ true → (member i g ≡ true) × (not (eqb i first) ≡ true)
+      rest-of i i< is =
+          and-eq-true-iff _ _ .0
+          (sym (rest-member i g i< g< (first-member n g g< some .1)) ∙ inside-member i n s (g - alone) (part-inside n s (g - alone) p) i< is)
+
+      apart : Apart n alone s
+      apart i i< = at (member i alone) refl (member i s) refl
+        where
+          at : (b : Bool) → member i alone ≡ b → (c : Bool) → member i s ≡ c → (member i alone && member i s) ≡ false
+          at true one true two = absurd (false≢true (sym (ap not (sym (member-single i first) ∙ one)) ∙ rest-of i i< two .1))
+          at true one false two = rw (one, two)
+          at false one c two = rw one
+
+      joined : (i : ℕ) → i < n → member i (alone + s) ≡ (member i alone || member i s)
+      joined i i< = member-join i n alone s alone-below s< apart i<
+
+      go : (i : ℕ) → i < n → (b : Bool) → member i alone ≡ b → (member i alone || member i s) ≡ true → member i g ≡ true
+      go i i< true one is = inside-member i n alone g alone-part i< one
+      go i i< false one is = rest-of i i< (rw one at is) .0
+
+-- ---- the search
+
+-- tests that agree over the range have the same first place
+place-agree : (test other : ℕ → Bool) (a count : ℕ) → ((u : ℕ) → a ≤ u → u < a + count → test u ≡ other u)
+    → firstPlace test (range a count) ≡ firstPlace other (range a count)
+unfolding firstPlace range
+place-agree test other a zero e = refl
+place-agree test other a (suc count) e =
+    let here = e a (omega arith) (omega arith) in
+    let later = place-agree test other (suc a) count (λ u low high. e u (omega arith) (omega arith)) in
+    λ i. elim (here i) as (λ _. ℕ) [ true ↦ zero | false ↦ suc (later i) ]
+
+-- numbers that do not pass are skipped
+skip : (test : ℕ → Bool) (a count more : ℕ) → ((u : ℕ) → a ≤ u → u < a + count → test u ≡ false)
+    → a + firstPlace test (range a (count + more)) ≡ a + count + firstPlace test (range (a + count) more)
+unfolding firstPlace range
+skip test a zero more none = rw (zero-add, add-zero)
+skip test a (suc count) more none =
+    let later = skip test (suc a) count more (λ u low high. none u (omega arith) (omega arith)) in
+    let here : test a ≡ false = none a (omega arith) (omega arith) in
+    let end : a + suc count ≡ suc a + count = omega arith in
+    rw (end, suc-add, here, firstPlace) (omega (arith, later))
+
+-- so a search below c may go on from b
+pub skip-to : (test : ℕ → Bool) (a b c : ℕ) → a ≤ b → b ≤ c → ((u : ℕ) → a ≤ u → u < b → test u ≡ false)
+    → a + firstPlace test (range a (c - a)) ≡ b + firstPlace test (range b (c - b))
+skip-to test a b c ab bc none =
+    let count : c - a ≡ (b - a) + (c - b) = omega arith in
+    let start : a + (b - a) ≡ b = omega arith in
+    ap (λ (k : ℕ). a + firstPlace test (range a k)) count
+    ∙ skip test a (b - a) (c - b) (λ u low high. none u low (omega arith))
+    ∙ ap (λ (k : ℕ). k + firstPlace test (range k (c - b))) start
+
+-- and ends at b where b passes
+pub stop-at : (test : ℕ → Bool) (b c : ℕ) → b < c → test b ≡ true → b + firstPlace test (range b (c - b)) ≡ b
+unfolding firstPlace range
+stop-at test b c h e =
+    let count : c - b ≡ suc (c - b - 1) = omega arith in
+    rw (count, e, firstPlace) (add-zero b)
+
+module _ (n : ℕ) (marks : List ℕ) (g : ℕ) (some : 0 < g) (g< : g < 2 ^ n) where
+  bool-same : (b c : Bool) → (b ≡ true → c ≡ true) → (c ≡ true → b ≡ true) → b ≡ c
+  bool-same true c f h = sym (f refl)
+  bool-same false true f h = h refl
+  bool-same false false f h = refl
+
+  -- some split has mark 2 at both parts exactly when some A has
+  some-split : any (partsAt n marks g) (range 1 (g - 1)) ≡ any (isA n marks g) (range 1 (g - 1))
+  some-split = bool-same _ _ (λ found. some-A n marks g g< (search-parts n marks g g< found)) back
+    where
+      back : any (isA n marks g) (range 1 (g - 1)) ≡ true → any (partsAt n marks g) (range 1 (g - 1)) ≡ true
+      back found =
+          let at = first-passes (isA n marks g) 1 (g - 1) found in
+          any-at (partsAt n marks g) 1 (g - 1) _ (omega arith) (omega arith) (and-eq-true-iff _ _ .0 (at .1) .0)
+
+  -- a group parts into two of mark 2 exactly when its A is found
+  pub split-found : any (partsAt n marks g) (range 1 (g - 1)) ≡ ltb (splitOf n marks g) g
+  unfolding splitOf
+  split-found =
+      some-split
+      ∙ any-place (isA n marks g) (range 1 (g - 1))
+      ∙ ap (ltb place) (range-length 1 (g - 1))
+      ∙ sym (leb·suc-suc (suc place) (g - 1))
+      ∙ ap₂ ltb one-more back
+    where
+      place : ℕ
+      place = firstPlace (isA n marks g) (range 1 (g - 1))
+
+      one-more : suc place ≡ 1 + place
+      one-more = omega arith
+
+      back : suc (g - 1) ≡ g
+      back = omega arith
+
+-- the search reads the marks of the groups below g alone
+pub split-agree : (n : ℕ) (xs ys : List ℕ) (g : ℕ) → ((a : ℕ) → a < g → markIn xs a ≡ markIn ys a) → splitOf n xs g ≡ splitOf n ys g
+unfolding splitOf partsAt
+split-agree n xs ys g e = ap (λ (k : ℕ). 1 + k) (place-agree (isA n xs g) (isA n ys g) 1 (g - 1) same)
+  where
+    same : (a : ℕ) → 1 ≤ a → a < 1 + (g - 1) → isA n xs g a ≡ isA n ys g a
+    same a low high = rw (e a (omega arith), e (g - a) (omega arith))

@@ -1,0 +1,7 @@
+// Marks: how they are stored, the split of a group, one group's mark, and the marking call.
+pub mod call;
+pub mod group;
+pub mod marking;
+pub mod parts;
+pub mod split;
+pub mod stored;

@@ -1,0 +1,40 @@
+// The split of a group.
+ghost use mathlib.Core.Path.{_≡_};
+ghost use mathlib.Core.Bool.{_&&_};
+ghost use Prim.Native.Nat.{ℕ, _-_, _^_, _≤_, _<_};
+ghost use lib.Dec.{eqb};
+ghost use lib.ListN.{length};
+ghost use Rattle.rules.specs.Marks.{markIn};
+ghost use Rattle.rules.specs.Settled.{splitOf};
+ghost use Rattle.marks.specs.Stored.{held};
+use crate::parts;
+use crate::stored;
+
+// Have a and the rest of g both mark 2?
+fn both_two(marks: &[u8], g: usize, a: usize) -> bool
+    requires { ⌜ (0 < a) × (a < g) × (g ≤ length (held (now marks))) ⌝ }
+    ensures { λ r. ⌜ r ≡ (eqb (markIn (held (now (marks .entry))) a) 2 && eqb (markIn (held (now (marks .entry))) (g - a)) 2) ⌝ }
+{
+    if stored::mark_at(marks, a) != 2 {
+        return false;
+    }
+    stored::mark_at(marks, g - a) == 2
+}
+
+// The part A of lowest number that holds g's first-listed input, where A and the rest have mark 2; g itself where there is none.
+// Goes through the parts of the other members, in rising order.
+pub fn split_of(marks: &[u8], g: usize) -> usize
+    requires { ⌜ (0 < g) × (g < 65536) × (g ≤ length (held (now marks))) ⌝ }
+    ensures { λ r. ⌜ ((n : ℕ) → g < 2 ^ n → r ≡ splitOf n (held (now (marks .entry))) g) ⌝ }
+{
+    let rest = parts::without_first(g);
+    let first = g - rest;
+    let mut part: usize = 0;
+    while part < rest {
+        if both_two(marks, g, first + part) {
+            return first + part;
+        }
+        part = parts::next_part(rest, part);
+    }
+    g
+}

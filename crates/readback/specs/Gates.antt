@@ -1,0 +1,146 @@
+-- Gate lines: each refers back, to what no earlier line refers to.
+-- Assumes nothing.
+use Prim.Native.Nat.{ℕ, zero, suc, _+_, _<_}
+use mathlib.Core.Path.{_≡_, refl, sym, _∙_, ap}
+use mathlib.Core.Bool.{false}
+use mathlib.Core.Logic.{_↔_}
+use mathlib.Core.List.{List, [], _∷_, _++_, map, append-assoc, append-nil}
+use native.Mathlib.Omega.{arith}
+use lib.ListN.{length, length-append}
+use lib.Dec.{eqb}
+use Rattle.rules.specs.Lists.{any, concatMap}
+use Rattle.rules.specs.Text.{space, newline, digitByte}
+use Rattle.rules.specs.Sheets.{Gate, referenceText, usedBy, gateLine, gateLines}
+use Rattle.rules.specs.Printed.{line, printedGate}
+use Rattle.rules.specs.Kept.{GoodNames, GateTable, Tables, RefersBack, Distinct}
+use Rattle.readback.specs.Tests.{any-iff, eqb-comm}
+use Rattle.readback.specs.Spells.{Spells, spells-give, spells-then, spells-as}
+use Rattle.readback.specs.Collects.{Collects, collects-none, collects-more}
+use Rattle.readback.specs.Fields.{parts-space, parts-newline, spells-field}
+use Rattle.readback.specs.Judges.{judges-digits}
+use Rattle.readback.specs.Fresh.{Fresh, fresh-last}
+use Rattle.readback.specs.References.{judges-reference}
+
+-- ---- the rules of a gate line and of all that follow it
+
+-- a gate's line after `k` references of which those in `used` are used
+record GateAfter (m k : ℕ) (used : List ℕ) (g : Gate) : Type 0 where
+  left : g .left < k
+  right : g .right < k
+  left-new : any (eqb (g .left)) used ≡ false
+  right-new : any (eqb (g .right)) (g .left ∷ used) ≡ false
+  table : GateTable m (g .digits)
+
+-- the same for several gate lines
+pub record GatesAfter (m k : ℕ) (used : List ℕ) (gates : List Gate) : Type 0 where
+  pub back : RefersBack k gates
+  pub once : Distinct (usedBy gates)
+  pub fresh : Fresh eqb used (usedBy gates)
+  pub tables : Tables m gates
+
+module _ (m k : ℕ) (used : List ℕ) (g : Gate) (gates : List Gate) where
+  -- fresh after one more gate: it uses none of the later references
+  fresh-two : Fresh eqb (used ++ (g .left ∷ []) ++ (g .right ∷ [])) (usedBy gates)
+      ↔ ((any (eqb (g .left)) (usedBy gates) ≡ false) × (any (eqb (g .right)) (usedBy gates) ≡ false) × Fresh eqb used (usedBy gates))
+  fresh-two = (
+    λ h.
+        let (r, i) = fresh-last eqb eqb-comm (used ++ (g .left ∷ [])) (g .right) (usedBy gates) .0 h in
+        let (l, j) = fresh-last eqb eqb-comm used (g .left) (usedBy gates) .0 i in
+        (l, r, j),
+    λ (l, r, j).
+        fresh-last eqb eqb-comm (used ++ (g .left ∷ [])) (g .right) (usedBy gates) .1
+        (r, fresh-last eqb eqb-comm used (g .left) (usedBy gates) .1 (l, j)),
+  )
+
+  -- one gate, then the others, keep the rules together
+  gates-to : GateAfter m k used g → GatesAfter m (suc k) (used ++ (g .left ∷ []) ++ (g .right ∷ [])) gates → GatesAfter m k used (g ∷ gates)
+  unfolding usedBy
+  gates-to a b =
+      let (l, r, j) = fresh-two .0 (b .fresh) in
+      let (d, e) = any-iff (eqb (g .right)) (g .left) used .0 (a .right-new) in
+      record {
+        back = (a .left, a .right, b .back);
+        once = (any-iff (eqb (g .left)) (g .right) (usedBy gates) .1 (eqb-comm (g .left) (g .right) ∙ d, l), (r, b .once));
+        fresh = (a .left-new, (e, j));
+        tables = (a .table, b .tables);
+      }
+
+  -- and the other way
+  gates-from : GatesAfter m k used (g ∷ gates) → GateAfter m k used g × GatesAfter m (suc k) (used ++ (g .left ∷ []) ++ (g .right ∷ [])) gates
+  unfolding usedBy
+  gates-from b =
+      let (d, l) = any-iff (eqb (g .left)) (g .right) (usedBy gates) .0 (b .once .0) in (
+        record {
+          left = b .back .0;
+          right = b .back .1;
+          left-new = b .fresh .0;
+          right-new = any-iff (eqb (g .right)) (g .left) used .1 (eqb-comm (g .right) (g .left) ∙ d, b .fresh .1 .0);
+          table = b .tables .0;
+        },
+        record {
+          back = b .back .2;
+          once = b .once .1 .1;
+          fresh = fresh-two .1 (l, b .once .1 .0, b .fresh .1 .1);
+          tables = b .tables .1;
+        },
+      )
+
+-- ---- reading gate lines
+
+-- the references that one more gate uses
+used-last : (earlier : List Gate) (g : Gate) → usedBy (earlier ++ (g ∷ [])) ≡ usedBy earlier ++ (g .left ∷ []) ++ (g .right ∷ [])
+unfolding usedBy
+used-last [] g = refl
+used-last (h ∷ earlier) g = ap (λ us. h .left ∷ h .right ∷ us) (used-last earlier g)
+
+-- a line of three words, field by field
+gate-text : (a b c : List ℕ) → a ++ space ∷ [] ++ (b ++ space ∷ [] ++ (c ++ newline ∷ [] ++ [])) ≡ line (a ∷ b ∷ c ∷ [])
+unfolding line
+gate-text a b c = simp (append-assoc, append-nil)
+
+module _ (m : ℕ) (positive : 0 < m) (names : List (List ℕ)) (good-names : GoodNames names) where
+  -- one gate after the earlier ones
+  abbrev One : List Gate → Gate → Type 0
+  One earlier g = GateAfter m (length names + length earlier) (usedBy earlier) g
+
+  -- several gates after the earlier ones
+  abbrev Gates : List Gate → List Gate → Type 0
+  Gates earlier gates = GatesAfter m (length names + length earlier) (usedBy earlier) gates
+
+  -- one gate line
+  spells-gate : (earlier : List Gate) → Spells (gateLine m names earlier) ((g : Gate) × One earlier g) (λ x. x .0) (λ x. printedGate names (x .0))
+  unfolding gateLine printedGate
+  spells-gate earlier = spells-as
+      (spells-then _ (spells-field space parts-space (judges-reference names good-names (length earlier) (usedBy earlier))) (λ l.
+      spells-then _ (spells-field space parts-space (judges-reference names good-names (length earlier) (l .0 ∷ usedBy earlier))) (λ r.
+      spells-then _ (spells-field newline parts-newline (judges-digits m positive)) (λ ds.
+      spells-give (record { left = l .0; right = r .0; digits = ds .0 })))))
+      (λ ((l, h, e), ((r, k, f), ((ds, t), _))). (
+        (record { left = l; right = r; digits = ds }, record { left = h; right = k; left-new = e; right-new = f; table = t }),
+        refl,
+        gate-text (referenceText names l) (referenceText names r) (map digitByte ds),
+      ))
+      (λ (g, a). (
+        ((g .left, a .left, a .left-new), ((g .right, a .right, a .right-new), ((g .digits, a .table), tt))),
+        refl,
+        sym (gate-text (referenceText names (g .left)) (referenceText names (g .right)) (map digitByte (g .digits))),
+      ))
+
+  -- there is one more reference
+  refs-last : (earlier : List Gate) (g : Gate) → length names + length (earlier ++ (g ∷ [])) ≡ suc (length names + length earlier)
+  refs-last earlier g = rw length-append (omega arith)
+
+  -- one gate, then the others
+  one-gate : (earlier : List Gate) (g : Gate) (gates : List Gate) → (One earlier g × Gates (earlier ++ (g ∷ [])) gates) ↔ Gates earlier (g ∷ gates)
+  one-gate earlier g gates = rw (refs-last earlier g, used-last earlier g)
+      (λ (a, b). gates-to m _ (usedBy earlier) g gates a b, gates-from m (length names + length earlier) (usedBy earlier) g gates)
+
+  -- the gate lines
+  pub spells-gates : (count : ℕ) (earlier : List Gate)
+      → Collects (gateLines m names count earlier) earlier count (Gates earlier) (concatMap (printedGate names))
+  unfolding gateLines concatMap usedBy
+  spells-gates zero earlier = collects-none earlier (Gates earlier) (concatMap (printedGate names))
+      (record { back = tt; once = tt; fresh = tt; tables = tt }) refl
+  spells-gates (suc count) earlier = collects-more _ earlier count (One earlier) (λ g. Gates (earlier ++ (g ∷ []))) (Gates earlier)
+      (printedGate names) (concatMap (printedGate names)) (concatMap (printedGate names)) (spells-gate earlier)
+      (λ g. spells-gates count (earlier ++ (g ∷ []))) (one-gate earlier) (λ g gates l. refl)
