@@ -8,7 +8,7 @@ use mathlib.Core.List.{List, [], _∷_, _++_, map, map-map, append-nil}
 use native.Mathlib.Nat.{zero-mul, zero-add, mul-one, pow-zero, pow-suc, le-refl, le-step, mul-assoc, mul-div-cancel, mul-comm, mod-eq-of-lt, one-le-pow, pow-le-pow-right}
 use native.Mathlib.Decide.{decLt}
 use native.Mathlib.Omega.{arith}
-use borrow.Author.Tests.{eq-eqb, ne-eqb}
+use borrow.Author.Tests.{eq-eqb, ne-eqb, eqb-true}
 use lib.ListN.{length, getD, take, length-map}
 use lib.Dec.{eqb}
 use Rattle.rules.specs.Lists.{range, concatMap}
@@ -18,6 +18,7 @@ use Rattle.rules.specs.Settled.{Wiring, input, gate, groupOf, carried, classNum
 use Rattle.laws.specs.Concat.{map-same}
 use Rattle.laws.specs.Ranges.{range-length, range-at}
 use Rattle.groups.specs.Firsts.{Counted, capped-few}
+use Rattle.marks.specs.Parts.{without-first}
 use Rattle.trees.specs.ListLaws.{mem-getD}
 use Rattle.trees.specs.Rows.{map-at}
 use Rattle.trees.specs.Members.{member-single, size-single, size-one, first-member}
@@ -86,18 +87,31 @@ counted-all m list count out few found =
     let low : count ≤ m = omega arith in
     (low, e, found .found low)
 
-module _ (m n : ℕ) (f : ℕ → ℕ) (g : ℕ) (g< : g < 2 ^ n) where
-  -- a group that is the first-listed of its inputs
-  pub samples-single : 0 < g → g ≡ 2 ^ firstInput n g → samples m n f g ≡ levelPoints m (m ^ (n - 1 - firstInput n g))
-  unfolding samples
-  samples-single some one =
-      let first = first-member n g g< some .0 in
-      rw (samples, eq-eqb (size n g) 1 (ap (size n) one ∙ size-single (firstInput n g) n first)) (ap (points m n) one ∙ points-single m n (firstInput n g) first)
+-- one member: the first-listed is all
+pub single-test : (n g : ℕ) → 0 < g → g < 2 ^ n → (r : ℕ) → r ≡ g - 2 ^ firstInput n g → eqb r 0 ≡ eqb (size n g) 1
+single-test n g some g< r e = go (decLt 0 r)
+  where
+    go : Dec (0 < r) → eqb r 0 ≡ eqb (size n g) 1
+    go (yes more) =
+        ne-eqb r 0 (λ none. omega arith)
+        ∙ sym (ne-eqb (size n g) 1 (λ one. omega (arith, size-one n g g< one .1)))
+    go (no none) =
+        let first = first-member n g g< some .0 in
+        let all : g ≡ 2 ^ firstInput n g = omega (arith, without-first n g some g< .0) in
+        eq-eqb r 0 (omega arith) ∙ sym (eq-eqb (size n g) 1 (ap (size n) all ∙ size-single (firstInput n g) n first))
 
-  -- any other
-  pub samples-several : (g ≡ 2 ^ firstInput n g → ⊥) → samples m n f g ≡ classes m n f g
+module _ (m n : ℕ) (f : ℕ → ℕ) (g : ℕ) (g< : g < 2 ^ n) where
+  -- a group of one member
+  pub samples-single : eqb (size n g) 1 ≡ true → samples m n f g ≡ levelPoints m (m ^ (n - 1 - firstInput n g))
   unfolding samples
-  samples-several several = rw (samples, ne-eqb (size n g) 1 (λ one. several (size-one n g g< one .1)))
+  samples-single one =
+      let first = size-one n g g< (eqb-true (size n g) 1 one) in
+      rw (samples, one) (ap (points m n) (first .1) ∙ points-single m n (firstInput n g) (first .0))
+
+  -- of several
+  pub samples-several : eqb (size n g) 1 ≡ false → samples m n f g ≡ classes m n f g
+  unfolding samples
+  samples-several several = rw (samples, several)
 
   -- each is an assignment of the group
   pub samples-own : 0 < m → (u : ℕ) → u < length (samples m n f g) → part m n g (getD (samples m n f g) u 0) ≡ getD (samples m n f g) u 0
