@@ -4,7 +4,7 @@ use Prim.Native.Nat.{ℕ, _+_, _-_, _*_, _^_, _≤_, _<_}
 use mathlib.Core.Path.{_≡_, refl, sym, _∙_, subst}
 use mathlib.Core.Bool.{Bool, true, not, _||_}
 use mathlib.Core.List.{List, []}
-use native.Mathlib.Nat.{lt-of-lt-of-le}
+use native.Mathlib.Nat.{le-trans, lt-of-lt-of-le, mul-le-mul-right}
 use native.Mathlib.Omega.{arith}
 use borrow.Author.Tests.{leb-true}
 use lib.Dec.{leb}
@@ -62,6 +62,11 @@ sized m n cells fit count =
       count = count;
       digits = leb-true _ _ (rw fit at at-n);
     }
+
+-- a gate with k before it has room in a net
+pub gate-room : (m n : ℕ) (cells : List ℕ) → Sized m n cells → (k : ℕ) → k + 2 ≤ n → (k < 10) × ((k + 1) * (m * m) ≤ mostDigits)
+unfolding mostInputs
+gate-room m n cells sized k h = (omega (arith, sized .inputs), le-trans (mul-le-mul-right (m * m) (omega arith)) (sized .digits))
 
 -- the work arrays that counting classes takes
 pub room : (m n : ℕ) (cells xs ys firsts : List ℕ) → Sized m n cells → m ^ n ≤ length xs → m ^ n ≤ length ys → m ≤ length firsts

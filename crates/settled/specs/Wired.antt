@@ -11,11 +11,13 @@ use borrow.Author.Tests.{eq-eqb, ne-eqb}
 use lib.ListN.{length}
 use lib.Dec.{eqb}
 use Rattle.rules.specs.Groups.{size, multiplicity}
-use Rattle.rules.specs.Marks.{inside, markIn, marksOf}
+use Rattle.rules.specs.Marks.{inside, markIn, marksOf, marksLength}
 use Rattle.rules.specs.Sheets.{Gate}
 use Rattle.rules.specs.Settled.{Wiring, input, gate, groupOf, firstInput, splitOf, wiringBy, gatesIn, referenceTo, gateList, gateDigits}
 use Rattle.nets.specs.declared.forms.Net.{Net}
 use Rattle.nets.specs.Forms.{gatesOf}
+use Rattle.marks.specs.Stored.{held}
+use Rattle.marks.specs.Splits.{split-agree}
 use Rattle.trees.specs.Trees.{EachOnce, EachGate, WiringOf}
 use Rattle.trees.specs.Members.{size-join, size-pos, size-one, rest-apart}
 use Rattle.trees.specs.Wirings.{Few}
@@ -35,6 +37,16 @@ pub record Wired (m n : ℕ) (f : ℕ → ℕ) (last : Bool) (g : ℕ) (before a
   pub gates : (fuel : ℕ) → size n g ≤ fuel
       → gatesOf after ≡ gatesOf before ++ gateList m n f last (before .gates) (wiringBy n (marksOf m n f) fuel g)
   pub refers : (fuel : ℕ) → size n g ≤ fuel → reference ≡ referenceTo n (before .gates) (wiringBy n (marksOf m n f) fuel g)
+
+-- a buffer that holds every group's mark
+pub record MarksIn (m n : ℕ) (f : ℕ → ℕ) (buffer : List ℕ) : Type 0 where
+  pub room : marksLength n ≤ length buffer
+  pub same : (g : ℕ) → g < 2 ^ n → markIn (held buffer) g ≡ markIn (marksOf m n f) g
+
+-- the split that is found in it
+pub split-in : (m n : ℕ) (f : ℕ → ℕ) (buffer : List ℕ) → MarksIn m n f buffer → (g : ℕ) → g < 2 ^ n
+    → splitOf n (held buffer) g ≡ splitOf n (marksOf m n f) g
+split-in m n f buffer holds g g< = split-agree n (held buffer) (marksOf m n f) g (λ a a<. holds .same a (omega arith))
 
 -- the wiring of a single input, and of several
 wiring-single : (n : ℕ) (marks : List ℕ) (fuel g : ℕ) → size n g ≡ 1 → wiringBy n marks fuel g ≡ input (firstInput n g)
@@ -65,18 +77,16 @@ wired-single m n f last g net first one =
 
 -- ---- several: the gates of A, those of B, and the group's own
 
-module _ (m n : ℕ) (pos : 0 < m) (f : ℕ → ℕ) (g : ℕ) (g< : g < 2 ^ n) (two : marked m n pos f g ≡ 2) (several : size n g ≢ 1) where
+module _ (m n : ℕ) (pos : 0 < m) (f : ℕ → ℕ) (g : ℕ) (g< : g < 2 ^ n) (two : marked m n pos f g ≡ 2) (several : size n g ≢ 1)
+    (a : ℕ) (is : a ≡ splitOf n (marksOf m n f) g) where
   abbrev marks : List ℕ
   marks = marksOf m n f
-
-  abbrev a : ℕ
-  a = splitOf n marks g
 
   abbrev b : ℕ
   b = g - a
 
   pub split-holds : (inside n a g ≡ true) × (0 < a) × (a < g) × (marked m n pos f a ≡ 2) × (marked m n pos f b ≡ 2)
-  split-holds = split-two m n pos f g g< two several
+  split-holds = rw is (split-two m n pos f g g< two several)
 
   whole : a + b ≡ g
   whole = omega (arith, split-holds .2)
@@ -129,10 +139,13 @@ module _ (m n : ℕ) (pos : 0 < m) (f : ℕ → ℕ) (g : ℕ) (g< : g < 2 ^ n) 
       wiring-b : WiringOf n b B × EachGate (Few m n f) B
       wiring-b = wiring-of m n pos f fuel b b< enough-b (split-holds .4)
 
+      wiring-is : wiringBy n marks (suc fuel) g ≡ gate A B
+      wiring-is = wiring-several n marks fuel g several ∙ sym (ap (λ (x : ℕ). gate (wiringBy n marks fuel x) (wiringBy n marks fuel (g - x))) is)
+
       wiring-g : EachOnce n (gate A B) × EachGate (Few m n f) (gate A B)
       wiring-g =
           let w = wiring-of m n pos f (suc fuel) g g< enough two in
-          subst (λ w. EachOnce n w × EachGate (Few m n f) w) (wiring-several n marks fuel g several) (w .0 .0, w .1)
+          subst (λ w. EachOnce n w × EachGate (Few m n f) w) wiring-is (w .0 .0, w .1)
 
       -- how many gates stand before B's
       mid-count : mid .gates ≡ before .gates + gatesIn A
@@ -155,11 +168,11 @@ module _ (m n : ℕ) (pos : 0 < m) (f : ℕ → ℕ) (g : ℕ) (g< : g < 2 ^ n) 
           ∙ append-assoc (gatesOf before) of-a of-b)
           (ap₂ line (left .refers fuel enough-a) (right .refers fuel enough-b ∙ ap (λ (k : ℕ). referenceTo n k B) mid-count))
           ∙ append-assoc (gatesOf before) (of-a ++ of-b) (line (referenceTo n (before .gates) A) (referenceTo n (before .gates + gatesIn A) B))
-          ∙ sym (ap (λ w. gatesOf before ++ gateList m n f last (before .gates) w) (wiring-several n marks fuel g several))
+          ∙ sym (ap (λ w. gatesOf before ++ gateList m n f last (before .gates) w) wiring-is)
 
       own-reference : n + later .gates ≡ referenceTo n (before .gates) (wiringBy n marks (suc fuel) g)
       unfolding referenceTo
-      own-reference = omega (arith, later-count) ∙ sym (ap (referenceTo n (before .gates)) (wiring-several n marks fuel g several))
+      own-reference = omega (arith, later-count) ∙ sym (ap (referenceTo n (before .gates)) wiring-is)
 
     pub wired-several : Wired m n f last g before after (n + later .gates)
     wired-several =

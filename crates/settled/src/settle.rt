@@ -2,11 +2,16 @@
 ghost use mathlib.Core.Path.{_≡_};
 ghost use Prim.Native.Nat.{ℕ, _+_, _*_, _^_, _≤_, _<_};
 ghost use lib.ListN.{length};
+ghost use Rattle.rules.specs.Groups.{size};
+ghost use Rattle.rules.specs.Marks.{markIn, marksOf};
 ghost use Rattle.rules.specs.Calls.{inkIn};
 ghost use Rattle.settled.specs.Ready.{Sized, Parts};
 ghost use Rattle.settled.specs.Growth.{Joined};
+ghost use Rattle.settled.specs.Wired.{MarksIn, Wired};
+use marks::split;
 use nets::forms;
 use crate::digits;
+use crate::samples;
 
 // The net with one more gate, that joins groups a and b. Their references are left and right.
 fn join(m: usize, n: usize, cells: &[u8], a: usize, b: usize, last: bool, left: u8, right: u8, net: forms::Net) -> forms::Net
@@ -27,5 +32,36 @@ fn join(m: usize, n: usize, cells: &[u8], a: usize, b: usize, last: bool, left: 
         left: lefts,
         right: rights,
         digits: digits,
+    }
+}
+
+// A net, and the reference to what was added to it last.
+pub struct Built {
+    pub net: forms::Net,
+    pub reference: u8,
+}
+
+// Adds the gates of group g, which has mark 2: those of A, those of B, its own.
+pub fn settle_group(m: usize, n: usize, cells: &[u8], marks: &[u8], g: usize, last: bool, net: forms::Net) -> Built
+    requires { ⌜ (Sized m n (now cells)) × (MarksIn m n (inkIn (now cells)) (now marks)) × (g < 2 ^ n) × (markIn (marksOf m n (inkIn (now cells))) g ≡ 2)
+        × (net .levels ≡ m) × (net .gates + size n g ≤ n) ⌝ }
+    ensures { λ r. ⌜ Wired m n (inkIn (now (cells .entry))) last g net (r .net) (r .reference) ⌝ }
+{
+    if samples::single(g) {
+        return Built {
+            net: net,
+            reference: samples::first_input(n, g) as u8,
+        };
+    }
+    let a = split::split_of(marks, g);
+    let left = settle_group(m, n, cells, marks, a, false, net);
+    let first = left.net;
+    let right = settle_group(m, n, cells, marks, g - a, false, first);
+    let both = right.net;
+    let reference = (n + both.gates) as u8;
+    let all = join(m, n, cells, a, g - a, last, left.reference, right.reference, both);
+    Built {
+        net: all,
+        reference: reference,
     }
 }
