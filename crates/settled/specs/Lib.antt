@@ -2,4 +2,5 @@ pub mod GateDigits
 pub mod Growth
 pub mod Ready
 pub mod Samples
+pub mod SettledNet
 pub mod Wired

@@ -1,15 +1,19 @@
 // The settled net, gate by gate: a group's two parts first, then its own gate.
 ghost use mathlib.Core.Path.{_≡_};
+ghost use mathlib.Core.Bool.{true};
 ghost use Prim.Native.Nat.{ℕ, _+_, _*_, _^_, _≤_, _<_};
 ghost use lib.ListN.{length};
-ghost use Rattle.rules.specs.Groups.{size};
+ghost use Rattle.rules.specs.Limits.{sizeFits};
+ghost use Rattle.rules.specs.Groups.{size, wholeGroup};
 ghost use Rattle.rules.specs.Marks.{markIn, marksOf};
 ghost use Rattle.rules.specs.Calls.{inkIn};
 ghost use Rattle.settled.specs.Ready.{Sized, Parts};
 ghost use Rattle.settled.specs.Growth.{Joined};
 ghost use Rattle.settled.specs.Wired.{MarksIn, Wired};
+ghost use Rattle.settled.specs.SettledNet.{SettledNet};
 use marks::split;
 use nets::forms;
+use radix::powers;
 use crate::digits;
 use crate::samples;
 
@@ -64,4 +68,22 @@ pub fn settle_group(m: usize, n: usize, cells: &[u8], marks: &[u8], g: usize, la
         net: all,
         reference: reference,
     }
+}
+
+// The settled net of a table that has a tree: the whole group has mark 2.
+pub fn settled_net(m: usize, n: usize, cells: &[u8], marks: &[u8]) -> forms::Net
+    requires { ⌜ (sizeFits m n ≡ true) × (m ^ n ≤ length (now cells)) × ((p : ℕ) → p < m ^ n → inkIn (now cells) p < m)
+        × (MarksIn m n (inkIn (now cells)) (now marks)) × (markIn (marksOf m n (inkIn (now cells))) (wholeGroup n) ≡ 2) ⌝ }
+    ensures { λ r. ⌜ SettledNet m n (inkIn (now (cells .entry))) r ⌝ }
+{
+    let none = forms::Net {
+        levels: m,
+        inputs: n,
+        gates: 0,
+        left: [0; 10],
+        right: [0; 10],
+        digits: [0; 162],
+    };
+    let built = settle_group(m, n, cells, marks, powers::power(2, n) - 1, true, none);
+    built.net
 }
