@@ -2,11 +2,10 @@
 -- and right's sample v, and 0 where one of the two has no such sample.
 -- Assumes nothing.
 use Prim.Native.Nat.{ℕ, zero, suc, _+_, _*_, _/_, _%_, _^_, _≤_, _<_}
-use mathlib.Core.Path.{_≡_, refl, sym, ap, ap₂, _∙_, subst, subst₂}
-use mathlib.Core.Logic.{_⊎_, inl, inr}
-use mathlib.Core.Bool.{Bool, true, false, cond, not, _&&_, true≢false}
+use mathlib.Core.Path.{_≡_, refl, sym, ap, ap₂, _∙_, subst₂}
+use mathlib.Core.Bool.{Bool, true, false, cond}
 use mathlib.Core.List.{List, [], _∷_, map}
-use native.Mathlib.Nat.{add-comm, zero-add, mod-lt, div-add-mod', div-lt-iff-lt-mul, lt-irrefl}
+use native.Mathlib.Nat.{zero-add, mod-lt, div-add-mod', div-lt-iff-lt-mul}
 use native.Mathlib.Decide.{decLt}
 use native.Mathlib.Omega.{arith}
 use borrow.Author.Tests.{lt-ltb, le-ltb}
@@ -14,17 +13,14 @@ use lib.Dec.{ltb}
 use lib.ListN.{length, getD, length-map}
 use lib.Seq.{ext-getD}
 use Rattle.rules.specs.Lists.{range, firstPlace}
-use Rattle.rules.specs.Sheets.{level}
-use Rattle.rules.specs.Groups.{member, part, others, points, alikeOver, classes}
+use Rattle.rules.specs.Groups.{part, others, points, alikeOver, classes}
 use Rattle.rules.specs.Settled.{Wiring, gate, groupOf, carried, classNumber, gateDigits}
 use Rattle.laws.specs.Ranges.{range-length, range-at}
 use Rattle.trees.specs.Rows.{map-at}
-use Rattle.trees.specs.Trees.{Apart, EachOnce, EachGate, mix, fill, treeValue}
-use Rattle.trees.specs.Members.{member-others}
-use Rattle.trees.specs.Levels.{level-ext, level-part, part-below, part-mix, mix-below, mix-zero, mix-join}
-use Rattle.trees.specs.Joins.{apart-sym}
+use Rattle.trees.specs.Trees.{EachOnce, EachGate, fill, treeValue}
 use Rattle.trees.specs.Digits.{digits-count, digits-have}
 use Rattle.trees.specs.Wirings.{Few, group-below, sufficiency}
+use Rattle.settled.specs.Sums.{sum-left, sum-right, sum-own}
 use Rattle.settled.specs.Samples.{samples, samples-own, Sampled, sampled}
 
 -- ---- the definition
@@ -83,54 +79,6 @@ module _ (m : ℕ) (left right : List ℕ) (own : ℕ → ℕ) where
   sampled-at k h =
       map-at (λ i. sampledDigit left right own (i / m) (i % m)) (range 0 (m * m)) k 0 0 (rw range-length h)
       ∙ ap (λ i. sampledDigit left right own (i / m) (i % m)) (range-at 0 (m * m) k 0 h ∙ zero-add k)
-
--- ---- assignments of two groups that share no input, added
-
-module _ (m n : ℕ) (pos : 0 < m) where
-  -- an assignment of b has level 0 at a's members
-  outside : (a b : ℕ) → a < 2 ^ n → Apart n a b → (y : ℕ) → part m n b y ≡ y → part m n (others n a) y ≡ y
-  outside a b a< apart y own =
-      level-ext m n pos (part m n (others n a) y) y (part-below m n pos (others n a) y) (rw own at (part-below m n pos b y)) at
-    where
-      same : (c d : Bool) → (c && d) ≡ false → (x : ℕ) → cond (not c) (cond d x 0) 0 ≡ cond d x 0
-      same true true e x = absurd (true≢false e)
-      same true false e x = refl
-      same false d e x = refl
-
-      at : (i : ℕ) → i < n → level m n (part m n (others n a) y) i ≡ level m n y i
-      at i h =
-          let e : level m n y i ≡ cond (member i b) (level m n y i) 0 = ap (λ (q : ℕ). level m n q i) (sym own) ∙ level-part m n pos b y i h in
-          level-part m n pos (others n a) y i h
-          ∙ ap₂ (λ (c : Bool) (x : ℕ). cond c x 0) (member-others i n a h a<) e
-          ∙ same (member i a) (member i b) (apart i h) (level m n y i)
-          ∙ sym e
-
-  module _ (a b : ℕ) (a< : a < 2 ^ n) (b< : b < 2 ^ n) (apart : Apart n a b) (x y : ℕ) (x-own : part m n a x ≡ x) (y-own : part m n b y ≡ y) where
-    -- their sum is a mix
-    sum-mix : mix m n a x y ≡ x + y
-    unfolding mix
-    sum-mix = ap₂ (λ (p q : ℕ). p + q) x-own (outside a b a< apart y y-own)
-
-    pub sum-below : x + y < m ^ n
-    sum-below = subst (λ (p : ℕ). p < m ^ n) sum-mix (mix-below m n pos a x y a<)
-
-    -- it gives the one group the one
-    pub sum-left : part m n a (x + y) ≡ x
-    sum-left = ap (part m n a) (sym sum-mix) ∙ part-mix m n pos a x y a< ∙ x-own
-
-  module _ (a b : ℕ) (a< : a < 2 ^ n) (b< : b < 2 ^ n) (apart : Apart n a b) (x y : ℕ) (x-own : part m n a x ≡ x) (y-own : part m n b y ≡ y) where
-    -- and the other the other
-    pub sum-right : part m n b (x + y) ≡ y
-    sum-right = ap (part m n b) (add-comm x y) ∙ sum-left b a b< a< (apart-sym n a b apart) y x y-own x-own
-
-    -- and is an assignment of the two together
-    pub sum-own : part m n (a + b) (x + y) ≡ x + y
-    unfolding mix
-    sum-own =
-        sym (mix-zero m n pos (a + b) (x + y))
-        ∙ mix-join m n pos a b a< b< apart (x + y) 0
-        ∙ ap (mix m n a (x + y)) (mix-zero m n pos b (x + y) ∙ sum-right)
-        ∙ ap₂ (λ (p q : ℕ). p + q) (sum-left a b a< b< apart x y x-own y-own) (outside a b a< apart y y-own)
 
 -- ---- the gate's digits
 
@@ -218,7 +166,7 @@ module _ (m n : ℕ) (pos : 0 < m) (f : ℕ → ℕ) (left right : Wiring) (a b 
   unfolding given carried classNumber groupOf
   class-digits =
       subst₂ (λ (x y : ℕ). sampledDigits m (samples m n f x) (samples m n f y) (given f (points m n (others n (x + y))) (classes m n f (x + y)) false)
-        ≡ gateDigits m n f false left right)
+      ≡ gateDigits m n f false left right)
       of-a of-b
       (digits-sampled m n pos f false left right once few
       (given f (points m n (others n (groupOf left + groupOf right))) (classes m n f (groupOf left + groupOf right)) false)

@@ -7,7 +7,7 @@ use mathlib.Core.List.{List, [], _∷_, _++_, map, append-assoc}
 use native.Mathlib.Nat.{add-mul, one-mul, suc-mul, mul-le-mul-right, zero-add}
 use native.Mathlib.Numerals.{add-one}
 use native.Mathlib.Omega.{arith}
-use lib.ListN.{length, getD, take, drop, set, length-drop, take-append-drop}
+use lib.ListN.{length, take, drop, set, length-drop, take-append-drop}
 use lib.Seq.{paste, length-take-le, take-append-le, drop-append-le, take-at, drop-at, take-all, getD-set-same, getD-set-other}
 use Rattle.rules.specs.Lists.{range}
 use Rattle.rules.specs.Sheets.{Gate}
@@ -86,7 +86,7 @@ module _ (net : Net) (l r : ℕ) (ds : List ℕ) where
     unfolding gateOf
     earlier j h =
         let before : j * (net .levels * net .levels) + net .levels * net .levels ≤ net .gates * (net .levels * net .levels) =
-            omega (arith, suc-mul j (net .levels * net .levels), mul-le-mul-right (net .levels * net .levels) h) in
+        omega (arith, suc-mul j (net .levels * net .levels), mul-le-mul-right (net .levels * net .levels) h) in
         λ i.
         record {
           left = getD-set-other (net .left) (net .gates) j l 0 (λ e. omega arith) i;

@@ -3,4 +3,6 @@ pub mod Growth
 pub mod Ready
 pub mod Samples
 pub mod SettledNet
+pub mod Sized
+pub mod Sums
 pub mod Wired

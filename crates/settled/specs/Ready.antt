@@ -1,87 +1,25 @@
 -- What stands inside the cells, and what is asked of the two parts that a gate joins.
 -- Assumes nothing.
-use Prim.Native.Nat.{ℕ, _+_, _-_, _*_, _^_, _≤_, _<_}
-use mathlib.Core.Path.{_≡_, refl, sym, _∙_, subst}
-use mathlib.Core.Bool.{Bool, true, not, _||_}
+use Prim.Native.Nat.{ℕ, _+_, _*_, _^_, _≤_, _<_}
+use mathlib.Core.Path.{_≡_, subst}
+use mathlib.Core.Bool.{Bool}
 use mathlib.Core.List.{List, []}
-use native.Mathlib.Nat.{le-trans, lt-of-lt-of-le, mul-le-mul-right}
+use native.Mathlib.Nat.{lt-of-lt-of-le}
 use native.Mathlib.Omega.{arith}
-use borrow.Author.Tests.{leb-true}
-use lib.Dec.{leb}
 use lib.ListN.{length, getD}
 use lib.Seq.{paste}
-use Rattle.rules.specs.Lists.{range, all}
-use Rattle.rules.specs.Limits.{fewestLevels, mostLevels, fewestInputs, mostInputs, mostCells, levelsFit, inputsFit, cellsFit, sizeFits}
-use Rattle.radix.specs.Sizes.{Sizes, sizes}
-use Rattle.trees.specs.ListLaws.{mem-range, all-mem}
+use Rattle.rules.specs.Limits.{mostLevels}
 use Rattle.rules.specs.Groups.{part, points, others, classes, multiplicity}
 use Rattle.rules.specs.Settled.{Wiring, gate, groupOf, gateDigits}
-use Rattle.groups.specs.Within.{Within, Room, part-within}
+use Rattle.groups.specs.Within.{Within, part-within}
 use Rattle.trees.specs.Trees.{Apart, EachOnce, EachGate}
 use Rattle.trees.specs.Levels.{part-below}
 use Rattle.trees.specs.Points.{points-are-parts}
 use Rattle.trees.specs.Classes.{classes-are-points}
 use Rattle.trees.specs.Wirings.{Few}
 use Rattle.settled.specs.Samples.{samples, samples-own}
-use Rattle.settled.specs.GateDigits.{sum-own}
-
--- the digits that a net has room for
-abbrev pub mostDigits : ℕ
-mostDigits = 162
-
--- the cells of a table within a sheet's bounds
-pub record Sized (m n : ℕ) (cells : List ℕ) : Type 0 where
-  pub some : 0 < m
-  pub levels : m ≤ mostLevels
-  pub inputs : n ≤ mostInputs
-  pub small : m ^ n ≤ mostCells
-  pub count : m ^ n ≤ length cells
-  -- all gates' digits have room in a net
-  pub digits : (n - 1) * (m * m) ≤ mostDigits
-
--- that is so for every size within the bounds: one test over all of them
-roomTest : ℕ → ℕ → Bool
-roomTest m n = not (sizeFits m n) || leb ((n - 1) * (m * m)) mostDigits
-
-all-sizes : all (λ m. all (roomTest m) (range fewestInputs (mostInputs + 1 - fewestInputs))) (range fewestLevels (mostLevels + 1 - fewestLevels)) ≡ true
-unfolding all range roomTest sizeFits levelsFit inputsFit cellsFit fewestLevels mostLevels fewestInputs mostInputs mostCells
-all-sizes = refl
-
-pub sized : (m n : ℕ) (cells : List ℕ) → sizeFits m n ≡ true → m ^ n ≤ length cells → Sized m n cells
-unfolding roomTest fewestLevels mostLevels fewestInputs mostInputs
-sized m n cells fit count =
-    let s = sizes m n fit in
-    let at-m = all-mem (λ k. all (roomTest k) (range fewestInputs (mostInputs + 1 - fewestInputs)))
-        (mem-range fewestLevels (mostLevels + 1 - fewestLevels) m (s .some-levels) (omega (arith, s .levels))) all-sizes in
-    let at-n = all-mem (roomTest m) (mem-range fewestInputs (mostInputs + 1 - fewestInputs) n (s .some-inputs) (omega (arith, s .inputs))) at-m in
-    record {
-      some = omega (arith, s .some-levels);
-      levels = s .levels;
-      inputs = s .inputs;
-      small = s .cells;
-      count = count;
-      digits = leb-true _ _ (rw fit at at-n);
-    }
-
--- a gate with k before it has room in a net
-pub gate-room : (m n : ℕ) (cells : List ℕ) → Sized m n cells → (k : ℕ) → k + 2 ≤ n → (k < 10) × ((k + 1) * (m * m) ≤ mostDigits)
-unfolding mostInputs
-gate-room m n cells sized k h = (omega (arith, sized .inputs), le-trans (mul-le-mul-right (m * m) (omega arith)) (sized .digits))
-
--- the work arrays that counting classes takes
-pub room : (m n : ℕ) (cells xs ys firsts : List ℕ) → Sized m n cells → m ^ n ≤ length xs → m ^ n ≤ length ys → m ≤ length firsts
-    → Room m n cells xs ys firsts
-unfolding mostInputs mostCells
-room m n cells xs ys firsts sized for-xs for-ys for-firsts =
-    record {
-      some = sized .some;
-      inputs = omega (arith, sized .inputs);
-      small = omega (arith, sized .small);
-      for-cells = sized .count;
-      for-xs = for-xs;
-      for-ys = for-ys;
-      for-firsts = for-firsts;
-    }
+use Rattle.settled.specs.Sums.{sum-own}
+use Rattle.settled.specs.Sized.{Sized}
 
 -- two groups that share no input, each and both together with at most m classes
 pub record Parts (m n : ℕ) (f : ℕ → ℕ) (a b : ℕ) : Type 0 where
@@ -127,7 +65,7 @@ module _ (m n : ℕ) (cells : List ℕ) (f : ℕ → ℕ) (g : ℕ) (left right 
   unfolding multiplicity mostLevels
   class-ready g< few =
       let own : (j : ℕ) → j < length (classes m n f g) → part m n g (getD (classes m n f g) j 0) ≡ getD (classes m n f g) j 0 =
-          λ j j<. points-are-parts m n (sized .some) g _ (classes-are-points m n (sized .some) f g g< j j<) .0 in
+      λ j j<. points-are-parts m n (sized .some) g _ (classes-are-points m n (sized .some) f g g< j j<) .0 in
       record {
         few = omega (arith, sized .levels);
         kept = λ j j<. part-within m n (sized .some) g g< (length cells) (sized .count) _ (own j j<);

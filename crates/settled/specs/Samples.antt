@@ -4,7 +4,7 @@
 use Prim.Native.Nat.{ℕ, zero, suc, _+_, _-_, _*_, _/_, _%_, _^_, _≤_, _<_}
 use mathlib.Core.Path.{_≡_, refl, sym, ap, _∙_, subst⁻¹}
 use mathlib.Core.Bool.{Bool, true, false}
-use mathlib.Core.List.{List, [], _∷_, _++_, map, map-map, append-nil}
+use mathlib.Core.List.{List, [], _∷_, map, map-map, append-nil}
 use native.Mathlib.Nat.{zero-mul, zero-add, mul-one, pow-zero, pow-suc, le-refl, le-step, mul-assoc, mul-div-cancel, mul-comm, mod-eq-of-lt, one-le-pow, pow-le-pow-right}
 use native.Mathlib.Decide.{decLt}
 use native.Mathlib.Omega.{arith}
@@ -139,7 +139,7 @@ module _ (m n : ℕ) (pos : 0 < m) (f : ℕ → ℕ) where
       let w = m ^ (n - 1 - i) in
       let count : length (points m n (2 ^ i)) ≡ m = ap length (points-single m n i h) ∙ level-points-length m w in
       let at : (u : ℕ) → u < m → getD (points m n (2 ^ i)) u 0 ≡ u * w =
-          λ u u<. rw (points-single m n i h, map-at (λ l. l * w) (range 0 m) u 0 0 (rw range-length u<), range-at 0 m u 0 u<, zero-add) in
+      λ u u<. rw (points-single m n i h, map-at (λ l. l * w) (range 0 m) u 0 0 (rw range-length u<), range-at 0 m u 0 u<, zero-add) in
       record {
         few = omega arith;
         all = λ p. rw count (level-below m n pos p i);

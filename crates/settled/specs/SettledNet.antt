@@ -55,8 +55,8 @@ settled-whole m n f fit inks two g none net reference any whole levels inputs em
     let wired : Wired m n f true (wholeGroup n) none net reference = subst (λ (k : ℕ). Wired m n f true k none net reference) whole any in
     let s = sizes m n fit in
     let gates : gatesOf net ≡ settledGates m n f (marksOf m n f) =
-        wired .gates n (le-of-eq (size-whole n))
-        ∙ ap₂ (λ (gs : List Gate) (k : ℕ). gs ++ gateList m n f true k (settledWiring n (marksOf m n f))) (no-gates none empty) empty in
+    wired .gates n (le-of-eq (size-whole n))
+    ∙ ap₂ (λ (gs : List Gate) (k : ℕ). gs ++ gateList m n f true k (settledWiring n (marksOf m n f))) (no-gates none empty) empty in
     record {
       levels = wired .levels ∙ levels;
       inputs = wired .inputs ∙ inputs;

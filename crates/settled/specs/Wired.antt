@@ -1,30 +1,28 @@
 -- A group's gates added to a net: those of its parts, then its own.
 -- Assumes nothing.
-use Prim.Native.Nat.{ℕ, zero, suc, _+_, _-_, _*_, _^_, _≤_, _<_}
+use Prim.Native.Nat.{ℕ, zero, suc, _+_, _-_, _^_, _≤_, _<_}
 use mathlib.Core.Path.{_≡_, refl, sym, ap, ap₂, _∙_, subst}
 use mathlib.Core.Logic.{_≢_}
 use mathlib.Core.Bool.{Bool, true, false}
 use mathlib.Core.List.{List, [], _∷_, _++_, append-nil, append-assoc}
-use native.Mathlib.Nat.{le-trans, mul-le-mul-right}
 use native.Mathlib.Omega.{arith}
 use borrow.Author.Tests.{eq-eqb, ne-eqb}
 use lib.ListN.{length}
-use lib.Dec.{eqb}
-use Rattle.rules.specs.Groups.{size, multiplicity}
+use Rattle.rules.specs.Groups.{size}
 use Rattle.rules.specs.Marks.{inside, markIn, marksOf, marksLength}
 use Rattle.rules.specs.Sheets.{Gate}
-use Rattle.rules.specs.Settled.{Wiring, input, gate, groupOf, firstInput, splitOf, wiringBy, gatesIn, referenceTo, gateList, gateDigits}
+use Rattle.rules.specs.Settled.{Wiring, input, gate, firstInput, splitOf, wiringBy, gatesIn, referenceTo, gateList, gateDigits}
 use Rattle.nets.specs.declared.forms.Net.{Net}
 use Rattle.nets.specs.Forms.{gatesOf}
 use Rattle.marks.specs.Stored.{held}
 use Rattle.marks.specs.Splits.{split-agree}
 use Rattle.trees.specs.Trees.{EachOnce, EachGate, WiringOf}
-use Rattle.trees.specs.Members.{size-join, size-pos, size-one, rest-apart}
+use Rattle.trees.specs.Members.{size-join, size-pos, rest-apart}
 use Rattle.trees.specs.Wirings.{Few}
 use Rattle.trees.specs.GateLists.{gates-in-size}
 use Rattle.trees.specs.MarkRule.{marked}
 use Rattle.trees.specs.MarkTwo.{two-says, split-two, wiring-of}
-use Rattle.settled.specs.Ready.{Sized, Parts}
+use Rattle.settled.specs.Ready.{Parts}
 use Rattle.settled.specs.Growth.{Joined}
 
 -- group g's gates are added, and `reference` refers to the last of them, or to g's only input

@@ -51,7 +51,15 @@ fn level_points(m: usize, w: usize, out: &mut [u16])
 
 // Writes the samples of group g to the front of `out`, and answers how many there are: an input's levels, or the first of each
 // class. `xs` and `ys` are work arrays.
-pub fn samples(m: usize, n: usize, cells: &[u8], g: usize, xs: &mut [u16], ys: &mut [u16], out: &mut [u16]) -> usize
+pub fn samples(
+    m: usize,
+    n: usize,
+    cells: &[u8],
+    g: usize,
+    xs: &mut [u16],
+    ys: &mut [u16],
+    out: &mut [u16],
+) -> usize
     requires { ⌜ (Room m n (now cells) (now xs) (now ys) (now out)) × (m ≤ 9) × (0 < g) × (g < 2 ^ n) × (Few m n (inkIn (now cells)) g) ⌝ }
     ensures { λ r. ⌜ (r ≤ m) × (length (samples m n (inkIn (now (cells .entry))) g) ≡ r) × (take r (now (out .exit)) ≡ samples m n (inkIn (now (cells .entry))) g) ⌝ }
 {

@@ -7,18 +7,29 @@ ghost use Rattle.rules.specs.Limits.{sizeFits};
 ghost use Rattle.rules.specs.Groups.{size, wholeGroup};
 ghost use Rattle.rules.specs.Marks.{markIn, marksOf};
 ghost use Rattle.rules.specs.Calls.{inkIn};
-ghost use Rattle.settled.specs.Ready.{Sized, Parts};
+ghost use Rattle.settled.specs.Sized.{Sized};
+ghost use Rattle.settled.specs.Ready.{Parts};
 ghost use Rattle.settled.specs.Growth.{Joined};
 ghost use Rattle.settled.specs.Wired.{MarksIn, Wired};
 ghost use Rattle.settled.specs.SettledNet.{SettledNet};
+use crate::digits;
+use crate::samples;
 use marks::split;
 use nets::forms;
 use radix::powers;
-use crate::digits;
-use crate::samples;
 
 // The net with one more gate, that joins groups a and b. Their references are left and right.
-fn join(m: usize, n: usize, cells: &[u8], a: usize, b: usize, last: bool, left: u8, right: u8, net: forms::Net) -> forms::Net
+fn join(
+    m: usize,
+    n: usize,
+    cells: &[u8],
+    a: usize,
+    b: usize,
+    last: bool,
+    left: u8,
+    right: u8,
+    net: forms::Net,
+) -> forms::Net
     requires { ⌜ (Sized m n (now cells)) × (Parts m n (inkIn (now cells)) a b) × (net .levels ≡ m) × (net .gates < 10) × ((net .gates + 1) * (m * m) ≤ 162) ⌝ }
     ensures { λ r. ⌜ Joined m n (inkIn (now (cells .entry))) last a b left right net r ⌝ }
 {
@@ -46,7 +57,15 @@ pub struct Built {
 }
 
 // Adds the gates of group g, which has mark 2: those of A, those of B, its own.
-pub fn settle_group(m: usize, n: usize, cells: &[u8], marks: &[u8], g: usize, last: bool, net: forms::Net) -> Built
+pub fn settle_group(
+    m: usize,
+    n: usize,
+    cells: &[u8],
+    marks: &[u8],
+    g: usize,
+    last: bool,
+    net: forms::Net,
+) -> Built
     requires { ⌜ (Sized m n (now cells)) × (MarksIn m n (inkIn (now cells)) (now marks)) × (g < 2 ^ n) × (markIn (marksOf m n (inkIn (now cells))) g ≡ 2)
         × (net .levels ≡ m) × (net .gates + size n g ≤ n) ⌝ }
     ensures { λ r. ⌜ Wired m n (inkIn (now (cells .entry))) last g net (r .net) (r .reference) ⌝ }
@@ -63,7 +82,17 @@ pub fn settle_group(m: usize, n: usize, cells: &[u8], marks: &[u8], g: usize, la
     let right = settle_group(m, n, cells, marks, g - a, false, first);
     let both = right.net;
     let reference = (n + both.gates) as u8;
-    let all = join(m, n, cells, a, g - a, last, left.reference, right.reference, both);
+    let all = join(
+        m,
+        n,
+        cells,
+        a,
+        g - a,
+        last,
+        left.reference,
+        right.reference,
+        both,
+    );
     Built {
         net: all,
         reference: reference,

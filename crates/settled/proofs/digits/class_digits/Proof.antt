@@ -1,6 +1,6 @@
 -- `settled::digits::class_digits` meets its contract: the lists that it writes from are the group's classes and the other inputs'
 -- assignments. Assumes nothing.
-use Prim.Native.Nat.{ℕ, _+_, _-_, _*_, _^_, _≤_, _<_}
+use Prim.Native.Nat.{ℕ, _-_, _*_, _≤_}
 use mathlib.Core.Path.{_≡_, sym, ap, ap₂, _∙_, subst₂}
 use mathlib.Core.Bool.{false}
 use mathlib.Core.List.{List}
@@ -14,7 +14,8 @@ use Rattle.rules.specs.Calls.{inkIn}
 use Rattle.radix.specs.Fronts.{fits-in, front, rest-others}
 use Rattle.settled.specs.GateDigits.{given, sampledDigits}
 use Rattle.settled.specs.Samples.{counted-all}
-use Rattle.settled.specs.Ready.{Ready, room, class-ready}
+use Rattle.settled.specs.Sized.{room}
+use Rattle.settled.specs.Ready.{Ready, class-ready}
 use Rattle.settled.proofs.digits.class_digits.Statement.{statement}
 use Rattle.settled.proofs.digits.class_digits.Tie as tie
 

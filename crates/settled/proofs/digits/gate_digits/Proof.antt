@@ -1,5 +1,5 @@
 -- `settled::digits::gate_digits` meets its contract: the two lists are the samples of the two groups. Assumes nothing.
-use Prim.Native.Nat.{ℕ, _+_, _-_, _*_, _^_, _≤_, _<_}
+use Prim.Native.Nat.{ℕ, _+_, _-_, _*_, _≤_}
 use mathlib.Core.Path.{_≡_, sym, ap, ap₂, _∙_, subst₂}
 use mathlib.Core.Bool.{Bool, true, false}
 use mathlib.Core.List.{List, []}
@@ -17,7 +17,8 @@ use Rattle.radix.specs.Fronts.{fits-in, front}
 use Rattle.trees.specs.Members.{join-below}
 use Rattle.settled.specs.GateDigits.{given, sampledDigits, last-digits, class-digits}
 use Rattle.settled.specs.Samples.{samples}
-use Rattle.settled.specs.Ready.{Sums, room, samples-sum, last-ready}
+use Rattle.settled.specs.Sized.{room}
+use Rattle.settled.specs.Ready.{Sums, samples-sum, last-ready}
 use Rattle.settled.proofs.digits.gate_digits.Statement.{statement}
 use Rattle.settled.proofs.digits.gate_digits.Tie as tie
 

@@ -1,11 +1,11 @@
 -- `settled::samples::first_input` meets its contract. The loop's invariant: the first place from `i` on is the first of all. Assumes
 -- nothing.
 use Prim.Native.Nat.{ℕ, _+_, _-_, _≤_, _<_}
-use mathlib.Core.Path.{_≡_, refl, sym, ap, _∙_}
+use mathlib.Core.Path.{_≡_, sym, ap, _∙_}
 use mathlib.Core.Bool.{Bool}
 use native.Mathlib.Nat.{zero-add}
 use native.Mathlib.Omega.{arith}
-use lib.ListN.{length, getD, drop}
+use lib.ListN.{getD, drop}
 use Rattle.rules.specs.Lists.{range, firstPlace}
 use Rattle.rules.specs.Groups.{member}
 use Rattle.rules.specs.Settled.{firstInput}
@@ -52,7 +52,7 @@ loop-again c =
     let i< = c .before .before .loop-test .taken in (
       omega arith,
       place-next (λ j. member j (a .g)) (range 0 (a .n)) (l .i) (rw range-length i<) (here (a .n) (a .g) (l .i) _ i< (c .before .member-of .ensures) ∙ c .if1 .left)
-      ∙ l .inv .1,
+          ∙ l .inv .1,
     )
 
 returns-2 : tie.Need-returns-2 Inv-loop μ-loop

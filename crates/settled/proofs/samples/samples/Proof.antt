@@ -1,5 +1,5 @@
 -- `settled::samples::samples` meets its contract: the test tells a single input from several. Assumes nothing.
-use Prim.Native.Nat.{ℕ, _-_, _*_, _^_, _≤_, _<_}
+use Prim.Native.Nat.{ℕ, _-_, _*_, _^_, _<_}
 use mathlib.Core.Path.{_≡_, sym, ap, _∙_, subst}
 use native.Mathlib.Omega.{arith}
 use borrow.Author.Needs.{needs}
@@ -54,12 +54,12 @@ returns c =
     let a = start .args in
     let w = a .m ^ (a .n - 1 - firstInput (a .n) (a .g)) in
     let same : samples (a .m) (a .n) (inkIn (a .cells .now)) (a .g) ≡ levelPoints (a .m) w =
-        samples-single (a .m) (a .n) _ (a .g) (start .pre .3) (sym (c .before .before .before .before .before .before .before .single .ensures (a .n) (start .pre .3)) ∙ c .before .before .before .before .before .before .if1 .taken) in (
+    samples-single (a .m) (a .n) _ (a .g) (start .pre .3) (sym (c .before .before .before .before .before .before .before .single .ensures (a .n) (start .pre .3)) ∙ c .before .before .before .before .before .before .if1 .taken) in (
       omega arith,
       ap length same ∙ level-points-length (a .m) w,
       c .before .before .level-points .ensures
-      ∙ ap (levelPoints (a .m)) (c .before .before .before .before .power .ensures ∙ ap (λ (j : ℕ). a .m ^ (a .n - 1 - j)) (c .before .before .before .before .before .first-input .ensures))
-      ∙ sym same,
+          ∙ ap (levelPoints (a .m)) (c .before .before .before .before .power .ensures ∙ ap (λ (j : ℕ). a .m ^ (a .n - 1 - j)) (c .before .before .before .before .before .first-input .ensures))
+          ∙ sym same,
     )
 
 same-length-2 : tie.Need-same-length-2
@@ -78,7 +78,7 @@ returns-2 c =
     let a = start .args in
     let f = inkIn (a .cells .now) in
     let same : samples (a .m) (a .n) f (a .g) ≡ classes (a .m) (a .n) f (a .g) =
-        samples-several (a .m) (a .n) f (a .g) (start .pre .3) (sym (c .before .before .before .before .before .before .before .before .before .before .before .single .ensures (a .n) (start .pre .3)) ∙ c .before .before .before .before .before .before .before .before .before .before .if1 .left) in
+    samples-several (a .m) (a .n) f (a .g) (start .pre .3) (sym (c .before .before .before .before .before .before .before .before .before .before .before .single .ensures (a .n) (start .pre .3)) ∙ c .before .before .before .before .before .before .before .before .before .before .if1 .left) in
     let found = counted-all (a .m) (classes (a .m) (a .n) f (a .g)) _ _ (start .pre .4) (c .before .before .before .before .before .before .group-classes .ensures) in
     (found .0, ap length same ∙ found .1, found .2 ∙ sym same)
 

@@ -1,23 +1,22 @@
 -- `settled::settle::settle_group` meets its contract. The measure is the group's number: both parts of a split are below it. Assumes
 -- nothing.
-use Prim.Native.Nat.{ℕ, _+_, _-_, _*_, _^_, _≤_, _<_}
-use mathlib.Core.Path.{_≡_, sym, ap, _∙_, subst}
+use Prim.Native.Nat.{ℕ, _+_, _-_, _^_, _≤_, _<_}
+use mathlib.Core.Path.{_≡_, sym, _∙_, subst}
 use mathlib.Core.Logic.{_≢_}
 use mathlib.Core.Bool.{true}
-use native.Mathlib.Nat.{le-trans, lt-of-lt-of-le, mul-le-mul-right}
+use native.Mathlib.Nat.{lt-of-lt-of-le}
 use native.Mathlib.Omega.{arith}
 use borrow.Author.Tests.{eqb-true, eqb-false}
-use lib.ListN.{length}
 use lib.Pow.{pow-mono}
 use Rattle.rules.specs.Limits.{mostInputs}
 use Rattle.rules.specs.Groups.{size}
 use Rattle.rules.specs.Marks.{inside, markIn, marksOf}
 use Rattle.rules.specs.Settled.{firstInput, splitOf}
 use Rattle.rules.specs.Calls.{inkIn}
-use Rattle.marks.specs.Stored.{held, held-room}
+use Rattle.marks.specs.Stored.{held-room}
 use Rattle.trees.specs.Members.{size-one}
 use Rattle.trees.specs.MarkTwo.{two-says}
-use Rattle.settled.specs.Ready.{gate-room}
+use Rattle.settled.specs.Sized.{gate-room}
 use Rattle.settled.specs.Wired.{Wired, split-in, wired-single, split-holds, split-parts, split-sizes, wired-several}
 use borrow.Fn.Kinds.{In}
 use borrow.Fn.PlainCycle.{Measures, is, falls, and}

@@ -1,5 +1,5 @@
 -- `settled::settle::join` meets its contract: one more gate is added. Assumes nothing.
-use Prim.Native.Nat.{ℕ, _+_, _*_, _≤_, _<_}
+use Prim.Native.Nat.{_*_}
 use mathlib.Core.Path.{_≡_}
 use native.Mathlib.Nat.{add-mul, one-mul}
 use native.Mathlib.Omega.{arith}

@@ -1,5 +1,5 @@
 -- `settled::settle::settled_net` meets its contract: the whole group's gates are the settled net's. Assumes nothing.
-use Prim.Native.Nat.{ℕ, _+_, _-_, _^_, _≤_, _<_}
+use Prim.Native.Nat.{ℕ, _-_, _^_, _<_}
 use mathlib.Core.Path.{_≡_, refl, ap, subst⁻¹}
 use native.Mathlib.Omega.{arith}
 use lib.Pow.{pow-pos}
@@ -8,7 +8,7 @@ use Rattle.rules.specs.Groups.{wholeGroup}
 use Rattle.rules.specs.Marks.{markIn, marksOf}
 use Rattle.rules.specs.Calls.{inkIn}
 use Rattle.trees.specs.Members.{whole-below, size-le}
-use Rattle.settled.specs.Ready.{Sized, sized}
+use Rattle.settled.specs.Sized.{Sized, sized}
 use Rattle.settled.specs.SettledNet.{settled-whole}
 use Rattle.settled.proofs.settle.settled_net.Statement.{statement}
 use Rattle.settled.proofs.settle.settled_net.Tie as tie
