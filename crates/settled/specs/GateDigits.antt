@@ -16,7 +16,7 @@ use Rattle.rules.specs.Lists.{range, firstPlace}
 use Rattle.rules.specs.Groups.{part, others, points, alikeOver, classes}
 use Rattle.rules.specs.Settled.{Wiring, gate, groupOf, carried, classNumber, gateDigits}
 use Rattle.laws.specs.Ranges.{range-length, range-at}
-use Rattle.trees.specs.Rows.{map-at}
+use Rattle.laws.specs.Places.{map-at}
 use Rattle.trees.specs.Trees.{EachOnce, EachGate, fill, treeValue}
 use Rattle.trees.specs.Digits.{digits-count, digits-have}
 use Rattle.trees.specs.Wirings.{Few, group-below, sufficiency}

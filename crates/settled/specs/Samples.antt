@@ -19,8 +19,7 @@ use Rattle.laws.specs.Concat.{map-same}
 use Rattle.laws.specs.Ranges.{range-length, range-at}
 use Rattle.groups.specs.Firsts.{Counted, capped-few}
 use Rattle.marks.specs.Parts.{without-first}
-use Rattle.trees.specs.ListLaws.{mem-getD}
-use Rattle.trees.specs.Rows.{map-at}
+use Rattle.laws.specs.Places.{mem-getD, map-at}
 use Rattle.trees.specs.Members.{member-single, size-single, size-one, first-member}
 use Rattle.trees.specs.Levels.{level-below, level-part-in}
 use Rattle.trees.specs.Points.{points-are-parts}

@@ -12,7 +12,8 @@ use lib.ListN.{length}
 use Rattle.rules.specs.Lists.{range, all}
 use Rattle.rules.specs.Limits.{fewestLevels, mostLevels, fewestInputs, mostInputs, mostCells, levelsFit, inputsFit, cellsFit, sizeFits}
 use Rattle.radix.specs.Sizes.{sizes}
-use Rattle.trees.specs.ListLaws.{mem-range, all-mem}
+use Rattle.laws.specs.Ranges.{mem-range}
+use Rattle.laws.specs.Tests.{all-mem}
 use Rattle.groups.specs.Within.{Room}
 
 -- the digits that a net has room for
