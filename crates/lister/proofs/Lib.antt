@@ -1,0 +1,3 @@
+-- The mathematics of the lister's places and turns.
+mod Steps
+mod Answers
