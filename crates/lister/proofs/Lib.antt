@@ -1,3 +1,4 @@
 -- The mathematics of the lister's places and turns.
 mod Steps
 mod Answers
+mod Apart

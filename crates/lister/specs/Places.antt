@@ -1,14 +1,9 @@
 -- Where a lister stands. After k turns it stands where line 4 + k begins, from 0, and once there is no such line, at the sheet's end.
 -- Assumes nothing.
-use Prim.Native.Nat.{ℕ, zero, suc, _+_, _-_, _≤_, _<_, min}
-use mathlib.Core.Path.{_≡_, refl, sym, ap, _∙_, subst}
-use mathlib.Core.Bool.{Bool, true, false}
-use mathlib.Core.List.{List, [], _∷_}
-use native.Mathlib.Nat.{add-suc, le-trans}
-use native.Mathlib.Omega.{arith}
-use lib.ListN.{length, drop, length-drop}
-use lib.Dec.{eqb}
-use Rattle.rules.specs.Text.{newline}
+use Prim.Native.Nat.{ℕ, _+_, min}
+use mathlib.Core.Path.{_≡_}
+use mathlib.Core.List.{List}
+use lib.ListN.{length, drop}
 use Rattle.rules.specs.Lister.{lineLength, afterLines}
 
 -- where line j begins, or the sheet's end

@@ -1,20 +1,19 @@
 -- What a lister gives at a place, and at its k-th turn on an accepted sheet.
 -- Assumes nothing.
-use Prim.Native.Nat.{ℕ, zero, suc, _+_, _-_, _≤_, _<_}
-use mathlib.Core.Path.{_≡_, refl, sym, ap, _∙_, subst}
+use Prim.Native.Nat.{ℕ, _+_}
+use mathlib.Core.Path.{_≡_}
 use mathlib.Core.Bool.{Bool, true, false}
-use mathlib.Core.List.{List, [], _∷_}
-use native.Mathlib.Omega.{arith}
+use mathlib.Core.List.{List, []}
 use lib.ListN.{length, drop}
 use lib.Dec.{ltb}
 use denote.Ref.{RefT, now}
 use Rattle.rules.specs.Sheets.{Net}
 use Rattle.rules.specs.Calls.{accepted, readNet}
-use Rattle.rules.specs.Lister.{lineLength, afterLines, Turn, gateAt, noneLeft, turnOf}
+use Rattle.rules.specs.Lister.{lineLength, Turn, gateAt, noneLeft, turnOf}
 use Rattle.demands.specs.Listing.{partOf}
 use Rattle.lister.specs.declared.turns.Turn as code
 use Rattle.lister.specs.declared.turns.Turn.the-variants.{Line, NoneLeft}
-use Rattle.lister.specs.Places.{standsAt, lineAfter}
+use Rattle.lister.specs.Places.{standsAt}
 
 -- the turn of a lister that stands at `at`
 unfoldable pub turnAt : List ℕ → ℕ → Turn

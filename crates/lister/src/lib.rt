@@ -1,3 +1,4 @@
 // The gate lister: it walks a net sheet that it has borrowed and gives one gate line at each turn.
 pub mod places;
 pub mod turns;
+pub mod walk;

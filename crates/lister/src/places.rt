@@ -1,7 +1,7 @@
 // Where the lines of a sheet begin and end.
 ghost use mathlib.Core.Path.{_≡_};
-ghost use Prim.Native.Nat.{_+_};
-ghost use lib.ListN.{drop};
+ghost use Prim.Native.Nat.{_+_, min};
+ghost use lib.ListN.{length, drop};
 ghost use Rattle.rules.specs.Lister.{lineLength};
 ghost use Rattle.lister.specs.Places.{standsAt, Onward};
 
@@ -21,12 +21,18 @@ pub fn line_end(s: &[u8], at: usize) -> usize
     i
 }
 
+// The place after the line feed at `end`, or the sheet's end.
+pub fn past_feed(s: &[u8], end: usize) -> usize
+    ensures { λ r. ⌜ r ≡ min (end + 1) (length (now (s .entry))) ⌝ }
+{
+    if end < s.len() { end + 1 } else { s.len() }
+}
+
 // The place after the line at `at` and its line feed, or the sheet's end: where a lister that stands at `at` stands a turn later.
 pub fn line_after(s: &[u8], at: usize) -> usize
     ensures { λ r. ⌜ Onward (now (s .entry)) at r ⌝ }
 {
-    let end = line_end(s, at);
-    if end < s.len() { end + 1 } else { s.len() }
+    past_feed(s, line_end(s, at))
 }
 
 // The place after the first four lines: where a lister starts.

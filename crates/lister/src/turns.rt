@@ -3,6 +3,7 @@ ghost use denote.Ref.{ptr};
 ghost use Rattle.lister.specs.Turns.{Says, isNone, partIn, turnThen};
 ghost use Rattle.lister.specs.Places.{lineAfter};
 use crate::places::line_end;
+use crate::places::past_feed;
 
 // A gate line, as the part of the sheet that holds it without its line feed, and where the next one begins; or none is left.
 pub enum Turn {
@@ -36,21 +37,14 @@ pub fn line_at(s: &[u8], at: usize) -> &[u8]
 pub fn next_line(s: &[u8], at: usize) -> Turn
     ensures { λ r. ⌜ Says (now (s .entry)) at (turnThen (lineAfter (now (s .entry)) at)) r ⌝ }
 {
-    if at < s.len() {
-        let end = line_end(s, at);
-        let count = end - at;
-        if end < s.len() {
-            return Turn::Line {
-                start: at,
-                count,
-                next: end + 1,
-            };
-        }
-        return Turn::Line {
-            start: at,
-            count,
-            next: s.len(),
-        };
+    if s.len() <= at {
+        return Turn::NoneLeft;
     }
-    Turn::NoneLeft
+    let end = line_end(s, at);
+    let next = past_feed(s, end);
+    Turn::Line {
+        start: at,
+        count: end - at,
+        next,
+    }
 }

@@ -4,27 +4,19 @@ use Rattle.lister.proofs.Steps.{fourth}
 use borrow.Author.Needs.{needs}
 use Rattle.lister.proofs.places.first_gate.Statement.{statement}
 use Rattle.lister.proofs.places.first_gate.Tie as tie
-use Rattle.lister.proofs.places.first_gate.Reads as reads
-use Rattle.lister.proofs.places.first_gate.Lts as lts
-use Rattle.lister.proofs.places.line_after.Reads as line-after-reads
 
--- src/places.rt:40:9
 line-after-requires : tie.Need-line-after-requires
 line-after-requires c κs = search needs
 
--- src/places.rt:41:9
 line-after-requires-2 : tie.Need-line-after-requires-2
 line-after-requires-2 c κs = search needs
 
--- src/places.rt:42:9
 line-after-requires-3 : tie.Need-line-after-requires-3
 line-after-requires-3 c κs = search needs
 
--- src/places.rt:43:5
 line-after-requires-4 : tie.Need-line-after-requires-4
 line-after-requires-4 c κs = search needs
 
--- src/places.rt:37:1
 returns : tie.Need-returns
 returns c = fourth _ _ _ _ _ (c .before .before .before .line-after .ensures) (c .before .before .line-after2 .ensures) (c .before .line-after3 .ensures) (c .line-after4 .ensures)
 

@@ -8,8 +8,6 @@ use Rattle.rules.specs.Lister.{lineLength}
 use Rattle.lister.proofs.Steps.{end-here, feed-here, byte-here}
 use Rattle.lister.proofs.places.line_end.Statement.{statement}
 use Rattle.lister.proofs.places.line_end.Tie as tie
-use Rattle.lister.proofs.places.line_end.Reads as reads
-use Rattle.lister.proofs.places.line_end.Lts as lts
 
 abbrev Inv-loop : tie.InvT-loop
 Inv-loop s at i₀ i = i + lineLength (drop i s) ≡ at + lineLength (drop at s)
@@ -17,31 +15,24 @@ Inv-loop s at i₀ i = i + lineLength (drop i s) ≡ at + lineLength (drop at s)
 abbrev μ-loop : tie.MeasureT-loop
 μ-loop s at i₀ i = length s - i
 
--- src/places.rt:15:5
 loop-holds : tie.Need-loop-holds Inv-loop μ-loop
 loop-holds c = refl
 
--- src/places.rt:16:12
 shared-slice-read-if1 : tie.Need-shared-slice-read-if1 Inv-loop μ-loop
 shared-slice-read-if1 c = omega arith
 
--- src/places.rt:17:13
 returns : tie.Need-returns Inv-loop μ-loop
 returns c = feed-here _ _ (c .before .before .loop-test .taken) (c .if1 .taken) ∙ c .before .before .before .loop .inv
 
--- src/places.rt:19:9
 add-i : tie.Need-add-i Inv-loop μ-loop
 add-i c = omega arith
 
--- src/places.rt:15:5
 loop-less : tie.Need-loop-less Inv-loop μ-loop
 loop-less c = omega arith
 
--- src/places.rt:15:5
 loop-again : tie.Need-loop-again Inv-loop μ-loop
 loop-again c = byte-here _ _ (c .before .before .loop-test .taken) (c .if1 .left) ∙ c .before .before .before .loop .inv
 
--- src/places.rt:11:1
 returns-2 : tie.Need-returns-2 Inv-loop μ-loop
 returns-2 c = end-here _ _ (c .loop-test .left) ∙ c .before .loop .inv
 

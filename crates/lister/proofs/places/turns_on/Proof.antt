@@ -7,9 +7,6 @@ use Rattle.lister.specs.Places.{standsAt}
 use Rattle.lister.proofs.Steps.{stays}
 use Rattle.lister.proofs.places.turns_on.Statement.{statement}
 use Rattle.lister.proofs.places.turns_on.Tie as tie
-use Rattle.lister.proofs.places.turns_on.Reads as reads
-use Rattle.lister.proofs.places.turns_on.Lts as lts
-use Rattle.lister.proofs.places.line_after.Reads as line-after-reads
 
 abbrev Inv-loop : tie.InvT-loop
 Inv-loop s first count at₀ k₀ at k = (k ≤ count) × (at ≡ standsAt s k)
@@ -17,31 +14,24 @@ Inv-loop s first count at₀ k₀ at k = (k ≤ count) × (at ≡ standsAt s k)
 abbrev μ-loop : tie.MeasureT-loop
 μ-loop s first count at₀ k₀ at k = count - k
 
--- src/places.rt:53:5
 loop-holds : tie.Need-loop-holds Inv-loop μ-loop
 loop-holds c = (omega arith, c .before .pre)
 
--- src/places.rt:55:13
 returns : tie.Need-returns Inv-loop μ-loop
 returns c = c .before .before .loop .inv .1 ∙ stays _ _ _ (omega arith) (omega arith)
 
--- src/places.rt:57:9
 line-after-requires : tie.Need-line-after-requires Inv-loop μ-loop
 line-after-requires c κs = tt
 
--- src/places.rt:58:9
 add-k : tie.Need-add-k Inv-loop μ-loop
 add-k c = omega arith
 
--- src/places.rt:53:5
 loop-less : tie.Need-loop-less Inv-loop μ-loop
 loop-less c = omega arith
 
--- src/places.rt:53:5
 loop-again : tie.Need-loop-again Inv-loop μ-loop
 loop-again c = (omega arith, c .line-after .ensures .turn _ (c .before .before .before .loop .inv .1))
 
--- src/places.rt:47:1
 returns-2 : tie.Need-returns-2 Inv-loop μ-loop
 returns-2 c = let e : c .before .loop .k ≡ c .before .before .before .args .count = omega arith in c .before .loop .inv .1 ∙ ap (standsAt _) e
 

@@ -3,10 +3,7 @@
 use Rattle.lister.proofs.Answers.{none-left}
 use Rattle.lister.proofs.turns.none_left.Statement.{statement}
 use Rattle.lister.proofs.turns.none_left.Tie as tie
-use Rattle.lister.proofs.turns.none_left.Reads as reads
-use Rattle.lister.proofs.turns.none_left.Lts as lts
 
--- src/turns.rt:18:1
 returns : tie.Need-returns
 returns c = none-left _ _
 
