@@ -1,9 +1,10 @@
 // The calls that take a plain slice: opening a sheet, and the line of any turn.
 ghost use mathlib.Core.Path.{_≡_};
 ghost use Rattle.rules.specs.Lister.{listing};
+ghost use Rattle.lister.specs.Places.{standsAt};
 ghost use Rattle.lister.specs.Calls.{openedAs, opening, listedAs};
 use crate::places::first_gate;
-use crate::places::turns_on;
+use crate::places::line_after;
 use crate::turns::Turn;
 use crate::turns::next_line;
 use fields::steps::Outcome;
@@ -21,6 +22,7 @@ pub enum Listed {
     Refused { number: usize, place: usize },
 }
 
+// Reads the sheet.
 pub fn open(s: &[u8]) -> Opened
     ensures { λ r. ⌜ openedAs r ≡ opening (now (s .entry)) ⌝ }
 {
@@ -30,6 +32,23 @@ pub fn open(s: &[u8]) -> Opened
         Outcome::Refused { number, place } => Opened::Refused { number, place },
         Outcome::Accepted => Opened::At(first_gate(s)),
     }
+}
+
+// Where a lister stands after `count` turns from its start. At the sheet's end it stays.
+fn turns_on(s: &[u8], first: usize, count: usize) -> usize
+    requires { ⌜ first ≡ standsAt (now s) 0 ⌝ }
+    ensures { λ r. ⌜ r ≡ standsAt (now (s .entry)) count ⌝ }
+{
+    let mut at: usize = first;
+    let mut k: usize = 0;
+    while k < count {
+        if s.len() <= at {
+            return at;
+        }
+        at = line_after(s, at);
+        k += 1;
+    }
+    at
 }
 
 // The turn of number `k`, from 0, by itself: what every caller without a lister uses.

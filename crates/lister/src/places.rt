@@ -4,8 +4,7 @@ ghost use Prim.Native.Nat.{_+_, min};
 ghost use lib.ListN.{length, drop};
 ghost use Rattle.rules.specs.Lister.{lineLength};
 ghost use Rattle.lister.specs.Places.{standsAt, Onward};
-
-pub const NEWLINE: u8 = 10;
+use fields::runs::NEWLINE;
 
 // The place of the next line feed from `at` on, or the sheet's length.
 pub fn line_end(s: &[u8], at: usize) -> usize
@@ -43,21 +42,4 @@ pub fn first_gate(s: &[u8]) -> usize
     let third = line_after(s, second);
     let fourth = line_after(s, third);
     line_after(s, fourth)
-}
-
-// Where a lister stands after `count` turns from its start. At the sheet's end it stays.
-pub fn turns_on(s: &[u8], first: usize, count: usize) -> usize
-    requires { ⌜ first ≡ standsAt (now s) 0 ⌝ }
-    ensures { λ r. ⌜ r ≡ standsAt (now (s .entry)) count ⌝ }
-{
-    let mut at: usize = first;
-    let mut k: usize = 0;
-    while k < count {
-        if s.len() <= at {
-            return at;
-        }
-        at = line_after(s, at);
-        k += 1;
-    }
-    at
 }

@@ -5,8 +5,8 @@ use mathlib.Core.Path.{_≡_, ap, _∙_}
 use native.Mathlib.Omega.{arith}
 use Rattle.lister.specs.Places.{standsAt}
 use Rattle.lister.proofs.Steps.{stays}
-use Rattle.lister.proofs.places.turns_on.Statement.{statement}
-use Rattle.lister.proofs.places.turns_on.Tie as tie
+use Rattle.lister.proofs.calls.turns_on.Statement.{statement}
+use Rattle.lister.proofs.calls.turns_on.Tie as tie
 
 abbrev Inv-loop : tie.InvT-loop
 Inv-loop s first count at₀ k₀ at k = (k ≤ count) × (at ≡ standsAt s k)
