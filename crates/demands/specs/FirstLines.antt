@@ -1,77 +1,27 @@
 -- A sheet's first three lines, as bytes. They say its header: two accepted net sheets have the same first three lines exactly when
 -- they have the same levels, inputs and names.
 -- Assumes nothing.
-use Prim.Native.Nat.{ℕ, zero, suc}
+use Prim.Native.Nat.{ℕ}
 use mathlib.Core.Path.{_≡_, refl, sym, ap, _∙_}
 use mathlib.Core.Logic.{_↔_}
-use mathlib.Core.Bool.{Bool, true, false, not, _||_, false≢true}
-use mathlib.Core.List.{List, [], _∷_, _++_, append-assoc, append-nil}
+use mathlib.Core.Bool.{true}
+use mathlib.Core.List.{List, [], _∷_, _++_, append-assoc}
 use native.Mathlib.Omega.{arith}
-use lib.Dec.{eqb}
-use Rattle.rules.specs.Lists.{all, concatMap}
-use Rattle.rules.specs.Text.{space, newline, text, decimal}
-use Rattle.rules.specs.Fields.{isSeparator, Read, read}
+use Rattle.rules.specs.Text.{newline, text, decimal}
+use Rattle.rules.specs.Fields.{Read, read}
 use Rattle.rules.specs.Sheets.{Header, Net, headerLines}
-use Rattle.rules.specs.Printed.{line, firstLines, printedGate, printedNet}
-use Rattle.rules.specs.Kept.{GoodNames, KeptHeader, KeptNet}
+use Rattle.rules.specs.Printed.{line, firstLines, printedNet}
+use Rattle.rules.specs.Kept.{KeptHeader, KeptNet}
 use Rattle.rules.specs.Calls.{accepted, readNet}
 use Rattle.demands.specs.Bounds.{inputs-several}
-use Rattle.laws.specs.Tests.{all-iff}
-use Rattle.readback.specs.Fields.{plain, isWord, parts-newline, word-plain}
-use Rattle.readback.specs.Decimals.{decimal-word}
-use Rattle.readback.specs.Judges.{name-word}
+use Rattle.demands.specs.Lines.{linesOf, lines-first, headLines, head-fed, head-unbroken}
+use Rattle.readback.specs.Fields.{parts-newline}
 use Rattle.readback.specs.Header.{headText, spells-header}
 use Rattle.readback.specs.NetSheets.{line-ended}
 use Rattle.readback.specs.ReadBack.{net-accepted}
 
--- the bytes up to and with the k-th line feed
-unfoldable pub linesOf : ℕ → List ℕ → List ℕ
-linesOf zero s = []
-linesOf (suc k) [] = []
-linesOf (suc k) (b ∷ s) = elim (eqb b newline) [ true ↦ b ∷ linesOf k s | false ↦ b ∷ linesOf (suc k) s ]
-
 unfoldable pub threeLines : List ℕ → List ℕ
 threeLines s = linesOf 3 s
-
--- a byte that parts nothing is no line feed
-plain-byte : (b : ℕ) → plain b ≡ true → eqb b newline ≡ false
-unfolding plain isSeparator
-plain-byte b h = go (eqb b space) (eqb b newline) h
-  where
-    go : (x y : Bool) → not (x || y) ≡ true → y ≡ false
-    go true y h = absurd (false≢true h)
-    go false true h = absurd (false≢true h)
-    go false false h = refl
-
--- bytes that part nothing are passed over
-lines-plain : (k : ℕ) (w rest : List ℕ) → all plain w ≡ true → linesOf (suc k) (w ++ rest) ≡ w ++ linesOf (suc k) rest
-unfolding linesOf
-lines-plain k [] rest h = refl
-lines-plain k (b ∷ w) rest h =
-    let (first, more) = all-iff plain b w .0 h in
-    rw (plain-byte b first, linesOf, lines-plain k w rest more)
-
-abbrev Words : List (List ℕ) → Type 0
-Words [] = Unit {0}
-Words (w ∷ ws) = (isWord w ≡ true) × Words ws
-
--- a line of words is one line
-lines-line : (k : ℕ) (ws : List (List ℕ)) (rest : List ℕ) → Words ws → linesOf (suc k) (line ws ++ rest) ≡ line ws ++ linesOf k rest
-unfolding linesOf line space newline
-lines-line k [] rest h = refl
-lines-line k (w ∷ []) rest h =
-    ap (linesOf (suc k)) (append-assoc w (10 ∷ []) rest)
-    ∙ lines-plain k w (10 ∷ rest) (word-plain w (h .0))
-    ∙ sym (append-assoc w (10 ∷ []) (linesOf k rest))
-lines-line k (w ∷ v ∷ ws) rest h =
-    ap (linesOf (suc k)) (append-assoc w (32 ∷ line (v ∷ ws)) rest)
-    ∙ lines-plain k w (32 ∷ (line (v ∷ ws) ++ rest)) (word-plain w (h .0))
-    ∙ ap (λ (l : List ℕ). w ++ (32 ∷ l)) (lines-line k (v ∷ ws) rest (h .1))
-    ∙ sym (append-assoc w (32 ∷ line (v ∷ ws)) (linesOf k rest))
-
-good-words : (ws : List (List ℕ)) → GoodNames ws → Words ws
-good-words [] g = tt
-good-words (w ∷ ws) g = (name-word w (g .0), good-words ws (g .2))
 
 head-line : (h : Header) → KeptHeader h → firstLines h (h .names) ≡ headText newline h
 unfolding firstLines headText
@@ -82,32 +32,11 @@ head-line h kept =
 same-read : (h k : Header) (place place' : ℕ) → _≡_ {A = Read Header} (read h [] place) (read k [] place') → h ≡ k
 same-read h k place place' e = cc
 
--- three lines of words are the first three lines, whatever follows
-lines-three : (a b c : List (List ℕ)) (rest : List ℕ) → Words a → Words b → Words c
-    → linesOf 3 (line a ++ line b ++ line c ++ rest) ≡ line a ++ line b ++ line c
-unfolding linesOf
-lines-three a b c rest h k l =
-    ap (linesOf 3) (append-assoc (line a ++ line b) (line c) rest ∙ append-assoc (line a) (line b) (line c ++ rest))
-    ∙ lines-line 2 a (line b ++ (line c ++ rest)) h
-    ∙ ap (λ (t : List ℕ). line a ++ t) (lines-line 1 b (line c ++ rest) k ∙ ap (λ (t : List ℕ). line b ++ t) (lines-line 0 c rest l ∙ append-nil (line c)))
-    ∙ sym (append-assoc (line a) (line b) (line c))
-
-fixed-words : Words (text "levels" ∷ text "inputs" ∷ [])
-unfolding isWord text all plain isSeparator space newline
-fixed-words = (refl, (refl, tt))
-
 -- the first three lines of a printed net are its header's
 pub three-lines : (net : Net) → KeptNet net → threeLines (printedNet net) ≡ firstLines (net .header) (net .header .names)
-unfolding threeLines printedNet firstLines
+unfolding threeLines printedNet headLines
 three-lines net kept =
-    let h : Header = net .header in
-    let gates : List ℕ = concatMap (printedGate (h .names)) (net .gates) in
-    ap (linesOf 3) (append-assoc (firstLines h (h .names)) (line (text "left" ∷ text "right" ∷ text "table" ∷ [])) gates)
-    ∙ lines-three (text "levels" ∷ text "inputs" ∷ []) (decimal (h .levels) ∷ decimal (h .inputs) ∷ []) (h .names)
-    (line (text "left" ∷ text "right" ∷ text "table" ∷ []) ++ gates)
-    fixed-words
-    (decimal-word (h .levels), (decimal-word (h .inputs), tt))
-    (good-words (h .names) (kept .header .names))
+    rw (append-assoc, head-fed (net .header)) (lines-first (headLines (net .header)) _ (head-unbroken (net .header) (kept .header)))
 
 -- the header that those lines say
 pub header-said : (h k : Header) → KeptHeader h → KeptHeader k → firstLines h (h .names) ≡ firstLines k (k .names) → h ≡ k

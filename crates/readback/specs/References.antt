@@ -48,7 +48,7 @@ name-not-decimal w n h e = not-letter (decimal n) (decimal-digits n .0) (ap lett
 
 module _ (names : List (List ℕ)) (good-names : GoodNames names) where
   -- a reference is a word
-  reference-word : (r : ℕ) → isWord (referenceText names r) ≡ true
+  pub reference-word : (r : ℕ) → isWord (referenceText names r) ≡ true
   reference-word r = go (refers names r)
     where
       go : Refers names r → isWord (referenceText names r) ≡ true

@@ -1,0 +1,82 @@
+-- What a lister gives at a place is what turn k gives, where k turns on an accepted sheet brought it there.
+-- Assumes nothing.
+use Prim.Native.Nat.{ℕ, _+_, _-_, _≤_, _<_, min}
+use mathlib.Core.Path.{_≡_, ap, ap₂, _∙_}
+use mathlib.Core.List.{List, []}
+use native.Mathlib.Decide.{decLt}
+use native.Mathlib.Omega.{arith}
+use native.Mathlib.Nat.{zero-add}
+use lib.ListN.{length, take, drop}
+use lib.Dec.{leb}
+use denote.Ref.{RefT, now}
+use borrow.Author.Tests.{lt-ltb, le-ltb, lt-leb, le-leb}
+use Rattle.rules.specs.Sheets.{Net}
+use Rattle.rules.specs.Calls.{accepted, readNet}
+use Rattle.rules.specs.Lister.{lineLength, afterLines, Turn, gateAt, noneLeft, turnOf}
+use Rattle.demands.specs.Listing.{partOf, lineAt, gate-inside, gates-end}
+use Rattle.lister.specs.Places.{lineStart, standsAt, lineAfter}
+use Rattle.lister.specs.Turns.{turnAt, isNone, partIn, turnThen, Says}
+use Rattle.lister.specs.declared.turns.Turn.the-variants.{Line, NoneLeft}
+use Rattle.lister.proofs.Steps.{line-within, stays}
+
+pub turn-stands : (s : List ℕ) (net : Net) (k : ℕ) → readNet s ≡ accepted net → turnAt s (standsAt s k) ≡ turnOf s net k
+unfolding turnAt lineStart turnOf lineAt
+turn-stands s net k reads = go (decLt k (length (net .gates)))
+  where
+    go : Dec (k < length (net .gates)) → turnAt s (standsAt s k) ≡ turnOf s net k
+    go (yes h) =
+        let inside = gate-inside s net reads k h in
+        let e : standsAt s k ≡ afterLines s (4 + k) = omega arith in
+        rw (lt-ltb k (length (net .gates)) h, turnOf) (ap (turnAt s) e ∙ rw (lt-ltb (afterLines s (4 + k)) (length s) (omega arith), turnAt))
+    go (no h) =
+        let end = gates-end s net reads in
+        let e : length s ≤ standsAt s k = omega (arith, stays s (length (net .gates)) k (omega arith) (omega arith)) in
+        rw (le-ltb (standsAt s k) (length s) e, le-ltb k (length (net .gates)) (omega arith), turnAt, turnOf)
+
+pub says : {A : Type 0} (s : List ℕ) (at : ℕ) (f : Turn → A) (r : A) → r ≡ f (turnAt s at) → Says s at f r
+says s at f r e = record { here = e; turn = λ net k reads d. e ∙ ap f (ap (turnAt s) d ∙ turn-stands s net k reads) }
+
+-- ---- each answer at its place
+
+module _ (s : List ℕ) (at : ℕ) where
+  turn-line : at < length s → turnAt s at ≡ gateAt (record { start = at; count = lineLength (drop at s) })
+  unfolding turnAt
+  turn-line h = rw (lt-ltb at (length s) h, turnAt)
+
+  turn-end : length s ≤ at → turnAt s at ≡ noneLeft
+  unfolding turnAt
+  turn-end h = rw (le-ltb at (length s) h, turnAt)
+
+  pub none-left : Says s at isNone (leb (length s) at)
+  unfolding isNone
+  none-left = says s at isNone _ (go (decLt at (length s)))
+    where
+      go : Dec (at < length s) → leb (length s) at ≡ isNone (turnAt s at)
+      go (yes h) = rw (turn-line h, lt-leb (length s) at h)
+      go (no h) = rw (turn-end (omega arith), le-leb (length s) at (omega arith))
+
+  -- a line, and where it ends
+  module _ (end : ℕ) (is-end : end ≡ at + lineLength (drop at s)) (h : at < length s) where
+    count : end - at ≡ lineLength (drop at s)
+    count = omega arith
+
+    pub line-end : end ≤ length s
+    line-end = omega (arith, line-within s at (omega arith))
+
+    pub turn-given : (next : ℕ) → next ≡ min (end + 1) (length s) → Says s at (turnThen (lineAfter s at)) (Line at (end - at) next)
+    unfolding turnThen lineAfter
+    turn-given next e = says s at (turnThen (lineAfter s at)) _ (rw (turn-line h) (ap₂ (Line at) count (omega arith)))
+
+  pub turn-none : length s ≤ at → Says s at (turnThen (lineAfter s at)) NoneLeft
+  unfolding turnThen
+  turn-none h = says s at (turnThen (lineAfter s at)) _ (rw (turn-end h))
+
+module _ (s : RefT (List ℕ)) (at : ℕ) where
+  pub part-given : (end : ℕ) → end ≡ at + lineLength (drop at (now s)) → at < length (now s)
+      → Says (now s) at (partIn s) ((s .ptr .0, at + s .ptr .1), take (end - at) (drop at (now s)))
+  unfolding partIn partOf
+  part-given end is-end h = says (now s) at (partIn s) _ (rw (turn-line (now s) at h, count (now s) at end is-end h))
+
+  pub part-none : length (now s) ≤ at → Says (now s) at (partIn s) ((s .ptr .0, 0 + s .ptr .1), [])
+  unfolding partIn
+  part-none h = says (now s) at (partIn s) _ (rw (turn-end (now s) at h, zero-add))

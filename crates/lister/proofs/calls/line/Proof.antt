@@ -1,0 +1,39 @@
+-- `line` meets its contract.
+-- Assumes nothing.
+use Rattle.lister.proofs.Openings.{opened-at, listed-refused, listed-given}
+use borrow.Author.Needs.{needs}
+use Rattle.lister.proofs.calls.line.Statement.{statement}
+use Rattle.lister.proofs.calls.line.Tie as tie
+
+open-requires : tie.Need-open-requires
+open-requires c κs = search needs
+
+enum-known-number : tie.Need-enum-known-number
+enum-known-number c = search needs
+
+enum-known-first : tie.Need-enum-known-first
+enum-known-first c = search needs
+
+turns-on-requires : tie.Need-turns-on-requires
+turns-on-requires c κs = opened-at _ _ (c .before .before .before .open .ensures) _ (c .before .first .given .1) .2
+
+next-line-requires : tie.Need-next-line-requires
+next-line-requires c κs = search needs
+
+returns : tie.Need-returns
+returns c = listed-refused _ _ (c .before .before .before .open .ensures) _ _ _ (c .before .number .given .1)
+
+returns-2 : tie.Need-returns-2
+returns-2 c = listed-given _ _ (c .before .before .before .before .before .open .ensures) _ _ _ _ _ (c .before .before .before .first .given .1) (c .before .turns-on .ensures) (c .next-line .ensures)
+
+pub line-spec : {M : Type 1} → statement M
+line-spec =
+    tie.close
+    (tie.spec
+    open-requires
+    enum-known-number
+    enum-known-first
+    turns-on-requires
+    next-line-requires
+    returns
+    returns-2)

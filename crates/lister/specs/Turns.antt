@@ -1,0 +1,40 @@
+-- What a lister gives at a place, and at its k-th turn on an accepted sheet.
+-- Assumes nothing.
+use Prim.Native.Nat.{ℕ, _+_}
+use mathlib.Core.Path.{_≡_}
+use mathlib.Core.Bool.{Bool, true, false}
+use mathlib.Core.List.{List, []}
+use lib.ListN.{length, drop}
+use lib.Dec.{ltb}
+use denote.Ref.{RefT, now}
+use Rattle.rules.specs.Sheets.{Net}
+use Rattle.rules.specs.Calls.{accepted, readNet}
+use Rattle.rules.specs.Lister.{lineLength, Turn, gateAt, noneLeft, turnOf}
+use Rattle.demands.specs.Listing.{partOf}
+use Rattle.lister.specs.declared.turns.Turn as code
+use Rattle.lister.specs.declared.turns.Turn.the-variants.{Line, NoneLeft}
+use Rattle.lister.specs.Places.{standsAt}
+
+-- the turn of a lister that stands at `at`
+unfoldable pub turnAt : List ℕ → ℕ → Turn
+turnAt s at = elim (ltb at (length s)) [ true ↦ gateAt (record { start = at; count = lineLength (drop at s) }) | false ↦ noneLeft ]
+
+-- is none left?
+unfoldable pub isNone : Turn → Bool
+isNone (gateAt p) = false
+isNone noneLeft = true
+
+-- the part of the sheet given, as a reference has it: where it points, and its bytes. Where none is left it has no bytes.
+unfoldable pub partIn : RefT (List ℕ) → Turn → (ℕ × ℕ) × List ℕ
+partIn s (gateAt p) = ((s .ptr .0, p .start + s .ptr .1), partOf (now s) p)
+partIn s noneLeft = (s .ptr, [])
+
+-- the turn in the code's numbers, with the place after it
+unfoldable pub turnThen : ℕ → Turn → code.Turn
+turnThen next (gateAt p) = Line (p .start) (p .count) next
+turnThen next noneLeft = NoneLeft
+
+-- `r` is `f` of the turn of a lister at `at`; where k turns on an accepted sheet brought it there, of turn k.
+pub record Says {A : Type 0} (s : List ℕ) (at : ℕ) (f : Turn → A) (r : A) : Type 0 where
+  pub here : r ≡ f (turnAt s at)
+  pub turn : (net : Net) (k : ℕ) → readNet s ≡ accepted net → at ≡ standsAt s k → r ≡ f (turnOf s net k)

@@ -1,0 +1,50 @@
+// What a lister that stands at a place of a sheet gives at its turn, by the sheet and the place alone.
+ghost use denote.Ref.{ptr};
+ghost use Rattle.lister.specs.Turns.{Says, isNone, partIn, turnThen};
+ghost use Rattle.lister.specs.Places.{lineAfter};
+use crate::places::line_end;
+use crate::places::past_feed;
+
+// A gate line, as the part of the sheet that holds it without its line feed, and where the next one begins; or none is left.
+pub enum Turn {
+    Line {
+        start: usize,
+        count: usize,
+        next: usize,
+    },
+    NoneLeft,
+}
+
+// Is none left?
+pub fn none_left(s: &[u8], at: usize) -> bool
+    ensures { λ r. ⌜ Says (now (s .entry)) at isNone r ⌝ }
+{
+    s.len() <= at
+}
+
+// The line, as a part of the sheet; no bytes where none is left.
+pub fn line_at(s: &[u8], at: usize) -> &[u8]
+    ensures { λ r. ⌜ Says (now (s .entry)) at (partIn (s .entry)) (ptr r, now r) ⌝ }
+{
+    if at < s.len() {
+        let end = line_end(s, at);
+        return &s[at..end];
+    }
+    &s[0..0]
+}
+
+// The turn in numbers.
+pub fn next_line(s: &[u8], at: usize) -> Turn
+    ensures { λ r. ⌜ Says (now (s .entry)) at (turnThen (lineAfter (now (s .entry)) at)) r ⌝ }
+{
+    if s.len() <= at {
+        return Turn::NoneLeft;
+    }
+    let end = line_end(s, at);
+    let next = past_feed(s, end);
+    Turn::Line {
+        start: at,
+        count: end - at,
+        next,
+    }
+}

@@ -1,0 +1,49 @@
+// The lister as a struct, and thin functions over it: each takes it apart and calls a function of the sheet and the place. Their
+// proofs are walks by hand (proofs/walk/Lister).
+ghost use mathlib.Core.Path.{_≡_};
+ghost use denote.Ref.{ptr};
+ghost use Rattle.lister.specs.Places.{Onward};
+ghost use Rattle.lister.specs.Turns.{Says, isNone, partIn};
+use crate::places::line_after;
+use crate::turns::line_at;
+use crate::turns::none_left;
+
+// The sheet that it has borrowed, and where it stands in it.
+pub struct Lister<'a> {
+    pub sheet: &'a [u8],
+    pub at: usize,
+}
+
+impl<'a> Lister<'a> {
+    // A lister that stands at a place.
+    pub fn start(sheet: &'a [u8], at: usize) -> Lister<'a>
+        ensures { λ r. ⌜ (r .sheet ≡ sheet .entry) × (r .at ≡ at) ⌝ }
+    {
+        Lister { sheet, at }
+    }
+
+    // Is none left at this turn?
+    pub fn done(self) -> bool
+        ensures { λ r. ⌜ Says (now (self .entry .sheet)) (self .entry .at) isNone r ⌝ }
+    {
+        none_left(self.sheet, self.at)
+    }
+
+    // This turn's line.
+    pub fn line(self) -> &'a [u8]
+        ensures { λ r. ⌜ Says (now (self .entry .sheet)) (self .entry .at) (partIn (self .entry .sheet)) (ptr r, now r) ⌝ }
+    {
+        line_at(self.sheet, self.at)
+    }
+
+    // The lister a turn on.
+    pub fn next(self) -> Lister<'a>
+        ensures { λ r. ⌜ (r .sheet ≡ self .entry .sheet) × Onward (now (self .entry .sheet)) (self .entry .at) (r .at) ⌝ }
+    {
+        let at = line_after(self.sheet, self.at);
+        Lister {
+            sheet: self.sheet,
+            at,
+        }
+    }
+}
