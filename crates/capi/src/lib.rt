@@ -2,8 +2,12 @@
 ghost use mathlib.Core.Path.{_≡_};
 ghost use Rattle.rules.specs.Calls.{multiplicityCall, markingCall};
 ghost use Rattle.groups.specs.Answers.{answerOf};
-ghost use Rattle.capi.specs.Flat.{flatOf, FlatMarked};
+ghost use Rattle.rules.specs.Lister.{listing};
+ghost use Rattle.lister.specs.Calls.{listedAs};
+ghost use Rattle.capi.specs.Flat.{flatOf, flatTurn, FlatMarked};
 use groups::call::Answer;
+use lister::calls::Listed;
+use lister::turns::Turn;
 
 // Number 0: accepted, and `value` is the answer. Any other number: that refusal, and `value` is its place.
 #[repr(C)]
@@ -48,4 +52,49 @@ pub extern "C" fn sitgurp_marking(
     ensures { λ r. ⌜ FlatMarked (markingCall m n (now (cells .entry)) (now (marks .entry))) r (now (marks .exit)) ⌝ }
 {
     flat(marks::call::marking(m, n, cells, marks))
+}
+
+// Kind 0: none is left. Kind 1: a gate line, `second` bytes from `first` on. Kind 2: the sheet is refused, with number `first` at
+// place `second`.
+#[repr(C)]
+pub struct SitgurpTurn {
+    pub kind: usize,
+    pub first: usize,
+    pub second: usize,
+}
+
+fn flat_turn(listed: Listed) -> SitgurpTurn
+    ensures { λ r. ⌜ r ≡ flatTurn (listedAs listed) ⌝ }
+{
+    match listed {
+        Listed::Refused { number, place } => SitgurpTurn {
+            kind: 2,
+            first: number,
+            second: place,
+        },
+        Listed::Given(turn) => match turn {
+            Turn::NoneLeft => SitgurpTurn {
+                kind: 0,
+                first: 0,
+                second: 0,
+            },
+            Turn::Line {
+                start,
+                count,
+                next: _,
+            } => SitgurpTurn {
+                kind: 1,
+                first: start,
+                second: count,
+            },
+        },
+    }
+}
+
+// Turn k of the gate lister, from 0.
+#[no_mangle]
+pub extern "C" fn sitgurp_gate_line(sheet: &[u8], k: usize) -> SitgurpTurn
+    ensures { λ r. ⌜ r ≡ flatTurn (listing (now (sheet .entry)) k) ⌝ }
+{
+    flat_turn(lister::calls::line(sheet, k))
 }
