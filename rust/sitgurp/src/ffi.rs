@@ -2,10 +2,31 @@
 
 /// `number` is 0 where the call is accepted, and `value` its answer; otherwise a refusal's number and place.
 #[repr(C)]
-#[derive(Clone, Copy, Debug)]
+#[derive(Clone, Copy)]
 pub struct Answer {
     pub number: usize,
     pub value: usize,
+}
+
+/// `kind` is 0 for agreement, 1 where `value` is the lowest index that differs, 2 for a refusal with `number` at place
+/// `value` that names the net sheet (1), the table sheet (2) or neither (0).
+#[repr(C)]
+#[derive(Clone, Copy)]
+pub struct Verdict {
+    pub kind: usize,
+    pub named: usize,
+    pub number: usize,
+    pub value: usize,
+}
+
+/// `kind` is 0 where none is left, 1 for a line of `second` bytes from `first` on, 2 for a refusal with number `first` at place
+/// `second`.
+#[repr(C)]
+#[derive(Clone, Copy)]
+pub struct Turn {
+    pub kind: usize,
+    pub first: usize,
+    pub second: usize,
 }
 
 extern "C" {
@@ -13,15 +34,50 @@ extern "C" {
         m: usize,
         n: usize,
         cells: *const u8,
-        cells_len: usize,
+        cells_length: usize,
         group: usize,
     ) -> Answer;
     pub fn sitgurp_marking(
         m: usize,
         n: usize,
         cells: *const u8,
-        cells_len: usize,
+        cells_length: usize,
         marks: *mut u8,
-        marks_len: usize,
+        marks_length: usize,
     ) -> Answer;
+    pub fn sitgurp_settle(
+        sheet: *const u8,
+        sheet_length: usize,
+        cells: *mut u8,
+        cells_length: usize,
+        marks: *mut u8,
+        marks_length: usize,
+        output: *mut u8,
+        output_length: usize,
+    ) -> Answer;
+    pub fn sitgurp_make(
+        sheet: *const u8,
+        sheet_length: usize,
+        cells: *mut u8,
+        cells_length: usize,
+        marks: *mut u8,
+        marks_length: usize,
+        output: *mut u8,
+        output_length: usize,
+    ) -> Answer;
+    pub fn sitgurp_check(
+        net_sheet: *const u8,
+        net_sheet_length: usize,
+        table_sheet: *const u8,
+        table_sheet_length: usize,
+        cells: *mut u8,
+        cells_length: usize,
+    ) -> Verdict;
+    pub fn sitgurp_write_table(
+        sheet: *const u8,
+        sheet_length: usize,
+        output: *mut u8,
+        output_length: usize,
+    ) -> Answer;
+    pub fn sitgurp_gate_line(sheet: *const u8, sheet_length: usize, k: usize) -> Turn;
 }

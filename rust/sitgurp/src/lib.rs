@@ -1,7 +1,20 @@
 //! Safe Rust over the proved Sitgurp library: tables of shades, and the trees of two-input gates that compute them.
 //!
-//! Every call is the library's; nothing here decides what the library decides. The buffers are lent as in document 01, and
-//! [`settled`] and [`made`] lend buffers of the sizes that always suffice.
+//! Every call is the library's; nothing here decides what the library decides. Buffers are lent as in document 01, and
+//! [`settled`], [`made`] and [`table_of`] lend buffers of the sizes that always suffice.
+//!
+//! ```
+//! let sheet = b"levels inputs\n2 3\na b c\nleft right table\na b 0110\n1 c 0110\n";
+//! let settled = sitgurp::settled(sheet).unwrap();
+//! assert_eq!(settled, b"levels inputs\n2 3\na b c\nleft right table\nb c 0110\na 1 0110\n");
+//!
+//! let refusal = sitgurp::settled(b"levels inputs\n1 2\n").unwrap_err();
+//! assert_eq!((refusal.number, refusal.place), (2, 14));
+//! assert_eq!(
+//!     refusal.to_string(),
+//!     "net sheet: levels is not one digit from 2 to 9 (refusal 2 at byte 14, line 2, column 1)"
+//! );
+//! ```
 //!
 //! ```
 //! // 2 levels, ink 1 when at least two of three inputs are 1: no tree
@@ -9,14 +22,13 @@
 //! let mut marks = [0; 8];
 //! assert_eq!(sitgurp::marking(2, 3, &cells, &mut marks), Ok(1));
 //! assert_eq!(marks, [0, 2, 2, 0, 2, 0, 0, 1]);
-//!
-//! let refusal = sitgurp::marking(2, 3, &cells, &mut marks[..7]).unwrap_err();
-//! assert_eq!(refusal.to_string(), "the marks buffer is too short (refusal 14; 8 bytes are needed)");
 //! ```
 
 mod ffi;
+mod lister;
 mod refusal;
 
+pub use lister::Lister;
 pub use refusal::{Named, Refusal};
 
 /// The most cells that a table has, and so the cells buffer that always suffices.
@@ -25,6 +37,8 @@ pub const MOST_CELLS: usize = 2_187;
 pub const MOST_MARKS: usize = 1 << 11;
 /// The output that always suffices for a net sheet.
 pub const MOST_NET_SHEET: usize = 512;
+/// The output that always suffices for a table sheet: 2 levels with 11 inputs, all names 8 bytes long.
+pub const MOST_TABLE_SHEET: usize = 49_275;
 
 /// What checking says of a net and a table under the same header.
 #[derive(Clone, Copy, Debug, PartialEq, Eq)]
@@ -50,14 +64,112 @@ pub fn multiplicity(m: usize, n: usize, cells: &[u8], group: usize) -> Result<us
 /// Writes every group's mark to the front of `marks`, and answers the whole group's.
 pub fn marking(m: usize, n: usize, cells: &[u8], marks: &mut [u8]) -> Result<usize, Refusal> {
     let answer = unsafe {
-        ffi::sitgurp_marking(
-            m,
-            n,
-            cells.as_ptr(),
+        ffi::sitgurp_marking(m, n, cells.as_ptr(), cells.len(), marks.as_mut_ptr(), marks.len())
+    };
+    answered(answer, Named::Neither, &[])
+}
+
+/// Settles a net sheet: its table into `cells`, its marks into `marks`, the settled net sheet into `output`. Answers the sheet's
+/// length.
+pub fn settle(
+    sheet: &[u8],
+    cells: &mut [u8],
+    marks: &mut [u8],
+    output: &mut [u8],
+) -> Result<usize, Refusal> {
+    let answer = unsafe {
+        ffi::sitgurp_settle(
+            sheet.as_ptr(),
+            sheet.len(),
+            cells.as_mut_ptr(),
             cells.len(),
             marks.as_mut_ptr(),
             marks.len(),
+            output.as_mut_ptr(),
+            output.len(),
         )
     };
-    answered(answer, Named::Neither, &[])
+    answered(answer, Named::Net, sheet)
+}
+
+/// Makes the settled net of a table sheet, with the same buffers as [`settle`].
+pub fn make(
+    sheet: &[u8],
+    cells: &mut [u8],
+    marks: &mut [u8],
+    output: &mut [u8],
+) -> Result<usize, Refusal> {
+    let answer = unsafe {
+        ffi::sitgurp_make(
+            sheet.as_ptr(),
+            sheet.len(),
+            cells.as_mut_ptr(),
+            cells.len(),
+            marks.as_mut_ptr(),
+            marks.len(),
+            output.as_mut_ptr(),
+            output.len(),
+        )
+    };
+    answered(answer, Named::Table, sheet)
+}
+
+/// Checks a net sheet against a table sheet, and puts the table sheet's inks in `cells`.
+pub fn check(
+    net_sheet: &[u8],
+    table_sheet: &[u8],
+    cells: &mut [u8],
+) -> Result<Verdict, Refusal> {
+    let verdict = unsafe {
+        ffi::sitgurp_check(
+            net_sheet.as_ptr(),
+            net_sheet.len(),
+            table_sheet.as_ptr(),
+            table_sheet.len(),
+            cells.as_mut_ptr(),
+            cells.len(),
+        )
+    };
+    match (verdict.kind, verdict.named) {
+        (0, _) => Ok(Verdict::Agree),
+        (1, _) => Ok(Verdict::Differ(verdict.value)),
+        (_, 1) => Err(Refusal::new(verdict.number, verdict.value, Named::Net, net_sheet)),
+        (_, 2) => Err(Refusal::new(verdict.number, verdict.value, Named::Table, table_sheet)),
+        _ => Err(Refusal::new(verdict.number, verdict.value, Named::Neither, &[])),
+    }
+}
+
+/// Writes the table sheet of a net sheet to the front of `output`. Answers its length.
+pub fn write_table(sheet: &[u8], output: &mut [u8]) -> Result<usize, Refusal> {
+    let answer = unsafe {
+        ffi::sitgurp_write_table(sheet.as_ptr(), sheet.len(), output.as_mut_ptr(), output.len())
+    };
+    answered(answer, Named::Net, sheet)
+}
+
+/// The settled sheet of a net sheet.
+pub fn settled(sheet: &[u8]) -> Result<Vec<u8>, Refusal> {
+    with_buffers(|cells, marks, output| settle(sheet, cells, marks, output))
+}
+
+/// The settled net sheet of a table sheet.
+pub fn made(sheet: &[u8]) -> Result<Vec<u8>, Refusal> {
+    with_buffers(|cells, marks, output| make(sheet, cells, marks, output))
+}
+
+/// The table sheet of a net sheet.
+pub fn table_of(sheet: &[u8]) -> Result<Vec<u8>, Refusal> {
+    let mut output = vec![0; MOST_TABLE_SHEET];
+    let length = write_table(sheet, &mut output)?;
+    output.truncate(length);
+    Ok(output)
+}
+
+fn with_buffers(
+    call: impl FnOnce(&mut [u8], &mut [u8], &mut [u8]) -> Result<usize, Refusal>,
+) -> Result<Vec<u8>, Refusal> {
+    let mut output = vec![0; MOST_NET_SHEET];
+    let length = call(&mut [0; MOST_CELLS], &mut [0; MOST_MARKS], &mut output)?;
+    output.truncate(length);
+    Ok(output)
 }

@@ -1,51 +1,25 @@
 //! The two calls on bare cells, held against the second implementation: every allowed size, every refusal, every length of the
 //! marks buffer around its need, and the bytes beyond it.
 
+mod common;
+
+use common::{due, full, got};
 use reference::generate::{Generator, TableKind};
-use reference::refusal::Refusal as Expected;
 
 const SEED: u64 = 2_187;
 
-fn flat<T: Into<u64>>(answer: Result<T, Expected>) -> Result<usize, (usize, usize)> {
-    match answer {
-        Ok(value) => Ok(value.into() as usize),
-        Err(refusal) => Err((usize::from(refusal.number), refusal.place as usize)),
-    }
-}
-
-fn got(answer: Result<usize, sitgurp::Refusal>) -> Result<usize, (usize, usize)> {
-    answer.map_err(|refusal| (refusal.number, refusal.place))
-}
-
 fn same_multiplicity(m: usize, n: usize, cells: &[u8], group: usize) {
-    let due = flat(reference::multiplicity(
-        m as u64,
-        n as u64,
-        cells,
-        group as u64,
-    ));
-    assert_eq!(
-        got(sitgurp::multiplicity(m, n, cells, group)),
-        due,
-        "m {m} n {n} group {group}"
-    );
+    let answer = got(sitgurp::multiplicity(m, n, cells, group)).map(|value| value as u64);
+    let expected = due(reference::multiplicity(m as u64, n as u64, cells, group as u64));
+    assert_eq!(answer, expected, "m {m} n {n} group {group}");
 }
 
 fn same_marking(m: usize, n: usize, cells: &[u8], length: usize) {
-    let mut due_marks: Vec<u8> = (0..length).map(|k| (k % 251) as u8 ^ 0x5a).collect();
-    let mut marks = due_marks.clone();
-    let due = flat(reference::marking(
-        m as u64,
-        n as u64,
-        cells,
-        &mut due_marks,
-    ));
-    assert_eq!(
-        got(sitgurp::marking(m, n, cells, &mut marks)),
-        due,
-        "m {m} n {n} length {length}"
-    );
-    assert_eq!(marks, due_marks, "m {m} n {n} length {length}");
+    let (mut ours, mut theirs) = (full(length), full(length));
+    let answer = got(sitgurp::marking(m, n, cells, &mut ours)).map(|value| value as u8);
+    let expected = due(reference::marking(m as u64, n as u64, cells, &mut theirs));
+    assert_eq!(answer, expected, "m {m} n {n} length {length}");
+    assert_eq!(ours, theirs, "m {m} n {n} length {length}");
 }
 
 /// A table of each kind at every allowed size.

@@ -1,0 +1,216 @@
+//! Settling, making, checking, table writing and the lister, held against the second implementation: every allowed size, tables
+//! with and without trees, damaged sheets, buffers of every length around each need and full of other bytes.
+
+mod common;
+
+use common::{due, full, got};
+use reference::damage::byte_damages;
+use reference::generate::{Generator, TableKind};
+use sitgurp::{MOST_CELLS, MOST_MARKS, MOST_NET_SHEET};
+
+const SEED: u64 = 65_536;
+
+/// The lengths of the three buffers that settling and making are lent.
+#[derive(Clone, Copy, Debug)]
+struct Lengths(usize, usize, usize);
+
+const ENOUGH: Lengths = Lengths(MOST_CELLS, MOST_MARKS, MOST_NET_SHEET);
+
+type Call<T> = fn(&[u8], &mut [u8], &mut [u8], &mut [u8]) -> T;
+
+/// Both implementations on the same sheet and buffers: the answers and all lent bytes are equal.
+fn same_call(
+    proved: Call<Result<usize, sitgurp::Refusal>>,
+    second: Call<Result<usize, reference::refusal::Refusal>>,
+    sheet: &[u8],
+    Lengths(cells, marks, output): Lengths,
+) -> Result<usize, common::Back> {
+    let mut ours = [full(cells), full(marks), full(output)];
+    let mut theirs = ours.clone();
+    let [cells, marks, output] = &mut ours;
+    let answer = got(proved(sheet, cells, marks, output));
+    let [cells, marks, output] = &mut theirs;
+    let expected = due(second(sheet, cells, marks, output));
+    let text = String::from_utf8_lossy(sheet);
+    assert_eq!(answer, expected, "sheet {text:?}");
+    assert!(ours == theirs, "buffers differ, sheet {text:?}");
+    answer
+}
+
+fn same_settle(sheet: &[u8], lengths: Lengths) -> Result<usize, common::Back> {
+    same_call(sitgurp::settle, reference::settle, sheet, lengths)
+}
+
+fn same_make(sheet: &[u8], lengths: Lengths) -> Result<usize, common::Back> {
+    same_call(sitgurp::make, reference::make, sheet, lengths)
+}
+
+fn same_check(net: &[u8], table: &[u8], length: usize) {
+    let (mut ours, mut theirs) = (full(length), full(length));
+    let answer = got(sitgurp::check(net, table, &mut ours)).map(|verdict| match verdict {
+        sitgurp::Verdict::Agree => None,
+        sitgurp::Verdict::Differ(at) => Some(at),
+    });
+    let expected = due(reference::check(net, table, &mut theirs)).map(|verdict| match verdict {
+        reference::Verdict::Agree => None,
+        reference::Verdict::Differ(at) => Some(at as usize),
+    });
+    assert_eq!(answer, expected);
+    assert!(ours == theirs, "the cells buffers differ");
+}
+
+fn same_write(sheet: &[u8], length: usize) {
+    let (mut ours, mut theirs) = (full(length), full(length));
+    let answer = got(sitgurp::write_table(sheet, &mut ours));
+    assert_eq!(answer, due(reference::write_table(sheet, &mut theirs)));
+    assert!(ours == theirs, "the outputs differ");
+}
+
+fn same_lines(sheet: &[u8]) {
+    let ours = got(sitgurp::Lister::start(sheet));
+    let theirs = due(reference::lister::Lister::start(sheet));
+    match (ours, theirs) {
+        (Ok(mut ours), Ok(mut theirs)) => {
+            for _ in 0..14 {
+                assert_eq!(ours.next(), theirs.next());
+            }
+        }
+        (ours, theirs) => assert_eq!(ours.err(), theirs.err()),
+    }
+}
+
+/// Lengths around a need, from nothing to past it.
+fn around(need: usize) -> Vec<usize> {
+    let mut lengths = vec![0, 1, need / 2, need.saturating_sub(1), need, need + 1, need + 37];
+    lengths.dedup();
+    lengths
+}
+
+fn sizes() -> Vec<(usize, usize)> {
+    reference::allowed_sizes().into_iter().map(|(m, n)| (m as usize, n as usize)).collect()
+}
+
+#[test]
+fn every_size_and_kind_of_table() {
+    println!("seed {SEED}");
+    let mut generator = Generator::new(SEED);
+    for (m, n) in sizes() {
+        let net = generator.net_sheet(m, n);
+        same_settle(&net, ENOUGH).expect("a good net sheet settles");
+        same_lines(&net);
+        for kind in TableKind::ALL {
+            let table = generator.table_sheet(m, n, kind);
+            let made = same_make(&table, ENOUGH);
+            assert!(made.is_ok() || made.unwrap_err().0 == 16);
+        }
+    }
+}
+
+#[test]
+fn every_buffer_around_its_need() {
+    let mut generator = Generator::new(SEED + 1);
+    for (m, n) in [(2, 2), (2, 3), (3, 3), (4, 3), (2, 6), (9, 3), (2, 11)] {
+        let net = generator.net_sheet(m, n);
+        let tables = [TableKind::OfNet, TableKind::Random].map(|kind| generator.table_sheet(m, n, kind));
+        let length = same_settle(&net, ENOUGH).expect("a good net sheet settles");
+        for cells in around(m.pow(n as u32)) {
+            for marks in around(1 << n) {
+                for output in around(length) {
+                    let lengths = Lengths(cells, marks, output);
+                    same_settle(&net, lengths).ok();
+                    tables.iter().for_each(|table| drop(same_make(table, lengths)));
+                }
+            }
+        }
+    }
+}
+
+#[test]
+fn every_byte_damaged() {
+    let mut generator = Generator::new(SEED + 2);
+    for (m, n) in [(2, 2), (3, 2), (2, 3), (9, 2), (2, 11)] {
+        let net = generator.net_sheet(m, n);
+        for damaged in byte_damages(&net) {
+            same_settle(&damaged, ENOUGH).ok();
+            same_lines(&damaged);
+        }
+    }
+    for (m, n) in [(2, 2), (3, 2), (2, 3)] {
+        let table = generator.table_sheet(m, n, TableKind::OfNet);
+        for damaged in byte_damages(&table) {
+            same_make(&damaged, ENOUGH).ok();
+        }
+    }
+}
+
+#[test]
+fn damaged_fields_and_lines() {
+    let mut generator = Generator::new(SEED + 3);
+    for round in 0..1_500 {
+        let (m, n) = generator.size();
+        let net = generator.net_sheet(m, n);
+        let damaged = generator.damaged(&net);
+        same_settle(&damaged, ENOUGH).ok();
+        same_lines(&damaged);
+        same_write(&damaged, 60_000);
+        if round % 10 == 0 {
+            let table = generator.table_sheet(m, n, TableKind::OfNet);
+            let damaged = generator.damaged(&table);
+            same_make(&damaged, ENOUGH).ok();
+            same_check(&net, &damaged, MOST_CELLS);
+            same_check(&generator.damaged(&net), &damaged, MOST_CELLS);
+        }
+    }
+}
+
+#[test]
+fn checks_of_every_size() {
+    let mut generator = Generator::new(SEED + 4);
+    for (m, n) in sizes() {
+        let net = generator.net_sheet(m, n);
+        let table = sitgurp::table_of(&net).expect("a good net sheet has a table sheet");
+        let cells = m.pow(n as u32);
+        for length in around(cells) {
+            same_check(&net, &table, length);
+        }
+        let mut verdict = [0; MOST_CELLS];
+        assert_eq!(sitgurp::check(&net, &table, &mut verdict), Ok(sitgurp::Verdict::Agree));
+        // one ink changed, at the first, the last and a middle cell
+        for index in [0, cells / 2, cells - 1] {
+            let mut other = table.clone();
+            let end = other.len() - 2 - (cells - 1 - index) * (2 * n + 2);
+            other[end] = if other[end] == b'0' { b'1' } else { b'0' };
+            same_check(&net, &other, MOST_CELLS);
+            assert_eq!(sitgurp::check(&net, &other, &mut verdict), Ok(sitgurp::Verdict::Differ(index)));
+        }
+        // another header
+        let other = generator.table_sheet(m, n, TableKind::OfNet);
+        same_check(&net, &other, MOST_CELLS);
+        same_check(&net, &other, 0);
+        let (p, q) = generator.size();
+        same_check(&net, &generator.table_sheet(p, q, TableKind::Constant), MOST_CELLS);
+    }
+}
+
+#[test]
+fn tables_written_at_every_size() {
+    let mut generator = Generator::new(SEED + 5);
+    for (m, n) in sizes() {
+        let net = generator.net_sheet(m, n);
+        let need = sitgurp::table_of(&net).expect("a good net sheet has a table sheet").len();
+        for length in around(need) {
+            same_write(&net, length);
+        }
+    }
+}
+
+#[test]
+fn bytes_that_are_no_sheet() {
+    for sheet in [&b""[..], b"\n", b" ", b"\0", b"\xff", b"levels", b"levels inputs", b"levels inputs\n"] {
+        same_settle(sheet, ENOUGH).ok();
+        same_make(sheet, ENOUGH).ok();
+        same_check(sheet, sheet, 10);
+        same_write(sheet, 10);
+        same_lines(sheet);
+    }
+}
