@@ -1,0 +1,30 @@
+//! Every table sheet of examples/ gives what stands beside it: its settled net sheet, or its refusal.
+
+use std::fs;
+use std::path::Path;
+
+#[test]
+fn every_example_gives_what_stands_beside_it() {
+    let folder = Path::new(env!("CARGO_MANIFEST_DIR")).join("../../examples");
+    let mut count = 0;
+    for entry in fs::read_dir(folder).expect("examples/") {
+        let path = entry.expect("a file").path();
+        if path.extension().is_none_or(|ending| ending != "table") {
+            continue;
+        }
+        let sheet = fs::read(&path).expect("a table sheet");
+        match sitgurp::made(&sheet) {
+            Ok(net) => {
+                assert_eq!(net, fs::read(path.with_extension("net")).expect("its net sheet"));
+                let mut cells = [0; sitgurp::MOST_CELLS];
+                assert_eq!(sitgurp::check(&net, &sheet, &mut cells), Ok(sitgurp::Verdict::Agree));
+            }
+            Err(refusal) => {
+                let text = format!("number place\n{} {}\n", refusal.number, refusal.place);
+                assert_eq!(text.as_bytes(), fs::read(path.with_extension("refusal")).expect("its refusal"));
+            }
+        }
+        count += 1;
+    }
+    assert!(count >= 4, "only {count} examples");
+}
