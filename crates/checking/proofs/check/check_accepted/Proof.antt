@@ -1,0 +1,95 @@
+-- `checking::check::check_accepted` meets its contract: 12, then 13, then the net's table and the inks.
+-- Assumes nothing.
+use mathlib.Core.Path.{sym, _∙_}
+use native.Mathlib.Omega.{arith}
+use borrow.Author.Tests.{not-true, not-false}
+use Rattle.rules.specs.Limits.{mostInputs, mostCells}
+use Rattle.checking.specs.Taken.{sound, levels-most, inputs-most, cells-most, own-most}
+use Rattle.checking.specs.Judging.{headers-differ, inks-long, cells-short, cells-long}
+use borrow.Author.Needs.{needs}
+use Rattle.checking.proofs.check.check_accepted.Statement.{statement}
+use Rattle.checking.proofs.check.check_accepted.Tie as tie
+
+power-requires : tie.Need-power-requires
+unfolding mostInputs
+power-requires c κs =
+    let taken = c .before .before .before .before .pre .0 in
+    (levels-most _ _ _ taken, omega (arith, inputs-most _ _ _ taken))
+
+same-header-requires : tie.Need-same-header-requires
+same-header-requires c κs = search needs
+
+returns : tie.Need-returns
+returns c =
+    let start = c .before .before .before .before .before .before .before in
+    headers-differ _ _ _ (start .pre .0) _ _ _ (start .pre .1) _ (sym (c .before .same-header .ensures) ∙ not-true _ (c .if1 .taken))
+
+returns-2 : tie.Need-returns-2
+returns-2 c =
+    let start = c .before .before .before .before .before .before .before .before in
+    let same = sym (c .before .before .same-header .ensures) ∙ not-false _ (c .before .if1 .left) in
+    cells-short _ _ _ (start .pre .0) _ _ _ (start .pre .1) _ same _ (c .before .before .before .power .ensures) (c .if2 .taken)
+
+slice-aggregate-table : tie.Need-slice-aggregate-table
+slice-aggregate-table c = search needs
+
+table-requires : tie.Need-table-requires
+unfolding mostCells
+table-requires c κs =
+    let taken = c .before .before .before .before .before .before .before .before .before .pre .0 in
+    (sound _ _ _ taken, own-most _ _ _ taken)
+
+sub-compare-into : tie.Need-sub-compare-into
+sub-compare-into c = search needs
+
+part-compare-into-start : tie.Need-part-compare-into-start
+part-compare-into-start c = search needs
+
+part-compare-into-end : tie.Need-part-compare-into-end
+unfolding mostCells
+part-compare-into-end c = omega (arith, cells-most _ _ _ (c .before .before .before .before .before .before .before .before .before .before .before .before .pre .0), c .before .before .before .before .before .before .before .power .ensures)
+
+sub-compare-into-2 : tie.Need-sub-compare-into-2
+sub-compare-into-2 c = search needs
+
+part-compare-into-start-2 : tie.Need-part-compare-into-start-2
+part-compare-into-start-2 c = search needs
+
+part-compare-into-end-2 : tie.Need-part-compare-into-end-2
+part-compare-into-end-2 c =
+    let start = c .before .before .before .before .before .before .before .before .before .before .before .before .before in
+    let same = sym (c .before .before .before .before .before .before .before .same-header .ensures) ∙ not-false _ (c .before .before .before .before .before .before .if1 .left) in
+    omega (arith, inks-long _ _ _ (start .pre .0) _ _ _ (start .pre .1) (start .args .cells .now) same _ (c .before .before .before .before .before .before .before .before .power .ensures))
+
+compare-into-requires : tie.Need-compare-into-requires
+compare-into-requires c κs = search needs
+
+same-length : tie.Need-same-length
+same-length c = search needs
+
+returns-3 : tie.Need-returns-3
+returns-3 c =
+    let start = c .before .before .before .before .before .before .before .before .before .before .before .before .before .before .before .before .before .before in
+    let same = sym (c .before .before .before .before .before .before .before .before .before .before .before .before .same-header .ensures) ∙ not-false _ (c .before .before .before .before .before .before .before .before .before .before .before .if1 .left) in
+    cells-long _ _ _ (start .pre .0) _ _ _ (start .pre .1) _ same _ (c .before .before .before .before .before .before .before .before .before .before .before .before .before .power .ensures) (c .before .before .before .before .before .before .before .before .before .before .if2 .left) _ _ _ (c .before .before .before .before .before .before .before .before .table2 .ensures) _
+    (c .before .before .compare-into .ensures)
+
+pub check-accepted-spec : {M : Type 1} → statement M
+check-accepted-spec =
+    tie.close
+    (tie.spec
+    power-requires
+    same-header-requires
+    returns
+    returns-2
+    slice-aggregate-table
+    table-requires
+    sub-compare-into
+    part-compare-into-start
+    part-compare-into-end
+    sub-compare-into-2
+    part-compare-into-start-2
+    part-compare-into-end-2
+    compare-into-requires
+    same-length
+    returns-3)

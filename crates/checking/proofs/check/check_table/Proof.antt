@@ -1,0 +1,53 @@
+-- `checking::check::check_table` meets its contract: what the table sheet is refused for, or what checking the two does.
+-- Assumes nothing.
+use mathlib.Core.Path.{sym}
+use native.Mathlib.Omega.{arith}
+use Rattle.rules.specs.Limits.{mostCells}
+use Rattle.laws.specs.Outcomes.{check-table-refused}
+use Rattle.checking.specs.Taken.{table-refused, table-taken}
+use borrow.Author.Needs.{needs}
+use Rattle.checking.proofs.check.check_table.Statement.{statement}
+use Rattle.checking.proofs.check.check_table.Tie as tie
+
+slice-aggregate-read-table : tie.Need-slice-aggregate-read-table
+slice-aggregate-read-table c = search needs
+
+read-table-requires : tie.Need-read-table-requires
+unfolding mostCells
+read-table-requires c κs = omega arith
+
+enum-known-outcome : tie.Need-enum-known-outcome
+enum-known-outcome c = search needs
+
+enum-told : tie.Need-enum-told
+enum-told c = search needs
+
+slice-aggregate-check-accepted : tie.Need-slice-aggregate-check-accepted
+slice-aggregate-check-accepted c = search needs
+
+check-accepted-requires : tie.Need-check-accepted-requires
+check-accepted-requires c κs = (c .before .before .before .before .before .before .before .before .before .before .before .pre, table-taken _ _ _ (c .before .before .before .before .before .before .read-table .ensures) (c .before .before .enum-told .given .1))
+
+returns : tie.Need-returns
+returns c =
+    sym (check-table-refused _ _ _ _ (c .before .before .before .before .before .before .before .before .before .before .pre .reads) _ _ (table-refused _ _ _ (c .before .before .before .before .before .read-table .ensures) _ _ (c .before .outcome .given .1)))
+
+same-length : tie.Need-same-length
+same-length c = search needs
+
+returns-2 : tie.Need-returns-2
+returns-2 c = search needs
+
+pub check-table-spec : {M : Type 1} → statement M
+check-table-spec =
+    tie.close
+    (tie.spec
+    slice-aggregate-read-table
+    read-table-requires
+    enum-known-outcome
+    enum-told
+    slice-aggregate-check-accepted
+    check-accepted-requires
+    returns
+    same-length
+    returns-2)

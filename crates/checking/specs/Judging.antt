@@ -1,0 +1,65 @@
+-- Checking two accepted sheets: headers, the cells buffer, then the inks.
+-- Assumes nothing.
+use Prim.Native.Nat.{ℕ, _-_, _^_, _≤_, _<_}
+use mathlib.Core.Path.{_≡_, sym, ap, ap₂, _∙_, subst⁻¹}
+use mathlib.Core.Bool.{true, false, _&&_, and-eq-true-iff}
+use mathlib.Core.List.{List}
+use native.Mathlib.Nat.{sub-zero}
+use native.Mathlib.Omega.{arith}
+use lib.Dec.{eqb}
+use lib.ListN.{length, take, length-take}
+use borrow.Author.Tests.{eqb-true}
+use Rattle.rules.specs.Calls.{Checked, turnedDown, neither, sameNames, sameHeader, checkedInto, checkCall}
+use Rattle.laws.specs.Outcomes.{check-accepted, check-12, check-13, check-compared}
+use Rattle.readback.specs.ReadBack.{table-accepted}
+use Rattle.nets.specs.declared.forms.Header.{Header}
+use Rattle.nets.specs.declared.forms.Net.{Net}
+use Rattle.nets.specs.Forms.{headerOf}
+use Rattle.nets.specs.Evaluating.{Tabled}
+use Rattle.tables.specs.Answers.{inksIn, tableIn}
+use Rattle.printing.specs.Gates.{netIn}
+use Rattle.checking.specs.Answers.{comparedInto}
+use Rattle.checking.specs.Taken.{NetTaken, TableTaken, front}
+
+-- sheets with the same header have as many cells
+same-cells : (s : List ℕ) (h : Header) (t : List ℕ) (k : Header) → sameHeader (headerOf s h) (headerOf t k) ≡ true
+    → h .levels ^ h .inputs ≡ k .levels ^ k .inputs
+unfolding sameHeader headerOf
+same-cells s h t k e =
+    let sides = and-eq-true-iff (eqb (h .levels) (k .levels) && eqb (h .inputs) (k .inputs)) (sameNames (headerOf s h .names) (headerOf t k .names)) .0 e .0 in
+    let (levels, inputs) = and-eq-true-iff (eqb (h .levels) (k .levels)) (eqb (h .inputs) (k .inputs)) .0 sides in
+    ap₂ _^_ (eqb-true _ _ levels) (eqb-true _ _ inputs)
+
+module _ (s : List ℕ) (h : Header) (net : Net) (taken : NetTaken s h net) (t : List ℕ) (k : Header) (inks : List ℕ) (other : TableTaken t k inks) (cells : List ℕ) where
+  both-accepted : checkCall s t cells ≡ checkedInto (netIn s h net) (tableIn t inks k) cells
+  both-accepted = check-accepted s t cells (netIn s h net) (taken .reads) (tableIn t inks k) (other .reads)
+
+  pub headers-differ : sameHeader (headerOf s h) (headerOf t k) ≡ false → record { answer = turnedDown neither 12 0; cells = cells } ≡ checkCall s t cells
+  headers-differ e = sym (both-accepted ∙ check-12 (netIn s h net) (tableIn t inks k) cells e)
+
+  module _ (same : sameHeader (headerOf s h) (headerOf t k) ≡ true) (count : ℕ) (is : count ≡ h .levels ^ h .inputs) where
+    count-is : count ≡ k .levels ^ k .inputs
+    count-is = is ∙ same-cells s h t k same
+
+    inks-length : length (inksIn inks k) ≡ count
+    unfolding headerOf
+    inks-length = table-accepted t (tableIn t inks k) (other .reads) .1 .count ∙ sym count-is
+
+    front-inks : take (count - 0) inks ≡ inksIn inks k
+    front-inks = ap (λ (n : ℕ). take n inks) (sub-zero count ∙ count-is)
+
+    -- the buffer holds all inks
+    pub inks-long : count ≤ length inks
+    inks-long = omega (arith, inks-length, length-take (k .levels ^ k .inputs) inks)
+
+    pub cells-short : length cells < count → record { answer = turnedDown neither 13 count; cells = cells } ≡ checkCall s t cells
+    cells-short short =
+        (λ i. record { answer = turnedDown neither 13 (sym inks-length i); cells = cells })
+        ∙ sym (both-accepted ∙ check-13 (netIn s h net) (tableIn t inks k) cells same (subst⁻¹ (λ (n : ℕ). length cells < n) inks-length short))
+
+    pub cells-long : count ≤ length cells → (before after : List ℕ) (all : ℕ) → Tabled net before after all → (r : Checked)
+        → r ≡ comparedInto (take (count - 0) after) (take (count - 0) inks) cells → r ≡ checkCall s t cells
+    cells-long long before after all did r e =
+        let fits : length (inksIn inks k) ≤ length cells = omega (arith, inks-length) in
+        e ∙ ap₂ (λ (xs ys : List ℕ). comparedInto xs ys cells) (front s h net taken before after all count did is) front-inks
+        ∙ sym (both-accepted ∙ check-compared (netIn s h net) (tableIn t inks k) cells same fits)

@@ -1,0 +1,128 @@
+-- A sheet that was read, by value: its refusal, or its parts and what the calls on them ask.
+-- Assumes nothing.
+use Prim.Native.Nat.{ℕ, _-_, _^_, _≤_}
+use mathlib.Core.Path.{_≡_, sym, ap, ap₂, _∙_}
+use mathlib.Core.Bool.{true}
+use mathlib.Core.List.{List}
+use native.Mathlib.Nat.{sub-zero}
+use native.Mathlib.Omega.{arith}
+use lib.ListN.{length, take}
+use Rattle.rules.specs.Limits.{mostLevels, fewestInputs, mostInputs, mostCells, sizeFits}
+use Rattle.rules.specs.Sheets.{Gate}
+use Rattle.rules.specs.Kept.{KeptNet, IsNet}
+use Rattle.rules.specs.Value.{tableOf}
+use Rattle.rules.specs.Calls.{accepted, refused, readNet, readTable, tableOfNet}
+use Rattle.laws.specs.Sizes.{Size, sized}
+use Rattle.trees.specs.Uniqueness.{table-length}
+use Rattle.nets.specs.declared.forms.Header.{Header}
+use Rattle.nets.specs.declared.forms.Net.{Net}
+use Rattle.nets.specs.Forms.{headerOf, gatesOf}
+use Rattle.nets.specs.Sound.{Sound}
+use Rattle.nets.specs.Evaluating.{Tabled}
+use Rattle.fields.specs.Header.{HeaderHeld}
+use Rattle.fields.specs.Steps.{outcomeAs}
+use Rattle.fields.specs.declared.steps.Outcome.the-variants.{Accepted, Refused}
+use Rattle.sheets.specs.Answers.{NetReads}
+use Rattle.sheets.specs.declared.net.NetRead.{NetRead}
+use Rattle.tables.specs.Answers as tables
+use Rattle.tables.specs.Answers.{TableReads}
+use Rattle.tables.specs.declared.sheet.TableRead.{TableRead}
+use Rattle.printing.specs.Gates.{netIn}
+use Rattle.printing.specs.Kept.{table-inside}
+use Rattle.printing.specs.Names.{NamesInside}
+use Rattle.printing.specs.Tables.{TableInside, tableIn}
+use Rattle.readback.specs.ReadBack.{net-accepted}
+use Rattle.demands.specs.Settles.{kept-table}
+
+-- the header and the net of an accepted net sheet
+pub record NetTaken (s : List ℕ) (h : Header) (net : Net) : Type 0 where
+  pub reads : readNet s ≡ accepted (netIn s h net)
+  pub header : HeaderHeld s h
+  pub levels : net .levels ≡ h .levels
+  pub inputs : net .inputs ≡ h .inputs
+
+-- the header of an accepted table sheet, whose inks stand at the front of `cells`
+pub record TableTaken (s : List ℕ) (h : Header) (cells : List ℕ) : Type 0 where
+  pub reads : readTable s ≡ accepted (tables.tableIn s cells h)
+  pub header : HeaderHeld s h
+
+pub net-taken : (s : List ℕ) (r : NetRead) → NetReads s r → r .outcome ≡ Accepted → NetTaken s (r .header) (r .net)
+net-taken s r read e =
+    let held = read .held e in
+    record {
+      reads = sym (read .answer) ∙ ap (outcomeAs (netIn s (r .header) (r .net))) e;
+      header = held .header;
+      levels = held .whole .levels;
+      inputs = held .whole .inputs;
+    }
+
+pub net-refused : (s : List ℕ) (r : NetRead) → NetReads s r → (number place : ℕ) → r .outcome ≡ Refused number place → readNet s ≡ refused number place
+net-refused s r read number place e = sym (read .answer) ∙ ap (outcomeAs (netIn s (r .header) (r .net))) e
+
+pub table-taken : (s cells : List ℕ) (r : TableRead) → TableReads s cells r → r .outcome ≡ Accepted → TableTaken s (r .header) cells
+table-taken s cells r read e =
+    record { reads = sym (read .answer) ∙ ap (outcomeAs (tables.tableIn s cells (r .header))) e; header = read .held e .header }
+
+pub table-refused : (s cells : List ℕ) (r : TableRead) → TableReads s cells r → (number place : ℕ) → r .outcome ≡ Refused number place
+    → readTable s ≡ refused number place
+table-refused s cells r read number place e = sym (read .answer) ∙ ap (outcomeAs (tables.tableIn s cells (r .header))) e
+
+is-net : {m m' n n' : ℕ} {gates : List Gate} → m ≡ m' → n ≡ n' → IsNet m' n' gates → IsNet m n gates
+is-net e q h = rw (e, q) h
+
+module _ (s : List ℕ) (h : Header) (net : Net) (taken : NetTaken s h net) where
+  size : sizeFits (net .levels) (net .inputs) ≡ true
+  size = rw (taken .levels, taken .inputs) (taken .header .fits)
+
+  kept : KeptNet (netIn s h net)
+  kept = net-accepted s (netIn s h net) (taken .reads) .1
+
+  pub sound : Sound net
+  unfolding headerOf
+  sound = record { size = size; gates = is-net (taken .levels) (taken .inputs) (kept .gates) }
+
+  fits : Size (h .levels) (h .inputs)
+  fits = sized (h .levels) (h .inputs) (taken .header .fits)
+
+  pub levels-most : h .levels ≤ 9
+  unfolding mostLevels
+  levels-most = fits .levels-most
+
+  pub inputs-most : h .inputs ≤ mostInputs
+  inputs-most = fits .inputs-most
+
+  pub cells-most : h .levels ^ h .inputs ≤ mostCells
+  cells-most = fits .cells-most
+
+  pub names-inside : NamesInside s h
+  unfolding fewestInputs
+  names-inside = record { some = omega (arith, fits .inputs-least); count = fits .inputs-most; inside = taken .header .names }
+
+  same-cells : net .levels ^ net .inputs ≡ h .levels ^ h .inputs
+  same-cells = ap₂ _^_ (taken .levels) (taken .inputs)
+
+  pub own-most : net .levels ^ net .inputs ≤ mostCells
+  own-most = rw same-cells cells-most
+
+  own-inks : tableOf (net .levels) (net .inputs) (gatesOf net) ≡ tableOfNet (netIn s h net) .inks
+  unfolding tableOfNet headerOf
+  own-inks = λ i. tableOf (taken .levels i) (taken .inputs i) (gatesOf net)
+
+  pub own-length : length (tableOfNet (netIn s h net) .inks) ≡ h .levels ^ h .inputs
+  unfolding tableOfNet headerOf
+  own-length = table-length (h .levels) (h .inputs) (gatesOf net)
+
+  -- the net's table, written to the front of a buffer
+  module _ (before after : List ℕ) (all count : ℕ) (did : Tabled net before after all) (is : count ≡ h .levels ^ h .inputs) where
+    pub front : take (count - 0) after ≡ tableOfNet (netIn s h net) .inks
+    front = ap (λ (k : ℕ). take k after) (sub-zero count ∙ is ∙ sym same-cells ∙ sym (did .result)) ∙ did .front ∙ own-inks
+
+    pub front-length : length (take (count - 0) after) ≡ count
+    front-length = ap length front ∙ own-length ∙ sym is
+
+    pub front-table : tableIn s h (take (count - 0) after) ≡ tableOfNet (netIn s h net)
+    unfolding tableOfNet
+    front-table = ap (tableIn s h) front
+
+    pub front-inside : TableInside s h (take (count - 0) after)
+    front-inside = table-inside s h (take (count - 0) after) names-inside (rw front-table (kept-table (netIn s h net) kept))

@@ -1,0 +1,50 @@
+// Two sheets' headers compared. Their names stay in the sheets.
+ghost use mathlib.Core.Path.{_≡_};
+ghost use mathlib.Core.List.{map};
+ghost use Prim.Native.Nat.{_≤_, _<_};
+ghost use Rattle.rules.specs.Lists.{range, same};
+ghost use Rattle.rules.specs.Calls.{sameNames, sameHeader};
+ghost use Rattle.nets.specs.Forms.{nameIn, headerOf};
+ghost use Rattle.fields.specs.Names.{NameHeld, NamesHeld};
+ghost use Rattle.fields.specs.Header.{HeaderHeld};
+use fields::names::same_name;
+use nets::forms::Header;
+
+// Have both sheets the same name for input i?
+fn same_input(s: &[u8], h: Header, t: &[u8], k: Header, i: usize) -> bool
+    requires { ⌜ (i < 11) × NameHeld (now s) h i × NameHeld (now t) k i ⌝ }
+    ensures { λ r. ⌜ r ≡ same (nameIn (now (s .entry)) h i) (nameIn (now (t .entry)) k i) ⌝ }
+{
+    let start = h.starts[i] as usize;
+    let end = start + h.lens[i] as usize;
+    same_name(t, k, i, &s[start..end])
+}
+
+// Have both the same first n names?
+fn same_names(s: &[u8], h: Header, t: &[u8], k: Header, n: usize) -> bool
+    requires { ⌜ (n ≤ 11) × NamesHeld (now s) h n × NamesHeld (now t) k n ⌝ }
+    ensures { λ r. ⌜ r ≡ sameNames (map (nameIn (now (s .entry)) h) (range 0 n)) (map (nameIn (now (t .entry)) k) (range 0 n)) ⌝ }
+{
+    let mut i: usize = 0;
+    while i < n {
+        if !same_input(s, h, t, k, i) {
+            return false;
+        }
+        i += 1;
+    }
+    true
+}
+
+// Have both the same levels, inputs and names?
+pub fn same_header(s: &[u8], h: Header, t: &[u8], k: Header) -> bool
+    requires { ⌜ HeaderHeld (now s) h × HeaderHeld (now t) k ⌝ }
+    ensures { λ r. ⌜ r ≡ sameHeader (headerOf (now (s .entry)) h) (headerOf (now (t .entry)) k) ⌝ }
+{
+    if h.levels != k.levels {
+        return false;
+    }
+    if h.inputs != k.inputs {
+        return false;
+    }
+    same_names(s, h, t, k, h.inputs)
+}
