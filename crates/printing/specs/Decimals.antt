@@ -1,0 +1,52 @@
+-- Decimal values digit by digit, and how long they are.
+-- Assumes nothing.
+use Prim.Native.Nat.{ℕ, zero, suc, _/_, _%_, _^_, _≤_, _<_}
+use mathlib.Core.Path.{_≡_, sym, ap, _∙_}
+use mathlib.Core.List.{List, [], _∷_, _++_}
+use native.Mathlib.Nat.{pow-suc}
+use native.Mathlib.Decide.{decLe}
+use native.Mathlib.Omega.{arith}
+use borrow.Author.Tests.{lt-ltb, le-ltb}
+use lib.ListN.{length, length-append}
+use Rattle.rules.specs.Text.{digitByte, decimalF, decimal}
+
+one-digit : (fuel k : ℕ) → k < 10 → decimalF fuel k ≡ digitByte k ∷ []
+unfolding decimalF
+one-digit zero k h =
+    let e : k % 10 ≡ k = omega arith in
+    rw e
+one-digit (suc fuel) k h = rw (lt-ltb k 10 h, decimalF)
+
+more-digits : (fuel k : ℕ) → 10 ≤ k → decimalF (suc fuel) k ≡ decimalF fuel (k / 10) ++ (digitByte (k % 10) ∷ [])
+unfolding decimalF
+more-digits fuel k h = rw (le-ltb k 10 h, decimalF)
+
+-- any fuel that is large enough gives the same
+enough : (f g k : ℕ) → k ≤ f → k ≤ g → decimalF f k ≡ decimalF g k
+enough zero g k hf hg = one-digit zero k (omega arith) ∙ sym (one-digit g k (omega arith))
+enough (suc f) zero k hf hg = one-digit (suc f) k (omega arith) ∙ sym (one-digit zero k (omega arith))
+enough (suc f) (suc g) k hf hg = go (decLe 10 k) (enough f g (k / 10))
+  where
+    go : Dec (10 ≤ k) → (k / 10 ≤ f → k / 10 ≤ g → decimalF f (k / 10) ≡ decimalF g (k / 10)) → decimalF (suc f) k ≡ decimalF (suc g) k
+    go (yes h) same =
+        more-digits f k h ∙ ap (λ (w : List ℕ). w ++ (digitByte (k % 10) ∷ [])) (same (omega arith) (omega arith)) ∙ sym (more-digits g k h)
+    go (no h) same = one-digit (suc f) k (omega arith) ∙ sym (one-digit (suc g) k (omega arith))
+
+pub decimal-one : (k : ℕ) → k < 10 → decimal k ≡ digitByte k ∷ []
+unfolding decimal
+decimal-one k h = one-digit k k h
+
+pub decimal-more : (k : ℕ) → 10 ≤ k → decimal k ≡ decimal (k / 10) ++ (digitByte (k % 10) ∷ [])
+unfolding decimal
+decimal-more zero h = absurd (omega arith)
+decimal-more (suc k) h =
+    more-digits k (suc k) h ∙ ap (λ (w : List ℕ). w ++ (digitByte (suc k % 10) ∷ [])) (enough k (suc k / 10) (suc k / 10) (omega arith) (omega arith))
+
+-- a number below 10 to the power d has at most d digits, and one at least
+pub decimal-length : (d k : ℕ) → k < 10 ^ suc d → length (decimal k) ≤ suc d
+decimal-length zero k h = rw (decimal-one k (omega (arith, pow-suc 10 0))) (omega arith)
+decimal-length (suc d) k h = go (decLe 10 k) (decimal-length d (k / 10))
+  where
+    go : Dec (10 ≤ k) → (k / 10 < 10 ^ suc d → length (decimal (k / 10)) ≤ suc d) → length (decimal k) ≤ suc (suc d)
+    go (yes l) r = rw (decimal-more k l, length-append) (omega (arith, r (omega (arith, pow-suc 10 (suc d)))))
+    go (no l) r = rw (decimal-one k (omega arith)) (omega arith)

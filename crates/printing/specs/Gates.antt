@@ -1,0 +1,75 @@
+-- A net's gates: what printing them asks, and the lines that they make.
+-- Assumes nothing.
+use Prim.Native.Nat.{ℕ, _+_, _-_, _*_, _≤_, _<_}
+use mathlib.Core.Path.{_≡_, ap}
+use mathlib.Core.List.{List, [], _∷_, _++_, map, append-assoc}
+use native.Mathlib.Nat.{mul-le-mul-right, sub-zero}
+use native.Mathlib.Omega.{arith}
+use lib.ListN.{length, getD, drop, length-take}
+use lib.Seq.{getD-take, getD-drop}
+use Rattle.rules.specs.Lists.{range, concatMap}
+use Rattle.rules.specs.Limits.{mostInputs}
+use Rattle.rules.specs.Text.{text, decimal}
+use Rattle.rules.specs.Printed.{line, firstLines, printedGate, printedNet}
+use Rattle.rules.specs.Sheets as sheets
+use Rattle.nets.specs.declared.forms.Header.{Header}
+use Rattle.nets.specs.declared.forms.Net.{Net}
+use Rattle.nets.specs.Forms.{headerOf, gateOf, gatesOf}
+use Rattle.printing.specs.Lines.{range-next}
+use Rattle.printing.specs.Names.{namesIn}
+
+-- the net of the sheet's names and the form's gates
+abbrev pub netIn : List ℕ → Header → Net → sheets.Net
+netIn s h net = record { header = headerOf s h; gates = gatesOf net }
+
+-- the line of the gate with k gates before it, and all gate lines
+abbrev pub gateLine : List ℕ → Header → Net → ℕ → List ℕ
+gateLine s h net k = printedGate (namesIn s h) (gateOf net k)
+
+abbrev pub gateLines : List ℕ → Header → Net → List ℕ
+gateLines s h net = concatMap (printedGate (namesIn s h)) (gatesOf net)
+
+-- no more gates than the form has room for, and each digit is one digit
+pub record GatesInside (net : Net) : Type 0 where
+  pub count : net .gates < mostInputs
+  pub room : net .gates * (net .levels * net .levels) ≤ 162
+  pub digits : (k : ℕ) → k < net .gates * (net .levels * net .levels) → getD (net .digits) k 0 < 10
+
+-- the lines of the gates from the one with k gates before it on
+unfoldable pub linesFrom : List ℕ → Header → Net → ℕ → List ℕ
+linesFrom s h net k = concatMap (printedGate (namesIn s h)) (map (gateOf net) (range k (net .gates - k)))
+
+module _ (s : List ℕ) (h : Header) (net : Net) where
+  pub lines-all : linesFrom s h net 0 ≡ gateLines s h net
+  unfolding linesFrom gatesOf
+  lines-all = rw sub-zero
+
+  pub lines-next : (k : ℕ) → k < net .gates → linesFrom s h net k ≡ gateLine s h net k ++ linesFrom s h net (k + 1)
+  unfolding linesFrom concatMap
+  lines-next k l = ap (λ (r : List ℕ). concatMap (printedGate (namesIn s h)) (map (gateOf net) r)) (range-next k (net .gates) l)
+
+  pub lines-none : (k : ℕ) → net .gates ≤ k → linesFrom s h net k ≡ []
+  unfolding linesFrom concatMap range
+  lines-none k l =
+      let e : net .gates - k ≡ 0 = omega arith in
+      rw e
+
+module _ (net : Net) (inside : GatesInside net) (k : ℕ) (h : k < net .gates) where
+  -- where the gate's digits end
+  pub table-end : k * (net .levels * net .levels) + net .levels * net .levels ≤ net .gates * (net .levels * net .levels)
+  table-end = omega (arith, mul-le-mul-right (net .levels * net .levels) h)
+
+  pub table-digit : (i : ℕ) → i < length (gateOf net k .digits) → getD (gateOf net k .digits) i 0 < 10
+  unfolding gateOf
+  table-digit i l =
+      let size : ℕ = net .levels * net .levels in
+      let below : i < size = omega (arith, length-take size (drop (k * size) (net .digits))) in
+      rw (getD-take size (drop (k * size) (net .digits)) i 0 below, getD-drop) (inside .digits (k * size + i) (omega (arith, table-end)))
+
+-- the sheet of a net in the parts in which it is written
+pub net-parts : (s : List ℕ) (h : Header) (net : Net) → printedNet (netIn s h net)
+    ≡ (line (text "levels" ∷ text "inputs" ∷ []) ++ line (decimal (h .levels) ∷ decimal (h .inputs) ∷ []))
+    ++ (line (headerOf s h .names)
+    ++ (line (text "left" ∷ text "right" ∷ text "table" ∷ []) ++ concatMap (printedGate (headerOf s h .names)) (gatesOf net)))
+unfolding printedNet firstLines headerOf
+net-parts s h net = simp append-assoc

@@ -1,0 +1,31 @@
+// Decimal values, without a needless leading zero.
+ghost use mathlib.Core.Path.{_≡_};
+ghost use Prim.Native.Nat.{_≤_};
+ghost use lib.ListN.{length};
+ghost use Rattle.rules.specs.Text.{decimal};
+ghost use Rattle.printing.specs.Put.{Put, Room};
+use crate::put::put_digit;
+
+pub fn print_decimal(k: usize, out: &mut [u8], at: usize) -> usize
+    requires { ⌜ Room (now out) at (decimal k) ⌝ }
+    ensures { λ r. ⌜ Put (now (out .entry)) at (decimal k) (now (out .exit)) r ⌝ }
+{
+    if k < 10 {
+        return put_digit(k, out, at);
+    }
+    let next = print_decimal(k / 10, out, at);
+    put_digit(k % 10, out, next)
+}
+
+// How many digits k has.
+pub fn decimal_length(k: usize) -> usize
+    ensures { λ r. ⌜ (r ≡ length (decimal k)) × (r ≤ 20) ⌝ }
+{
+    let mut digits: usize = 1;
+    let mut rest: usize = k;
+    while 10 <= rest {
+        rest = rest / 10;
+        digits += 1;
+    }
+    digits
+}
