@@ -8,3 +8,6 @@ pub const FEWEST_INPUTS: usize = 2;
 pub const MOST_INPUTS: usize = 11;
 
 pub const MOST_CELLS: usize = 2187;
+
+// Of the longest settled sheet.
+pub const MOST_SETTLED: usize = 512;

@@ -1,0 +1,4 @@
+// Settling and making: from a sheet to the sheet of its settled net, and what the two programs print.
+pub mod front;
+pub mod place;
+pub mod sheet;
