@@ -1,10 +1,11 @@
 -- An assignment of a group plus one of the other inputs is inside the cells.
 -- Assumes nothing.
 use Prim.Native.Nat.{ℕ, _+_, _^_, _≤_, _<_}
+use mathlib.Core.Path.{_≡_}
 use mathlib.Core.List.{List}
 use native.Mathlib.Omega.{arith}
 use lib.ListN.{length, getD}
-use Rattle.rules.specs.Groups.{others, points}
+use Rattle.rules.specs.Groups.{part, others, points}
 use Rattle.trees.specs.Trees.{mix}
 use Rattle.trees.specs.Levels.{mix-below}
 use Rattle.laws.specs.Places.{mem-getD}
@@ -15,15 +16,18 @@ abbrev pub Within : ℕ → List ℕ → ℕ → Type 0
 Within b ys p = (k : ℕ) → k < length ys → p + getD ys k 0 < b
 
 -- the other inputs' assignments, added to one of the group's
-pub points-within : (m n : ℕ) → 0 < m → (g : ℕ) → g < 2 ^ n → (b : ℕ) → m ^ n ≤ b
-    → (i : ℕ) → i < length (points m n g) → Within b (points m n (others n g)) (getD (points m n g) i 0)
+pub part-within : (m n : ℕ) → 0 < m → (g : ℕ) → g < 2 ^ n → (b : ℕ) → m ^ n ≤ b
+    → (p : ℕ) → part m n g p ≡ p → Within b (points m n (others n g)) p
 unfolding mix
-points-within m n pos g g< b room i i< k k< =
-    let p = getD (points m n g) i 0 in
+part-within m n pos g g< b room p p-part k k< =
     let y = getD (points m n (others n g)) k 0 in
-    let p-part = points-are-parts m n pos g p (mem-getD (points m n g) i 0 i<) .0 in
     let y-part = points-are-parts m n pos (others n g) y (mem-getD (points m n (others n g)) k 0 k<) .0 in
     omega (arith, mix-below m n pos g p y g<, p-part, y-part)
+
+pub points-within : (m n : ℕ) → 0 < m → (g : ℕ) → g < 2 ^ n → (b : ℕ) → m ^ n ≤ b
+    → (i : ℕ) → i < length (points m n g) → Within b (points m n (others n g)) (getD (points m n g) i 0)
+points-within m n pos g g< b room i i< =
+    part-within m n pos g g< b room _ (points-are-parts m n pos g _ (mem-getD (points m n g) i 0 i<) .0)
 
 -- Room to count the classes of a group of m levels and n inputs: the cells, and work arrays for the group's assignments, those of
 -- the other inputs, and the first of each class. Offsets are below 2 to the 16.

@@ -55,7 +55,7 @@ module _ (m n : ℕ) (pos : 0 < m) (f : ℕ → ℕ) (g : ℕ) (g< : g < 2 ^ n) 
           (alike-tested m n pos f g (getD (classes m n f g) j 0) (getD (classes m n f g) i 0) g< (alike-sym m n pos f g _ _ a))
 
   -- .. so alike ones stand at one place
-  listed-once : (i j : ℕ) → i < multiplicity m n f g → j < multiplicity m n f g
+  pub listed-once : (i j : ℕ) → i < multiplicity m n f g → j < multiplicity m n f g
       → Alike m n f g (getD (classes m n f g) i 0) (getD (classes m n f g) j 0) → i ≡ j
   listed-once i j i< j< a = go (decLt i j) (decLt j i)
     where

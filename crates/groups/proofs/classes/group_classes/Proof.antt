@@ -1,30 +1,18 @@
 -- `groups::classes::group_classes` meets its contract: the two lists of offsets are the assignments of the group and of the other
 -- inputs.
 -- Assumes nothing.
-use Prim.Native.Nat.{ℕ, _-_, _^_, _≤_, _<_}
+use Prim.Native.Nat.{ℕ, _-_, _<_}
 use mathlib.Core.Path.{_≡_, sym, ap, ap₂, _∙_, subst, subst₂}
 use mathlib.Core.List.{List}
-use native.Mathlib.Nat.{sub-zero}
-use native.Mathlib.Omega.{arith}
-use lib.ListN.{length, getD, take, length-take}
-use Rattle.rules.specs.Groups.{wholeGroup, others, points, classes}
+use lib.ListN.{length, getD, take}
+use Rattle.rules.specs.Groups.{others, points, classes}
 use Rattle.rules.specs.Calls.{inkIn}
+use Rattle.radix.specs.Fronts.{fits-in, front, rest-others}
 use Rattle.groups.specs.Firsts.{classesOver, Counted}
 use Rattle.groups.specs.Within.{Within, points-within}
 use borrow.Author.Needs.{needs}
 use Rattle.groups.proofs.classes.group_classes.Statement.{statement}
 use Rattle.groups.proofs.classes.group_classes.Tie as tie
-
--- a list that stands at the front of another is no longer
-fits-in : (r : ℕ) (out xs : List ℕ) → r ≡ length xs → take r out ≡ xs → r ≤ length out
-fits-in r out xs l e = omega (arith, length-take r out, ap length e)
-
-front : (r : ℕ) (out xs : List ℕ) → take r out ≡ xs → take (r - 0) out ≡ xs
-front r out xs e = ap (λ (k : ℕ). take k out) (sub-zero r) ∙ e
-
-rest-others : (n g all : ℕ) → all ≡ 2 ^ n → all - 1 - g ≡ others n g
-unfolding others wholeGroup
-rest-others n g all e = ap (λ (k : ℕ). k - 1 - g) e
 
 -- the classes of the two lists are the group's
 of-group : (m n g : ℕ) (f : ℕ → ℕ) (xs ys : List ℕ) → xs ≡ points m n g → ys ≡ points m n (others n g) → classesOver f ys xs ≡ classes m n f g
