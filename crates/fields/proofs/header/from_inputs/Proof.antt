@@ -1,0 +1,53 @@
+-- `fields::header::from_inputs` meets its contract: the inputs field, then the names.
+-- Assumes nothing.
+use borrow.Author.Needs.{needs}
+use native.Mathlib.Omega.{arith}
+use borrow.Author.Tests.{leb-true}
+use Rattle.rules.specs.Text.{newline}
+use Rattle.rules.specs.Fields.{field}
+use Rattle.rules.specs.Sheets.{inputsField}
+use Rattle.fields.specs.Header.{fromInputs, fromNames, rest-back, rest-on, from-names}
+use Rattle.fields.specs.Steps.{itself}
+use Rattle.fields.specs.Taken.{inputs-on, levels-most}
+use Rattle.fields.proofs.header.from_inputs.Statement.{statement}
+use Rattle.fields.proofs.header.from_inputs.Tie as tie
+
+inputs-field-requires : tie.Need-inputs-field-requires
+inputs-field-requires c κs = levels-most _ (c .before .pre .0)
+
+enum-known-number : tie.Need-enum-known-number
+enum-known-number c = search needs
+
+turned-requires : tie.Need-turned-requires
+turned-requires c κs = search needs
+
+enum-known-value : tie.Need-enum-known-value
+enum-known-value c = search needs
+
+name-fields-requires : tie.Need-name-fields-requires
+name-fields-requires c κs = let told = inputs-on _ _ (c .before .before .before .before .before .args .at) _ _ (c .before .value .given .1) _ _ (c .before .before .before .inputs-field .ensures) in (told .1, omega (arith, told .3, c .before .before .before .before .before .pre .1))
+
+returns : tie.Need-returns
+unfolding fromInputs newline
+returns c =
+    rest-back itself (field (inputsField _) 10) (fromNames _ _) _ _ _ (c .before .before .before .before .inputs-field .ensures) _ _ (c .turned .result)
+    (c .before .before .number .given .1) (c .turned .ensures)
+
+returns-2 : tie.Need-returns-2
+unfolding fromInputs newline
+returns-2 c =
+    let told = inputs-on _ _ (c .before .before .before .before .before .before .args .at) _ _ (c .before .before .value .given .1) _ _ (c .before .before .before .before .inputs-field .ensures) in
+    rest-on itself (field (inputsField _) 10) (fromNames _ _) _ _ _ (c .before .before .before .before .inputs-field .ensures) _ _ (c .name-fields .result)
+    (c .before .before .value .given .1) (from-names _ _ _ _ _ _ (c .name-fields .ensures) (c .before .before .before .before .before .before .pre .0) (told .0) (told .1) (told .2))
+
+pub from-inputs-spec : {M : Type 1} → statement M
+from-inputs-spec =
+    tie.close
+    (tie.spec
+    inputs-field-requires
+    enum-known-number
+    turned-requires
+    enum-known-value
+    name-fields-requires
+    returns
+    returns-2)

@@ -1,0 +1,51 @@
+-- `fields::header::from_levels` meets its contract: the levels field, then the rest.
+-- Assumes nothing.
+use borrow.Author.Needs.{needs}
+use native.Mathlib.Omega.{arith}
+use Rattle.rules.specs.Text.{space}
+use Rattle.rules.specs.Fields.{field}
+use Rattle.rules.specs.Sheets.{levelsField}
+use Rattle.fields.specs.Header.{fromLevels, fromInputs, rest-back, rest-on}
+use Rattle.fields.specs.Steps.{itself}
+use Rattle.fields.specs.Taken.{levels-on}
+use Rattle.fields.proofs.header.from_levels.Statement.{statement}
+use Rattle.fields.proofs.header.from_levels.Tie as tie
+
+levels-field-requires : tie.Need-levels-field-requires
+levels-field-requires c κs = search needs
+
+enum-known-number : tie.Need-enum-known-number
+enum-known-number c = search needs
+
+turned-requires : tie.Need-turned-requires
+turned-requires c κs = search needs
+
+enum-known-value : tie.Need-enum-known-value
+enum-known-value c = search needs
+
+from-inputs-requires : tie.Need-from-inputs-requires
+from-inputs-requires c κs = let told = levels-on _ _ (c .before .before .before .before .before .args .at) _ _ (c .before .value .given .1) _ (c .before .before .before .levels-field .ensures) in (told .0, omega (arith, told .1, c .before .before .before .before .before .pre))
+
+returns : tie.Need-returns
+unfolding fromLevels space
+returns c =
+    rest-back itself (field levelsField 32) (fromInputs _) _ _ _ (c .before .before .before .before .levels-field .ensures) _ _ (c .turned .result)
+    (c .before .before .number .given .1) (c .turned .ensures)
+
+returns-2 : tie.Need-returns-2
+unfolding fromLevels space
+returns-2 c =
+    rest-on itself (field levelsField 32) (fromInputs _) _ _ _ (c .before .before .before .before .levels-field .ensures) _ _ (c .from-inputs .result)
+    (c .before .before .value .given .1) (c .from-inputs .ensures)
+
+pub from-levels-spec : {M : Type 1} → statement M
+from-levels-spec =
+    tie.close
+    (tie.spec
+    levels-field-requires
+    enum-known-number
+    turned-requires
+    enum-known-value
+    from-inputs-requires
+    returns
+    returns-2)

@@ -1,0 +1,85 @@
+-- `fields::lines::name_fields` meets its contract. The loop's invariant: the names from here are the names from the start.
+-- Assumes nothing.
+use Prim.Native.Nat.{_-_}
+use borrow.Author.Needs.{needs}
+use native.Mathlib.Omega.{arith}
+use Rattle.fields.specs.Lines.{Reading, names-start, names-done, names-back, names-next}
+use Rattle.fields.proofs.lines.name_fields.Statement.{statement}
+use Rattle.fields.proofs.lines.name_fields.Tie as tie
+
+abbrev Inv-loop : tie.InvT-loop
+Inv-loop s at levels inputs last header₀ place₀ i₀ header place i = Reading s at levels inputs last header place i
+
+abbrev μ-loop : tie.MeasureT-loop
+μ-loop s at levels inputs last header₀ place₀ i₀ header place i = inputs - i
+
+loop-holds : tie.Need-loop-holds Inv-loop μ-loop
+loop-holds c = names-start _ _ _ _ _
+
+due-after-requires : tie.Need-due-after-requires Inv-loop μ-loop
+due-after-requires c κs = c .loop-test .taken
+
+name-field-requires : tie.Need-name-field-requires Inv-loop μ-loop
+name-field-requires c κs = (omega (arith, c .before .before .loop .inv .most, c .before .before .before .before .pre .0), c .before .before .loop .inv .held)
+
+enum-told : tie.Need-enum-told Inv-loop μ-loop
+enum-told c = search needs
+
+returns : tie.Need-returns Inv-loop μ-loop
+returns c =
+    names-back _ _ _ _ _ _ _ _ (c .before .before .before .before .before .loop .inv) _ _ (c .before .before .before .before .loop-test .taken) (c .before .before .before .due-after .ensures) (c .before .before .name-field .ensures) _ _
+    (c .enum-told .given .1)
+
+enum-known-step : tie.Need-enum-known-step Inv-loop μ-loop
+enum-known-step c = search needs
+
+cast-header : tie.Need-cast-header Inv-loop μ-loop
+cast-header c = record { fits = omega (arith, c .before .before .before .before .before .before .loop .inv .near, c .before .before .before .before .before .loop-test .taken, c .before .before .before .before .before .before .before .before .pre .0, c .before .before .before .before .before .before .before .before .pre .1) }
+
+mul-header : tie.Need-mul-header Inv-loop μ-loop
+mul-header c = omega (arith, c .before .before .before .before .before .loop-test .taken, c .before .before .before .before .before .before .before .before .pre .0)
+
+element-write-header : tie.Need-element-write-header Inv-loop μ-loop
+element-write-header c = omega (arith, c .before .before .before .before .before .loop-test .taken, c .before .before .before .before .before .before .before .before .pre .0)
+
+cast-header-2 : tie.Need-cast-header-2 Inv-loop μ-loop
+cast-header-2 c = omega (arith, c .before .before .before .name-field .ensures .held _ _ (c .before .step .given .1) .0)
+
+element-write-header-2 : tie.Need-element-write-header-2 Inv-loop μ-loop
+element-write-header-2 c = omega (arith, c .before .before .before .before .before .loop-test .taken, c .before .before .before .before .before .before .before .before .pre .0)
+
+add-i : tie.Need-add-i Inv-loop μ-loop
+add-i c = omega (arith, c .before .before .before .before .before .loop-test .taken, c .before .before .before .before .before .before .before .before .pre .0)
+
+loop-less : tie.Need-loop-less Inv-loop μ-loop
+loop-less c = omega (arith, c .before .before .before .before .before .loop-test .taken)
+
+loop-again : tie.Need-loop-again Inv-loop μ-loop
+loop-again c =
+    names-next _ _ _ _ _ _ _ _ (c .before .before .before .before .before .before .loop .inv) _ _ (c .before .before .before .before .before .loop-test .taken) (c .before .before .before .before .due-after .ensures) (c .before .before .before .name-field .ensures) _ _
+    (c .before .before .before .before .before .before .before .before .pre .0) (c .before .step .given .1)
+
+returns-2 : tie.Need-returns-2 Inv-loop μ-loop
+returns-2 c = names-done _ _ _ _ _ _ _ _ (c .before .loop .inv) (c .loop-test .left)
+
+pub name-fields-spec : {M : Type 1} → statement M
+name-fields-spec =
+    tie.close
+    (tie.spec
+    Inv-loop
+    μ-loop
+    loop-holds
+    due-after-requires
+    name-field-requires
+    enum-told
+    returns
+    enum-known-step
+    cast-header
+    mul-header
+    element-write-header
+    cast-header-2
+    element-write-header-2
+    add-i
+    loop-less
+    loop-again
+    returns-2)

@@ -1,0 +1,53 @@
+-- `fields::names::is_repeated` meets its contract. The loop's invariant: one of all has the name exactly when one from `i` on has.
+-- Assumes nothing.
+use Prim.Native.Nat.{_-_}
+use mathlib.Core.Path.{_≡_, refl, sym, _∙_}
+use mathlib.Core.List.{map}
+use native.Mathlib.Omega.{arith}
+use native.Mathlib.Nat.{sub-zero}
+use Rattle.rules.specs.Lists.{range, any, same}
+use Rattle.nets.specs.Forms.{nameIn}
+use Rattle.fields.specs.Passing.{any-here, any-next, any-none}
+use Rattle.fields.proofs.names.is_repeated.Statement.{statement}
+use Rattle.fields.proofs.names.is_repeated.Tie as tie
+
+abbrev Inv-loop : tie.InvT-loop
+Inv-loop s header count w i₀ i = any (same w) (map (nameIn s header) (range 0 count)) ≡ any (same w) (map (nameIn s header) (range i (count - i)))
+
+abbrev μ-loop : tie.MeasureT-loop
+μ-loop s header count w i₀ i = count - i
+
+loop-holds : tie.Need-loop-holds Inv-loop μ-loop
+loop-holds c = rw sub-zero
+
+same-name-requires : tie.Need-same-name-requires Inv-loop μ-loop
+same-name-requires c κs = (omega arith, c .before .before .before .before .pre .1 (c .before .loop .i) (c .loop-test .taken))
+
+returns : tie.Need-returns Inv-loop μ-loop
+returns c = sym (c .before .before .before .loop .inv ∙ any-here _ _ (c .before .before .before .loop .i) _ (c .before .before .loop-test .taken) (sym (c .before .same-name .ensures) ∙ c .if1 .taken))
+
+add-i : tie.Need-add-i Inv-loop μ-loop
+add-i c = omega arith
+
+loop-less : tie.Need-loop-less Inv-loop μ-loop
+loop-less c = omega arith
+
+loop-again : tie.Need-loop-again Inv-loop μ-loop
+loop-again c = c .before .before .before .loop .inv ∙ any-next _ _ (c .before .before .before .loop .i) _ (c .before .before .loop-test .taken) (sym (c .before .same-name .ensures) ∙ c .if1 .left)
+
+returns-2 : tie.Need-returns-2 Inv-loop μ-loop
+returns-2 c = sym (c .before .loop .inv ∙ any-none _ _ (c .before .loop .i) _ (c .loop-test .left))
+
+pub is-repeated-spec : {M : Type 1} → statement M
+is-repeated-spec =
+    tie.close
+    (tie.spec
+    Inv-loop
+    μ-loop
+    loop-holds
+    same-name-requires
+    returns
+    add-i
+    loop-less
+    loop-again
+    returns-2)

@@ -1,0 +1,113 @@
+-- The first three lines, field by field.
+-- Assumes nothing.
+use Prim.Native.Nat.{ℕ, zero, suc, _+_, _-_, _^_, _≤_, _<_}
+use Prim.Native.String.{String}
+use mathlib.Core.Path.{_≡_, refl, sym, ap, _∙_}
+use mathlib.Core.Bool.{Bool, true, false, _&&_}
+use mathlib.Core.List.{List, [], _∷_}
+use native.Mathlib.Omega.{arith}
+use borrow.Author.Tests.{le-leb}
+use lib.ListN.{length, take, drop}
+use Rattle.rules.specs.Text.{space, newline, text}
+use Rattle.rules.specs.Limits.{levelsFit, inputsFit, cellsFit, sizeFits, fewestInputs, mostInputs}
+use Rattle.rules.specs.Fields.{Read, read, turnedBack, Reader, then, _>>=_, give, field, theWord}
+use Rattle.rules.specs.Sheets as sheets
+use Rattle.rules.specs.Sheets.{levelsField, inputsField, nameFields, headerLines}
+use Rattle.nets.specs.Forms.{headerOf}
+use Rattle.nets.specs.declared.forms.Header.{Header}
+use Rattle.fields.specs.Names.{NamesHeld}
+use Rattle.fields.specs.Taken.{word-on}
+use Rattle.fields.specs.Lines.{NamesRead}
+use Rattle.fields.specs.Steps.{stepAs, itself, nothing, spelled}
+use Rattle.fields.specs.declared.steps.Step.{Step}
+use Rattle.fields.specs.declared.steps.Step.the-variants.{On, Back}
+use Rattle.fields.specs.declared.lines.HeaderRead.{HeaderRead}
+
+-- Line 1 ends at 14.
+pub record FirstLine (s : List ℕ) (r : Step) : Type 0 where
+  pub reads : stepAs nothing s r ≡ then (field (theWord "levels") space s 0) (λ _. field (theWord "inputs") newline)
+  pub ends : (value next : ℕ) → r ≡ On value next → next ≡ 14
+
+-- what a header that was read keeps
+pub record HeaderHeld (s : List ℕ) (h : Header) : Type 0 where
+  pub fits : sizeFits (h .levels) (h .inputs) ≡ true
+  pub names : NamesHeld s h (h .inputs)
+
+-- what is left of the first three lines is read by `reader`
+pub record HeaderRest (s : List ℕ) (at : ℕ) (reader : Reader sheets.Header) (r : HeaderRead) : Type 0 where
+  pub reads : stepAs (λ _. headerOf s (r .header)) s (r .step) ≡ reader (drop at s) at
+  pub held : (value next : ℕ) → r .step ≡ On value next → HeaderHeld s (r .header)
+
+abbrev pub fromNames : ℕ → ℕ → ℕ → Reader sheets.Header
+fromNames last m n = nameFields last n [] >>= λ names. give (record { levels = m; inputs = n; names = names })
+
+unfoldable pub fromInputs : ℕ → ℕ → Reader sheets.Header
+fromInputs last m = field (inputsField m) newline >>= fromNames last m
+
+unfoldable pub fromLevels : ℕ → Reader sheets.Header
+fromLevels last = field levelsField space >>= fromInputs last
+
+-- ---- one field, then the rest
+
+module _ {A : Type 0} (f : ℕ → A) (one : Reader A) (rest : A → Reader sheets.Header) (s : List ℕ) (at : ℕ) (step : Step)
+    (reads : stepAs f s step ≡ one (drop at s) at) where
+  pub rest-back : (number place : ℕ) (r : HeaderRead) → step ≡ Back number place → r .step ≡ Back number place
+      → HeaderRest s at (one >>= rest) r
+  unfolding then
+  rest-back number place r e q =
+      record {
+        reads = rw (← reads, e, q) refl;
+        held = λ value next p. let z : _≡_ {A = ℕ} 0 1 = cc in absurd (omega arith);
+      }
+
+  pub rest-on : (value next : ℕ) (r : HeaderRead) → step ≡ On value next → HeaderRest s next (rest (f value)) r
+      → HeaderRest s at (one >>= rest) r
+  unfolding then
+  rest-on value next r e onward = record { reads = rw (← reads, e) (onward .reads); held = onward .held }
+
+pub from-names : (s : List ℕ) (at m n last : ℕ) (r : HeaderRead) → NamesRead s at m n last r
+    → levelsFit m ≡ true → 2 ≤ n → n ≤ 11 → cellsFit m n ≡ true → HeaderRest s at (fromNames last m n) r
+unfolding sizeFits inputsFit fewestInputs mostInputs
+from-names s at m n last r names ml n2 n11 cells =
+    record {
+      reads = names .reads;
+      held = λ value next e.
+          record {
+            fits = rw (names .levels, names .inputs, ml, le-leb 2 n n2, le-leb n 11 n11, cells) refl;
+            names = rw (names .inputs) (names .held value next e);
+          };
+    }
+
+-- a fixed word, by its text
+pub spelled-word : (due : ℕ) (t : List ℕ) (at : ℕ) (word : String) → field (spelled (text word)) due t at ≡ field (theWord word) due t at
+unfolding spelled theWord
+spelled-word due t at word = refl
+
+module _ (s : List ℕ) (first : Step) (reads : stepAs nothing s first ≡ field (theWord "levels") space s 0) where
+  pub first-back : (number place : ℕ) → first ≡ Back number place → FirstLine s (Back number place)
+  unfolding then
+  first-back number place e =
+      record {
+        reads = rw (← reads, e) refl;
+        ends = λ value next q. let z : _≡_ {A = ℕ} 0 1 = cc in absurd (omega arith);
+      }
+
+  pub first-on : (value next : ℕ) (step : Step) → first ≡ On value next
+      → stepAs nothing s step ≡ field (theWord "inputs") newline (drop next s) next → FirstLine s step
+  unfolding then text theWord spelled
+  first-on value next step e onward =
+      record {
+        reads = rw (← reads, e) onward;
+        ends = λ v last q.
+            omega (arith, word-on s first 0 value next e (text "levels") space reads, word-on s step next v last q (text "inputs") newline onward);
+      }
+
+then-then : {A B C : Type 0} (x : Read A) (f : A → Reader B) (g : B → Reader C) → then (then x f) g ≡ then x (λ a. f a >>= g)
+unfolding then
+then-then (read a rest place) f g = refl
+then-then (turnedBack number place) f g = refl
+
+pub from-first : (s : List ℕ) (last : ℕ) (r : HeaderRead)
+    → HeaderRest s 0 ((field (theWord "levels") space >>= λ _. field (theWord "inputs") newline) >>= λ _. fromLevels last) r → HeaderRest s 0 (headerLines last) r
+unfolding headerLines fromLevels fromInputs
+from-first s last r rest = record { reads = rest .reads ∙ then-then (field (theWord "levels") space s 0) _ _; held = rest .held }

@@ -1,0 +1,232 @@
+-- Line 3, name by name; the first three lines.
+-- Assumes nothing.
+use Prim.Native.Nat.{ℕ, zero, suc, _+_, _-_, _*_, _≤_, _<_}
+use mathlib.Core.Path.{_≡_, refl, sym, ap, _∙_}
+use mathlib.Core.Bool.{Bool, true, false, cond, not, _&&_}
+use mathlib.Core.List.{List, [], _∷_, _++_, map}
+use native.Mathlib.Omega.{arith}
+use native.Mathlib.Nat.{le-refl, zero-add, sub-zero}
+use native.Mathlib.Numerals.{add-one}
+use lib.ListN.{length, take, drop, getD, set, replicate, length-set, length-drop}
+use lib.Seq.{length-take-le, getD-set-same, getD-set-other}
+use lib.Dec.{eqb, leb}
+use borrow.Author.Tests.{eqb-true, eqb-false}
+use Rattle.laws.specs.Concat.{map-append}
+use Rattle.laws.specs.Ranges.{range-suc}
+use Rattle.rules.specs.Lists.{range}
+use Rattle.rules.specs.Text.{space}
+use Rattle.rules.specs.Fields.{Read, read, turnedBack, then, give, good, bad, afterField, field}
+use Rattle.rules.specs.Sheets as sheets
+use Rattle.rules.specs.Sheets.{nameField, nameFields}
+use Rattle.nets.specs.Forms.{nameIn, headerOf}
+use Rattle.nets.specs.declared.forms.Header.{Header}
+use Rattle.fields.specs.Ends.{after-bad, after-on}
+use Rattle.fields.specs.Judging.{field-empty, field-judged}
+use Rattle.fields.specs.Names.{isNew, new-short, NamesHeld}
+use Rattle.fields.specs.Runs.{FieldEnd}
+use Rattle.fields.specs.Steps.{judgedAs, stepAs, itself}
+use Rattle.fields.specs.declared.steps.Step.{Step}
+use Rattle.fields.specs.declared.steps.Step.the-variants.{On, Back}
+use Rattle.fields.specs.declared.steps.Verdict.{Verdict}
+use Rattle.fields.specs.declared.steps.Verdict.the-variants.{Good, Bad}
+use Rattle.fields.specs.declared.lines.HeaderRead.{HeaderRead}
+
+-- reading a name at `at`
+pub record NameRead (s : List ℕ) (at due : ℕ) (earlier : List (List ℕ)) (r : Step) : Type 0 where
+  pub reads : stepAs (λ len. take len (drop at s)) s r ≡ field (nameField earlier) due (drop at s) at
+  pub held : (len next : ℕ) → r ≡ On len next → (len ≤ 8) × (next ≡ at + len + 1) × (next ≤ length s)
+
+-- the separator that is due after a name, by the names that are left
+unfoldable pub dueBefore : ℕ → ℕ → ℕ
+dueBefore zero last = last
+dueBefore (suc left) last = space
+
+pub due-last : (i n last : ℕ) → i + 1 ≡ n → last ≡ dueBefore (n - (i + 1)) last
+unfolding dueBefore
+due-last i n last e = sym (ap (λ k. dueBefore k last) none-left)
+  where
+    none-left : n - (i + 1) ≡ 0
+    none-left = omega arith
+
+pub due-space : (i n last : ℕ) → i < n → (i + 1 ≡ n → ⊥) → 32 ≡ dueBefore (n - (i + 1)) last
+unfolding dueBefore space
+due-space i n last h e = sym (ap (λ k. dueBefore k last) some-left)
+  where
+    some-left : n - (i + 1) ≡ suc (n - (i + 2))
+    some-left = omega arith
+
+-- reading n names from `at` on, under m levels
+pub record NamesRead (s : List ℕ) (at m n last : ℕ) (r : HeaderRead) : Type 0 where
+  pub reads : stepAs (λ _. headerOf s (r .header)) s (r .step)
+      ≡ then (nameFields last n [] (drop at s) at) (λ names. give (record { levels = m; inputs = n; names = names }))
+  pub levels : r .header .levels ≡ m
+  pub inputs : r .header .inputs ≡ n
+  pub held : (value next : ℕ) → r .step ≡ On value next → NamesHeld s (r .header) n
+
+-- ---- a name
+
+turned : (s : List ℕ) (at due number place : ℕ) (earlier : List (List ℕ))
+    → turnedBack number place ≡ field (nameField earlier) due (drop at s) at → NameRead s at due earlier (Back number place)
+turned s at due number place earlier e =
+    record { reads = e; held = λ len next q. let z : _≡_ {A = ℕ} 0 1 = cc in absurd (omega arith) }
+
+module _ (s : List ℕ) (at end due : ℕ) (earlier : List (List ℕ)) (found : FieldEnd s at end) where
+  pub name-missing : end ≡ at → NameRead s at due earlier (Back 1 at)
+  name-missing e = turned s at due 1 at earlier (field-empty (nameField earlier) due s at end found e)
+
+  module _ (some : end ≡ at → ⊥) where
+    pub name-refused : isNew earlier (take (end - at) (drop at s)) ≡ false → NameRead s at due earlier (Back 4 at)
+    unfolding nameField
+    name-refused e =
+        turned s at due 4 at earlier
+        (field-judged (nameField earlier) due s at end found (λ len. take len (drop at s)) (Bad 4) (Back 4 at) some (rw e refl)
+        (after-bad (Bad 4) 4 due (drop end s) at end refl))
+
+    pub name-taken : (r : Step) → isNew earlier (take (end - at) (drop at s)) ≡ true
+        → stepAs itself s r ≡ afterField (judgedAs itself (Good (end - at))) due (drop end s) at end → NameRead s at due earlier r
+    unfolding nameField
+    name-taken r e after =
+        record {
+          reads = field-judged (nameField earlier) due s at end found (λ len. take len (drop at s)) (Good (end - at)) r some (rw e refl) after;
+          held = λ len next q.
+              let told = after-on s r (end - at) due at end len next after q in
+              let long = rw (length-take-le (end - at) (drop at s) (rw length-drop (omega (arith, found .within (omega (arith, found .from)))))) at (new-short earlier (take (end - at) (drop at s)) e) in
+              (omega (arith, told .0), omega (arith, told .0, told .1, found .from), omega (arith, told .1, told .2));
+        }
+
+-- ---- one name more
+
+-- what agrees on a range gives the same there
+map-range : {A : Type 0} (f g : ℕ → A) (from count : ℕ) → ((k : ℕ) → from ≤ k → k < from + count → f k ≡ g k)
+    → map f (range from count) ≡ map g (range from count)
+unfolding range
+map-range f g from zero e = refl
+map-range f g from (suc count) e = λ i. e from (le-refl from) (omega arith) i ∷ map-range f g (suc from) count (λ k h l. e k (omega arith) (omega arith)) i
+
+names-more : (last left : ℕ) (earlier : List (List ℕ)) (t : List ℕ) (p : ℕ)
+    → nameFields last (suc left) earlier t p
+    ≡ then (field (nameField earlier) (dueBefore left last) t p) (λ w. nameFields last left (earlier ++ (w ∷ [])))
+unfolding nameFields dueBefore
+names-more last zero earlier t p = refl
+names-more last (suc left) earlier t p = refl
+
+counted : (i n : ℕ) → i < n → n - i ≡ suc (n - (i + 1))
+counted i n h = omega arith
+
+-- the names that were read, in a sheet's header
+abbrev pub namesTo : List ℕ → Header → ℕ → List (List ℕ)
+namesTo s h i = map (nameIn s h) (range 0 i)
+
+-- the loop's state: i names are read, and the names from here are the names from the start
+pub record Reading (s : List ℕ) (at m n last : ℕ) (h : Header) (place i : ℕ) : Type 0 where
+  pub levels : h .levels ≡ m
+  pub inputs : h .inputs ≡ n
+  pub starts : length (h .starts) ≡ 11
+  pub lens : length (h .lens) ≡ 11
+  pub most : i ≤ n
+  pub near : place ≤ at + 9 * i
+  pub held : NamesHeld s h i
+  pub reads : nameFields last n [] (drop at s) at ≡ nameFields last (n - i) (namesTo s h i) (drop place s) place
+
+-- the header with no name yet
+abbrev pub unnamed : ℕ → ℕ → Header
+unnamed m n = record { levels = m; inputs = n; starts = replicate 11 0; lens = replicate 11 0 }
+
+pub names-start : (s : List ℕ) (at m n last : ℕ) → Reading s at m n last (unnamed m n) at 0
+unfolding range
+names-start s at m n last =
+    record {
+      levels = refl;
+      inputs = refl;
+      starts = refl;
+      lens = refl;
+      most = omega arith;
+      near = omega arith;
+      held = λ i h. absurd (omega arith);
+      reads = rw (sub-zero n) refl;
+    }
+
+-- the header with one name more
+abbrev pub named : Header → ℕ → ℕ → ℕ → Header
+named h i start len =
+    record { levels = h .levels; inputs = h .inputs; starts = set (h .starts) i start; lens = set (h .lens) i len }
+
+-- the names before a stored one stay, and it stands after them
+names-stay : (s : List ℕ) (h : Header) (i start len : ℕ) → i < length (h .starts) → i < length (h .lens)
+    → namesTo s (named h i start len) (i + 1) ≡ namesTo s h i ++ (take len (drop start s) ∷ [])
+unfolding nameIn
+names-stay s h i start len hs hl =
+    ap (λ k. namesTo s (named h i start len) k) (add-one i)
+    ∙ (ap (map (nameIn s (named h i start len))) (range-suc 0 i)
+    ∙ (map-append (nameIn s (named h i start len)) (range 0 i) ((0 + i) ∷ [])
+    ∙ (λ j. earlier-names j ++ (last-name j ∷ []))))
+  where
+    earlier-names : namesTo s (named h i start len) i ≡ namesTo s h i
+    earlier-names = map-range (nameIn s (named h i start len)) (nameIn s h) 0 i
+        (λ k _ below. λ j. take (getD-set-other (h .lens) i k len 0 (λ q. omega (arith, q)) j) (drop (getD-set-other (h .starts) i k start 0 (λ q. omega (arith, q)) j) s))
+
+    last-name : nameIn s (named h i start len) (0 + i) ≡ take len (drop start s)
+    last-name = rw (zero-add i, getD-set-same (h .lens) i len 0 hl, getD-set-same (h .starts) i start 0 hs) refl
+
+names-held : (s : List ℕ) (h : Header) (i start len : ℕ) → i < length (h .starts) → i < length (h .lens)
+    → NamesHeld s h i → start + len ≤ length s → NamesHeld s (named h i start len) (i + 1)
+names-held s h i start len hs hl held fits k below = go (eqb k i) refl
+  where
+    go : (t : Bool) → eqb k i ≡ t → getD (set (h .starts) i start) k 0 + getD (set (h .lens) i len) k 0 ≤ length s
+    go true q = rw (eqb-true k i q, getD-set-same (h .starts) i start 0 hs, getD-set-same (h .lens) i len 0 hl) fits
+    go false q =
+        let other = eqb-false k i q in
+        rw (getD-set-other (h .starts) i k start 0 other, getD-set-other (h .lens) i k len 0 other) (held k (omega arith))
+
+module _ (s : List ℕ) (at m n last : ℕ) (h : Header) (place i : ℕ) (reading : Reading s at m n last h place i) where
+  pub names-done : n ≤ i → NamesRead s at m n last (record { step = On 0 place; header = h })
+  unfolding nameFields then headerOf
+  names-done done =
+      record {
+        reads = rw (reading .reads, none-left, reading .levels, reading .inputs, all-read) refl;
+        levels = reading .levels;
+        inputs = reading .inputs;
+        held = λ _ _ _ k below. reading .held k (omega (arith, below));
+      }
+    where
+      none-left : n - i ≡ 0
+      none-left = omega arith
+
+      all-read : n ≡ i
+      all-read = omega (arith, reading .most)
+
+  module _ (r : Step) (due : ℕ) (more : i < n) (is-due : due ≡ dueBefore (n - (i + 1)) last) (name : NameRead s place due (namesTo s h i) r) where
+    onward : nameFields last n [] (drop at s) at
+        ≡ then (stepAs (λ len. take len (drop place s)) s r) (λ w. nameFields last (n - (i + 1)) (namesTo s h i ++ (w ∷ [])))
+    onward =
+        reading .reads
+        ∙ (ap (λ k. nameFields last k (namesTo s h i) (drop place s) place) (counted i n more)
+        ∙ (names-more last (n - (i + 1)) (namesTo s h i) (drop place s) place
+        ∙ ap (λ x. then x (λ w. nameFields last (n - (i + 1)) (namesTo s h i ++ (w ∷ []))))
+        (ap (λ d. field (nameField (namesTo s h i)) d (drop place s) place) (sym is-due) ∙ sym (name .reads))))
+
+    pub names-back : (number back : ℕ) → r ≡ Back number back → NamesRead s at m n last (record { step = r; header = h })
+    unfolding then
+    names-back number back e =
+        record {
+          reads = rw (onward, e) refl;
+          levels = reading .levels;
+          inputs = reading .inputs;
+          held = λ value next q. let z : _≡_ {A = ℕ} 0 1 = cc in absurd (omega arith);
+        }
+
+    pub names-next : (len next : ℕ) → n ≤ 11 → r ≡ On len next → Reading s at m n last (named h i place len) next (i + 1)
+    unfolding then
+    names-next len next few e =
+        record {
+          levels = reading .levels;
+          inputs = reading .inputs;
+          starts = length-set (h .starts) i place ∙ reading .starts;
+          lens = length-set (h .lens) i len ∙ reading .lens;
+          most = omega arith;
+          near = omega (arith, name .held len next e .0, name .held len next e .1, reading .near);
+          held =
+              names-held s h i place len (omega (arith, reading .starts)) (omega (arith, reading .lens)) (reading .held)
+              (omega (arith, name .held len next e .1, name .held len next e .2));
+          reads = rw (onward, e, names-stay s h i place len (omega (arith, reading .starts)) (omega (arith, reading .lens))) refl;
+        }

@@ -1,0 +1,39 @@
+-- What the code's answers stand for in document 01's definitions.
+-- Assumes nothing.
+use Prim.Native.Nat.{ℕ}
+use mathlib.Core.List.{List}
+use mathlib.Core.Option.{Option, none, some}
+use lib.ListN.{drop}
+use Rattle.rules.specs.Lists.{same}
+use Rattle.rules.specs.Fields.{Read, read, turnedBack, Judge, Judged, good, bad, judged}
+use Rattle.fields.specs.declared.steps.Found.{Found}
+use Rattle.fields.specs.declared.steps.Found.the-variants.{At, Nowhere}
+use Rattle.fields.specs.declared.steps.Step.{Step}
+use Rattle.fields.specs.declared.steps.Step.the-variants.{On, Back}
+use Rattle.fields.specs.declared.steps.Verdict.{Verdict}
+use Rattle.fields.specs.declared.steps.Verdict.the-variants.{Good, Bad}
+
+abbrev pub itself : ℕ → ℕ
+itself value = value
+
+-- of a field that is only to be right
+abbrev pub nothing : ℕ → Unit {0}
+nothing value = tt
+
+-- The code's value is a number, and `f` says what it stands for.
+abbrev pub judgedAs : {A : Type 0} → (ℕ → A) → Verdict → Judged A
+judgedAs f (Good value) = good (f value)
+judgedAs f (Bad number) = bad number
+
+-- a step in the sheet s
+abbrev pub stepAs : {A : Type 0} → (ℕ → A) → List ℕ → Step → Read A
+stepAs f s (On value next) = read (f value) (drop next s) next
+stepAs f s (Back number place) = turnedBack number place
+
+abbrev pub optionOf : Found → Option ℕ
+optionOf (At i) = some i
+optionOf Nowhere = none
+
+-- a fixed word, by its bytes
+unfoldable pub spelled : List ℕ → Judge (Unit {0})
+spelled word w = judged (same w word) tt 1

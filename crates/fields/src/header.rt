@@ -1,0 +1,74 @@
+// The first three lines, field by field. Each function reads what is left of them.
+ghost use mathlib.Core.Path.{_≡_};
+ghost use mathlib.Core.Bool.{true};
+ghost use Prim.Native.Nat.{_≤_};
+ghost use Rattle.rules.specs.Limits.{levelsFit};
+ghost use Rattle.rules.specs.Sheets.{headerLines};
+ghost use Rattle.fields.specs.Header.{FirstLine, HeaderRest, fromInputs, fromLevels};
+ghost use Rattle.fields.specs.declared.steps.Step.the-variants.{Back};
+use crate::lines::HeaderRead;
+use crate::lines::name_fields;
+use crate::runs::NEWLINE;
+use crate::runs::SPACE;
+use crate::steps::Step;
+use crate::values::inputs_field;
+use crate::values::levels_field;
+use crate::words::word_field;
+use nets::forms::Header;
+
+// The sheet is turned back: no header.
+pub fn turned(number: usize, place: usize) -> HeaderRead
+    ensures { λ r. ⌜ r .step ≡ Back number place ⌝ }
+{
+    HeaderRead {
+        step: Step::Back { number, place },
+        header: Header {
+            levels: 0,
+            inputs: 0,
+            starts: [0u16; 11],
+            lens: [0u8; 11],
+        },
+    }
+}
+
+// Line 1.
+pub fn first_line(s: &[u8]) -> Step
+    ensures { λ r. ⌜ FirstLine (now (s .entry)) r ⌝ }
+{
+    match word_field(s, 0, b"levels", SPACE) {
+        Step::Back { number, place } => Step::Back { number, place },
+        Step::On { value: _, next } => word_field(s, next, b"inputs", NEWLINE),
+    }
+}
+
+// From the inputs field on.
+pub fn from_inputs(s: &[u8], at: usize, levels: usize, last: u8) -> HeaderRead
+    requires { ⌜ (levelsFit levels ≡ true) × (at ≤ 16) ⌝ }
+    ensures { λ r. ⌜ HeaderRest (now (s .entry)) at (fromInputs last levels) r ⌝ }
+{
+    match inputs_field(s, at, levels) {
+        Step::Back { number, place } => turned(number, place),
+        Step::On { value, next } => name_fields(s, next, levels, value, last),
+    }
+}
+
+// From the levels field on.
+pub fn from_levels(s: &[u8], at: usize, last: u8) -> HeaderRead
+    requires { ⌜ at ≤ 14 ⌝ }
+    ensures { λ r. ⌜ HeaderRest (now (s .entry)) at (fromLevels last) r ⌝ }
+{
+    match levels_field(s, at) {
+        Step::Back { number, place } => turned(number, place),
+        Step::On { value, next } => from_inputs(s, next, value, last),
+    }
+}
+
+// The first three lines; `last` is the separator that is due after the last name.
+pub fn header_lines(s: &[u8], last: u8) -> HeaderRead
+    ensures { λ r. ⌜ HeaderRest (now (s .entry)) 0 (headerLines last) r ⌝ }
+{
+    match first_line(s) {
+        Step::Back { number, place } => turned(number, place),
+        Step::On { value: _, next } => from_levels(s, next, last),
+    }
+}

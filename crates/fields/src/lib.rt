@@ -1,0 +1,12 @@
+// Reading a sheet field by field, as document 01 judges it, up to the end of line 3.
+pub mod ends;
+pub mod header;
+pub mod limits;
+pub mod lines;
+pub mod names;
+pub mod numbers;
+pub mod runs;
+pub mod same;
+pub mod steps;
+pub mod values;
+pub mod words;

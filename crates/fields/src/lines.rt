@@ -1,0 +1,92 @@
+// The first three lines of a sheet.
+ghost use mathlib.Core.Path.{_≡_};
+ghost use mathlib.Core.List.{map, []};
+ghost use Prim.Native.Nat.{_+_, _-_, _≤_, _<_};
+ghost use lib.ListN.{drop};
+ghost use Rattle.rules.specs.Lists.{range};
+ghost use Rattle.nets.specs.Forms.{nameIn};
+ghost use Rattle.fields.specs.Names.{NamesHeld};
+ghost use Rattle.fields.specs.Lines.{NameRead, dueBefore, NamesRead};
+use crate::ends::after_field;
+use crate::names::is_new_name;
+use crate::runs::SPACE;
+use crate::runs::field_end;
+use crate::steps::Step;
+use crate::steps::Verdict;
+use nets::forms::Header;
+
+// What reading line 3 comes to: on a step onward the header is whole.
+pub struct HeaderRead {
+    pub step: Step,
+    pub header: Header,
+}
+
+// The name after the first `count`; a step onward has its length.
+pub fn name_field(s: &[u8], at: usize, header: Header, count: usize, due: u8) -> Step
+    requires { ⌜ (count ≤ 11) × NamesHeld (now s) header count ⌝ }
+    ensures { λ r. ⌜ NameRead (now (s .entry)) at due (map (nameIn (now (s .entry)) header) (range 0 count)) r ⌝ }
+{
+    let end = field_end(s, at);
+    if end == at {
+        return Step::Back {
+            number: 1,
+            place: at,
+        };
+    }
+    if !is_new_name(s, header, count, &s[at..end]) {
+        return Step::Back {
+            number: 4,
+            place: at,
+        };
+    }
+    after_field(s, Verdict::Good(end - at), due, at, end)
+}
+
+// The separator that is due after name i of n.
+pub fn due_after(i: usize, n: usize, last: u8) -> u8
+    requires { ⌜ i < n ⌝ }
+    ensures { λ r. ⌜ r ≡ dueBefore (n - (i + 1)) last ⌝ }
+{
+    if i + 1 == n {
+        return last;
+    }
+    SPACE
+}
+
+// The `inputs` names from `at` on.
+pub fn name_fields(s: &[u8], at: usize, levels: usize, inputs: usize, last: u8) -> HeaderRead
+    requires { ⌜ (inputs ≤ 11) × (at ≤ 20) ⌝ }
+    ensures { λ r. ⌜ NamesRead (now (s .entry)) at levels inputs last r ⌝ }
+{
+    let mut header = Header {
+        levels,
+        inputs,
+        starts: [0u16; 11],
+        lens: [0u8; 11],
+    };
+    let mut place = at;
+    let mut i: usize = 0;
+    while i < inputs {
+        let due = due_after(i, inputs, last);
+        let step = name_field(s, place, header, i, due);
+        match step {
+            Step::Back {
+                number: _,
+                place: _,
+            } => return HeaderRead { step, header },
+            Step::On { value, next } => {
+                header.starts[i] = place as u16;
+                header.lens[i] = value as u8;
+                place = next;
+                i += 1;
+            }
+        }
+    }
+    HeaderRead {
+        step: Step::On {
+            value: 0,
+            next: place,
+        },
+        header,
+    }
+}

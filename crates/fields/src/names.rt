@@ -1,0 +1,103 @@
+// The names of line 3. They stay in the sheet: a header by value has where each begins and how long it is.
+ghost use mathlib.Core.Path.{_≡_};
+ghost use mathlib.Core.Bool.{_||_};
+ghost use mathlib.Core.List.{map};
+ghost use Prim.Native.Nat.{_≤_, _<_};
+ghost use lib.ListN.{length, drop};
+ghost use Rattle.rules.specs.Lists.{range, all, any, same};
+ghost use Rattle.rules.specs.Text.{isDigit};
+ghost use Rattle.rules.specs.Sheets.{isLetter, isName};
+ghost use Rattle.nets.specs.Forms.{nameIn};
+ghost use Rattle.fields.specs.Names.{isNameByte, NameHeld, NamesHeld, isNew};
+use crate::same::same_bytes;
+use nets::forms::Header;
+
+// Is b a lowercase letter?
+pub fn is_letter(b: u8) -> bool
+    ensures { λ r. ⌜ r ≡ isLetter b ⌝ }
+{
+    if b < 97 {
+        return false;
+    }
+    b <= 122
+}
+
+// Is b a lowercase letter or a digit?
+pub fn is_name_byte(b: u8) -> bool
+    ensures { λ r. ⌜ r ≡ isNameByte b ⌝ }
+{
+    if is_letter(b) {
+        return true;
+    }
+    if b < 48 {
+        return false;
+    }
+    b < 58
+}
+
+pub fn are_name_bytes(w: &[u8]) -> bool
+    ensures { λ r. ⌜ r ≡ all isNameByte (now (w .entry)) ⌝ }
+{
+    let mut i: usize = 0;
+    while i < w.len() {
+        if !is_name_byte(w[i]) {
+            return false;
+        }
+        i += 1;
+    }
+    true
+}
+
+pub fn is_name(w: &[u8]) -> bool
+    ensures { λ r. ⌜ r ≡ isName (now (w .entry)) ⌝ }
+{
+    if 8 < w.len() {
+        return false;
+    }
+    if w.len() == 0 {
+        return false;
+    }
+    if !is_letter(w[0]) {
+        return false;
+    }
+    if !are_name_bytes(w) {
+        return false;
+    }
+    !same_bytes(w, b"ink")
+}
+
+// Is w the name of input i?
+pub fn same_name(s: &[u8], header: Header, i: usize, w: &[u8]) -> bool
+    requires { ⌜ (i < 11) × NameHeld (now s) header i ⌝ }
+    ensures { λ r. ⌜ r ≡ same (now (w .entry)) (nameIn (now (s .entry)) header i) ⌝ }
+{
+    let start = header.starts[i] as usize;
+    let end = start + header.lens[i] as usize;
+    same_bytes(w, &s[start..end])
+}
+
+// Is w the name of one of the first `count` inputs?
+pub fn is_repeated(s: &[u8], header: Header, count: usize, w: &[u8]) -> bool
+    requires { ⌜ (count ≤ 11) × NamesHeld (now s) header count ⌝ }
+    ensures { λ r. ⌜ r ≡ any (same (now (w .entry))) (map (nameIn (now (s .entry)) header) (range 0 count)) ⌝ }
+{
+    let mut i: usize = 0;
+    while i < count {
+        if same_name(s, header, i, w) {
+            return true;
+        }
+        i += 1;
+    }
+    false
+}
+
+// Is w a name that none of the first `count` inputs has?
+pub fn is_new_name(s: &[u8], header: Header, count: usize, w: &[u8]) -> bool
+    requires { ⌜ (count ≤ 11) × NamesHeld (now s) header count ⌝ }
+    ensures { λ r. ⌜ r ≡ isNew (map (nameIn (now (s .entry)) header) (range 0 count)) (now (w .entry)) ⌝ }
+{
+    if is_name(w) {
+        return !is_repeated(s, header, count, w);
+    }
+    false
+}

@@ -1,0 +1,92 @@
+// The two decimal values of line 2.
+ghost use mathlib.Core.Path.{_≡_};
+ghost use Prim.Native.Nat.{_≤_};
+ghost use lib.ListN.{drop};
+ghost use Rattle.rules.specs.Fields.{field};
+ghost use Rattle.rules.specs.Sheets.{levelsField, inputsOf, inputsField};
+ghost use Rattle.fields.specs.Steps.{judgedAs, stepAs, itself, optionOf};
+use crate::ends::after_field;
+use crate::limits;
+use crate::numbers::is_decimal;
+use crate::numbers::power;
+use crate::numbers::wide;
+use crate::runs::NEWLINE;
+use crate::runs::SPACE;
+use crate::runs::field_end;
+use crate::steps::Found;
+use crate::steps::Step;
+use crate::steps::Verdict;
+
+pub fn judge_levels(w: &[u8]) -> Verdict
+    ensures { λ r. ⌜ judgedAs itself r ≡ levelsField (now (w .entry)) ⌝ }
+{
+    if w.len() != 1 {
+        return Verdict::Bad(2);
+    }
+    let b = wide(w[0]);
+    if b < 48 + limits::FEWEST_LEVELS {
+        return Verdict::Bad(2);
+    }
+    if 48 + limits::MOST_LEVELS < b {
+        return Verdict::Bad(2);
+    }
+    Verdict::Good(b - 48)
+}
+
+pub fn levels_field(s: &[u8], at: usize) -> Step
+    ensures { λ r. ⌜ stepAs itself (now (s .entry)) r ≡ field levelsField 32 (drop at (now (s .entry))) at ⌝ }
+{
+    let end = field_end(s, at);
+    if end == at {
+        return Step::Back {
+            number: 1,
+            place: at,
+        };
+    }
+    let verdict = judge_levels(&s[at..end]);
+    after_field(s, verdict, SPACE, at, end)
+}
+
+// The number of inputs of which w is the decimal value.
+pub fn inputs_of(w: &[u8]) -> Found
+    ensures { λ r. ⌜ optionOf r ≡ inputsOf (now (w .entry)) ⌝ }
+{
+    let mut n: usize = limits::FEWEST_INPUTS;
+    while n <= limits::MOST_INPUTS {
+        if is_decimal(w, n) {
+            return Found::At(n);
+        }
+        n += 1;
+    }
+    Found::Nowhere
+}
+
+pub fn judge_inputs(w: &[u8], m: usize) -> Verdict
+    requires { ⌜ m ≤ 9 ⌝ }
+    ensures { λ r. ⌜ judgedAs itself r ≡ inputsField m (now (w .entry)) ⌝ }
+{
+    match inputs_of(w) {
+        Found::Nowhere => Verdict::Bad(3),
+        Found::At(n) => {
+            if power(m, n) <= limits::MOST_CELLS {
+                return Verdict::Good(n);
+            }
+            Verdict::Bad(3)
+        }
+    }
+}
+
+pub fn inputs_field(s: &[u8], at: usize, m: usize) -> Step
+    requires { ⌜ m ≤ 9 ⌝ }
+    ensures { λ r. ⌜ stepAs itself (now (s .entry)) r ≡ field (inputsField m) 10 (drop at (now (s .entry))) at ⌝ }
+{
+    let end = field_end(s, at);
+    if end == at {
+        return Step::Back {
+            number: 1,
+            place: at,
+        };
+    }
+    let verdict = judge_inputs(&s[at..end], m);
+    after_field(s, verdict, NEWLINE, at, end)
+}

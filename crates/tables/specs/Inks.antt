@@ -1,0 +1,53 @@
+-- An ink field, by its byte.
+-- Assumes nothing.
+use Prim.Native.Nat.{ℕ, _+_, _-_, _≤_, _<_}
+use mathlib.Core.Path.{_≡_, refl}
+use mathlib.Core.Bool.{and-false}
+use mathlib.Core.List.{List, [], _∷_}
+use native.Mathlib.Omega.{arith}
+use lib.ListN.{length, getD}
+use lib.Dec.{leb, ltb}
+use borrow.Author.Tests.{le-leb, lt-leb, lt-ltb, le-ltb, leb-true, ltb-true}
+use Rattle.rules.specs.Text.{isDigit}
+use Rattle.rules.specs.Fields.{read, good, bad, field, run}
+use Rattle.rules.specs.Sheets.{inkField}
+use Rattle.fields.specs.Both.{and-left, and-right}
+use Rattle.fields.specs.Taken.{field-read, judged-good}
+
+pub ink-long : (m : ℕ) (w : List ℕ) → (length w ≡ 1 → ⊥) → bad 6 ≡ inkField m w
+unfolding inkField
+ink-long m [] h = refl
+ink-long m (b ∷ []) h = absurd (h refl)
+ink-long m (b ∷ d ∷ w) h = refl
+
+by-byte : (m : ℕ) (w : List ℕ) → length w ≡ 1 → inkField m w ≡ inkField m (getD w 0 0 ∷ [])
+by-byte m [] e = absurd (omega arith)
+by-byte m (b ∷ []) e = refl
+by-byte m (b ∷ d ∷ w) e = absurd (omega arith)
+
+module _ (m : ℕ) (w : List ℕ) (b : ℕ) (e : length w ≡ 1) (q : b ≡ getD w 0 0) where
+  pub ink-low : b < 48 → bad 6 ≡ inkField m w
+  unfolding inkField isDigit
+  ink-low h = rw (by-byte m w e, ← q) (simp (lt-leb 48 b h))
+
+  pub ink-high : 48 ≤ b → m ≤ b - 48 → bad 6 ≡ inkField m w
+  unfolding inkField isDigit
+  ink-high h k = rw (by-byte m w e, ← q) (simp (le-ltb b (48 + m) (omega arith), and-false))
+
+  pub ink-good : 48 ≤ b → b - 48 < m → good (b - 48) ≡ inkField m w
+  unfolding inkField isDigit
+  ink-good h k = rw (by-byte m w e, ← q) (simp (le-leb 48 b h, lt-ltb b (48 + m) (omega arith)))
+
+-- an ink that was read is a level
+ink-told : (m : ℕ) (w : List ℕ) (ink : ℕ) → inkField m w ≡ good ink → ink < m
+unfolding inkField isDigit
+ink-told m [] ink e = let z : _≡_ {A = ℕ} 0 1 = cc in absurd (omega arith)
+ink-told m (b ∷ []) ink e =
+    let told = judged-good (isDigit m b) (b - 48) ink 6 e in
+    let low : 48 ≤ b = leb-true 48 b (and-left (leb 48 b) (ltb b (48 + m)) (told .0)) in
+    let high : b < 48 + m = ltb-true b (48 + m) (and-right (leb 48 b) (ltb b (48 + m)) (told .0)) in
+    omega (arith, told .1)
+ink-told m (b ∷ d ∷ w) ink e = let z : _≡_ {A = ℕ} 0 1 = cc in absurd (omega arith)
+
+pub ink-read : (m due : ℕ) (t rest : List ℕ) (at ink next : ℕ) → field (inkField m) due t at ≡ read ink rest next → ink < m
+ink-read m due t rest at ink next e = ink-told m (run t) ink (field-read (inkField m) ink due t rest at next e .0)

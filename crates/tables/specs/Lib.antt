@@ -1,0 +1,7 @@
+pub mod Answers
+pub mod Chained
+pub mod Inks
+pub mod Levels
+pub mod Parts
+pub mod Row
+pub mod Rows

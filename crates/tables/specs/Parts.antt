@@ -1,0 +1,85 @@
+-- A table sheet, part by part from its end: the rows, the word `ink`, the header.
+-- Assumes nothing.
+use Prim.Native.Nat.{ℕ, _≤_, _<_}
+use mathlib.Core.Path.{_≡_}
+use mathlib.Core.List.{List}
+use native.Mathlib.Omega.{arith}
+use lib.ListN.{length, drop}
+use Rattle.rules.specs.Text.{space, newline}
+use Rattle.rules.specs.Fields.{field, theWord}
+use Rattle.rules.specs.Sheets.{headerLines, tableSheet}
+use Rattle.rules.specs.Calls.{refused, readTable}
+use Rattle.nets.specs.Forms.{headerOf}
+use Rattle.nets.specs.declared.forms.Header.{Header}
+use Rattle.fields.specs.Header.{HeaderRest}
+use Rattle.fields.specs.Steps.{stepAs, nothing}
+use Rattle.fields.specs.declared.steps.Step.{Step}
+use Rattle.fields.specs.declared.steps.Step.the-variants.{On, Back}
+use Rattle.fields.specs.declared.lines.HeaderRead.{HeaderRead}
+use Rattle.tables.specs.Answers.{tableIn, inksIn, TableReads, TableRest, allRows, theEnd, fromRows, fromInk}
+use Rattle.tables.specs.Chained.{answered-back, answered-on, closed-over, closed-here}
+use Rattle.tables.specs.Rows.{RowsRead}
+use Rattle.tables.specs.declared.sheet.Outcome.{Outcome}
+use Rattle.tables.specs.declared.sheet.Outcome.the-variants.{Accepted, Refused}
+
+-- a refusal accepts nothing
+never : {A : Type 0} (number place : ℕ) → Refused number place ≡ Accepted → A
+never number place e = let z : _≡_ {A = ℕ} 0 1 = cc in absurd (omega arith)
+
+-- ---- the rows
+
+module _ (s : List ℕ) (at : ℕ) (h : Header) (cells : List ℕ) (step : Step) (rows : RowsRead s at (h .levels) (h .inputs) cells step) where
+  pub rows-refused : (number place : ℕ) → step ≡ Back number place → TableRest s at (fromRows (headerOf s h)) h cells (Refused number place)
+  unfolding fromRows headerOf
+  rows-refused number place e =
+      record { answer = answered-back (λ _. inksIn cells h) (allRows (headerOf s h)) (theEnd (headerOf s h)) s at step (rows .reads) number place e; held = never number place }
+
+  pub rows-over : (value next : ℕ) → step ≡ On value next → next < length s → TableRest s at (fromRows (headerOf s h)) h cells (Refused 1 next)
+  unfolding fromRows headerOf
+  rows-over value next e over =
+      record {
+        answer = answered-on (λ _. inksIn cells h) (allRows (headerOf s h)) (theEnd (headerOf s h)) s at step (rows .reads) value next (refused 1 next) e (closed-over s next (tableIn s cells h) over);
+        held = never 1 next;
+      }
+
+  pub rows-closed : (value next : ℕ) → step ≡ On value next → length s ≤ next → TableRest s at (fromRows (headerOf s h)) h cells Accepted
+  unfolding fromRows headerOf
+  rows-closed value next e end =
+      record {
+        answer = answered-on (λ _. inksIn cells h) (allRows (headerOf s h)) (theEnd (headerOf s h)) s at step (rows .reads) value next _ e (closed-here s next (tableIn s cells h) end);
+        held = λ _. rows .held value next e;
+      }
+
+-- ---- the word
+
+module _ (s : List ℕ) (at : ℕ) (h : Header) (cells : List ℕ) (step : Step)
+    (word : stepAs nothing s step ≡ field (theWord "ink") newline (drop at s) at) where
+  pub ink-refused : (number place : ℕ) → step ≡ Back number place → TableRest s at (fromInk (headerOf s h)) h cells (Refused number place)
+  unfolding fromInk
+  ink-refused number place e =
+      record { answer = answered-back nothing (field (theWord "ink") newline) (λ _. fromRows (headerOf s h)) s at step word number place e; held = never number place }
+
+  pub ink-on : (value next : ℕ) (r : Outcome) → step ≡ On value next → TableRest s next (fromRows (headerOf s h)) h cells r
+      → TableRest s at (fromInk (headerOf s h)) h cells r
+  unfolding fromInk
+  ink-on value next r e rest =
+      record { answer = answered-on nothing (field (theWord "ink") newline) (λ _. fromRows (headerOf s h)) s at step word value next _ e (rest .answer); held = rest .held }
+
+-- ---- the header
+
+module _ (s cells : List ℕ) (read : HeaderRead) (lines : HeaderRest s 0 (headerLines space) read) where
+  pub header-refused : (number place : ℕ) → read .step ≡ Back number place
+      → TableReads s cells (record { outcome = Refused number place; header = read .header })
+  unfolding readTable tableSheet fromInk fromRows
+  header-refused number place e =
+      record { answer = answered-back _ (headerLines space) fromInk s 0 (read .step) (lines .reads) number place e; held = never number place }
+
+  pub header-on : (value next : ℕ) (r : Outcome) → read .step ≡ On value next
+      → TableRest s next (fromInk (headerOf s (read .header))) (read .header) cells r
+      → TableReads s cells (record { outcome = r; header = read .header })
+  unfolding readTable tableSheet fromInk fromRows
+  header-on value next r e rest =
+      record {
+        answer = answered-on _ (headerLines space) fromInk s 0 (read .step) (lines .reads) value next _ e (rest .answer);
+        held = λ accepts. record { header = lines .held value next e; inks = rest .held accepts };
+      }

@@ -1,0 +1,42 @@
+// The ink field of a row.
+ghost use mathlib.Core.Path.{_≡_};
+ghost use lib.ListN.{drop};
+ghost use Rattle.rules.specs.Fields.{field};
+ghost use Rattle.rules.specs.Sheets.{inkField};
+ghost use Rattle.fields.specs.Steps.{judgedAs, stepAs, itself};
+use fields::ends::after_field;
+use fields::numbers::wide;
+use fields::runs::NEWLINE;
+use fields::runs::field_end;
+use fields::steps::Step;
+use fields::steps::Verdict;
+
+pub fn judge_ink(w: &[u8], m: usize) -> Verdict
+    ensures { λ r. ⌜ judgedAs itself r ≡ inkField m (now (w .entry)) ⌝ }
+{
+    if w.len() != 1 {
+        return Verdict::Bad(6);
+    }
+    let b = wide(w[0]);
+    if b < 48 {
+        return Verdict::Bad(6);
+    }
+    if m <= b - 48 {
+        return Verdict::Bad(6);
+    }
+    Verdict::Good(b - 48)
+}
+
+pub fn ink_field(s: &[u8], at: usize, m: usize) -> Step
+    ensures { λ r. ⌜ stepAs itself (now (s .entry)) r ≡ field (inkField m) 10 (drop at (now (s .entry))) at ⌝ }
+{
+    let end = field_end(s, at);
+    if end == at {
+        return Step::Back {
+            number: 1,
+            place: at,
+        };
+    }
+    let verdict = judge_ink(&s[at..end], m);
+    after_field(s, verdict, NEWLINE, at, end)
+}

@@ -1,0 +1,71 @@
+// An input level of a row: it is the next in the count.
+ghost use mathlib.Core.Path.{_≡_};
+ghost use mathlib.Core.Bool.{true};
+ghost use lib.ListN.{drop};
+ghost use Rattle.rules.specs.Fields.{field};
+ghost use Rattle.rules.specs.Sheets.{levelField};
+ghost use Rattle.fields.specs.Steps.{judgedAs, stepAs, nothing};
+ghost use Rattle.tables.specs.Levels.{PlainLevel};
+use fields::ends::after_field;
+use fields::numbers::wide;
+use fields::runs::SPACE;
+use fields::runs::field_end;
+use fields::steps::Step;
+use fields::steps::Verdict;
+
+pub fn judge_level(w: &[u8], due: u8) -> Verdict
+    ensures { λ r. ⌜ judgedAs nothing r ≡ levelField due (now (w .entry)) ⌝ }
+{
+    if w.len() != 1 {
+        return Verdict::Bad(5);
+    }
+    if wide(w[0]) != 48 + wide(due) {
+        return Verdict::Bad(5);
+    }
+    Verdict::Good(0)
+}
+
+// Does the digit of `due` stand at `at`, with a space after it?
+pub fn is_plain(s: &[u8], at: usize, due: u8) -> bool
+    ensures { λ r. ⌜ (r ≡ true → PlainLevel (now (s .entry)) at due) ⌝ }
+{
+    if s.len() <= at {
+        return false;
+    }
+    let after = at + 1;
+    if s.len() <= after {
+        return false;
+    }
+    if wide(s[at]) != 48 + wide(due) {
+        return false;
+    }
+    s[after] == SPACE
+}
+
+// As `level_field`, by the field's end and its judge.
+pub fn judged_level(s: &[u8], at: usize, due: u8) -> Step
+    ensures { λ r. ⌜ stepAs nothing (now (s .entry)) r ≡ field (levelField due) 32 (drop at (now (s .entry))) at ⌝ }
+{
+    let end = field_end(s, at);
+    if end == at {
+        return Step::Back {
+            number: 1,
+            place: at,
+        };
+    }
+    let verdict = judge_level(&s[at..end], due);
+    after_field(s, verdict, SPACE, at, end)
+}
+
+// Nearly every level field is plain, so that is tried first.
+pub fn level_field(s: &[u8], at: usize, due: u8) -> Step
+    ensures { λ r. ⌜ stepAs nothing (now (s .entry)) r ≡ field (levelField due) 32 (drop at (now (s .entry))) at ⌝ }
+{
+    if is_plain(s, at, due) {
+        return Step::On {
+            value: 0,
+            next: at + 2,
+        };
+    }
+    judged_level(s, at, due)
+}

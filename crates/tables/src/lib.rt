@@ -1,0 +1,5 @@
+// Reading a table sheet.
+pub mod inks;
+pub mod levels;
+pub mod rows;
+pub mod sheet;
