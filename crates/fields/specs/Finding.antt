@@ -7,24 +7,7 @@ use mathlib.Core.Option.{Option, none, some}
 use mathlib.Core.List.{List, [], _∷_}
 use native.Mathlib.Omega.{arith}
 use Rattle.rules.specs.Lists.{range, find}
-
--- a range that is not empty, by its first number and the rest
-pub range-first : (r end : ℕ) → r < end → range r (end - r) ≡ r ∷ range (r + 1) (end - (r + 1))
-unfolding range
-range-first r end h = ap (range r) (counted r end h) ∙ ap {B = List ℕ} (λ k. r ∷ range k (end - (r + 1))) (next r)
-  where
-    counted : (r end : ℕ) → r < end → end - r ≡ suc (end - (r + 1))
-    counted r end h = omega arith
-
-    next : (r : ℕ) → suc r ≡ r + 1
-    next r = omega arith
-
-pub range-none : (r end : ℕ) → end ≤ r → range r (end - r) ≡ []
-unfolding range
-range-none r end h = ap (range r) (none-left r end h)
-  where
-    none-left : (r end : ℕ) → end ≤ r → end - r ≡ 0
-    none-left r end h = omega arith
+use Rattle.fields.specs.Ranges.{range-first, range-none}
 
 module _ (test : ℕ → Bool) (r end : ℕ) where
   pub find-here : r < end → test r ≡ true → find test (range r (end - r)) ≡ some r

@@ -15,6 +15,7 @@ use Rattle.rules.specs.Sheets as sheets
 use Rattle.rules.specs.Sheets.{levelsField, inputsField, nameFields, headerLines}
 use Rattle.nets.specs.Forms.{headerOf}
 use Rattle.nets.specs.declared.forms.Header.{Header}
+use Rattle.fields.specs.Chained.{chained-back, chained-on, then-then, never-both}
 use Rattle.fields.specs.Names.{NamesHeld}
 use Rattle.fields.specs.Taken.{word-on}
 use Rattle.fields.specs.Lines.{NamesRead}
@@ -53,17 +54,19 @@ module _ {A : Type 0} (f : ℕ → A) (one : Reader A) (rest : A → Reader shee
     (reads : stepAs f s step ≡ one (drop at s) at) where
   pub rest-back : (number place : ℕ) (r : HeaderRead) → step ≡ Back number place → r .step ≡ Back number place
       → HeaderRest s at (one >>= rest) r
-  unfolding then
   rest-back number place r e q =
       record {
-        reads = rw (← reads, e, q) refl;
-        held = λ value next p. let z : _≡_ {A = ℕ} 0 1 = cc in absurd (omega arith);
+        reads = chained-back f one rest s at step reads (λ _. headerOf s (r .header)) (r .step) number place e q;
+        held = λ value next p. absurd (never-both (r .step) number place value next q p);
       }
 
   pub rest-on : (value next : ℕ) (r : HeaderRead) → step ≡ On value next → HeaderRest s next (rest (f value)) r
       → HeaderRest s at (one >>= rest) r
-  unfolding then
-  rest-on value next r e onward = record { reads = rw (← reads, e) (onward .reads); held = onward .held }
+  rest-on value next r e onward =
+      record {
+        reads = chained-on f one rest s at step reads (λ _. headerOf s (r .header)) (r .step) value next e (onward .reads);
+        held = onward .held;
+      }
 
 pub from-names : (s : List ℕ) (at m n last : ℕ) (r : HeaderRead) → NamesRead s at m n last r
     → levelsFit m ≡ true → 2 ≤ n → n ≤ 11 → cellsFit m n ≡ true → HeaderRest s at (fromNames last m n) r
@@ -85,27 +88,25 @@ spelled-word due t at word = refl
 
 module _ (s : List ℕ) (first : Step) (reads : stepAs nothing s first ≡ field (theWord "levels") space s 0) where
   pub first-back : (number place : ℕ) → first ≡ Back number place → FirstLine s (Back number place)
-  unfolding then
   first-back number place e =
       record {
-        reads = rw (← reads, e) refl;
-        ends = λ value next q. let z : _≡_ {A = ℕ} 0 1 = cc in absurd (omega arith);
+        reads =
+            chained-back nothing (field (theWord "levels") space) (λ _. field (theWord "inputs") newline) s 0 first reads nothing
+            (Back number place) number place e refl;
+        ends = λ value next q. absurd (never-both (Back number place) number place value next refl q);
       }
 
   pub first-on : (value next : ℕ) (step : Step) → first ≡ On value next
       → stepAs nothing s step ≡ field (theWord "inputs") newline (drop next s) next → FirstLine s step
-  unfolding then text theWord spelled
+  unfolding text theWord spelled
   first-on value next step e onward =
       record {
-        reads = rw (← reads, e) onward;
+        reads =
+            chained-on nothing (field (theWord "levels") space) (λ _. field (theWord "inputs") newline) s 0 first reads nothing step
+            value next e onward;
         ends = λ v last q.
             omega (arith, word-on s first 0 value next e (text "levels") space reads, word-on s step next v last q (text "inputs") newline onward);
       }
-
-then-then : {A B C : Type 0} (x : Read A) (f : A → Reader B) (g : B → Reader C) → then (then x f) g ≡ then x (λ a. f a >>= g)
-unfolding then
-then-then (read a rest place) f g = refl
-then-then (turnedBack number place) f g = refl
 
 pub from-first : (s : List ℕ) (last : ℕ) (r : HeaderRead)
     → HeaderRest s 0 ((field (theWord "levels") space >>= λ _. field (theWord "inputs") newline) >>= λ _. fromLevels last) r → HeaderRest s 0 (headerLines last) r

@@ -1,4 +1,5 @@
 pub mod Both
+pub mod Chained
 pub mod Compared
 pub mod Decimals
 pub mod Ends
@@ -8,6 +9,7 @@ pub mod Judging
 pub mod Lines
 pub mod Names
 pub mod Passing
+pub mod Ranges
 pub mod Runs
 pub mod Steps
 pub mod Taken

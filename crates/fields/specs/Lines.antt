@@ -20,9 +20,11 @@ use Rattle.rules.specs.Sheets as sheets
 use Rattle.rules.specs.Sheets.{nameField, nameFields}
 use Rattle.nets.specs.Forms.{nameIn, headerOf}
 use Rattle.nets.specs.declared.forms.Header.{Header}
+use Rattle.fields.specs.Chained.{never-both}
 use Rattle.fields.specs.Ends.{after-bad, after-on}
 use Rattle.fields.specs.Judging.{field-empty, field-judged}
 use Rattle.fields.specs.Names.{isNew, new-short, NamesHeld}
+use Rattle.fields.specs.Ranges.{map-range}
 use Rattle.fields.specs.Runs.{FieldEnd}
 use Rattle.fields.specs.Steps.{judgedAs, stepAs, itself}
 use Rattle.fields.specs.declared.steps.Step.{Step}
@@ -68,7 +70,7 @@ pub record NamesRead (s : List ℕ) (at m n last : ℕ) (r : HeaderRead) : Type 
 turned : (s : List ℕ) (at due number place : ℕ) (earlier : List (List ℕ))
     → turnedBack number place ≡ field (nameField earlier) due (drop at s) at → NameRead s at due earlier (Back number place)
 turned s at due number place earlier e =
-    record { reads = e; held = λ len next q. let z : _≡_ {A = ℕ} 0 1 = cc in absurd (omega arith) }
+    record { reads = e; held = λ len next q. absurd (never-both (Back number place) number place len next refl q) }
 
 module _ (s : List ℕ) (at end due : ℕ) (earlier : List (List ℕ)) (found : FieldEnd s at end) where
   pub name-missing : end ≡ at → NameRead s at due earlier (Back 1 at)
@@ -95,13 +97,6 @@ module _ (s : List ℕ) (at end due : ℕ) (earlier : List (List ℕ)) (found : 
         }
 
 -- ---- one name more
-
--- what agrees on a range gives the same there
-map-range : {A : Type 0} (f g : ℕ → A) (from count : ℕ) → ((k : ℕ) → from ≤ k → k < from + count → f k ≡ g k)
-    → map f (range from count) ≡ map g (range from count)
-unfolding range
-map-range f g from zero e = refl
-map-range f g from (suc count) e = λ i. e from (le-refl from) (omega arith) i ∷ map-range f g (suc from) count (λ k h l. e k (omega arith) (omega arith)) i
 
 names-more : (last left : ℕ) (earlier : List (List ℕ)) (t : List ℕ) (p : ℕ)
     → nameFields last (suc left) earlier t p
@@ -212,7 +207,7 @@ module _ (s : List ℕ) (at m n last : ℕ) (h : Header) (place i : ℕ) (readin
           reads = rw (onward, e) refl;
           levels = reading .levels;
           inputs = reading .inputs;
-          held = λ value next q. let z : _≡_ {A = ℕ} 0 1 = cc in absurd (omega arith);
+          held = λ value next q. absurd (never-both r number back value next e q);
         }
 
     pub names-next : (len next : ℕ) → n ≤ 11 → r ≡ On len next → Reading s at m n last (named h i place len) next (i + 1)

@@ -10,14 +10,10 @@ use crate::rows::rows;
 use fields::header::header_lines;
 use fields::runs::NEWLINE;
 use fields::runs::SPACE;
+use fields::steps::Outcome;
 use fields::steps::Step;
 use fields::words::word_field;
 use nets::forms::Header;
-
-pub enum Outcome {
-    Accepted,
-    Refused { number: usize, place: usize },
-}
 
 // What reading a table sheet comes to: of an accepted one the header is whole.
 pub struct TableRead {

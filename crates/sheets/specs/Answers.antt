@@ -1,0 +1,167 @@
+-- What reading a net sheet answers, in document 01's definitions.
+-- Assumes nothing.
+use Prim.Native.Nat.{ℕ, _-_, _≤_, _<_}
+use mathlib.Core.Path.{_≡_, refl, sym, ap, _∙_}
+use mathlib.Core.List.{List, []}
+use native.Mathlib.Omega.{arith}
+use lib.ListN.{length, drop}
+use Rattle.rules.specs.Text.{space, newline, text}
+use Rattle.rules.specs.Fields.{Read, Reader, then, _>>=_, give, field, theWord, closed}
+use Rattle.rules.specs.Sheets as sheets
+use Rattle.rules.specs.Sheets.{headerLines, gateLines, netSheet}
+use Rattle.rules.specs.Calls.{Answer, accepted, refused, answered, readNet}
+use Rattle.nets.specs.Forms.{headerOf, gatesOf}
+use Rattle.nets.specs.declared.forms.Header.{Header}
+use Rattle.nets.specs.declared.forms.Net.{Net}
+use Rattle.fields.specs.Chained.{chained-back, chained-on, answered-back, answered-on, closed-over, closed-here, then-then}
+use Rattle.fields.specs.Header.{HeaderHeld, HeaderRest}
+use Rattle.fields.specs.Steps.{stepAs, nothing, outcomeAs}
+use Rattle.fields.specs.declared.lines.HeaderRead.{HeaderRead}
+use Rattle.fields.specs.declared.steps.Outcome.{Outcome}
+use Rattle.fields.specs.declared.steps.Outcome.the-variants.{Accepted, Refused}
+use Rattle.fields.specs.declared.steps.Step.{Step}
+use Rattle.fields.specs.declared.steps.Step.the-variants.{On, Back}
+use Rattle.sheets.specs.GateLines.{NetWhole, GatesAll}
+use Rattle.sheets.specs.References.{namesOf}
+use Rattle.sheets.specs.declared.gates.GatesRead.{GatesRead}
+use Rattle.sheets.specs.declared.net.NetRead.{NetRead}
+
+-- the sheet's header and gates, or the refusal's number and place
+abbrev pub netAnswer : List ℕ → NetRead → Answer sheets.Net
+netAnswer s r = outcomeAs (record { header = headerOf s (r .header); gates = gatesOf (r .net) }) (r .outcome)
+
+-- what an accepted sheet's header and net keep
+pub record NetHeld (s : List ℕ) (r : NetRead) : Type 0 where
+  pub header : HeaderHeld s (r .header)
+  pub whole : NetWhole (r .header) (r .net)
+
+-- reading a whole net sheet
+pub record NetReads (s : List ℕ) (r : NetRead) : Type 0 where
+  pub answer : netAnswer s r ≡ readNet s
+  pub held : r .outcome ≡ Accepted → NetHeld s r
+
+-- what is left of a net sheet is read by `reader`
+pub record NetRest (s : List ℕ) (at : ℕ) (reader : Reader sheets.Net) (r : NetRead) : Type 0 where
+  pub answer : netAnswer s r ≡ answered (reader (drop at s) at)
+  pub held : r .outcome ≡ Accepted → NetHeld s r
+
+unfoldable pub headingLine : Reader (Unit {0})
+headingLine = field (theWord "left") space >>= λ _. field (theWord "right") space >>= λ _. field (theWord "table") newline
+
+unfoldable pub fromGates : sheets.Header → Reader sheets.Net
+fromGates h =
+    gateLines (h .levels) (h .names) (h .inputs - 1) [] >>= λ gates. closed >>= λ _. give (record { header = h; gates = gates })
+
+unfoldable pub fromHeading : sheets.Header → Reader sheets.Net
+fromHeading h = headingLine >>= λ _. fromGates h
+
+-- ---- line 4, word by word
+
+unfoldable pub afterLeft : Reader (Unit {0})
+afterLeft = field (theWord "right") space >>= λ _. field (theWord "table") newline
+
+module _ (s : List ℕ) (at : ℕ) (step : Step) where
+  module _ (reads : stepAs nothing s step ≡ field (theWord "left") space (drop at s) at) (r : Step) where
+    pub left-back : (number place : ℕ) → step ≡ Back number place → r ≡ Back number place → stepAs nothing s r ≡ headingLine (drop at s) at
+    unfolding headingLine
+    left-back number place e q = chained-back nothing (field (theWord "left") space) _ s at step reads nothing r number place e q
+
+    pub left-on : (value next : ℕ) → step ≡ On value next → stepAs nothing s r ≡ afterLeft (drop next s) next
+        → stepAs nothing s r ≡ headingLine (drop at s) at
+    unfolding headingLine afterLeft
+    left-on value next e onward = chained-on nothing (field (theWord "left") space) (λ _. afterLeft) s at step reads nothing r value next e onward
+
+  module _ (reads : stepAs nothing s step ≡ field (theWord "right") space (drop at s) at) (r : Step) where
+    pub right-back : (number place : ℕ) → step ≡ Back number place → r ≡ Back number place → stepAs nothing s r ≡ afterLeft (drop at s) at
+    unfolding afterLeft
+    right-back number place e q = chained-back nothing (field (theWord "right") space) _ s at step reads nothing r number place e q
+
+    pub right-on : (value next : ℕ) → step ≡ On value next → stepAs nothing s r ≡ field (theWord "table") newline (drop next s) next
+        → stepAs nothing s r ≡ afterLeft (drop at s) at
+    unfolding afterLeft
+    right-on value next e onward =
+        chained-on nothing (field (theWord "right") space) (λ _. field (theWord "table") newline) s at step reads nothing r value next e onward
+
+-- ---- from the gate lines back to the whole sheet
+
+-- a refused sheet keeps nothing
+refused-rest : (s : List ℕ) (at : ℕ) (reader : Reader sheets.Net) (number place : ℕ) (h : Header) (net : Net)
+    → refused number place ≡ answered (reader (drop at s) at) → NetRest s at reader (record { outcome = Refused number place; header = h; net = net })
+refused-rest s at reader number place h net e =
+    record { answer = e; held = λ q. let z : _≡_ {A = ℕ} 0 1 = cc in absurd (omega arith) }
+
+module _ (s : List ℕ) (at : ℕ) (h : Header) (held : HeaderHeld s h) (r : GatesRead) (gates : GatesAll s at h r) where
+  lines : Reader (List sheets.Gate)
+  lines = gateLines (h .levels) (namesOf s h) (h .inputs - 1) []
+
+  pub gates-back : (number place : ℕ) → r .step ≡ Back number place
+      → NetRest s at (fromGates (headerOf s h)) (record { outcome = Refused number place; header = h; net = r .net })
+  unfolding fromGates headerOf lines
+  gates-back number place e =
+      refused-rest s at (fromGates (headerOf s h)) number place h (r .net)
+      (answered-back (λ _. gatesOf (r .net)) lines _ s at (r .step) (gates .reads) number place e)
+
+  module _ (value next : ℕ) (e : r .step ≡ On value next) where
+    pub gates-over : next < length s → NetRest s at (fromGates (headerOf s h)) (record { outcome = Refused 1 next; header = h; net = r .net })
+    unfolding fromGates headerOf lines
+    gates-over more =
+        refused-rest s at (fromGates (headerOf s h)) 1 next h (r .net)
+        (answered-on (λ _. gatesOf (r .net)) lines _ s at (r .step) (gates .reads) value next (refused 1 next) e
+        (closed-over s next (record { header = headerOf s h; gates = gatesOf (r .net) }) more))
+
+    pub gates-closed : length s ≤ next → NetRest s at (fromGates (headerOf s h)) (record { outcome = Accepted; header = h; net = r .net })
+    unfolding fromGates headerOf lines
+    gates-closed done =
+        record {
+          answer =
+              answered-on (λ _. gatesOf (r .net)) lines _ s at (r .step) (gates .reads) value next _ e
+              (closed-here s next (record { header = headerOf s h; gates = gatesOf (r .net) }) done);
+          held = λ _. record { header = held; whole = gates .whole value next e };
+        }
+
+module _ (s : List ℕ) (at : ℕ) (h : Header) (step : Step) (reads : stepAs nothing s step ≡ headingLine (drop at s) at) where
+  pub heading-back : (number place : ℕ) (net : Net) → step ≡ Back number place
+      → NetRest s at (fromHeading (headerOf s h)) (record { outcome = Refused number place; header = h; net = net })
+  unfolding fromHeading
+  heading-back number place net e =
+      refused-rest s at (fromHeading (headerOf s h)) number place h net (answered-back nothing headingLine _ s at step reads number place e)
+
+  pub heading-on : (value next : ℕ) (r : NetRead) → step ≡ On value next → NetRest s next (fromGates (headerOf s h)) r
+      → NetRest s at (fromHeading (headerOf s h)) r
+  unfolding fromHeading
+  heading-on value next r e onward =
+      record {
+        answer = answered-on nothing headingLine (λ _. fromGates (headerOf s h)) s at step reads value next _ e (onward .answer);
+        held = onward .held;
+      }
+
+-- the whole sheet is its header, and the rest
+sheet-split : (s : List ℕ) → (headerLines newline >>= fromHeading) s 0 ≡ netSheet s 0
+unfolding netSheet fromHeading fromGates headingLine
+sheet-split s = ap (then (headerLines newline s 0)) (λ i h t at. words h t at i)
+  where
+    words : (h : sheets.Header) (t : List ℕ) (at : ℕ)
+        → then (headingLine t at) (λ _. fromGates h)
+        ≡ (field (theWord "left") space >>= λ _. field (theWord "right") space >>= λ _. field (theWord "table") newline >>= λ _. fromGates h) t at
+    words h t at =
+        then-then (field (theWord "left") space t at) _ _
+        ∙ ap (then (field (theWord "left") space t at)) (λ i _ u p. then-then (field (theWord "right") space u p) (λ _. field (theWord "table") newline) (λ _. fromGates h) i)
+
+module _ (s : List ℕ) (r : HeaderRead) (header : HeaderRest s 0 (headerLines newline) r) where
+  pub net-back : (number place : ℕ) (net : Net) → r .step ≡ Back number place
+      → NetReads s (record { outcome = Refused number place; header = r .header; net = net })
+  unfolding readNet
+  net-back number place net e =
+      let rest = refused-rest s 0 (headerLines newline >>= fromHeading) number place (r .header) net
+      (answered-back (λ _. headerOf s (r .header)) (headerLines newline) fromHeading s 0 (r .step) (header .reads) number place e) in
+      record { answer = rest .answer ∙ ap answered (sheet-split s); held = rest .held }
+
+  pub net-on : (value next : ℕ) (out : NetRead) → r .step ≡ On value next → NetRest s next (fromHeading (headerOf s (r .header))) out → NetReads s out
+  unfolding readNet
+  net-on value next out e onward =
+      record {
+        answer =
+            answered-on (λ _. headerOf s (r .header)) (headerLines newline) fromHeading s 0 (r .step) (header .reads) value next _ e (onward .answer)
+            ∙ ap answered (sheet-split s);
+        held = onward .held;
+      }

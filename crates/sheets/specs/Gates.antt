@@ -1,0 +1,321 @@
+-- Gate lines, one after the other.
+-- Assumes nothing.
+use Prim.Native.Nat.{ℕ, zero, suc, _+_, _-_, _*_, _≤_, _<_}
+use mathlib.Core.Path.{_≡_, refl, sym, ap, _∙_}
+use mathlib.Core.List.{List, [], _∷_, _++_, map, append-assoc}
+use native.Mathlib.Nat.{mul-le-mul-right, zero-add}
+use native.Mathlib.Numerals.{add-one}
+use native.Mathlib.Omega.{arith}
+use lib.ListN.{length, take, drop, getD, set, length-drop, length-set, length-map, take-append-drop}
+use lib.Seq.{paste, length-paste, length-take-le, take-all, take-at, drop-at, take-append-le, drop-append-le, getD-set-same, getD-set-other}
+use Rattle.rules.specs.Lists.{range}
+use Rattle.rules.specs.Text.{space, newline}
+use Rattle.rules.specs.Fields.{Read, read, turnedBack, Reader, then, _>>=_, give, field}
+use Rattle.rules.specs.Sheets as sheets
+use Rattle.rules.specs.Sheets.{referenceField, digitsField, usedBy, gateLine, gateLines}
+use Rattle.laws.specs.Concat.{map-append}
+use Rattle.laws.specs.Ranges.{range-length, range-suc}
+use Rattle.fields.specs.Chained.{chained-back, chained-on, then-then, never-both}
+use Rattle.fields.specs.Header.{HeaderHeld}
+use Rattle.fields.specs.Ranges.{map-range}
+use Rattle.fields.specs.Steps.{stepAs, itself}
+use Rattle.fields.specs.Taken.{size-told}
+use Rattle.fields.specs.declared.steps.Step.{Step}
+use Rattle.fields.specs.declared.steps.Step.the-variants.{On, Back}
+use Rattle.nets.specs.Forms.{gateOf, gatesOf}
+use Rattle.nets.specs.declared.forms.Header.{Header}
+use Rattle.nets.specs.declared.forms.Net.{Net}
+use Rattle.sheets.specs.Digits.{digitsAt, DigitsRead}
+use Rattle.sheets.specs.References.{namesOf, names-count, spare}
+use Rattle.sheets.specs.Room.{digits-room}
+use Rattle.sheets.specs.declared.gates.GatesRead.{GatesRead}
+
+-- a net with room for the largest size
+pub record NetForm (net : Net) : Type 0 where
+  pub lefts : length (net .left) ≡ 10
+  pub rights : length (net .right) ≡ 10
+  pub digits : length (net .digits) ≡ 162
+
+-- the net with one gate more
+pub record Grown (net : Net) (gate : sheets.Gate) (r : Net) : Type 0 where
+  pub form : NetForm r
+  pub levels : r .levels ≡ net .levels
+  pub inputs : r .inputs ≡ net .inputs
+  pub count : r .gates ≡ net .gates + 1
+  pub gates : gatesOf r ≡ gatesOf net ++ (gate ∷ [])
+
+-- ---- a part of a list that something was pasted into
+
+module _ (d : List ℕ) (from : ℕ) (v : List ℕ) (n : ℕ) (fits : from + n ≤ length d) (long : length v ≡ n) where
+  front : length (take from d) ≡ from
+  front = length-take-le from d (omega arith)
+
+  part-before : (a k : ℕ) → a + k ≤ from → take k (drop a (paste d from v n)) ≡ take k (drop a d)
+  part-before a k h =
+      ap (λ l. take k (drop a l)) (append-assoc (take from d) (take n v) (drop (from + n) d))
+      ∙ (before (take n v ++ drop (from + n) d) ∙ (sym (before (drop from d)) ∙ ap (λ l. take k (drop a l)) (take-append-drop from d)))
+    where
+      before : (rest : List ℕ) → take k (drop a (take from d ++ rest)) ≡ take k (drop a (take from d))
+      before rest =
+          ap (take k) (drop-append-le a (take from d) rest (rw front (omega arith)))
+          ∙ take-append-le k (drop a (take from d)) rest (rw (length-drop a (take from d), front) (omega arith))
+
+  part-pasted : take n (drop from (paste d from v n)) ≡ v
+  part-pasted =
+      ap (λ l. take n (drop from l)) (append-assoc (take from d) (take n v) (drop (from + n) d))
+      ∙ (ap (take n) (drop-at (take from d) (take n v ++ drop (from + n) d) from front)
+      ∙ (ap (λ l. take n (l ++ drop (from + n) d)) (take-all n v (omega arith)) ∙ take-at v (drop (from + n) d) n long))
+
+-- ---- one gate more
+
+module _ (net : Net) (left right : ℕ) (v digits : List ℕ) (form : NetForm net) (few : net .gates < 10)
+    (room : (net .gates + 1) * (net .levels * net .levels) ≤ 162) (long : length v ≡ net .levels * net .levels)
+    (pasted : digits ≡ paste (net .digits) (net .gates * (net .levels * net .levels)) v (net .levels * net .levels)) where
+  abbrev size : ℕ
+  size = net .levels * net .levels
+
+  abbrev more : Net
+  more =
+      record {
+        levels = net .levels;
+        inputs = net .inputs;
+        gates = net .gates + 1;
+        left = set (net .left) (net .gates) left;
+        right = set (net .right) (net .gates) right;
+        digits = digits;
+      }
+
+  fits : net .gates * size + size ≤ length (net .digits)
+  fits = rw (form .digits) (omega arith)
+
+  earlier : (k : ℕ) → k < net .gates → gateOf more k ≡ gateOf net k
+  unfolding gateOf
+  earlier k h = λ i. record {
+    left = getD-set-other (net .left) (net .gates) k left 0 (λ e. omega (arith, e)) i;
+    right = getD-set-other (net .right) (net .gates) k right 0 (λ e. omega (arith, e)) i;
+    digits = (ap (λ l. take size (drop (k * size) l)) pasted ∙ part-before (net .digits) (net .gates * size) v size fits long (k * size) size (below k h)) i;
+  }
+    where
+      below : (k : ℕ) → k < net .gates → k * size + size ≤ net .gates * size
+      below k h = omega (arith, mul-le-mul-right size h)
+
+  last : gateOf more (net .gates) ≡ record { left = left; right = right; digits = v }
+  unfolding gateOf
+  last = λ i. record {
+    left = getD-set-same (net .left) (net .gates) left 0 (rw (form .lefts) few) i;
+    right = getD-set-same (net .right) (net .gates) right 0 (rw (form .rights) few) i;
+    digits = (ap (λ l. take size (drop (net .gates * size) l)) pasted ∙ part-pasted (net .digits) (net .gates * size) v size fits long) i;
+  }
+
+  pub gates-grown : Grown net (record { left = left; right = right; digits = v }) more
+  unfolding gatesOf
+  gates-grown =
+      record {
+        form =
+            record {
+              lefts = length-set (net .left) (net .gates) left ∙ form .lefts;
+              rights = length-set (net .right) (net .gates) right ∙ form .rights;
+              digits = ap length pasted ∙ (length-paste (net .digits) (net .gates * size) v size fits (omega (arith, long)) ∙ form .digits);
+            };
+        levels = refl;
+        inputs = refl;
+        count = refl;
+        gates =
+            ap (λ k. map (gateOf more) (range 0 k)) (add-one (net .gates))
+            ∙ (ap (map (gateOf more)) (range-suc 0 (net .gates))
+            ∙ (map-append (gateOf more) (range 0 (net .gates)) ((0 + net .gates) ∷ [])
+            ∙ (λ i. map-range (gateOf more) (gateOf net) 0 (net .gates) (λ k _ h. earlier k (omega (arith, h))) i
+            ++ ((ap (gateOf more) (zero-add (net .gates)) ∙ last) i ∷ []))));
+      }
+
+-- ---- a gate line, field by field
+
+-- the net has one gate more
+pub record More (net r : Net) : Type 0 where
+  pub form : NetForm r
+  pub levels : r .levels ≡ net .levels
+  pub inputs : r .inputs ≡ net .inputs
+  pub count : r .gates ≡ net .gates + 1
+
+-- what is left of a gate line is read by `reader`, which gives the gates with one more
+pub record GateRest (s : List ℕ) (at : ℕ) (reader : Reader (List sheets.Gate)) (net : Net) (r : GatesRead) : Type 0 where
+  pub reads : stepAs (λ _. gatesOf (r .net)) s (r .step) ≡ reader (drop at s) at
+  pub more : (value next : ℕ) → r .step ≡ On value next → More net (r .net)
+
+abbrev pub withGate : List sheets.Gate → ℕ → ℕ → List ℕ → List sheets.Gate
+withGate earlier left right digits = earlier ++ (record { left = left; right = right; digits = digits } ∷ [])
+
+unfoldable pub fromDigits : ℕ → List sheets.Gate → ℕ → ℕ → Reader (List sheets.Gate)
+fromDigits m earlier left right = field (digitsField m) newline >>= λ digits. give (withGate earlier left right digits)
+
+unfoldable pub fromRight : ℕ → List (List ℕ) → List sheets.Gate → ℕ → Reader (List sheets.Gate)
+fromRight m names earlier left =
+    field (referenceField names (length earlier) (left ∷ usedBy earlier)) space >>= λ right. fromDigits m earlier left right
+
+-- document 01's gate line, put after the gates before it
+unfoldable pub oneGate : ℕ → List (List ℕ) → List sheets.Gate → Reader (List sheets.Gate)
+oneGate m names earlier = gateLine m names earlier >>= λ g. give (earlier ++ (g ∷ []))
+
+-- a net with room for one gate more, under a sheet's header
+pub record GateRoom (s : List ℕ) (h : Header) (net : Net) : Type 0 where
+  pub held : HeaderHeld s h
+  pub form : NetForm net
+  pub levels : net .levels ≡ h .levels
+  pub inputs : net .inputs ≡ h .inputs
+  pub room : net .gates + 1 < h .inputs
+
+pub gates-count : (net : Net) → length (gatesOf net) ≡ net .gates
+unfolding gatesOf
+gates-count net = length-map (range 0 (net .gates)) (gateOf net) ∙ range-length 0 (net .gates)
+
+-- the sheet is turned back in the line
+module _ (s : List ℕ) (at : ℕ) (net : Net) {A : Type 0} (f : ℕ → A) (one : Reader A) (rest : A → Reader (List sheets.Gate)) (step : Step)
+    (reads : stepAs f s step ≡ one (drop at s) at) where
+  gate-back : (number place : ℕ) (r : Step) → step ≡ Back number place → r ≡ Back number place
+      → GateRest s at (one >>= rest) net (record { step = r; net = net })
+  gate-back number place r e q =
+      record {
+        reads = chained-back f one rest s at step reads (λ _. gatesOf net) r number place e q;
+        more = λ value next p. absurd (never-both r number place value next q p);
+      }
+
+  gate-on : (value next : ℕ) (r : GatesRead) → step ≡ On value next → GateRest s next (rest (f value)) net r
+      → GateRest s at (one >>= rest) net r
+  gate-on value next r e onward =
+      record {
+        reads = chained-on f one rest s at step reads (λ _. gatesOf (r .net)) (r .step) value next e (onward .reads);
+        more = onward .more;
+      }
+
+-- the line's last field
+pub gate-whole : (s : List ℕ) (at : ℕ) (net : Net) (left right : ℕ) (step : Step) (count next : ℕ) (r : Net)
+    → DigitsRead s at (net .levels) step → step ≡ On count next
+    → Grown net (record { left = left; right = right; digits = digitsAt s at (net .levels * net .levels) }) r
+    → GateRest s at (fromDigits (net .levels) (gatesOf net) left right) net (record { step = step; net = r })
+unfolding fromDigits newline
+gate-whole s at net left right step count next r digits e grown =
+    record {
+      reads =
+          chained-on (λ count. digitsAt s at count) (field (digitsField (net .levels)) 10) (λ v. give (withGate (gatesOf net) left right v)) s at step
+          (digits .reads) (λ _. gatesOf r) step count next e
+          (ap (stepAs (λ _. gatesOf r) s) e
+          ∙ ap (λ gates. read gates (drop next s) next)
+          (grown .gates ∙ ap (λ k. withGate (gatesOf net) left right (digitsAt s at k)) (sym (digits .count count next e))));
+      more = λ _ _ _. record { form = grown .form; levels = grown .levels; inputs = grown .inputs; count = grown .count };
+    }
+
+pub digits-back : (s : List ℕ) (at : ℕ) (net : Net) (left right : ℕ) (step : Step) (number place : ℕ)
+    → DigitsRead s at (net .levels) step → step ≡ Back number place
+    → GateRest s at (fromDigits (net .levels) (gatesOf net) left right) net (record { step = step; net = net })
+unfolding fromDigits newline
+digits-back s at net left right step number place digits e =
+    gate-back s at net (λ count. digitsAt s at count) (field (digitsField (net .levels)) 10) (λ v. give (withGate (gatesOf net) left right v)) step
+    (digits .reads) number place step e e
+
+module _ (s : List ℕ) (at : ℕ) (h : Header) (net : Net) (left : ℕ) (step : Step)
+    (reads : stepAs itself s step ≡ field (referenceField (namesOf s h) (net .gates) (left ∷ usedBy (gatesOf net))) 32 (drop at s) at) where
+  right-field : Reader ℕ
+  right-field = field (referenceField (namesOf s h) (length (gatesOf net)) (left ∷ usedBy (gatesOf net))) 32
+
+  right-reads : stepAs itself s step ≡ right-field (drop at s) at
+  unfolding right-field
+  right-reads = rw (gates-count net) reads
+
+  pub right-back : (number place : ℕ) → step ≡ Back number place
+      → GateRest s at (fromRight (net .levels) (namesOf s h) (gatesOf net) left) net (record { step = Back number place; net = net })
+  unfolding right-field fromRight space
+  right-back number place e =
+      gate-back s at net itself right-field (fromDigits (net .levels) (gatesOf net) left) step right-reads number place (Back number place) e refl
+
+  pub right-on : (value next : ℕ) (r : GatesRead) → step ≡ On value next
+      → GateRest s next (fromDigits (net .levels) (gatesOf net) left value) net r
+      → GateRest s at (fromRight (net .levels) (namesOf s h) (gatesOf net) left) net r
+  unfolding right-field fromRight space
+  right-on value next r e onward =
+      gate-on s at net itself right-field (fromDigits (net .levels) (gatesOf net) left) step right-reads value next r e onward
+
+-- ---- a gate line is document 01's
+
+module _ (m : ℕ) (names : List (List ℕ)) (earlier : List sheets.Gate) where
+  after : sheets.Gate → Reader (List sheets.Gate)
+  after g = give (earlier ++ (g ∷ []))
+
+  digitsOnly : ℕ → ℕ → Reader sheets.Gate
+  digitsOnly left right = field (digitsField m) newline >>= λ digits. give (record { left = left; right = right; digits = digits })
+
+  rightOnly : ℕ → Reader sheets.Gate
+  rightOnly left = field (referenceField names (length earlier) (left ∷ usedBy earlier)) space >>= digitsOnly left
+
+  digits-after : (left right : ℕ) (t : List ℕ) (at : ℕ) → then (digitsOnly left right t at) after ≡ fromDigits m earlier left right t at
+  unfolding digitsOnly fromDigits after then
+  digits-after left right t at = then-then (field (digitsField m) newline t at) _ after
+
+  right-after : (left : ℕ) (t : List ℕ) (at : ℕ) → then (rightOnly left t at) after ≡ fromRight m names earlier left t at
+  unfolding rightOnly fromRight
+  right-after left t at =
+      then-then (field (referenceField names (length earlier) (left ∷ usedBy earlier)) space t at) (digitsOnly left) after
+      ∙ ap (then (field (referenceField names (length earlier) (left ∷ usedBy earlier)) space t at)) (λ i right s p. digits-after left right s p i)
+
+  pub gate-line : (t : List ℕ) (at : ℕ)
+      → (field (referenceField names (length earlier) (usedBy earlier)) space >>= fromRight m names earlier) t at ≡ oneGate m names earlier t at
+  unfolding oneGate gateLine rightOnly digitsOnly after
+  gate-line t at =
+      sym
+      (then-then (field (referenceField names (length earlier) (usedBy earlier)) space t at) rightOnly after
+      ∙ ap (then (field (referenceField names (length earlier) (usedBy earlier)) space t at)) (λ i left s p. right-after left s p i))
+
+module _ (s : List ℕ) (at : ℕ) (h : Header) (net : Net) (nowhere : ℕ) (beyond : length (namesOf s h) + net .gates ≤ nowhere) (step : Step)
+    (reads : stepAs itself s step ≡ field (referenceField (namesOf s h) (net .gates) (nowhere ∷ usedBy (gatesOf net))) 32 (drop at s) at) where
+  left-field : Reader ℕ
+  left-field = field (referenceField (namesOf s h) (length (gatesOf net)) (usedBy (gatesOf net))) 32
+
+  left-reads : stepAs itself s step ≡ left-field (drop at s) at
+  unfolding left-field
+  left-reads =
+      rw (gates-count net)
+      (reads ∙ ap (λ judge. field judge 32 (drop at s) at) (spare (namesOf s h) (net .gates) (usedBy (gatesOf net)) nowhere beyond))
+
+  whole-line : (r : GatesRead) → GateRest s at (left-field >>= fromRight (net .levels) (namesOf s h) (gatesOf net)) net r
+      → GateRest s at (oneGate (net .levels) (namesOf s h) (gatesOf net)) net r
+  unfolding left-field space
+  whole-line r rest =
+      record { reads = rest .reads ∙ gate-line (net .levels) (namesOf s h) (gatesOf net) (drop at s) at; more = rest .more }
+
+  pub left-back : (number place : ℕ) → step ≡ Back number place
+      → GateRest s at (oneGate (net .levels) (namesOf s h) (gatesOf net)) net (record { step = Back number place; net = net })
+  left-back number place e =
+      whole-line (record { step = Back number place; net = net })
+      (gate-back s at net itself left-field (fromRight (net .levels) (namesOf s h) (gatesOf net)) step left-reads number place (Back number place) e refl)
+
+  pub left-on : (value next : ℕ) (r : GatesRead) → step ≡ On value next
+      → GateRest s next (fromRight (net .levels) (namesOf s h) (gatesOf net) value) net r
+      → GateRest s at (oneGate (net .levels) (namesOf s h) (gatesOf net)) net r
+  left-on value next r e onward =
+      whole-line r (gate-on s at net itself left-field (fromRight (net .levels) (namesOf s h) (gatesOf net)) step left-reads value next r e onward)
+
+-- ---- room for one gate more
+
+pub record Room (net : Net) : Type 0 where
+  pub few : net .gates < 10
+  pub digits : (net .gates + 1) * (net .levels * net .levels) ≤ 162
+  pub levels : net .levels ≤ 9
+
+pub room-told : (s : List ℕ) (h : Header) (net : Net) → GateRoom s h net → Room net
+room-told s h net given =
+    let size = size-told (h .levels) (h .inputs) (given .held .fits) in
+    record {
+      few = omega (arith, given .room, size .inputs-most);
+      digits = rw (given .levels) (digits-room (h .levels) (h .inputs) (net .gates) (given .held .fits) (omega (arith, given .room)));
+      levels = rw (given .levels) (size .levels-most);
+    }
+
+-- every reference of a line is far below 256
+pub reference-small : (s : List ℕ) (h : Header) (net : Net) (value : ℕ) → GateRoom s h net → value < length (namesOf s h) + net .gates → value < 255
+reference-small s h net value given below =
+    let size = size-told (h .levels) (h .inputs) (given .held .fits) in
+    omega (arith, below, names-count s h, given .room, size .inputs-most)
+
+pub references-few : (s : List ℕ) (h : Header) (net : Net) → GateRoom s h net → length (namesOf s h) + net .gates ≤ 255
+references-few s h net given =
+    let size = size-told (h .levels) (h .inputs) (given .held .fits) in
+    omega (arith, names-count s h, given .room, size .inputs-most)

@@ -1,0 +1,6 @@
+pub mod Answers
+pub mod Digits
+pub mod GateLines
+pub mod Gates
+pub mod References
+pub mod Room

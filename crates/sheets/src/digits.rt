@@ -1,0 +1,72 @@
+// A gate's table field.
+ghost use mathlib.Core.Path.{_≡_};
+ghost use Prim.Native.Nat.{_+_, _*_, _≤_};
+ghost use lib.ListN.{length};
+ghost use lib.Seq.{paste};
+ghost use Rattle.rules.specs.Lists.{all};
+ghost use Rattle.rules.specs.Text.{isDigit};
+ghost use Rattle.sheets.specs.Digits.{DigitsRead, areDigits, digitsAt};
+use fields::ends::after_field;
+use fields::numbers::wide;
+use fields::runs::NEWLINE;
+use fields::runs::field_end;
+use fields::steps::Step;
+use fields::steps::Verdict;
+
+// Is every byte of w a digit below m?
+pub fn are_digits(w: &[u8], m: usize) -> bool
+    requires { ⌜ m ≤ 9 ⌝ }
+    ensures { λ r. ⌜ r ≡ all (isDigit m) (now (w .entry)) ⌝ }
+{
+    let mut i: usize = 0;
+    while i < w.len() {
+        let b = wide(w[i]);
+        if b < 48 {
+            return false;
+        }
+        if 48 + m <= b {
+            return false;
+        }
+        i += 1;
+    }
+    true
+}
+
+// The table field of a gate; a step onward has its length.
+pub fn digits_field(s: &[u8], at: usize, m: usize) -> Step
+    requires { ⌜ m ≤ 9 ⌝ }
+    ensures { λ r. ⌜ DigitsRead (now (s .entry)) at m r ⌝ }
+{
+    let end = field_end(s, at);
+    if end == at {
+        return Step::Back {
+            number: 1,
+            place: at,
+        };
+    }
+    if end - at != m * m {
+        return Step::Back {
+            number: 6,
+            place: at,
+        };
+    }
+    if !are_digits(&s[at..end], m) {
+        return Step::Back {
+            number: 6,
+            place: at,
+        };
+    }
+    after_field(s, Verdict::Good(end - at), NEWLINE, at, end)
+}
+
+// Copies the `count` digits that stand in the sheet from `at` on.
+pub fn copy_digits(s: &[u8], at: usize, count: usize, digits: &mut [u8; 162], from: usize)
+    requires { ⌜ (at + count ≤ length (now s)) × (from + count ≤ 162) × (length (now digits) ≡ 162) × areDigits (now s) at count ⌝ }
+    ensures { λ _. ⌜ now (digits .exit) ≡ paste (now (digits .entry)) from (digitsAt (now (s .entry)) at count) count ⌝ }
+{
+    let mut i: usize = 0;
+    while i < count {
+        digits[from + i] = s[at + i] - 48;
+        i += 1;
+    }
+}
