@@ -4,7 +4,8 @@ use Prim.Native.Nat.{ℕ, _+_, _-_, _^_, _≤_, _<_}
 use mathlib.Core.Path.{_≡_, refl, sym, ap, _∙_}
 use mathlib.Core.Bool.{Bool, true, false, _&&_}
 use mathlib.Core.Option.{Option, none, some}
-use mathlib.Core.List.{List, [], _∷_}
+use mathlib.Core.Logic.{⊎-elim}
+use mathlib.Core.List.{List, [], _∷_, List·Memᴰ, List·Memᴰ·head, List·Memᴰ·tail, List·Memᴰ·cases-cons}
 use native.Mathlib.Nat.{sub-zero}
 use native.Mathlib.Omega.{arith}
 use lib.Dec.{eqb, ltb}
@@ -12,6 +13,8 @@ use borrow.Author.Tests.{lt-ltb, le-ltb}
 use Rattle.rules.specs.Lists.{range, those, concatMap, find}
 use Rattle.rules.specs.Groups.{size}
 use Rattle.rules.specs.Marks.{markIn, bySize, noTreePlace}
+use Rattle.laws.specs.Concat.{concat-mem}
+use Rattle.laws.specs.Ranges.{range-mem}
 use Rattle.laws.specs.Finds.{or-else, find-append, find-those}
 use Rattle.printing.specs.Lines.{range-next}
 
@@ -94,3 +97,31 @@ module _ (n : ℕ) (marks : List ℕ) where
 
   pub place-missing : placeFrom n marks 0 ≡ none → 0 ≡ noTreePlace n marks
   place-missing e = sym (ap (λ o. elim o as (λ _. ℕ) [ none ↦ 0 | some g ↦ g ]) e) ∙ place-from
+
+-- ---- marks that agree on every group have one place
+
+find-same : (t u : ℕ → Bool) (xs : List ℕ) → ((x : ℕ) → List·Memᴰ x xs → t x ≡ u x) → find t xs ≡ find u xs
+unfolding find
+find-same t u [] e = refl
+find-same t u (x ∷ xs) e =
+    rw (e x (List·Memᴰ·head refl), find)
+    (ap (λ (o : Option ℕ). elim (u x) as (λ _. Option ℕ) [ true ↦ some x | false ↦ o ]) (find-same t u xs (λ y m. e y (List·Memᴰ·tail m))))
+
+those-mem : (t : ℕ → Bool) (xs : List ℕ) (x : ℕ) → List·Memᴰ x (those t xs) → List·Memᴰ x xs
+unfolding those
+those-mem t [] x m = m
+those-mem t (y ∷ xs) x m = go (t y) (those-mem t xs x) m
+  where
+    go : (b : Bool) → (List·Memᴰ x (those t xs) → List·Memᴰ x xs) → List·Memᴰ x (elim b [ true ↦ y ∷ those t xs | false ↦ those t xs ]) → List·Memᴰ x (y ∷ xs)
+    go true later m = ⊎-elim (λ e. List·Memᴰ·head e) (λ r. List·Memᴰ·tail (later r)) (List·Memᴰ·cases-cons m)
+    go false later m = List·Memᴰ·tail (later m)
+
+pub place-agree : (n : ℕ) (marks other : List ℕ) → ((g : ℕ) → g < 2 ^ n → markIn marks g ≡ markIn other g) → noTreePlace n marks ≡ noTreePlace n other
+unfolding noTreePlace bySize
+place-agree n marks other e = ap (λ (o : Option ℕ). elim o as (λ _. ℕ) [ none ↦ 0 | some g ↦ g ]) (find-same (isOne marks) (isOne other) (bySize n) same)
+  where
+    same : (g : ℕ) → List·Memᴰ g (bySize n) → isOne marks g ≡ isOne other g
+    same g m =
+        let (k, _, of-size) = concat-mem (λ s. those (λ g. eqb (size n g) s) (range 0 (2 ^ n))) (range 0 (n + 1)) m in
+        let (_, below) = range-mem 0 (2 ^ n) g (those-mem (λ g. eqb (size n g) k) (range 0 (2 ^ n)) g of-size) in
+        ap (λ (v : ℕ). eqb v 1) (e g (omega arith))
