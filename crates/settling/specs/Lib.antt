@@ -1,3 +1,4 @@
 pub mod Answers
 pub mod Given
 pub mod Place
+pub mod Sheets

@@ -1,14 +1,9 @@
 // Settling and making. Any sheet and buffers of any length may come in.
 ghost use mathlib.Core.Path.{_≡_};
-ghost use Prim.Native.Nat.{_≤_};
-ghost use lib.ListN.{length};
-ghost use Rattle.rules.specs.Limits.{mostCells};
-ghost use Rattle.rules.specs.Kept.{KeptNet};
 ghost use Rattle.rules.specs.Calls.{tableOfNet, settledInto, settleCall, makeCall};
-ghost use Rattle.fields.specs.Header.{HeaderHeld};
-ghost use Rattle.sheets.specs.GateLines.{NetWhole};
 ghost use Rattle.printing.specs.Gates.{netIn};
 ghost use Rattle.settling.specs.Answers.{madeOf};
+ghost use Rattle.settling.specs.Sheets.{GivenNet};
 use crate::into;
 use fields::steps::Outcome;
 use groups::call::Answer;
@@ -29,7 +24,7 @@ fn settle_net(
     marks: &mut [u8],
     out: &mut [u8],
 ) -> Answer
-    requires { ⌜ HeaderHeld (now s) header × NetWhole header gates × KeptNet (netIn (now s) header gates) ⌝ }
+    requires { ⌜ GivenNet (now s) header gates ⌝ }
     ensures { λ r. ⌜ madeOf r (now (cells .exit)) (now (marks .exit)) (now (out .exit))
         ≡ settledInto (tableOfNet (netIn (now (s .entry)) header gates)) (now (cells .entry)) (now (marks .entry)) (now (out .entry)) ⌝ }
 {

@@ -1,50 +1,46 @@
+-- `settling::calls::settle_net` meets its contract. Assumes nothing.
+use mathlib.Core.Path.{_∙_}
+use native.Mathlib.Omega.{arith}
+use Rattle.rules.specs.Limits.{mostCells}
+use Rattle.settling.specs.Sheets.{net-sound, net-room, net-table-given, net-settled}
 use borrow.Author.Needs.{needs}
 use Rattle.settling.proofs.calls.settle_net.Statement.{statement}
 use Rattle.settling.proofs.calls.settle_net.Tie as tie
-use Rattle.settling.proofs.calls.settle_net.Reads as reads
-use Rattle.settling.proofs.calls.settle_net.Lts as lts
-use Rattle.nets.proofs.values.table.Reads as table-reads
-use Rattle.settling.proofs.into.settle_into.Reads as settle-into-reads
 
--- src/calls.rt:37:38
 slice-aggregate-table : tie.Need-slice-aggregate-table
 slice-aggregate-table c = search needs
 
--- src/calls.rt:37:9
 table-requires : tie.Need-table-requires
-table-requires c κs = ?
+unfolding mostCells
+table-requires c κs = (net-sound _ _ _ (c .before .before .before .before .before .pre), net-room _ _ _ (c .before .before .before .before .before .pre))
 
--- src/calls.rt:38:34
 sub-settle-into : tie.Need-sub-settle-into
 sub-settle-into c = search needs
 
--- src/calls.rt:38:34
 part-settle-into-start : tie.Need-part-settle-into-start
 part-settle-into-start c = search needs
 
--- src/calls.rt:38:34
 part-settle-into-end : tie.Need-part-settle-into-end
-part-settle-into-end c = ?
+unfolding mostCells
+part-settle-into-end c =
+    let start = c .before .before .before .before .before .before .before .before in
+    let table = c .before .before .table in
+    omega (arith, table .ensures .result, net-room _ _ _ (start .pre), table .kept)
 
--- src/calls.rt:38:5
 settle-into-requires : tie.Need-settle-into-requires
-settle-into-requires c κs = ?
+settle-into-requires c κs = net-table-given _ _ _ (c .before .before .before .before .before .before .before .before .before .before .before .before .pre) _ _ _ (c .before .before .before .before .before .before .table .ensures)
 
--- src/calls.rt:24:1
 same-length : tie.Need-same-length
 same-length c = search needs
 
--- src/calls.rt:24:1
 same-length-2 : tie.Need-same-length-2
 same-length-2 c = search needs
 
--- src/calls.rt:24:1
 same-length-3 : tie.Need-same-length-3
 same-length-3 c = search needs
 
--- src/calls.rt:24:1
 returns : tie.Need-returns
-returns c = ?
+returns c = c .before .before .before .before .before .before .settle-into .ensures ∙ net-settled _ _ _ (c .before .before .before .before .before .before .before .before .before .before .before .before .before .before .before .before .before .before .before .pre) _ _ _ (c .before .before .before .before .before .before .before .before .before .before .before .before .before .table .ensures) _ _ _
 
 pub settle-net-spec : {M : Type 1} → statement M
 settle-net-spec =

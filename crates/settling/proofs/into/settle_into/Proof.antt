@@ -2,7 +2,7 @@
 use mathlib.Core.Path.{_∙_}
 use native.Mathlib.Omega.{arith}
 use Rattle.rules.specs.Limits.{mostInputs}
-use Rattle.radix.specs.Sizes.{sizes}
+use Rattle.laws.specs.Sizes.{sized}
 use Rattle.settling.specs.Given.{given-size, given-13, given-14, given-marked}
 use borrow.Author.Needs.{needs}
 use Rattle.settling.proofs.into.settle_into.Statement.{statement}
@@ -16,7 +16,7 @@ unfolding mostInputs
 marks-length-requires c κs =
     let start = c .before .before .before .before .before .before in
     let h = start .args .header in
-    omega (arith, sizes (h .levels) (h .inputs) (given-size _ _ _ (start .pre)) .inputs)
+    omega (arith, sized (h .levels) (h .inputs) (given-size _ _ _ (start .pre)) .inputs-most)
 
 returns-2 : tie.Need-returns-2
 returns-2 c = given-14 _ _ _ (c .before .before .before .before .before .before .before .before .pre) _ _ _ (c .before .before .if1 .left) _ (c .before .marks-length .ensures) (c .if2 .taken)

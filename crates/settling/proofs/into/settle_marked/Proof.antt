@@ -3,7 +3,7 @@ use mathlib.Core.Path.{sym}
 use native.Mathlib.Nat.{le-of-eq}
 use native.Mathlib.Omega.{arith}
 use Rattle.rules.specs.Limits.{mostInputs}
-use Rattle.radix.specs.Sizes.{sizes}
+use Rattle.laws.specs.Sizes.{sized}
 use Rattle.settling.specs.Given.{given-size, given-count, given-below, settled-inside, settled-short, given-two, marks-held, given-16, given-tree}
 use borrow.Author.Needs.{needs}
 use Rattle.settling.proofs.into.settle_marked.Statement.{statement}
@@ -23,7 +23,7 @@ no-tree-place-requires c κs =
     let start = c .before .before .before .before .before .before .before .before .before .before .before .before .before .before .before in
     let h = start .args .header in
     (
-      omega (arith, sizes (h .levels) (h .inputs) (given-size _ _ _ (start .pre .0)) .inputs),
+      omega (arith, sized (h .levels) (h .inputs) (given-size _ _ _ (start .pre .0)) .inputs-most),
       omega (arith, start .pre .2, c .before .before .before .before .mark-all .kept .1 .1 .1 .0),
     )
 
