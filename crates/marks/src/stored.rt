@@ -6,6 +6,9 @@ ghost use Rattle.rules.specs.Marks.{markIn, marksLength};
 ghost use Rattle.marks.specs.Stored.{held, put};
 use radix::powers;
 
+// The length that the marks of the most inputs need.
+pub const MOST_MARKS: usize = 2048;
+
 pub fn mark_at(marks: &[u8], g: usize) -> u8
     requires { ⌜ g < length (held (now marks)) ⌝ }
     ensures { λ r. ⌜ r ≡ markIn (held (now (marks .entry))) g ⌝ }

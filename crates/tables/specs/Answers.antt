@@ -8,14 +8,14 @@ use Rattle.rules.specs.Text.{newline}
 use Rattle.rules.specs.Fields.{Reader, _>>=_, give, field, theWord, closed}
 use Rattle.rules.specs.Sheets as sheets
 use Rattle.rules.specs.Sheets.{Table, rowLines}
-use Rattle.rules.specs.Calls.{Answer, accepted, refused, answered, readTable}
+use Rattle.rules.specs.Calls.{Answer, answered, readTable}
 use Rattle.laws.specs.Bounds.{Below}
 use Rattle.nets.specs.Forms.{headerOf}
 use Rattle.nets.specs.declared.forms.Header.{Header}
 use Rattle.fields.specs.Header.{HeaderHeld}
 use Rattle.fields.specs.Steps.{outcomeAs}
 use Rattle.fields.specs.declared.steps.Outcome.{Outcome}
-use Rattle.fields.specs.declared.steps.Outcome.the-variants.{Accepted, Refused}
+use Rattle.fields.specs.declared.steps.Outcome.the-variants.{Accepted}
 use Rattle.tables.specs.declared.sheet.TableRead.{TableRead}
 
 -- the inks of a table under the header h, at the front of `cells`

@@ -1,5 +1,4 @@
 pub mod Answers
-pub mod Chained
 pub mod Inks
 pub mod Levels
 pub mod Parts

@@ -17,7 +17,7 @@ use Rattle.fields.specs.declared.steps.Step.{Step}
 use Rattle.fields.specs.declared.steps.Step.the-variants.{On, Back}
 use Rattle.fields.specs.declared.lines.HeaderRead.{HeaderRead}
 use Rattle.tables.specs.Answers.{tableIn, inksIn, TableReads, TableRest, allRows, theEnd, fromRows, fromInk}
-use Rattle.tables.specs.Chained.{answered-back, answered-on, closed-over, closed-here}
+use Rattle.fields.specs.Chained.{answered-back, answered-on, closed-over, closed-here}
 use Rattle.tables.specs.Rows.{RowsRead}
 use Rattle.fields.specs.declared.steps.Outcome.{Outcome}
 use Rattle.fields.specs.declared.steps.Outcome.the-variants.{Accepted, Refused}

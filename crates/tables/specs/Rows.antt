@@ -15,7 +15,7 @@ use Rattle.rules.specs.Sheets.{levelsAt, levelFields, rowLines}
 use Rattle.fields.specs.Steps.{stepAs, itself}
 use Rattle.fields.specs.declared.steps.Step.{Step}
 use Rattle.fields.specs.declared.steps.Step.the-variants.{On, Back}
-use Rattle.tables.specs.Chained.{then-then}
+use Rattle.fields.specs.Chained.{then-then}
 use Rattle.tables.specs.Row.{rowLine, row-ink}
 
 -- reading all rows from `at` on; their inks stand at the front of `cells`

@@ -1,0 +1,47 @@
+-- `settling::calls::settle` meets its contract. Assumes nothing.
+use mathlib.Core.Path.{_∙_}
+use Rattle.settling.specs.Sheets.{net-refused, net-given, net-accepts}
+use borrow.Author.Needs.{needs}
+use Rattle.settling.proofs.calls.settle.Statement.{statement}
+use Rattle.settling.proofs.calls.settle.Tie as tie
+
+read-net-requires : tie.Need-read-net-requires
+read-net-requires c κs = search needs
+
+enum-known-outcome : tie.Need-enum-known-outcome
+enum-known-outcome c = search needs
+
+enum-told : tie.Need-enum-told
+enum-told c = search needs
+
+settle-net-requires : tie.Need-settle-net-requires
+settle-net-requires c κs = net-given _ _ (c .before .before .before .before .before .before .before .read-net .ensures) (c .before .before .before .enum-told .given .1)
+
+returns : tie.Need-returns
+returns c = net-refused _ _ (c .before .before .before .before .before .read-net .ensures) _ _ (c .before .outcome .given .1) _ _ _
+
+same-length : tie.Need-same-length
+same-length c = search needs
+
+same-length-2 : tie.Need-same-length-2
+same-length-2 c = search needs
+
+same-length-3 : tie.Need-same-length-3
+same-length-3 c = search needs
+
+returns-2 : tie.Need-returns-2
+returns-2 c = c .before .before .before .before .before .before .settle-net .ensures ∙ net-accepts _ _ (c .before .before .before .before .before .before .before .before .before .before .before .before .before .before .read-net .ensures) (c .before .before .before .before .before .before .before .before .before .before .enum-told .given .1) _ _ _
+
+pub settle-spec : {M : Type 1} → statement M
+settle-spec =
+    tie.close
+    (tie.spec
+    read-net-requires
+    enum-known-outcome
+    enum-told
+    settle-net-requires
+    returns
+    same-length
+    same-length-2
+    same-length-3
+    returns-2)

@@ -1,0 +1,58 @@
+-- `settling::calls::settle_net` meets its contract. Assumes nothing.
+use mathlib.Core.Path.{_∙_}
+use native.Mathlib.Omega.{arith}
+use Rattle.rules.specs.Limits.{mostCells}
+use Rattle.settling.specs.Sheets.{net-sound, net-room, net-table-given, net-settled}
+use borrow.Author.Needs.{needs}
+use Rattle.settling.proofs.calls.settle_net.Statement.{statement}
+use Rattle.settling.proofs.calls.settle_net.Tie as tie
+
+slice-aggregate-table : tie.Need-slice-aggregate-table
+slice-aggregate-table c = search needs
+
+table-requires : tie.Need-table-requires
+unfolding mostCells
+table-requires c κs = (net-sound _ _ _ (c .before .before .before .before .before .pre), net-room _ _ _ (c .before .before .before .before .before .pre))
+
+sub-settle-into : tie.Need-sub-settle-into
+sub-settle-into c = search needs
+
+part-settle-into-start : tie.Need-part-settle-into-start
+part-settle-into-start c = search needs
+
+part-settle-into-end : tie.Need-part-settle-into-end
+unfolding mostCells
+part-settle-into-end c =
+    let start = c .before .before .before .before .before .before .before .before in
+    let table = c .before .before .table in
+    omega (arith, table .ensures .result, net-room _ _ _ (start .pre), table .kept)
+
+settle-into-requires : tie.Need-settle-into-requires
+settle-into-requires c κs = net-table-given _ _ _ (c .before .before .before .before .before .before .before .before .before .before .before .before .pre) _ _ _ (c .before .before .before .before .before .before .table .ensures)
+
+same-length : tie.Need-same-length
+same-length c = search needs
+
+same-length-2 : tie.Need-same-length-2
+same-length-2 c = search needs
+
+same-length-3 : tie.Need-same-length-3
+same-length-3 c = search needs
+
+returns : tie.Need-returns
+returns c = c .before .before .before .before .before .before .settle-into .ensures ∙ net-settled _ _ _ (c .before .before .before .before .before .before .before .before .before .before .before .before .before .before .before .before .before .before .before .pre) _ _ _ (c .before .before .before .before .before .before .before .before .before .before .before .before .before .table .ensures) _ _ _
+
+pub settle-net-spec : {M : Type 1} → statement M
+settle-net-spec =
+    tie.close
+    (tie.spec
+    slice-aggregate-table
+    table-requires
+    sub-settle-into
+    part-settle-into-start
+    part-settle-into-end
+    settle-into-requires
+    same-length
+    same-length-2
+    same-length-3
+    returns)

@@ -1,0 +1,51 @@
+-- `settling::sheet::write_sheet` meets its contract. Assumes nothing.
+use native.Mathlib.Omega.{arith}
+use borrow.Author.Needs.{needs}
+use Rattle.rules.specs.Limits.{mostSettled}
+use Rattle.settling.specs.Answers.{sheet-short, sheet-copied}
+use Rattle.settling.proofs.sheet.write_sheet.Statement.{statement}
+use Rattle.settling.proofs.sheet.write_sheet.Tie as tie
+
+slice-aggregate-print-net : tie.Need-slice-aggregate-print-net
+slice-aggregate-print-net c = search needs
+
+print-net-requires : tie.Need-print-net-requires
+unfolding mostSettled
+print-net-requires c κs = c .before .before .before .pre
+
+returns : tie.Need-returns
+returns c = sheet-short _ _ _ _ _ (c .before .before .print-net .ensures) (c .if1 .taken)
+
+sub-copy-front : tie.Need-sub-copy-front
+sub-copy-front c = search needs
+
+part-copy-front-start : tie.Need-part-copy-front-start
+part-copy-front-start c = search needs
+
+part-copy-front-end : tie.Need-part-copy-front-end
+unfolding mostSettled
+part-copy-front-end c = omega (arith, c .before .before .before .print-net .ensures .length, c .before .before .before .before .before .before .before .pre .2, c .before .before .before .print-net .kept)
+
+copy-front-requires : tie.Need-copy-front-requires
+copy-front-requires c κs = search needs
+
+same-length : tie.Need-same-length
+same-length c = search needs
+
+returns-2 : tie.Need-returns-2
+returns-2 c =
+    sheet-copied _ _ _ _ _ (c .before .before .before .before .before .before .before .before .print-net .ensures) (c .before .before .before .before .before .before .if1 .left) _ (c .before .before .copy-front .ensures)
+
+pub write-sheet-spec : {M : Type 1} → statement M
+write-sheet-spec =
+    tie.close
+    (tie.spec
+    slice-aggregate-print-net
+    print-net-requires
+    returns
+    sub-copy-front
+    part-copy-front-start
+    part-copy-front-end
+    copy-front-requires
+    same-length
+    returns-2)

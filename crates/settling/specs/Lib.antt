@@ -1,0 +1,4 @@
+pub mod Answers
+pub mod Given
+pub mod Place
+pub mod Sheets

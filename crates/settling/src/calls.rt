@@ -1,0 +1,67 @@
+// Settling and making. Any sheet and buffers of any length may come in.
+ghost use mathlib.Core.Path.{_≡_};
+ghost use Rattle.rules.specs.Calls.{tableOfNet, settledInto, settleCall, makeCall};
+ghost use Rattle.printing.specs.Gates.{netIn};
+ghost use Rattle.settling.specs.Answers.{madeOf};
+ghost use Rattle.settling.specs.Sheets.{GivenNet};
+use crate::into;
+use fields::steps::Outcome;
+use groups::call::Answer;
+use nets::forms::Header;
+use nets::forms::Net;
+use nets::values;
+use radix::limits;
+use radix::powers;
+use sheets::net;
+use tables::sheet;
+
+// The net's table goes into an array of its own first: a refusal must change no buffer.
+fn settle_net(
+    s: &[u8],
+    header: Header,
+    gates: Net,
+    cells: &mut [u8],
+    marks: &mut [u8],
+    out: &mut [u8],
+) -> Answer
+    requires { ⌜ GivenNet (now s) header gates ⌝ }
+    ensures { λ r. ⌜ madeOf r (now (cells .exit)) (now (marks .exit)) (now (out .exit))
+        ≡ settledInto (tableOfNet (netIn (now (s .entry)) header gates)) (now (cells .entry)) (now (marks .entry)) (now (out .entry)) ⌝ }
+{
+    let mut inks = [0u8; limits::MOST_CELLS];
+    let count = values::table(gates, &mut inks);
+    into::settle_into(s, header, &inks[0..count], cells, marks, out)
+}
+
+// Reads a net sheet, and writes its table, its marks and its settled net sheet.
+pub fn settle(s: &[u8], cells: &mut [u8], marks: &mut [u8], out: &mut [u8]) -> Answer
+    ensures { λ r. ⌜ madeOf r (now (cells .exit)) (now (marks .exit)) (now (out .exit))
+        ≡ settleCall (now (s .entry)) (now (cells .entry)) (now (marks .entry)) (now (out .entry)) ⌝ }
+{
+    let read = net::read_net(s);
+    let outcome = read.outcome;
+    let header = read.header;
+    let gates = read.net;
+    match outcome {
+        Outcome::Refused { number, place } => Answer::Refused { number, place },
+        Outcome::Accepted => settle_net(s, header, gates, cells, marks, out),
+    }
+}
+
+// Reads a table sheet, and writes its table, its marks and its settled net sheet.
+pub fn make(s: &[u8], cells: &mut [u8], marks: &mut [u8], out: &mut [u8]) -> Answer
+    ensures { λ r. ⌜ madeOf r (now (cells .exit)) (now (marks .exit)) (now (out .exit))
+        ≡ makeCall (now (s .entry)) (now (cells .entry)) (now (marks .entry)) (now (out .entry)) ⌝ }
+{
+    let mut inks = [0u8; limits::MOST_CELLS];
+    let read = sheet::read_table(s, &mut inks);
+    let outcome = read.outcome;
+    let header = read.header;
+    match outcome {
+        Outcome::Refused { number, place } => Answer::Refused { number, place },
+        Outcome::Accepted => {
+            let count = powers::power(header.levels, header.inputs);
+            into::settle_into(s, header, &inks[0..count], cells, marks, out)
+        }
+    }
+}
