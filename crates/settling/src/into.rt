@@ -38,7 +38,12 @@ fn settle_marked(
             place: place::no_tree_place(inputs, marks),
         };
     }
-    sheet::write_sheet(s, header, settle::settled_net(levels, inputs, inks, marks), out)
+    sheet::write_sheet(
+        s,
+        header,
+        settle::settled_net(levels, inputs, inks, marks),
+        out,
+    )
 }
 
 // Refusals 13 and 14, or what the table comes to. `inks` is the table, and `header` its first three lines in the sheet s.

@@ -21,8 +21,7 @@ no-tree-place-requires : tie.Need-no-tree-place-requires
 unfolding mostInputs
 no-tree-place-requires c κs =
     let start = c .before .before .before .before .before .before .before .before .before .before .before .before .before .before .before in
-    let h = start .args .header in
-    (
+    let h = start .args .header in (
       omega (arith, sized (h .levels) (h .inputs) (given-size _ _ _ (start .pre .0)) .inputs-most),
       omega (arith, start .pre .2, c .before .before .before .before .mark-all .kept .1 .1 .1 .0),
     )
@@ -44,8 +43,7 @@ settled-net-requires : tie.Need-settled-net-requires
 settled-net-requires c κs =
     let start = c .before .before .before .before .before .before .before .before .before .before .before .before .before .before .before in
     let did = c .before .before .before .before .mark-all in
-    let g = start .pre .0 in
-    (
+    let g = start .pre .0 in (
       given-size _ _ _ g,
       le-of-eq (sym (given-count _ _ _ g)),
       given-below _ _ _ g,
