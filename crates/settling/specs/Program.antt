@@ -7,6 +7,7 @@ use native.Mathlib.Nat.{lt-of-not-le}
 use native.Mathlib.Decide.{decLe, ℕ-discrete}
 use native.Mathlib.Omega.{arith}
 use lib.ListN.{length, take, length-append}
+use lib.Seq.{length-take-le}
 use Rattle.rules.specs.Limits.{mostInputs, mostCells, mostSettled, mostRead}
 use Rattle.rules.specs.Sheets.{Net, Table}
 use Rattle.rules.specs.Printed.{printedNet}
@@ -23,11 +24,14 @@ use Rattle.demands.specs.Settles.{written-front}
 use Rattle.settling.specs.Answers.{madeOf}
 use Rattle.settling.specs.declared.program.Printed.{Printed}
 
--- a text at the front of its bytes
+-- a text at the front of its bytes, and what lending that part asks
 pub record Prints (r : Printed) (text : List ℕ) : Type 0 where
-  pub room : length (r .bytes) ≡ mostSettled
-  pub fits : r .length ≤ mostSettled
   pub front : take (r .length) (r .bytes) ≡ text
+  pub fits : r .length ≤ length (r .bytes)
+  pub whole : r .length ≡ length (take (r .length) (r .bytes))
+
+prints : (bytes : List ℕ) (k : ℕ) → k ≤ length bytes → (text : List ℕ) → take k bytes ≡ text → Prints (record { bytes = bytes; length = k }) text
+prints bytes k fits text front = record { front = front; fits = fits; whole = sym (length-take-le k bytes fits) }
 
 -- ---- the sheet that a call accepts is within the output
 
@@ -86,12 +90,10 @@ answer-fits r cells marks before after made fits is same any-cells any-marks k e
 
 -- ---- the two ways to print
 
-pub prints-sheet : (r : own.Answer) (k : ℕ) → r ≡ Accepted k → (output : List ℕ) → length output ≡ mostSettled
-    → ((cells marks : List ℕ) → Fits output (madeOf r cells marks output))
+pub prints-sheet : (r : own.Answer) (k : ℕ) → r ≡ Accepted k → (output : List ℕ) → ((cells marks : List ℕ) → Fits output (madeOf r cells marks output))
     → (cells marks : List ℕ) → Prints (record { bytes = output; length = k }) (programOutput (madeOf r cells marks output))
 unfolding programOutput
-prints-sheet r k is output room fits cells marks =
-    record { room = room; fits = omega (arith, fits cells marks k (ap answerOf is)); front = rw is refl }
+prints-sheet r k is output fits cells marks = prints output k (fits cells marks k (ap answerOf is)) _ (rw is refl)
 
 -- what was written is within the buffer
 wrote-fits : (before text after : List ℕ) (k : ℕ) → Wrote before text after k → k ≤ length after
@@ -99,30 +101,27 @@ unfolding written
 wrote-fits before text after k did = omega (arith, did .length, simp length-append at (ap length (did .text)))
 
 pub prints-refusal : (r : own.Answer) (number place : ℕ) → r ≡ Refused number place → (before after : List ℕ) (k : ℕ)
-    → Wrote before (refusalLines number place) after k → length after ≡ mostSettled
+    → Wrote before (refusalLines number place) after k
     → (output cells marks : List ℕ) → Prints (record { bytes = after; length = k }) (programOutput (madeOf r cells marks output))
 unfolding programOutput
-prints-refusal r number place is before after k did room output cells marks =
-    record {
-      room = room;
-      fits = omega (arith, wrote-fits before (refusalLines number place) after k did);
-      front = rw is ((λ i. take (did .length i) (did .text i)) ∙ written-front before (refusalLines number place));
-    }
+prints-refusal r number place is before after k did output cells marks =
+    prints after k (wrote-fits before (refusalLines number place) after k did) _
+    (rw is ((λ i. take (did .length i) (did .text i)) ∙ written-front before (refusalLines number place)))
 
 -- ---- the two programs
 
 module _ (input s : List ℕ) (cut : s ≡ take mostRead input) (r : own.Answer) (cells marks output : List ℕ) (p : Printed)
-    (prints : (any-cells any-marks : List ℕ) → Prints p (programOutput (madeOf r any-cells any-marks output))) where
+    (own-output : (any-cells any-marks : List ℕ) → Prints p (programOutput (madeOf r any-cells any-marks output))) where
   pub prints-settled : madeOf r cells marks output ≡ settleCall s (zeros mostCells) (zeros (marksLength mostInputs)) (zeros mostSettled)
       → Prints p (settleProgram input)
   unfolding settleProgram
   prints-settled is =
       subst (λ (made : Made). Prints p (programOutput made))
-      (is ∙ ap (λ (sheet : List ℕ). settleCall sheet (zeros mostCells) (zeros (marksLength mostInputs)) (zeros mostSettled)) cut) (prints cells marks)
+      (is ∙ ap (λ (sheet : List ℕ). settleCall sheet (zeros mostCells) (zeros (marksLength mostInputs)) (zeros mostSettled)) cut) (own-output cells marks)
 
   pub prints-made : madeOf r cells marks output ≡ makeCall s (zeros mostCells) (zeros (marksLength mostInputs)) (zeros mostSettled)
       → Prints p (makeProgram input)
   unfolding makeProgram
   prints-made is =
       subst (λ (made : Made). Prints p (programOutput made))
-      (is ∙ ap (λ (sheet : List ℕ). makeCall sheet (zeros mostCells) (zeros (marksLength mostInputs)) (zeros mostSettled)) cut) (prints cells marks)
+      (is ∙ ap (λ (sheet : List ℕ). makeCall sheet (zeros mostCells) (zeros (marksLength mostInputs)) (zeros mostSettled)) cut) (own-output cells marks)

@@ -2,8 +2,8 @@
 ghost use mathlib.Core.Path.{_≡_};
 ghost use mathlib.Core.List.{List};
 ghost use Prim.Native.Nat.{ℕ};
-ghost use lib.ListN.{length, take};
-ghost use Rattle.rules.specs.Limits.{mostRead, mostSettled};
+ghost use lib.ListN.{take};
+ghost use Rattle.rules.specs.Limits.{mostRead};
 ghost use Rattle.rules.specs.Calls.{programOutput, settleProgram, makeProgram};
 ghost use Rattle.settling.specs.Answers.{madeOf};
 ghost use Rattle.settling.specs.Program.{Fits, Prints};
@@ -31,7 +31,7 @@ fn first_read(s: &[u8]) -> &[u8]
 
 // The sheet that a call wrote into `out`, or its refusal's two lines.
 fn output_of(answer: Answer, out: [u8; limits::MOST_SETTLED]) -> Printed
-    requires { ⌜ (length out ≡ mostSettled) × ((cells marks : List ℕ) → Fits out (madeOf answer cells marks out)) ⌝ }
+    requires { ⌜ ((cells marks : List ℕ) → Fits out (madeOf answer cells marks out)) ⌝ }
     ensures { λ r. ⌜ ((cells marks : List ℕ) → Prints r (programOutput (madeOf answer cells marks out))) ⌝ }
 {
     match answer {

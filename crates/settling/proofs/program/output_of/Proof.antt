@@ -1,5 +1,4 @@
 -- `settling::program::output_of` meets its contract. Assumes nothing.
-use Rattle.rules.specs.Limits.{mostSettled}
 use Rattle.settling.specs.Program.{prints-sheet, prints-refusal}
 use borrow.Author.Needs.{needs}
 use Rattle.settling.proofs.program.output_of.Statement.{statement}
@@ -20,14 +19,13 @@ print-refusal-requires c κs = search needs
 returns : tie.Need-returns
 returns c =
     let start = c .before .before .before in
-    prints-sheet (start .args .answer) _ (c .before .answer .given .1) (start .args .out) (start .pre .0) (start .pre .1)
+    prints-sheet (start .args .answer) _ (c .before .answer .given .1) (start .args .out) (start .pre)
 
 returns-2 : tie.Need-returns-2
-unfolding mostSettled
 returns-2 c =
     let start = c .before .before .before .before .before .before in
     let did = c .before .print-refusal in
-    prints-refusal (start .args .answer) _ _ (c .before .before .before .before .answer2 .given .1) _ _ _ (did .ensures) (did .kept .1 .1 .0) (start .args .out)
+    prints-refusal (start .args .answer) _ _ (c .before .before .before .before .answer2 .given .1) _ _ _ (did .ensures) (start .args .out)
 
 pub output-of-spec : {M : Type 1} → statement M
 output-of-spec =

@@ -26,7 +26,7 @@ output-of-requires : tie.Need-output-of-requires
 unfolding mostSettled
 output-of-requires c κs =
     let did = c .before .before .before .settle in
-    (did .kept .1 .1 .1 .0, answer-fits (did .result) _ _ (zeros mostSettled) _ _ (settle-fits _ _ _ _) (did .ensures) (did .kept .1 .1 .1 .0))
+    answer-fits (did .result) _ _ (zeros mostSettled) _ _ (settle-fits _ _ _ _) (did .ensures) (did .kept .1 .1 .1 .0)
 
 returns : tie.Need-returns
 unfolding mostInputs mostCells mostSettled marksLength
