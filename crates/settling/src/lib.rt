@@ -3,4 +3,5 @@ pub mod calls;
 pub mod front;
 pub mod into;
 pub mod place;
+pub mod program;
 pub mod sheet;

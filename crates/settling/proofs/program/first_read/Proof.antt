@@ -1,0 +1,28 @@
+-- `settling::program::first_read` meets its contract. Assumes nothing.
+use mathlib.Core.Path.{refl, sym}
+use lib.Seq.{take-all}
+use borrow.Author.Needs.{needs}
+use Rattle.rules.specs.Limits.{mostRead}
+use Rattle.settling.proofs.program.first_read.Statement.{statement}
+use Rattle.settling.proofs.program.first_read.Tie as tie
+
+sub-result : tie.Need-sub-result
+sub-result c = search needs
+
+part-result-start : tie.Need-part-result-start
+part-result-start c = search needs
+
+part-result-end : tie.Need-part-result-end
+part-result-end c = search needs
+
+returns : tie.Need-returns
+unfolding mostRead
+returns c = refl
+
+returns-2 : tie.Need-returns-2
+unfolding mostRead
+returns-2 c = sym (take-all _ _ (c .if1 .left))
+
+pub first-read-spec : {M : Type 1} → statement M
+first-read-spec =
+    tie.close (tie.spec sub-result part-result-start part-result-end returns returns-2)

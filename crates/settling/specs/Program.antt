@@ -1,0 +1,127 @@
+-- What the two programs print: the sheet that a call wrote, or its refusal's two lines.
+-- Assumes nothing.
+use Prim.Native.Nat.{ℕ, _^_, _≤_, _<_}
+use mathlib.Core.Path.{_≡_, refl, sym, ap, _∙_, subst, subst⁻¹}
+use mathlib.Core.List.{List}
+use native.Mathlib.Nat.{lt-of-not-le}
+use native.Mathlib.Decide.{decLe, ℕ-discrete}
+use native.Mathlib.Omega.{arith}
+use lib.ListN.{length, take, length-append}
+use lib.Seq.{length-take-le}
+use Rattle.rules.specs.Limits.{mostInputs, mostCells, mostSettled, mostRead}
+use Rattle.rules.specs.Sheets.{Net, Table}
+use Rattle.rules.specs.Printed.{printedNet}
+use Rattle.rules.specs.Groups.{wholeGroup}
+use Rattle.rules.specs.Marks.{markIn, marksLength, storedMarks}
+use Rattle.rules.specs.Calls.{Answer, accepted, refused, Made, written, readNet, readTable, tableOfNet, settledNet, writtenSheet, settledInto, settleCall, makeCall, programOutput, zeros, settleProgram, makeProgram}
+use Rattle.laws.specs.Outcomes.{WholeTwo, marksOfTable, into-13, into-14, into-marked, marked-16, marked-tree, sheet-15, sheet-written, settle-refused, settle-accepted, make-refused, make-accepted}
+use Rattle.groups.specs.declared.call.Answer as own
+use Rattle.groups.specs.declared.call.Answer.the-variants.{Accepted, Refused}
+use Rattle.groups.specs.Answers.{answerOf}
+use Rattle.printing.specs.Put.{Wrote}
+use Rattle.printing.specs.Refusals.{refusalLines}
+use Rattle.demands.specs.Settles.{written-front}
+use Rattle.settling.specs.Answers.{madeOf}
+use Rattle.settling.specs.declared.program.Printed.{Printed}
+
+-- a text at the front of its bytes, and what lending that part asks
+pub record Prints (r : Printed) (text : List ℕ) : Type 0 where
+  pub front : take (r .length) (r .bytes) ≡ text
+  pub fits : r .length ≤ length (r .bytes)
+  pub whole : r .length ≡ length (take (r .length) (r .bytes))
+
+prints : (bytes : List ℕ) (k : ℕ) → k ≤ length bytes → (text : List ℕ) → take k bytes ≡ text → Prints (record { bytes = bytes; length = k }) text
+prints bytes k fits text front = record { front = front; fits = fits; whole = sym (length-take-le k bytes fits) }
+
+-- ---- the sheet that a call accepts is within the output
+
+abbrev pub Fits : List ℕ → Made → Type 0
+Fits output made = (k : ℕ) → made .answer ≡ accepted k → k ≤ length output
+
+module _ (output : List ℕ) where
+  refusal-fits : (number place : ℕ) (cells marks : List ℕ) → Fits output (record { answer = refused number place; cells = cells; marks = marks; output = output })
+  refusal-fits number place cells marks k e = let z : _≡_ {A = ℕ} 0 1 = cc in absurd (omega arith)
+
+  sheet-fits : (sheet cells marks : List ℕ) → Fits output (writtenSheet sheet cells marks output)
+  sheet-fits sheet cells marks = go (decLe (length sheet) (length output))
+    where
+      go : Dec (length sheet ≤ length output) → Fits output (writtenSheet sheet cells marks output)
+      go (yes h) =
+          subst⁻¹ (Fits output) (sheet-written sheet cells marks output h)
+          (λ k e. let same : length sheet ≡ k = cc in omega arith)
+      go (no h) = subst⁻¹ (Fits output) (sheet-15 sheet cells marks output (lt-of-not-le h)) (refusal-fits 15 _ cells marks)
+
+  module _ (t : Table) (cells marks : List ℕ) where
+    into-fits : Fits output (settledInto t cells marks output)
+    into-fits =
+        go (decLe (t .header .levels ^ t .header .inputs) (length cells)) (decLe (marksLength (t .header .inputs)) (length marks))
+        (ℕ-discrete (markIn (marksOfTable t) (wholeGroup (t .header .inputs))) 2)
+      where
+        go : Dec (t .header .levels ^ t .header .inputs ≤ length cells) → Dec (marksLength (t .header .inputs) ≤ length marks) → Dec (WholeTwo t)
+            → Fits output (settledInto t cells marks output)
+        go (no h) d e = subst⁻¹ (Fits output) (into-13 t cells marks output (lt-of-not-le h)) (refusal-fits 13 _ cells marks)
+        go (yes h) (no k) e = subst⁻¹ (Fits output) (into-14 t cells marks output h (lt-of-not-le k)) (refusal-fits 14 _ cells marks)
+        go (yes h) (yes k) (no other) =
+            subst⁻¹ (Fits output) (into-marked t cells marks output h k ∙ marked-16 t cells marks output other) (refusal-fits 16 _ (written cells (t .inks)) (written marks (storedMarks (marksOfTable t))))
+        go (yes h) (yes k) (yes two) =
+            subst⁻¹ (Fits output) (into-marked t cells marks output h k ∙ marked-tree t cells marks output two)
+            (sheet-fits (printedNet (settledNet t)) (written cells (t .inks)) (written marks (storedMarks (marksOfTable t))))
+
+  module _ (s cells marks : List ℕ) where
+    pub settle-fits : Fits output (settleCall s cells marks output)
+    settle-fits = go (readNet s) refl
+      where
+        go : (a : Answer Net) → readNet s ≡ a → Fits output (settleCall s cells marks output)
+        go (accepted net) e = subst⁻¹ (Fits output) (settle-accepted s cells marks output net e) (into-fits (tableOfNet net) cells marks)
+        go (refused number place) e = subst⁻¹ (Fits output) (settle-refused s cells marks output number place e) (refusal-fits number place cells marks)
+
+    pub make-fits : Fits output (makeCall s cells marks output)
+    make-fits = go (readTable s) refl
+      where
+        go : (a : Answer Table) → readTable s ≡ a → Fits output (makeCall s cells marks output)
+        go (accepted t) e = subst⁻¹ (Fits output) (make-accepted s cells marks output t e) (into-fits t cells marks)
+        go (refused number place) e = subst⁻¹ (Fits output) (make-refused s cells marks output number place e) (refusal-fits number place cells marks)
+
+-- so it is of a call's own answer
+pub answer-fits : (r : own.Answer) (cells marks before after : List ℕ) (made : Made) → Fits before made → madeOf r cells marks after ≡ made
+    → length after ≡ length before → (any-cells any-marks : List ℕ) → Fits after (madeOf r any-cells any-marks after)
+answer-fits r cells marks before after made fits is same any-cells any-marks k e =
+    omega (arith, fits k (sym (ap (λ (m : Made). m .answer) is) ∙ e))
+
+-- ---- the two ways to print
+
+pub prints-sheet : (r : own.Answer) (k : ℕ) → r ≡ Accepted k → (output : List ℕ) → ((cells marks : List ℕ) → Fits output (madeOf r cells marks output))
+    → (cells marks : List ℕ) → Prints (record { bytes = output; length = k }) (programOutput (madeOf r cells marks output))
+unfolding programOutput
+prints-sheet r k is output fits cells marks = prints output k (fits cells marks k (ap answerOf is)) _ (rw is refl)
+
+-- what was written is within the buffer
+wrote-fits : (before text after : List ℕ) (k : ℕ) → Wrote before text after k → k ≤ length after
+unfolding written
+wrote-fits before text after k did = omega (arith, did .length, simp length-append at (ap length (did .text)))
+
+pub prints-refusal : (r : own.Answer) (number place : ℕ) → r ≡ Refused number place → (before after : List ℕ) (k : ℕ)
+    → Wrote before (refusalLines number place) after k
+    → (output cells marks : List ℕ) → Prints (record { bytes = after; length = k }) (programOutput (madeOf r cells marks output))
+unfolding programOutput
+prints-refusal r number place is before after k did output cells marks =
+    prints after k (wrote-fits before (refusalLines number place) after k did) _
+    (rw is ((λ i. take (did .length i) (did .text i)) ∙ written-front before (refusalLines number place)))
+
+-- ---- the two programs
+
+module _ (input s : List ℕ) (cut : s ≡ take mostRead input) (r : own.Answer) (cells marks output : List ℕ) (p : Printed)
+    (own-output : (any-cells any-marks : List ℕ) → Prints p (programOutput (madeOf r any-cells any-marks output))) where
+  pub prints-settled : madeOf r cells marks output ≡ settleCall s (zeros mostCells) (zeros (marksLength mostInputs)) (zeros mostSettled)
+      → Prints p (settleProgram input)
+  unfolding settleProgram
+  prints-settled is =
+      subst (λ (made : Made). Prints p (programOutput made))
+      (is ∙ ap (λ (sheet : List ℕ). settleCall sheet (zeros mostCells) (zeros (marksLength mostInputs)) (zeros mostSettled)) cut) (own-output cells marks)
+
+  pub prints-made : madeOf r cells marks output ≡ makeCall s (zeros mostCells) (zeros (marksLength mostInputs)) (zeros mostSettled)
+      → Prints p (makeProgram input)
+  unfolding makeProgram
+  prints-made is =
+      subst (λ (made : Made). Prints p (programOutput made))
+      (is ∙ ap (λ (sheet : List ℕ). makeCall sheet (zeros mostCells) (zeros (marksLength mostInputs)) (zeros mostSettled)) cut) (own-output cells marks)

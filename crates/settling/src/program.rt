@@ -1,0 +1,68 @@
+// What the two programs print. Their mains only read and write.
+ghost use mathlib.Core.Path.{_≡_};
+ghost use mathlib.Core.List.{List};
+ghost use Prim.Native.Nat.{ℕ};
+ghost use lib.ListN.{take};
+ghost use Rattle.rules.specs.Limits.{mostRead};
+ghost use Rattle.rules.specs.Calls.{programOutput, settleProgram, makeProgram};
+ghost use Rattle.settling.specs.Answers.{madeOf};
+ghost use Rattle.settling.specs.Program.{Fits, Prints};
+use crate::calls;
+use groups::call::Answer;
+use marks::stored;
+use printing::refusal;
+use radix::limits;
+
+// The first `length` bytes are the text.
+pub struct Printed {
+    pub bytes: [u8; limits::MOST_SETTLED],
+    pub length: usize,
+}
+
+// As much of the input as a program reads.
+fn first_read(s: &[u8]) -> &[u8]
+    ensures { λ r. ⌜ now r ≡ take mostRead (now (s .entry)) ⌝ }
+{
+    if limits::MOST_READ < s.len() {
+        return &s[0..limits::MOST_READ];
+    }
+    s
+}
+
+// The sheet that a call wrote into `out`, or its refusal's two lines.
+fn output_of(answer: Answer, out: [u8; limits::MOST_SETTLED]) -> Printed
+    requires { ⌜ ((cells marks : List ℕ) → Fits out (madeOf answer cells marks out)) ⌝ }
+    ensures { λ r. ⌜ ((cells marks : List ℕ) → Prints r (programOutput (madeOf answer cells marks out))) ⌝ }
+{
+    match answer {
+        Answer::Accepted(length) => Printed { bytes: out, length },
+        Answer::Refused { number, place } => {
+            let mut lines = [0u8; limits::MOST_SETTLED];
+            let length = refusal::print_refusal(number, place, &mut lines);
+            Printed {
+                bytes: lines,
+                length,
+            }
+        }
+    }
+}
+
+pub fn settle_output(s: &[u8]) -> Printed
+    ensures { λ r. ⌜ Prints r (settleProgram (now (s .entry))) ⌝ }
+{
+    let mut cells = [0u8; limits::MOST_CELLS];
+    let mut marks = [0u8; stored::MOST_MARKS];
+    let mut out = [0u8; limits::MOST_SETTLED];
+    let answer = calls::settle(first_read(s), &mut cells, &mut marks, &mut out);
+    output_of(answer, out)
+}
+
+pub fn make_output(s: &[u8]) -> Printed
+    ensures { λ r. ⌜ Prints r (makeProgram (now (s .entry))) ⌝ }
+{
+    let mut cells = [0u8; limits::MOST_CELLS];
+    let mut marks = [0u8; stored::MOST_MARKS];
+    let mut out = [0u8; limits::MOST_SETTLED];
+    let answer = calls::make(first_read(s), &mut cells, &mut marks, &mut out);
+    output_of(answer, out)
+}
