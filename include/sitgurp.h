@@ -3,7 +3,11 @@
  * document 01's definitions for every argument: see crates/capi/src/lib.rt.
  *
  * Bytes are lent as a pointer and a length. A pointer must be good for that many bytes, and must not be null even where the
- * length is 0. Two buffers lent to one call must not overlap.
+ * length is 0. Two buffers lent to one call must not overlap, and a buffer must not overlap a sheet.
+ *
+ * A sheet is any bytes. Levels are written m and inputs n below. A refusal of a sheet (1 to 8) has a place in it, a byte from 0;
+ * docs/REFUSALS.md says what each number means. Refusals are listed in the order in which they are judged. Where a buffer is
+ * longer than needed, its further bytes are kept.
  */
 #ifndef SITGURP_H
 #define SITGURP_H
@@ -15,11 +19,38 @@
 extern "C" {
 #endif
 
+/* Buffers that always suffice: cells, marks, a net sheet, a table sheet. */
+#define SITGURP_MOST_CELLS 2187
+#define SITGURP_MOST_MARKS 2048
+#define SITGURP_MOST_NET_SHEET 512
+#define SITGURP_MOST_TABLE_SHEET 49274
+
 /* number 0: accepted, and value is the answer; otherwise number is the refusal's, and value its place */
-typedef struct {
+typedef struct sitgurp_answer {
     size_t number;
     size_t value;
 } sitgurp_answer;
+
+/*
+ * kind 0: the sheets agree; 1: they differ, and value is the lowest index that does; 2: refused, with number at place value.
+ * A refusal names the net sheet (named 1), the table sheet (2) or neither (0). What a kind does not use is 0.
+ */
+typedef struct sitgurp_verdict {
+    size_t kind;
+    size_t named;
+    size_t number;
+    size_t value;
+} sitgurp_verdict;
+
+/*
+ * kind 0: none is left, and first and second are 0; 1: a gate line, the second bytes of the sheet from byte first on, without its
+ * line feed; 2: refused, with number first at place second
+ */
+typedef struct sitgurp_turn {
+    size_t kind;
+    size_t first;
+    size_t second;
+} sitgurp_turn;
 
 /*
  * The number of classes of a group if it is at most m, and otherwise m + 1.
@@ -34,6 +65,46 @@ sitgurp_answer sitgurp_multiplicity(size_t m, size_t n, const uint8_t *cells, si
  * Refusals: 9, 10, and 14 (marks too short; value is the length needed).
  */
 sitgurp_answer sitgurp_marking(size_t m, size_t n, const uint8_t *cells, size_t cells_length, uint8_t *marks, size_t marks_length);
+
+/*
+ * Settles a net sheet: writes its table into cells, one byte a cell, every group's mark into marks, and the settled net sheet into
+ * output, and answers that sheet's length. Needs m to the power n bytes, 2 to the power n bytes, and the settled sheet's length.
+ * Refusals: 1 to 8 (the sheet), 13 (cells too short), 14 (marks too short), 15 (output too short); the value of 13 to 15 is the
+ * length needed. 15 leaves cells and marks written and output as it was; every other refusal changes no byte.
+ */
+sitgurp_answer sitgurp_settle(const uint8_t *sheet, size_t sheet_length, uint8_t *cells, size_t cells_length, uint8_t *marks,
+                              size_t marks_length, uint8_t *output, size_t output_length);
+
+/*
+ * Makes the settled net sheet of a table sheet, with the buffers of sitgurp_settle: the table's inks into cells, the marks into
+ * marks, the settled net sheet into output. Answers that sheet's length.
+ * Refusals: 1 to 6 (the sheet), 13, 14, 16 (no tree computes the table; value is the group of fewest members, then lowest number,
+ * with mark 1), 15. 16 and 15 leave cells and marks written and output as it was; every other refusal changes no byte.
+ */
+sitgurp_answer sitgurp_make(const uint8_t *sheet, size_t sheet_length, uint8_t *cells, size_t cells_length, uint8_t *marks,
+                            size_t marks_length, uint8_t *output, size_t output_length);
+
+/*
+ * Checks a net sheet against a table sheet, and writes the table sheet's inks into cells, whether they agree or not. Needs m to the
+ * power n bytes.
+ * Refusals: 1 to 8 (the net sheet), 1 to 6 (the table sheet), 12 (the sheets differ in m, n or names; value 0), 13 (cells too short;
+ * value is the length needed). A refusal changes no byte. 12 and 13 name neither sheet.
+ */
+sitgurp_verdict sitgurp_check(const uint8_t *net_sheet, size_t net_sheet_length, const uint8_t *table_sheet,
+                              size_t table_sheet_length, uint8_t *cells, size_t cells_length);
+
+/*
+ * Writes the table sheet of a net sheet into output, and answers its length, which is what it needs.
+ * Refusals: 1 to 8 (the sheet), 15 (output too short; value is the length needed). A refusal changes no byte.
+ */
+sitgurp_answer sitgurp_write_table(const uint8_t *sheet, size_t sheet_length, uint8_t *output, size_t output_length);
+
+/*
+ * Turn k of the gate lister, from 0: the gate line of gate k + 1 of a net sheet, and after the last line that none is left.
+ * Writes nothing.
+ * Refusals: 1 to 8 (the sheet), the same at every turn.
+ */
+sitgurp_turn sitgurp_gate_line(const uint8_t *sheet, size_t sheet_length, size_t k);
 
 #ifdef __cplusplus
 }

@@ -1,0 +1,237 @@
+//! Where each box and wire of a tree lies. Inputs stand in a column at the left, the output gate at the right.
+//!
+//! A subtree has a band of the page's height to itself: left's band lies above right's. So no box lies on another, and a
+//! wire that runs to the right inside its own band meets nothing before it turns in the gap before its gate.
+
+use crate::tree::{Gate, Tree, Wire};
+
+/// A digit's cell in a gate's grid.
+pub const CELL: i32 = 20;
+/// The room for the levels beside and above a gate's grid.
+pub const HEADING: i32 = 16;
+/// The room for a gate's number above its grid.
+pub const TITLE: i32 = 24;
+/// The room inside a gate's box at its right and its bottom.
+pub const PADDING: i32 = 8;
+/// The room for what is written under the tree.
+pub const CAPTION: i32 = 60;
+/// The room for the output's wire and its word.
+pub const OUTPUT: i32 = 72;
+
+const MARGIN: i32 = 24;
+const INPUT_HEIGHT: i32 = 28;
+/// At least the width of a letter of an input's name.
+const LETTER: i32 = 9;
+/// Between two bands.
+const BAND_GAP: i32 = 16;
+/// Between two columns; wires turn in its middle.
+const COLUMN_GAP: i32 = 48;
+/// The distance from a gate's corner, and from its middle, at which a wire that has turned meets it.
+const INSET: i32 = 12;
+/// A wire that would turn by no more than this goes straight on.
+const LEAST_TURN: i32 = 6;
+/// The narrowest page that holds what is written under the tree.
+const LEAST_WIDTH: i32 = 360;
+
+/// A box; y grows downward.
+#[derive(Clone, Copy, Debug, PartialEq, Eq)]
+pub struct Area {
+    pub x: i32,
+    pub y: i32,
+    pub width: i32,
+    pub height: i32,
+}
+
+impl Area {
+    pub fn right(&self) -> i32 {
+        self.x + self.width
+    }
+
+    pub fn bottom(&self) -> i32 {
+        self.y + self.height
+    }
+
+    /// The height at which its wire leaves.
+    pub fn middle(&self) -> i32 {
+        self.y + self.height / 2
+    }
+}
+
+/// A wire: to the right up to `turn`, then up or down, then to the right again.
+#[derive(Clone, Copy, Debug, PartialEq, Eq)]
+pub struct Path {
+    pub from: (i32, i32),
+    pub turn: i32,
+    pub to: (i32, i32),
+}
+
+/// One value for each input and each gate of a tree.
+#[derive(Clone, Debug)]
+pub struct Each<T> {
+    pub inputs: Vec<T>,
+    pub gates: Vec<T>,
+}
+
+impl<T: Copy> Each<T> {
+    pub fn at(&self, wire: Wire) -> T {
+        match wire {
+            Wire::Input(input) => self.inputs[input],
+            Wire::Gate(gate) => self.gates[gate],
+        }
+    }
+
+    fn set(&mut self, wire: Wire, value: T) {
+        match wire {
+            Wire::Input(input) => self.inputs[input] = value,
+            Wire::Gate(gate) => self.gates[gate] = value,
+        }
+    }
+}
+
+#[derive(Clone, Debug)]
+pub struct Layout {
+    pub width: i32,
+    pub height: i32,
+    pub areas: Each<Area>,
+    /// Each gate's left and right.
+    pub wires: Vec<[Path; 2]>,
+}
+
+/// How far a subtree's band reaches above and below the middle of its root.
+#[derive(Clone, Copy)]
+struct Reach {
+    above: i32,
+    below: i32,
+}
+
+impl Layout {
+    pub fn of(tree: &Tree) -> Layout {
+        let reaches = reaches(tree);
+        let root = reaches.at(tree.root());
+        let areas = areas(tree, &middles(tree, &reaches));
+        let wires = tree.gates.iter().zip(&areas.gates);
+        let wires = wires.map(|(gate, &own)| paths(gate, own, &areas)).collect();
+        let right = areas.at(tree.root()).right() + OUTPUT + MARGIN;
+        Layout {
+            width: right.max(LEAST_WIDTH),
+            height: MARGIN + root.above + root.below + CAPTION + MARGIN,
+            areas,
+            wires,
+        }
+    }
+}
+
+/// The width and height of every gate of the tree.
+fn gate_size(tree: &Tree) -> (i32, i32) {
+    let grid = HEADING + CELL * tree.levels as i32;
+    (PADDING + grid + PADDING, TITLE + grid + PADDING)
+}
+
+/// The width of every input's box: the longest name decides.
+fn input_width(tree: &Tree) -> i32 {
+    let letters = tree.names.iter().map(String::len).max().unwrap_or(0);
+    LETTER * letters as i32 + 2 * INSET
+}
+
+/// A gate's wires come from earlier gates, so each gate's reach follows from those before it.
+fn reaches(tree: &Tree) -> Each<Reach> {
+    let input = Reach {
+        above: INPUT_HEIGHT / 2,
+        below: INPUT_HEIGHT / 2,
+    };
+    let own = gate_size(tree).1 / 2;
+    let mut reaches = Each {
+        inputs: vec![input; tree.names.len()],
+        gates: Vec::new(),
+    };
+    for gate in &tree.gates {
+        let (left, right) = (reaches.at(gate.left), reaches.at(gate.right));
+        let half = half_apart(left, right);
+        reaches.gates.push(Reach {
+            above: own.max(half + left.above),
+            below: own.max(half + right.below),
+        });
+    }
+    reaches
+}
+
+/// Half of what lies between the middles of a gate's left and right.
+fn half_apart(left: Reach, right: Reach) -> i32 {
+    (left.below + BAND_GAP + right.above + 1) / 2
+}
+
+/// The middle of every box, from the output gate back to the inputs.
+fn middles(tree: &Tree, reaches: &Each<Reach>) -> Each<i32> {
+    let mut middles = Each {
+        inputs: vec![0; tree.names.len()],
+        gates: vec![0; tree.gates.len()],
+    };
+    middles.set(tree.root(), MARGIN + reaches.at(tree.root()).above);
+    for (own, gate) in tree.gates.iter().enumerate().rev() {
+        let half = half_apart(reaches.at(gate.left), reaches.at(gate.right));
+        let middle = middles.gates[own];
+        middles.set(gate.left, middle - half);
+        middles.set(gate.right, middle + half);
+    }
+    middles
+}
+
+/// A gate stands in the column after the later one of its left's and its right's.
+fn columns(tree: &Tree) -> Vec<i32> {
+    let mut columns = Each {
+        inputs: vec![-1; tree.names.len()],
+        gates: Vec::new(),
+    };
+    for gate in &tree.gates {
+        let before = columns.at(gate.left).max(columns.at(gate.right));
+        columns.gates.push(before + 1);
+    }
+    columns.gates
+}
+
+fn areas(tree: &Tree, middles: &Each<i32>) -> Each<Area> {
+    let inputs_width = input_width(tree);
+    let (width, height) = gate_size(tree);
+    let first = MARGIN + inputs_width + COLUMN_GAP;
+    let around = |middle: &i32, x, width, height| Area {
+        x,
+        y: middle - height / 2,
+        width,
+        height,
+    };
+    let inputs = middles.inputs.iter();
+    let gates = middles.gates.iter().zip(columns(tree));
+    Each {
+        inputs: inputs
+            .map(|middle| around(middle, MARGIN, inputs_width, INPUT_HEIGHT))
+            .collect(),
+        gates: gates
+            .map(|(middle, column)| (middle, first + column * (width + COLUMN_GAP)))
+            .map(|(middle, x)| around(middle, x, width, height))
+            .collect(),
+    }
+}
+
+/// The wires of a gate's left and right. Left's meets the gate above its middle, right's below it.
+fn paths(gate: &Gate, own: Area, areas: &Each<Area>) -> [Path; 2] {
+    let path = |from: Area, highest: i32, lowest: i32| Path {
+        from: (from.right(), from.middle()),
+        turn: own.x - COLUMN_GAP / 2,
+        to: (own.x, pin(from.middle(), highest, lowest)),
+    };
+    let (left, right) = (areas.at(gate.left), areas.at(gate.right));
+    [
+        path(left, own.y + INSET, own.middle() - INSET),
+        path(right, own.middle() + INSET, own.bottom() - INSET),
+    ]
+}
+
+/// The height at which a wire that comes at some height meets its gate.
+fn pin(height: i32, highest: i32, lowest: i32) -> i32 {
+    let nearest = height.clamp(highest, lowest);
+    if (nearest - height).abs() <= LEAST_TURN {
+        height
+    } else {
+        nearest
+    }
+}

@@ -1,0 +1,155 @@
+//! The net that a reader sees in a drawing, by looking at where boxes, texts and wires lie, is the net of the sheet.
+
+mod common;
+
+use common::{net_sheets, Drawn, Rect};
+use reference::net::Wire;
+use reference::sheet::read_net_sheet;
+
+/// A gate as it is seen: its number, what its left and right come from, its digits by rows.
+type Seen = (String, String, String, String);
+
+/// What a box is called: an input's name, or a gate's number.
+fn called(drawn: &Drawn, rect: &Rect) -> String {
+    let class = if rect.class == "gate" {
+        "number"
+    } else {
+        "name"
+    };
+    let texts = drawn.inside(rect, class);
+    assert_eq!(texts.len(), 1, "one {class} in a box");
+    texts[0].trim_start_matches("gate ").to_string()
+}
+
+/// The box at whose right edge a wire begins.
+fn source(drawn: &Drawn, wire: &[(i32, i32)]) -> String {
+    let (x, y) = wire[0];
+    let starts = |rect: &&&Rect| rect.right == x && rect.y < y && y < rect.bottom;
+    let boxes = drawn.boxes();
+    let found: Vec<&&Rect> = boxes.iter().filter(starts).collect();
+    assert_eq!(found.len(), 1, "a wire begins at one box");
+    called(drawn, found[0])
+}
+
+/// The wires that end at a gate's left edge, from the top.
+fn sources(drawn: &Drawn, gate: &Rect) -> Vec<String> {
+    let end = |wire: &[(i32, i32)]| *wire.last().expect("a corner");
+    let mut wires: Vec<_> = drawn.wires.iter().collect();
+    wires.retain(|wire| {
+        let (x, y) = end(wire);
+        x == gate.x && gate.y < y && y < gate.bottom
+    });
+    wires.sort_by_key(|wire| end(wire).1);
+    wires.iter().map(|wire| source(drawn, wire)).collect()
+}
+
+fn seen(drawn: &Drawn, gate: &Rect) -> Seen {
+    let sources = sources(drawn, gate);
+    let [left, right] = <[String; 2]>::try_from(sources).expect("two wires to a gate");
+    let digits = drawn.inside(gate, "digit").concat();
+    (called(drawn, gate), left, right, digits)
+}
+
+/// The gates of a sheet, as the second implementation reads it.
+fn due(sheet: &[u8]) -> (Vec<String>, Vec<Seen>) {
+    let (header, net) = read_net_sheet(sheet).expect("a good sheet");
+    let name = |bytes: &Vec<u8>| String::from_utf8(bytes.clone()).expect("a name");
+    let names: Vec<String> = header.names.iter().map(name).collect();
+    let text = |wire: Wire| match wire {
+        Wire::Input(input) => names[input].clone(),
+        Wire::Gate(number) => number.to_string(),
+    };
+    let gates = net.gates.iter().enumerate().map(|(k, gate)| {
+        let digits = gate.digits.iter().map(|digit| digit.to_string()).collect();
+        let number = (k + 1).to_string();
+        (number, text(gate.left), text(gate.right), digits)
+    });
+    let gates = gates.collect();
+    (names, gates)
+}
+
+fn of_class<'a>(drawn: &'a Drawn, class: &'a str) -> impl Iterator<Item = &'a Rect> {
+    drawn.rects.iter().filter(move |rect| rect.class == class)
+}
+
+#[test]
+fn every_input_once_and_every_gate_with_its_wires_and_digits() {
+    for sheet in net_sheets() {
+        let drawn = Drawn::read(&picture::svg_of(&sheet).expect("a good sheet"));
+        let (mut names, mut gates) = due(&sheet);
+        let mut leaves: Vec<String> = of_class(&drawn, "input")
+            .map(|rect| called(&drawn, rect))
+            .collect();
+        let mut boxes: Vec<Seen> = of_class(&drawn, "gate")
+            .map(|rect| seen(&drawn, rect))
+            .collect();
+        names.sort();
+        leaves.sort();
+        assert_eq!(leaves, names);
+        gates.sort();
+        boxes.sort();
+        assert_eq!(boxes, gates);
+    }
+}
+
+#[test]
+fn the_wire_that_ends_at_no_gate_is_the_output_of_the_last() {
+    for sheet in net_sheets() {
+        let drawn = Drawn::read(&picture::svg_of(&sheet).expect("a good sheet"));
+        let ends_at_a_gate = |wire: &Vec<(i32, i32)>| {
+            let (x, _) = wire[wire.len() - 1];
+            of_class(&drawn, "gate").any(|gate| gate.x == x)
+        };
+        let outputs: Vec<_> = drawn
+            .wires
+            .iter()
+            .filter(|wire| !ends_at_a_gate(wire))
+            .collect();
+        assert_eq!(outputs.len(), 1);
+        let (_, gates) = due(&sheet);
+        assert_eq!(source(&drawn, outputs[0]), gates.len().to_string());
+        let (x, y) = outputs[0][1];
+        let ink = drawn
+            .texts
+            .iter()
+            .find(|text| text.text == "ink")
+            .expect("the output's word");
+        assert!(ink.x > x && ink.y == y, "the word stands after the wire");
+    }
+}
+
+#[test]
+fn levels_stand_beside_each_grid_and_higher_digits_are_darker() {
+    for sheet in net_sheets() {
+        let drawn = Drawn::read(&picture::svg_of(&sheet).expect("a good sheet"));
+        let m = read_net_sheet(&sheet).expect("a good sheet").0.m;
+        for gate in of_class(&drawn, "gate") {
+            let levels: Vec<String> = (0..m).map(|level| level.to_string()).collect();
+            assert_eq!(
+                drawn.inside(gate, "level"),
+                [&levels[..], &levels[..]].concat()
+            );
+        }
+        let mut greys = vec![None; m];
+        for cell in of_class(&drawn, "cell") {
+            let digit: usize = drawn
+                .inside(cell, "digit")
+                .concat()
+                .parse()
+                .expect("one digit");
+            let fill = cell.fill.as_deref().expect("a fill");
+            let grey: i32 = fill
+                .split(['(', ','])
+                .nth(1)
+                .and_then(|grey| grey.parse().ok())
+                .expect("a grey");
+            assert!(
+                greys[digit].is_none_or(|other| other == grey),
+                "one grey for a digit"
+            );
+            greys[digit] = Some(grey);
+        }
+        let greys: Vec<i32> = greys.into_iter().flatten().collect();
+        assert!(greys.windows(2).all(|pair| pair[0] > pair[1]), "{greys:?}");
+    }
+}

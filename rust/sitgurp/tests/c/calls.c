@@ -1,0 +1,211 @@
+/*
+ * Every call of include/sitgurp.h on an accepted and on refused inputs: its answer, and every byte of every buffer.
+ * Exit status 0 where all is as document 01 says; otherwise each line that does not hold is printed.
+ */
+#include "sitgurp.h"
+
+#include <stdio.h>
+#include <string.h>
+
+/* what buffers hold before a call: no level, no mark, no byte of a sheet */
+#define OTHER 0xa5
+/* the bytes past what a call needs */
+#define SPARE 5
+
+static int failures = 0;
+
+#define HOLDS(condition)                                                                                                     \
+    do {                                                                                                                     \
+        if (!(condition)) {                                                                                                  \
+            printf("line %d: %s\n", __LINE__, #condition);                                                                   \
+            failures++;                                                                                                      \
+        }                                                                                                                    \
+    } while (0)
+
+#define TEXT(text) ((const uint8_t *)(text)), (sizeof(text) - 1)
+
+/* 2 levels, a b c, the sum modulo 2, in a wiring that is not the settled one */
+#define HEADER "levels inputs\n2 3\na b c\n"
+#define NET HEADER "left right table\na b 0110\n1 c 0110\n"
+#define SETTLED HEADER "left right table\nb c 0110\na 1 0110\n"
+#define TABLE                                                                                                                \
+    "levels inputs\n2 3\na b c ink\n0 0 0 0\n0 0 1 1\n0 1 0 1\n0 1 1 0\n1 0 0 1\n1 0 1 0\n1 1 0 0\n1 1 1 1\n"
+/* the ink of index 6 is changed */
+#define OTHER_TABLE                                                                                                          \
+    "levels inputs\n2 3\na b c ink\n0 0 0 0\n0 0 1 1\n0 1 0 1\n0 1 1 0\n1 0 0 1\n1 0 1 0\n1 1 0 1\n1 1 1 1\n"
+/* ink 1 when at least two of a b c are 1 */
+#define MAJORITY                                                                                                             \
+    "levels inputs\n2 3\na b c ink\n0 0 0 0\n0 0 1 0\n0 1 0 0\n0 1 1 1\n1 0 0 0\n1 0 1 1\n1 1 0 1\n1 1 1 1\n"
+/* the name b twice */
+#define BAD_NAMES "levels inputs\n2 3\na b b ink\n"
+/* input a twice */
+#define BAD_NET HEADER "left right table\na a 0110\n"
+
+static const uint8_t sum_cells[8] = {0, 1, 1, 0, 1, 0, 0, 1};
+static const uint8_t sum_marks[8] = {0, 2, 2, 2, 2, 2, 2, 2};
+static const uint8_t majority_cells[8] = {0, 0, 0, 1, 0, 1, 1, 1};
+static const uint8_t majority_marks[8] = {0, 2, 2, 0, 2, 0, 0, 1};
+
+static uint8_t cells[8 + SPARE];
+static uint8_t marks[8 + SPARE];
+static uint8_t output[sizeof(TABLE) + SPARE];
+
+static void fill(void) {
+    memset(cells, OTHER, sizeof cells);
+    memset(marks, OTHER, sizeof marks);
+    memset(output, OTHER, sizeof output);
+}
+
+/* the buffer holds these bytes and then its own */
+static int holds(const uint8_t *buffer, size_t length, const void *bytes, size_t count) {
+    size_t k;
+    for (k = count; k < length; k++) {
+        if (buffer[k] != OTHER) {
+            return 0;
+        }
+    }
+    return memcmp(buffer, bytes, count) == 0;
+}
+
+static int cells_hold(const uint8_t *bytes, size_t count) { return holds(cells, sizeof cells, bytes, count); }
+static int marks_hold(const uint8_t *bytes, size_t count) { return holds(marks, sizeof marks, bytes, count); }
+static int output_holds(const char *text) { return holds(output, sizeof output, text, strlen(text)); }
+static int untouched(void) { return cells_hold(cells, 0) && marks_hold(marks, 0) && output_holds(""); }
+
+static int is(sitgurp_answer answer, size_t number, size_t value) { return answer.number == number && answer.value == value; }
+
+static int says(sitgurp_verdict verdict, size_t kind, size_t named, size_t number, size_t value) {
+    return verdict.kind == kind && verdict.named == named && verdict.number == number && verdict.value == value;
+}
+
+static int turns(sitgurp_turn turn, size_t kind, size_t first, size_t second) {
+    return turn.kind == kind && turn.first == first && turn.second == second;
+}
+
+static void multiplicity(void) {
+    static const uint8_t high[8] = {0, 1, 0, 1, 2, 0, 3, 0};
+    HOLDS(is(sitgurp_multiplicity(2, 3, sum_cells, 8, 3), 0, 2));
+    HOLDS(is(sitgurp_multiplicity(2, 3, majority_cells, 8, 3), 0, 3));
+    HOLDS(is(sitgurp_multiplicity(1, 3, sum_cells, 8, 3), 9, 0));
+    HOLDS(is(sitgurp_multiplicity(2, 3, sum_cells, 7, 3), 9, 0));
+    HOLDS(is(sitgurp_multiplicity(2, (size_t)-1, sum_cells, 8, 3), 9, 0));
+    HOLDS(is(sitgurp_multiplicity(2, 3, high, 8, 0), 10, 4));
+    HOLDS(is(sitgurp_multiplicity(2, 3, sum_cells, 8, 0), 11, 0));
+    HOLDS(is(sitgurp_multiplicity(2, 3, sum_cells, 8, 8), 11, 0));
+}
+
+static void marking(void) {
+    static const uint8_t high[8] = {0, 1, 0, 1, 0, 0, 0, 9};
+    fill();
+    HOLDS(is(sitgurp_marking(2, 3, sum_cells, 7, marks, sizeof marks), 9, 0));
+    HOLDS(is(sitgurp_marking(2, 3, high, 8, marks, 0), 10, 7));
+    HOLDS(is(sitgurp_marking(2, 3, sum_cells, 8, marks, 7), 14, 8));
+    HOLDS(untouched());
+    HOLDS(is(sitgurp_marking(2, 3, majority_cells, 8, marks, sizeof marks), 0, 1));
+    HOLDS(marks_hold(majority_marks, 8));
+    HOLDS(is(sitgurp_marking(2, 3, sum_cells, 8, marks, 8), 0, 2));
+    HOLDS(marks_hold(sum_marks, 8));
+}
+
+static void settle(void) {
+    const size_t length = sizeof(SETTLED) - 1;
+    fill();
+    HOLDS(is(sitgurp_settle(TEXT(BAD_NET), cells, 0, marks, 0, output, 0), 8, 43));
+    HOLDS(is(sitgurp_settle(TEXT(""), cells, sizeof cells, marks, sizeof marks, output, sizeof output), 1, 0));
+    HOLDS(is(sitgurp_settle(TEXT(NET), cells, 7, marks, 7, output, 0), 13, 8));
+    HOLDS(is(sitgurp_settle(TEXT(NET), cells, 8, marks, 7, output, 0), 14, 8));
+    HOLDS(untouched());
+    HOLDS(is(sitgurp_settle(TEXT(NET), cells, 8, marks, 8, output, length - 1), 15, length));
+    HOLDS(cells_hold(sum_cells, 8) && marks_hold(sum_marks, 8) && output_holds(""));
+    fill();
+    HOLDS(is(sitgurp_settle(TEXT(NET), cells, sizeof cells, marks, sizeof marks, output, sizeof output), 0, length));
+    HOLDS(cells_hold(sum_cells, 8) && marks_hold(sum_marks, 8) && output_holds(SETTLED));
+}
+
+static void make(void) {
+    const size_t length = sizeof(SETTLED) - 1;
+    fill();
+    HOLDS(is(sitgurp_make(TEXT(BAD_NAMES), cells, 0, marks, 0, output, 0), 4, 22));
+    HOLDS(is(sitgurp_make(TEXT(NET), cells, 8, marks, 8, output, length), 1, 23));
+    HOLDS(is(sitgurp_make(TEXT(MAJORITY), cells, 7, marks, 7, output, 0), 13, 8));
+    HOLDS(is(sitgurp_make(TEXT(MAJORITY), cells, 8, marks, 7, output, 0), 14, 8));
+    HOLDS(untouched());
+    HOLDS(is(sitgurp_make(TEXT(MAJORITY), cells, 8, marks, 8, output, 0), 16, 7));
+    HOLDS(cells_hold(majority_cells, 8) && marks_hold(majority_marks, 8) && output_holds(""));
+    fill();
+    HOLDS(is(sitgurp_make(TEXT(TABLE), cells, 8, marks, 8, output, length - 1), 15, length));
+    HOLDS(cells_hold(sum_cells, 8) && marks_hold(sum_marks, 8) && output_holds(""));
+    fill();
+    HOLDS(is(sitgurp_make(TEXT(TABLE), cells, sizeof cells, marks, sizeof marks, output, length), 0, length));
+    HOLDS(cells_hold(sum_cells, 8) && marks_hold(sum_marks, 8) && output_holds(SETTLED));
+}
+
+static void check(void) {
+    fill();
+    HOLDS(says(sitgurp_check(TEXT(BAD_NET), TEXT(BAD_NAMES), cells, 0), 2, 1, 8, 43));
+    HOLDS(says(sitgurp_check(TEXT(NET), TEXT(BAD_NAMES), cells, 0), 2, 2, 4, 22));
+    HOLDS(says(sitgurp_check(TEXT("levels inputs\n2 3\na c b\nleft right table\na b 0110\n1 c 0110\n"), TEXT(TABLE), cells, 0), 2, 0,
+               12, 0));
+    HOLDS(says(sitgurp_check(TEXT(NET), TEXT(TABLE), cells, 7), 2, 0, 13, 8));
+    HOLDS(untouched());
+    HOLDS(says(sitgurp_check(TEXT(NET), TEXT(OTHER_TABLE), cells, 8), 1, 0, 0, 6));
+    HOLDS(cells[6] == 1 && cells[7] == 1);
+    fill();
+    HOLDS(says(sitgurp_check(TEXT(NET), TEXT(TABLE), cells, sizeof cells), 0, 0, 0, 0));
+    HOLDS(cells_hold(sum_cells, 8));
+    HOLDS(says(sitgurp_check(TEXT(SETTLED), TEXT(TABLE), cells, 8), 0, 0, 0, 0));
+}
+
+static void write_table(void) {
+    const size_t length = sizeof(TABLE) - 1;
+    fill();
+    HOLDS(is(sitgurp_write_table(TEXT(BAD_NET), output, 0), 8, 43));
+    HOLDS(is(sitgurp_write_table(TEXT(NET), output, length - 1), 15, length));
+    HOLDS(untouched());
+    HOLDS(is(sitgurp_write_table(TEXT(NET), output, sizeof output), 0, length));
+    HOLDS(output_holds(TABLE));
+}
+
+static void gate_line(void) {
+    static const char net[] = NET;
+    const size_t first = sizeof(HEADER "left right table\n") - 1;
+    HOLDS(turns(sitgurp_gate_line(TEXT(NET), 0), 1, first, 8) && memcmp(net + first, "a b 0110", 8) == 0);
+    HOLDS(turns(sitgurp_gate_line(TEXT(NET), 1), 1, first + 9, 8) && memcmp(net + first + 9, "1 c 0110", 8) == 0);
+    HOLDS(turns(sitgurp_gate_line(TEXT(NET), 2), 0, 0, 0));
+    HOLDS(turns(sitgurp_gate_line(TEXT(NET), (size_t)-1), 0, 0, 0));
+    HOLDS(turns(sitgurp_gate_line(TEXT(BAD_NET), 0), 2, 8, 43));
+    HOLDS(turns(sitgurp_gate_line(TEXT(BAD_NET), 99), 2, 8, 43));
+}
+
+/* the sizes that the header says always suffice, on sheets of the largest size: 2 levels with 11 inputs, all names 8 bytes long */
+static void largest(void) {
+    static const char sheet[] = "levels inputs\n2 11\n"
+                                "aaaaaaaa bbbbbbbb cccccccc dddddddd eeeeeeee ffffffff gggggggg hhhhhhhh iiiiiiii jjjjjjjj kkkkkkkk\n"
+                                "left right table\n"
+                                "aaaaaaaa bbbbbbbb 0110\n1 cccccccc 0110\n2 dddddddd 0110\n3 eeeeeeee 0110\n4 ffffffff 0110\n"
+                                "5 gggggggg 0110\n6 hhhhhhhh 0110\n7 iiiiiiii 0110\n8 jjjjjjjj 0110\n9 kkkkkkkk 0110\n";
+    static uint8_t table[SITGURP_MOST_TABLE_SHEET];
+    static uint8_t most_cells[SITGURP_MOST_CELLS];
+    static uint8_t most_marks[SITGURP_MOST_MARKS];
+    static uint8_t net[SITGURP_MOST_NET_SHEET];
+    sitgurp_answer made;
+    HOLDS(is(sitgurp_write_table(TEXT(sheet), table, sizeof table), 0, sizeof table));
+    made = sitgurp_make(table, sizeof table, most_cells, sizeof most_cells, most_marks, sizeof most_marks, net, sizeof net);
+    HOLDS(made.number == 0 && made.value <= sizeof net);
+    if (failures > 0) {
+        return;
+    }
+    HOLDS(says(sitgurp_check(net, made.value, table, sizeof table, most_cells, sizeof most_cells), 0, 0, 0, 0));
+}
+
+int main(void) {
+    multiplicity();
+    marking();
+    settle();
+    make();
+    check();
+    write_table();
+    gate_line();
+    largest();
+    return failures == 0 ? 0 : 1;
+}

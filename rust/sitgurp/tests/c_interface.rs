@@ -1,0 +1,128 @@
+//! A C program over include/sitgurp.h and the static library: every call on accepted and refused inputs, in tests/c/calls.c.
+
+use std::path::{Path, PathBuf};
+use std::process::{Command, Output};
+
+fn repository() -> PathBuf {
+    Path::new(env!("CARGO_MANIFEST_DIR")).join("../..")
+}
+
+/// What a program of its own says and ends with.
+fn run(command: &mut Command) -> Output {
+    let name = command.get_program().to_owned();
+    command
+        .output()
+        .unwrap_or_else(|error| panic!("{name:?}: {error}"))
+}
+
+fn assert_ends_well(output: &Output) {
+    let said = [&output.stdout[..], &output.stderr[..]].concat();
+    let said = String::from_utf8_lossy(&said);
+    assert!(output.status.success(), "{}\n{said}", output.status);
+}
+
+/// The C compiler, as strict as C99 can be had.
+fn strict_cc(source: &str) -> Command {
+    let mut cc = Command::new("cc");
+    cc.args(["-std=c99", "-Wall", "-Wextra", "-Werror", "-pedantic"])
+        .arg("-I")
+        .arg(repository().join("include"))
+        .arg(Path::new(env!("CARGO_MANIFEST_DIR")).join(source));
+    cc
+}
+
+#[test]
+fn every_call_from_c() {
+    let program = Path::new(env!("CARGO_TARGET_TMPDIR")).join("calls");
+    let mut cc = strict_cc("tests/c/calls.c");
+    cc.arg(repository().join("target/staticlib/libcapi.a"))
+        .arg("-o")
+        .arg(&program);
+    assert_ends_well(&run(&mut cc));
+    assert_ends_well(&run(&mut Command::new(program)));
+}
+
+fn read(path: &str) -> String {
+    std::fs::read_to_string(repository().join(path))
+        .unwrap_or_else(|error| panic!("{path}: {error}"))
+}
+
+/// A declaration's name, its parameters as names and C types, and its result.
+type Declared = (String, Vec<(String, String)>, String);
+
+/// The C type that Rust's type stands for.
+fn c_type(rust: &str) -> String {
+    let known = match rust {
+        "usize" => "size_t",
+        "*const u8" => "const uint8_t *",
+        "*mut u8" => "uint8_t *",
+        "Answer" => "sitgurp_answer",
+        "Verdict" => "sitgurp_verdict",
+        "Turn" => "sitgurp_turn",
+        other => panic!("type {other}"),
+    };
+    known.to_string()
+}
+
+/// `pub fn name(a: T, ...) -> R;`
+fn in_rust(text: &str) -> Vec<Declared> {
+    let declarations = text.split("pub fn ").skip(1).map(|part| {
+        let (name, rest) = part.split_once('(').expect("parameters");
+        let (parameters, rest) = rest.split_once(')').expect("an end");
+        let parameters = parameters.split(',').filter_map(|one| one.split_once(':'));
+        let parameters = parameters.map(|(name, of)| (name.trim().to_string(), c_type(of.trim())));
+        let result = rest.trim_start_matches(" -> ").split(';').next();
+        (
+            name.to_string(),
+            parameters.collect(),
+            c_type(result.expect("a result")),
+        )
+    });
+    declarations.collect()
+}
+
+/// `R name(T a, ...);`, where a `*` stands at the name.
+fn in_c(text: &str) -> Vec<Declared> {
+    let text: String = text
+        .split("/*")
+        .map(|part| part.split("*/").last().unwrap_or(""))
+        .collect();
+    let declarations = text.split(';').filter_map(|part| {
+        let (before, parameters) = part.trim().strip_suffix(')')?.split_once('(')?;
+        let (result, name) = before.lines().last()?.split_once(' ')?;
+        let parameters = parameters.split(',').filter_map(|one| {
+            let one = one.trim();
+            let start = one.rfind([' ', '*'])? + 1;
+            Some((
+                one[start..].to_string(),
+                one[..start].trim_end().to_string(),
+            ))
+        });
+        Some((name.to_string(), parameters.collect(), result.to_string()))
+    });
+    declarations.collect()
+}
+
+#[test]
+fn the_header_declares_what_rust_declares() {
+    let mut rust = in_rust(&read("rust/sitgurp/src/ffi.rs"));
+    let mut c = in_c(&read("include/sitgurp.h"));
+    rust.sort();
+    c.sort();
+    assert_eq!(c, rust);
+    assert_eq!(c.len(), 7);
+}
+
+#[test]
+fn the_header_has_the_sizes_that_always_suffice() {
+    let header = read("include/sitgurp.h");
+    for (name, size) in [
+        ("CELLS", sitgurp::MOST_CELLS),
+        ("MARKS", sitgurp::MOST_MARKS),
+        ("NET_SHEET", sitgurp::MOST_NET_SHEET),
+        ("TABLE_SHEET", sitgurp::MOST_TABLE_SHEET),
+    ] {
+        let line = format!("#define SITGURP_MOST_{name} {size}");
+        assert!(header.lines().any(|one| one == line), "{line}");
+    }
+}
