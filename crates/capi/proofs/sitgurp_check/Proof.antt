@@ -1,0 +1,27 @@
+-- `capi::sitgurp_check` meets its contract: it is the check, its verdict as four numbers. Assumes nothing.
+use mathlib.Core.Path.{ap, _∙_}
+use Rattle.rules.specs.Calls.{Checked}
+use Rattle.capi.specs.Flat.{flatVerdict}
+use borrow.Author.Needs.{needs}
+use Rattle.capi.proofs.sitgurp_check.Statement.{statement}
+use Rattle.capi.proofs.sitgurp_check.Tie as tie
+
+check-requires : tie.Need-check-requires
+check-requires c κs = search needs
+
+flat-verdict-requires : tie.Need-flat-verdict-requires
+flat-verdict-requires c κs = search needs
+
+same-length : tie.Need-same-length
+same-length c = search needs
+
+returns : tie.Need-returns
+returns c =
+    let did = c .before .before .before .check .ensures in
+    record {
+      answer = c .flat-verdict .ensures ∙ ap (λ (r : Checked). flatVerdict (r .answer)) did;
+      cells-then = ap (λ (r : Checked). r .cells) did;
+    }
+
+pub sitgurp-check-spec : {M : Type 1} → statement M
+sitgurp-check-spec = tie.close (tie.spec check-requires flat-verdict-requires same-length returns)

@@ -1,0 +1,36 @@
+-- `capi::sitgurp_make` meets its contract: it is the call, its answer as two numbers. Assumes nothing.
+use mathlib.Core.Path.{ap, _∙_}
+use Rattle.rules.specs.Calls.{Made}
+use Rattle.capi.specs.Flat.{flatOf}
+use borrow.Author.Needs.{needs}
+use Rattle.capi.proofs.sitgurp_make.Statement.{statement}
+use Rattle.capi.proofs.sitgurp_make.Tie as tie
+
+make-requires : tie.Need-make-requires
+make-requires c κs = search needs
+
+flat-requires : tie.Need-flat-requires
+flat-requires c κs = search needs
+
+same-length : tie.Need-same-length
+same-length c = search needs
+
+same-length-2 : tie.Need-same-length-2
+same-length-2 c = search needs
+
+same-length-3 : tie.Need-same-length-3
+same-length-3 c = search needs
+
+returns : tie.Need-returns
+returns c =
+    let did = c .before .before .before .before .before .before .before .make .ensures in
+    record {
+      answer = c .flat .ensures ∙ ap (λ (r : Made). flatOf (r .answer)) did;
+      cells-then = ap (λ (r : Made). r .cells) did;
+      marks-then = ap (λ (r : Made). r .marks) did;
+      output-then = ap (λ (r : Made). r .output) did;
+    }
+
+pub sitgurp-make-spec : {M : Type 1} → statement M
+sitgurp-make-spec =
+    tie.close (tie.spec make-requires flat-requires same-length same-length-2 same-length-3 returns)

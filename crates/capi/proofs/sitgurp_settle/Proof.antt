@@ -1,0 +1,36 @@
+-- `capi::sitgurp_settle` meets its contract: it is the call, its answer as two numbers. Assumes nothing.
+use mathlib.Core.Path.{ap, _∙_}
+use Rattle.rules.specs.Calls.{Made}
+use Rattle.capi.specs.Flat.{flatOf}
+use borrow.Author.Needs.{needs}
+use Rattle.capi.proofs.sitgurp_settle.Statement.{statement}
+use Rattle.capi.proofs.sitgurp_settle.Tie as tie
+
+settle-requires : tie.Need-settle-requires
+settle-requires c κs = search needs
+
+flat-requires : tie.Need-flat-requires
+flat-requires c κs = search needs
+
+same-length : tie.Need-same-length
+same-length c = search needs
+
+same-length-2 : tie.Need-same-length-2
+same-length-2 c = search needs
+
+same-length-3 : tie.Need-same-length-3
+same-length-3 c = search needs
+
+returns : tie.Need-returns
+returns c =
+    let did = c .before .before .before .before .before .before .before .settle .ensures in
+    record {
+      answer = c .flat .ensures ∙ ap (λ (r : Made). flatOf (r .answer)) did;
+      cells-then = ap (λ (r : Made). r .cells) did;
+      marks-then = ap (λ (r : Made). r .marks) did;
+      output-then = ap (λ (r : Made). r .output) did;
+    }
+
+pub sitgurp-settle-spec : {M : Type 1} → statement M
+sitgurp-settle-spec =
+    tie.close (tie.spec settle-requires flat-requires same-length same-length-2 same-length-3 returns)
