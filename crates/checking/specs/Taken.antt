@@ -1,13 +1,13 @@
 -- A sheet that was read, by value: its refusal, or its parts and what the calls on them ask.
 -- Assumes nothing.
-use Prim.Native.Nat.{ℕ, _-_, _^_, _≤_}
+use Prim.Native.Nat.{ℕ, _-_, _^_, _≤_, _<_}
 use mathlib.Core.Path.{_≡_, sym, ap, ap₂, _∙_}
 use mathlib.Core.Bool.{true}
 use mathlib.Core.List.{List}
-use native.Mathlib.Nat.{sub-zero}
+use native.Mathlib.Nat.{sub-zero, one-le-pow}
 use native.Mathlib.Omega.{arith}
 use lib.ListN.{length, take}
-use Rattle.rules.specs.Limits.{mostLevels, fewestInputs, mostInputs, mostCells, sizeFits}
+use Rattle.rules.specs.Limits.{fewestLevels, mostLevels, fewestInputs, mostInputs, mostCells, sizeFits}
 use Rattle.rules.specs.Sheets.{Gate}
 use Rattle.rules.specs.Kept.{KeptNet, IsNet}
 use Rattle.rules.specs.Value.{tableOf}
@@ -90,6 +90,10 @@ module _ (s : List ℕ) (h : Header) (net : Net) (taken : NetTaken s h net) wher
 
   pub inputs-most : h .inputs ≤ mostInputs
   inputs-most = fits .inputs-most
+
+  pub cells-some : 0 < h .levels ^ h .inputs
+  unfolding fewestLevels
+  cells-some = one-le-pow _ _ (omega (arith, fits .levels-least))
 
   pub cells-most : h .levels ^ h .inputs ≤ mostCells
   cells-most = fits .cells-most

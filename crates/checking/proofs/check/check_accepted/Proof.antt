@@ -4,7 +4,7 @@ use mathlib.Core.Path.{sym, _∙_}
 use native.Mathlib.Omega.{arith}
 use borrow.Author.Tests.{not-true, not-false}
 use Rattle.rules.specs.Limits.{mostInputs, mostCells}
-use Rattle.checking.specs.Taken.{sound, levels-most, inputs-most, cells-most, own-most}
+use Rattle.checking.specs.Taken.{sound, levels-most, inputs-most, cells-some, cells-most, own-most, front-length}
 use Rattle.checking.specs.Judging.{headers-differ, inks-long, cells-short, cells-long}
 use borrow.Author.Needs.{needs}
 use Rattle.checking.proofs.check.check_accepted.Statement.{statement}
@@ -62,7 +62,10 @@ part-compare-into-end-2 c =
     omega (arith, inks-long _ _ _ (start .pre .0) _ _ _ (start .pre .1) (start .args .cells .now) same _ (c .before .before .before .before .before .before .before .before .power .ensures))
 
 compare-into-requires : tie.Need-compare-into-requires
-compare-into-requires c κs = search needs
+compare-into-requires c κs =
+    let taken = c .before .before .before .before .before .before .before .before .before .before .before .before .before .before .before .pre .0 in
+    let count = c .before .before .before .before .before .before .before .before .before .before .power .ensures in
+    (omega (arith, cells-some _ _ _ taken, count, front-length _ _ _ taken _ _ _ _ (c .before .before .before .before .before .table2 .ensures) count), search needs, search needs)
 
 same-length : tie.Need-same-length
 same-length c = search needs

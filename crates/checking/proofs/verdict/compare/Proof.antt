@@ -9,10 +9,13 @@ use Rattle.checking.proofs.verdict.compare.Statement.{statement}
 use Rattle.checking.proofs.verdict.compare.Tie as tie
 
 abbrev Inv-loop : tie.InvT-loop
-Inv-loop xs ys i₀ i = (i ≤ length xs) × AgreeTo xs ys i
+Inv-loop xs ys last i₀ i = (i ≤ length xs) × AgreeTo xs ys i
 
 abbrev μ-loop : tie.MeasureT-loop
-μ-loop xs ys i₀ i = length xs - i
+μ-loop xs ys last i₀ i = length xs - i
+
+sub-last : tie.Need-sub-last Inv-loop μ-loop
+sub-last c = omega arith
 
 loop-holds : tie.Need-loop-holds Inv-loop μ-loop
 loop-holds c = (omega arith, λ p h. absurd (omega arith))
@@ -48,6 +51,7 @@ compare-spec =
     (tie.spec
     Inv-loop
     μ-loop
+    sub-last
     loop-holds
     shared-slice-read-if1
     shared-slice-read-if1-2

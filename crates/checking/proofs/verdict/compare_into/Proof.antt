@@ -1,4 +1,4 @@
--- `checking::verdict::compare_into` meets its contract.
+-- `checking::verdict::compare_into` meets its contract: the inks copied, then the comparison.
 -- Assumes nothing.
 use Rattle.checking.specs.Comparing.{inks-compared}
 use borrow.Author.Needs.{needs}
@@ -15,7 +15,7 @@ same-length : tie.Need-same-length
 same-length c = search needs
 
 returns : tie.Need-returns
-returns c = inks-compared _ _ _ _ _ (c .before .before .before .before .before .before .before .before .pre .1) (c .before .before .before .copy .ensures) _ (c .compare .ensures)
+returns c = inks-compared _ _ _ _ _ (c .before .before .before .before .before .before .before .before .pre .2) (c .before .before .before .copy .ensures) _ (c .compare .ensures)
 
 pub compare-into-spec : {M : Type 1} → statement M
 compare-into-spec = tie.close (tie.spec copy-requires compare-requires same-length returns)
