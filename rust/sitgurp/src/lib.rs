@@ -64,7 +64,14 @@ pub fn multiplicity(m: usize, n: usize, cells: &[u8], group: usize) -> Result<us
 /// Writes every group's mark to the front of `marks`, and answers the whole group's.
 pub fn marking(m: usize, n: usize, cells: &[u8], marks: &mut [u8]) -> Result<usize, Refusal> {
     let answer = unsafe {
-        ffi::sitgurp_marking(m, n, cells.as_ptr(), cells.len(), marks.as_mut_ptr(), marks.len())
+        ffi::sitgurp_marking(
+            m,
+            n,
+            cells.as_ptr(),
+            cells.len(),
+            marks.as_mut_ptr(),
+            marks.len(),
+        )
     };
     answered(answer, Named::Neither, &[])
 }
@@ -115,11 +122,7 @@ pub fn make(
 }
 
 /// Checks a net sheet against a table sheet, and puts the table sheet's inks in `cells`.
-pub fn check(
-    net_sheet: &[u8],
-    table_sheet: &[u8],
-    cells: &mut [u8],
-) -> Result<Verdict, Refusal> {
+pub fn check(net_sheet: &[u8], table_sheet: &[u8], cells: &mut [u8]) -> Result<Verdict, Refusal> {
     let verdict = unsafe {
         ffi::sitgurp_check(
             net_sheet.as_ptr(),
@@ -133,16 +136,36 @@ pub fn check(
     match (verdict.kind, verdict.named) {
         (0, _) => Ok(Verdict::Agree),
         (1, _) => Ok(Verdict::Differ(verdict.value)),
-        (_, 1) => Err(Refusal::new(verdict.number, verdict.value, Named::Net, net_sheet)),
-        (_, 2) => Err(Refusal::new(verdict.number, verdict.value, Named::Table, table_sheet)),
-        _ => Err(Refusal::new(verdict.number, verdict.value, Named::Neither, &[])),
+        (_, 1) => Err(Refusal::new(
+            verdict.number,
+            verdict.value,
+            Named::Net,
+            net_sheet,
+        )),
+        (_, 2) => Err(Refusal::new(
+            verdict.number,
+            verdict.value,
+            Named::Table,
+            table_sheet,
+        )),
+        _ => Err(Refusal::new(
+            verdict.number,
+            verdict.value,
+            Named::Neither,
+            &[],
+        )),
     }
 }
 
 /// Writes the table sheet of a net sheet to the front of `output`. Answers its length.
 pub fn write_table(sheet: &[u8], output: &mut [u8]) -> Result<usize, Refusal> {
     let answer = unsafe {
-        ffi::sitgurp_write_table(sheet.as_ptr(), sheet.len(), output.as_mut_ptr(), output.len())
+        ffi::sitgurp_write_table(
+            sheet.as_ptr(),
+            sheet.len(),
+            output.as_mut_ptr(),
+            output.len(),
+        )
     };
     answered(answer, Named::Net, sheet)
 }

@@ -30,7 +30,8 @@ impl<'a> Iterator for Lister<'a> {
     type Item = &'a [u8];
 
     fn next(&mut self) -> Option<&'a [u8]> {
-        let turn = unsafe { ffi::sitgurp_gate_line(self.sheet.as_ptr(), self.sheet.len(), self.turn) };
+        let turn =
+            unsafe { ffi::sitgurp_gate_line(self.sheet.as_ptr(), self.sheet.len(), self.turn) };
         self.turn += 1;
         (turn.kind == 1).then(|| &self.sheet[turn.first..turn.first + turn.second])
     }

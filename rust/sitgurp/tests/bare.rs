@@ -10,7 +10,12 @@ const SEED: u64 = 2_187;
 
 fn same_multiplicity(m: usize, n: usize, cells: &[u8], group: usize) {
     let answer = got(sitgurp::multiplicity(m, n, cells, group)).map(|value| value as u64);
-    let expected = due(reference::multiplicity(m as u64, n as u64, cells, group as u64));
+    let expected = due(reference::multiplicity(
+        m as u64,
+        n as u64,
+        cells,
+        group as u64,
+    ));
     assert_eq!(answer, expected, "m {m} n {n} group {group}");
 }
 

@@ -15,13 +15,22 @@ fn every_example_gives_what_stands_beside_it() {
         let sheet = fs::read(&path).expect("a table sheet");
         match sitgurp::made(&sheet) {
             Ok(net) => {
-                assert_eq!(net, fs::read(path.with_extension("net")).expect("its net sheet"));
+                assert_eq!(
+                    net,
+                    fs::read(path.with_extension("net")).expect("its net sheet")
+                );
                 let mut cells = [0; sitgurp::MOST_CELLS];
-                assert_eq!(sitgurp::check(&net, &sheet, &mut cells), Ok(sitgurp::Verdict::Agree));
+                assert_eq!(
+                    sitgurp::check(&net, &sheet, &mut cells),
+                    Ok(sitgurp::Verdict::Agree)
+                );
             }
             Err(refusal) => {
                 let text = format!("number place\n{} {}\n", refusal.number, refusal.place);
-                assert_eq!(text.as_bytes(), fs::read(path.with_extension("refusal")).expect("its refusal"));
+                assert_eq!(
+                    text.as_bytes(),
+                    fs::read(path.with_extension("refusal")).expect("its refusal")
+                );
             }
         }
         count += 1;

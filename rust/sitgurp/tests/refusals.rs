@@ -16,14 +16,24 @@ fn examples(document: &str) -> Vec<Example> {
     let mut lines = document.lines();
     let mut examples = Vec::new();
     while let Some(line) = lines.next() {
-        let Some(heading) = line.strip_prefix("```") else { continue };
+        let Some(heading) = line.strip_prefix("```") else {
+            continue;
+        };
         let words: Vec<&str> = heading.split(' ').collect();
         let body: Vec<&str> = lines.by_ref().take_while(|line| *line != "```").collect();
-        let [kind, number, place] = words[..] else { panic!("heading {heading:?}") };
+        let [kind, number, place] = words[..] else {
+            panic!("heading {heading:?}")
+        };
         let (sheet, marked) = sheet_of(&body);
         let number = number.parse().expect("a number");
         let place = place.parse().expect("a place");
-        examples.push(Example { kind: kind.into(), number, place, sheet, marked });
+        examples.push(Example {
+            kind: kind.into(),
+            number,
+            place,
+            sheet,
+            marked,
+        });
     }
     examples
 }
@@ -34,7 +44,10 @@ fn sheet_of(body: &[&str]) -> (Vec<u8>, Option<usize>) {
     let mut marked = None;
     let mut line_start = 0;
     for line in body {
-        if let Some(column) = line.strip_suffix('^').filter(|spaces| spaces.trim().is_empty()) {
+        if let Some(column) = line
+            .strip_suffix('^')
+            .filter(|spaces| spaces.trim().is_empty())
+        {
             marked = Some((line_start, column.len()));
         } else {
             line_start = sheet.len();
@@ -51,7 +64,14 @@ fn every_example_is_refused_at_its_mark() {
     let path = Path::new(env!("CARGO_MANIFEST_DIR")).join("../../docs/REFUSALS.md");
     let examples = examples(&std::fs::read_to_string(path).expect("docs/REFUSALS.md"));
     assert!(examples.len() >= 15, "only {} examples", examples.len());
-    for Example { kind, number, place, sheet, marked } in examples {
+    for Example {
+        kind,
+        number,
+        place,
+        sheet,
+        marked,
+    } in examples
+    {
         let answer = match kind.as_str() {
             "net" => sitgurp::settled(&sheet),
             "table" => sitgurp::made(&sheet),

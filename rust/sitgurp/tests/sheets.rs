@@ -81,13 +81,24 @@ fn same_lines(sheet: &[u8]) {
 
 /// Lengths around a need, from nothing to past it.
 fn around(need: usize) -> Vec<usize> {
-    let mut lengths = vec![0, 1, need / 2, need.saturating_sub(1), need, need + 1, need + 37];
+    let mut lengths = vec![
+        0,
+        1,
+        need / 2,
+        need.saturating_sub(1),
+        need,
+        need + 1,
+        need + 37,
+    ];
     lengths.dedup();
     lengths
 }
 
 fn sizes() -> Vec<(usize, usize)> {
-    reference::allowed_sizes().into_iter().map(|(m, n)| (m as usize, n as usize)).collect()
+    reference::allowed_sizes()
+        .into_iter()
+        .map(|(m, n)| (m as usize, n as usize))
+        .collect()
 }
 
 #[test]
@@ -111,14 +122,17 @@ fn every_buffer_around_its_need() {
     let mut generator = Generator::new(SEED + 1);
     for (m, n) in [(2, 2), (2, 3), (3, 3), (4, 3), (2, 6), (9, 3), (2, 11)] {
         let net = generator.net_sheet(m, n);
-        let tables = [TableKind::OfNet, TableKind::Random].map(|kind| generator.table_sheet(m, n, kind));
+        let tables =
+            [TableKind::OfNet, TableKind::Random].map(|kind| generator.table_sheet(m, n, kind));
         let length = same_settle(&net, ENOUGH).expect("a good net sheet settles");
         for cells in around(m.pow(n as u32)) {
             for marks in around(1 << n) {
                 for output in around(length) {
                     let lengths = Lengths(cells, marks, output);
                     same_settle(&net, lengths).ok();
-                    tables.iter().for_each(|table| drop(same_make(table, lengths)));
+                    tables
+                        .iter()
+                        .for_each(|table| drop(same_make(table, lengths)));
                 }
             }
         }
@@ -174,21 +188,31 @@ fn checks_of_every_size() {
             same_check(&net, &table, length);
         }
         let mut verdict = [0; MOST_CELLS];
-        assert_eq!(sitgurp::check(&net, &table, &mut verdict), Ok(sitgurp::Verdict::Agree));
+        assert_eq!(
+            sitgurp::check(&net, &table, &mut verdict),
+            Ok(sitgurp::Verdict::Agree)
+        );
         // one ink changed, at the first, the last and a middle cell
         for index in [0, cells / 2, cells - 1] {
             let mut other = table.clone();
             let end = other.len() - 2 - (cells - 1 - index) * (2 * n + 2);
             other[end] = if other[end] == b'0' { b'1' } else { b'0' };
             same_check(&net, &other, MOST_CELLS);
-            assert_eq!(sitgurp::check(&net, &other, &mut verdict), Ok(sitgurp::Verdict::Differ(index)));
+            assert_eq!(
+                sitgurp::check(&net, &other, &mut verdict),
+                Ok(sitgurp::Verdict::Differ(index))
+            );
         }
         // another header
         let other = generator.table_sheet(m, n, TableKind::OfNet);
         same_check(&net, &other, MOST_CELLS);
         same_check(&net, &other, 0);
         let (p, q) = generator.size();
-        same_check(&net, &generator.table_sheet(p, q, TableKind::Constant), MOST_CELLS);
+        same_check(
+            &net,
+            &generator.table_sheet(p, q, TableKind::Constant),
+            MOST_CELLS,
+        );
     }
 }
 
@@ -197,7 +221,9 @@ fn tables_written_at_every_size() {
     let mut generator = Generator::new(SEED + 5);
     for (m, n) in sizes() {
         let net = generator.net_sheet(m, n);
-        let need = sitgurp::table_of(&net).expect("a good net sheet has a table sheet").len();
+        let need = sitgurp::table_of(&net)
+            .expect("a good net sheet has a table sheet")
+            .len();
         for length in around(need) {
             same_write(&net, length);
         }
@@ -206,7 +232,16 @@ fn tables_written_at_every_size() {
 
 #[test]
 fn bytes_that_are_no_sheet() {
-    for sheet in [&b""[..], b"\n", b" ", b"\0", b"\xff", b"levels", b"levels inputs", b"levels inputs\n"] {
+    for sheet in [
+        &b""[..],
+        b"\n",
+        b" ",
+        b"\0",
+        b"\xff",
+        b"levels",
+        b"levels inputs",
+        b"levels inputs\n",
+    ] {
         same_settle(sheet, ENOUGH).ok();
         same_make(sheet, ENOUGH).ok();
         same_check(sheet, sheet, 10);

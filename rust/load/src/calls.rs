@@ -1,0 +1,256 @@
+//! One call of each kind, by the proved library and by the second implementation, on the same inputs and equal buffers.
+
+use crate::given::{difference, Answer, Given};
+use crate::inputs::{Bare, Inputs};
+use sitgurp::MOST_NET_SHEET;
+
+#[derive(Clone, Copy, Debug, PartialEq, Eq)]
+pub enum Kind {
+    Multiplicity,
+    Marking,
+    Settle,
+    Make,
+    Check,
+    WriteTable,
+    Listing,
+}
+
+impl Kind {
+    pub const ALL: [Kind; 7] = [
+        Kind::Multiplicity,
+        Kind::Marking,
+        Kind::Settle,
+        Kind::Make,
+        Kind::Check,
+        Kind::WriteTable,
+        Kind::Listing,
+    ];
+
+    /// The refusals that document 01 has for this call.
+    pub fn refusals(self) -> &'static [usize] {
+        match self {
+            Kind::Multiplicity => &[9, 10, 11],
+            Kind::Marking => &[9, 10, 14],
+            Kind::Settle => &[1, 2, 3, 4, 6, 7, 8, 13, 14, 15],
+            Kind::Make => &[1, 2, 3, 4, 5, 6, 13, 14, 15, 16],
+            Kind::Check => &[1, 2, 3, 4, 5, 6, 7, 8, 12, 13],
+            Kind::WriteTable => &[1, 2, 3, 4, 6, 7, 8, 15],
+            Kind::Listing => &[1, 2, 3, 4, 6, 7, 8],
+        }
+    }
+}
+
+/// One call: what it was given, in words, and what both gave back.
+pub struct Call {
+    pub kind: Kind,
+    pub size: (usize, usize),
+    pub asked: String,
+    pub proved: Given,
+    pub second: Given,
+}
+
+impl Call {
+    /// The call that a seed stands for.
+    pub fn of(seed: u64) -> Call {
+        let mut inputs = Inputs::new(seed);
+        let kind = Kind::ALL[inputs.below(Kind::ALL.len())];
+        let size = (inputs.m, inputs.n);
+        let (asked, proved, second) = match kind {
+            Kind::Multiplicity => multiplicity(&mut inputs),
+            Kind::Marking => marking(&mut inputs),
+            Kind::Settle => {
+                let sheet = inputs.net_sheet();
+                from_sheet(&mut inputs, &sheet, sitgurp::settle, reference::settle)
+            }
+            Kind::Make => {
+                let sheet = inputs.table_sheet();
+                from_sheet(&mut inputs, &sheet, sitgurp::make, reference::make)
+            }
+            Kind::Check => check(&mut inputs),
+            Kind::WriteTable => write_table(&mut inputs),
+            Kind::Listing => listing(&mut inputs),
+        };
+        Call {
+            kind,
+            size,
+            asked,
+            proved,
+            second,
+        }
+    }
+
+    pub fn difference(&self) -> Option<String> {
+        difference(&self.proved, &self.second)
+    }
+}
+
+type Both = (String, Given, Given);
+
+/// A call of the proved library on three buffers, and the same of the second implementation.
+type Proved = fn(&[u8], &mut [u8], &mut [u8], &mut [u8]) -> Result<usize, sitgurp::Refusal>;
+type Second = fn(&[u8], &mut [u8], &mut [u8], &mut [u8]) -> Result<usize, reference::Refusal>;
+
+/// A sheet as a Rust byte string, and the lengths of the buffers.
+fn in_words(sheets: &[&[u8]], buffers: &[Vec<u8>]) -> String {
+    let sheets = sheets
+        .iter()
+        .map(|sheet| format!("sheet b\"{}\"", sheet.escape_ascii()));
+    let lengths: Vec<usize> = buffers.iter().map(Vec::len).collect();
+    let buffers = format!("buffer lengths {lengths:?}");
+    sheets.chain([buffers]).collect::<Vec<_>>().join("\n")
+}
+
+fn bare_in_words(bare: &Bare, buffers: &[Vec<u8>]) -> String {
+    let Bare { m, n, cells, group } = bare;
+    let lengths: Vec<usize> = buffers.iter().map(Vec::len).collect();
+    format!("m {m} n {n} cells {cells:?} group {group}\nbuffer lengths {lengths:?}")
+}
+
+/// The same call twice, each time on a copy of the buffers.
+fn both(
+    asked: String,
+    buffers: Vec<Vec<u8>>,
+    proved: impl FnOnce(&mut [Vec<u8>]) -> Answer,
+    second: impl FnOnce(&mut [Vec<u8>]) -> Answer,
+) -> Both {
+    let mut ours = buffers.clone();
+    let mut theirs = buffers;
+    let proved = Given {
+        answer: proved(&mut ours),
+        buffers: ours,
+    };
+    let second = Given {
+        answer: second(&mut theirs),
+        buffers: theirs,
+    };
+    (asked, proved, second)
+}
+
+fn multiplicity(inputs: &mut Inputs) -> Both {
+    let bare = inputs.bare();
+    let Bare { m, n, cells, group } = &bare;
+    let proved = sitgurp::multiplicity(*m, *n, cells, *group);
+    let second = reference::multiplicity(*m as u64, *n as u64, cells, *group as u64);
+    both(
+        bare_in_words(&bare, &[]),
+        vec![],
+        |_| Answer::of_proved(proved, Answer::Value),
+        |_| Answer::of_second(second, |value| Answer::Value(value as usize)),
+    )
+}
+
+fn marking(inputs: &mut Inputs) -> Both {
+    let bare = inputs.bare();
+    let buffers = vec![inputs.buffer(inputs.marks_needed())];
+    let Bare { m, n, cells, .. } = &bare;
+    both(
+        bare_in_words(&bare, &buffers),
+        buffers,
+        |marks| {
+            Answer::of_proved(
+                sitgurp::marking(*m, *n, cells, &mut marks[0]),
+                Answer::Value,
+            )
+        },
+        |marks| {
+            let answer = reference::marking(*m as u64, *n as u64, cells, &mut marks[0]);
+            Answer::of_second(answer, |mark| Answer::Value(usize::from(mark)))
+        },
+    )
+}
+
+/// Settling or making.
+fn from_sheet(inputs: &mut Inputs, sheet: &[u8], proved: Proved, second: Second) -> Both {
+    // what the output needs is the settled sheet's length, which is near the net sheet's own
+    let output = sheet.len().min(MOST_NET_SHEET);
+    let buffers = vec![
+        inputs.buffer(inputs.cells_needed()),
+        inputs.buffer(inputs.marks_needed()),
+        inputs.buffer(output),
+    ];
+    both(
+        in_words(&[sheet], &buffers),
+        buffers,
+        |buffers| {
+            let [cells, marks, output] = three(buffers);
+            Answer::of_proved(proved(sheet, cells, marks, output), Answer::Value)
+        },
+        |buffers| {
+            let [cells, marks, output] = three(buffers);
+            Answer::of_second(second(sheet, cells, marks, output), Answer::Value)
+        },
+    )
+}
+
+fn three(buffers: &mut [Vec<u8>]) -> &mut [Vec<u8>; 3] {
+    buffers.try_into().expect("three buffers")
+}
+
+fn check(inputs: &mut Inputs) -> Both {
+    let (net, table) = inputs.net_and_table_sheet();
+    let buffers = vec![inputs.buffer(inputs.cells_needed())];
+    both(
+        in_words(&[&net, &table], &buffers),
+        buffers,
+        |cells| {
+            Answer::of_proved(
+                sitgurp::check(&net, &table, &mut cells[0]),
+                |verdict| match verdict {
+                    sitgurp::Verdict::Agree => Answer::Agree,
+                    sitgurp::Verdict::Differ(index) => Answer::Differ(index),
+                },
+            )
+        },
+        |cells| {
+            Answer::of_second(
+                reference::check(&net, &table, &mut cells[0]),
+                |verdict| match verdict {
+                    reference::Verdict::Agree => Answer::Agree,
+                    reference::Verdict::Differ(index) => Answer::Differ(index as usize),
+                },
+            )
+        },
+    )
+}
+
+fn write_table(inputs: &mut Inputs) -> Both {
+    let sheet = inputs.net_sheet();
+    // the rows, and about as much for the first three lines as the net sheet has
+    let rows = inputs.cells_needed() * (2 * inputs.n + 2);
+    let first_lines = sheet.split_inclusive(|&byte| byte == b'\n').take(3);
+    let names: usize = first_lines.map(<[u8]>::len).sum();
+    let buffers = vec![inputs.buffer(rows + names + b" ink".len())];
+    both(
+        in_words(&[&sheet], &buffers),
+        buffers,
+        |output| Answer::of_proved(sitgurp::write_table(&sheet, &mut output[0]), Answer::Value),
+        |output| {
+            Answer::of_second(
+                reference::write_table(&sheet, &mut output[0]),
+                Answer::Value,
+            )
+        },
+    )
+}
+
+/// More turns than any net has gates.
+const TURNS: usize = 14;
+
+fn listing(inputs: &mut Inputs) -> Both {
+    let sheet = inputs.net_sheet();
+    let place = |line: &[u8]| (line.as_ptr() as usize - sheet.as_ptr() as usize, line.len());
+    both(
+        in_words(&[&sheet], &[]),
+        vec![],
+        |_| {
+            Answer::of_proved(sitgurp::Lister::start(&sheet), |mut lister| {
+                Answer::Turns((0..TURNS).map(|_| lister.next().map(place)).collect())
+            })
+        },
+        |_| {
+            Answer::of_second(reference::Lister::start(&sheet), |mut lister| {
+                Answer::Turns((0..TURNS).map(|_| lister.next().map(place)).collect())
+            })
+        },
+    )
+}

@@ -1,0 +1,142 @@
+//! What a call gives back, of both implementations in one shape.
+
+use reference::refusal::Sheet;
+use sitgurp::Named;
+
+/// The answer of any call.
+#[derive(Clone, Debug, PartialEq, Eq)]
+pub enum Answer {
+    Value(usize),
+    Agree,
+    Differ(usize),
+    /// The lister's turns: where a line begins and how long it is, or that none is left.
+    Turns(Vec<Option<(usize, usize)>>),
+    Refused {
+        number: usize,
+        place: usize,
+        named: Named,
+    },
+}
+
+impl Answer {
+    pub fn of_proved<T>(
+        answer: Result<T, sitgurp::Refusal>,
+        accepted: impl FnOnce(T) -> Answer,
+    ) -> Answer {
+        match answer {
+            Ok(value) => accepted(value),
+            Err(refusal) => Answer::Refused {
+                number: refusal.number,
+                place: refusal.place,
+                named: refusal.named,
+            },
+        }
+    }
+
+    pub fn of_second<T>(
+        answer: Result<T, reference::Refusal>,
+        accepted: impl FnOnce(T) -> Answer,
+    ) -> Answer {
+        match answer {
+            Ok(value) => accepted(value),
+            Err(refusal) => Answer::Refused {
+                number: usize::from(refusal.number),
+                place: refusal.place as usize,
+                named: match refusal.sheet {
+                    Sheet::Net => Named::Net,
+                    Sheet::Table => Named::Table,
+                    Sheet::Neither => Named::Neither,
+                },
+            },
+        }
+    }
+
+    /// The refusal's number, and 0 where the call is accepted.
+    pub fn number(&self) -> usize {
+        match self {
+            Answer::Refused { number, .. } => *number,
+            _ => 0,
+        }
+    }
+}
+
+/// A call's answer and what the buffers lent to it hold afterwards.
+#[derive(Clone, Debug, PartialEq, Eq)]
+pub struct Given {
+    pub answer: Answer,
+    pub buffers: Vec<Vec<u8>>,
+}
+
+/// In what the two differ, if they do.
+pub fn difference(proved: &Given, second: &Given) -> Option<String> {
+    if proved.answer != second.answer {
+        let (ours, theirs) = (&proved.answer, &second.answer);
+        return Some(format!("answers: proved {ours:?}, second {theirs:?}"));
+    }
+    let pairs = proved.buffers.iter().zip(&second.buffers);
+    for (buffer, (ours, theirs)) in pairs.enumerate() {
+        if let Some(at) = (0..ours.len()).find(|&at| ours[at] != theirs[at]) {
+            let (ours, theirs) = (ours[at], theirs[at]);
+            return Some(format!(
+                "byte {at} of buffer {buffer}: proved {ours}, second {theirs}"
+            ));
+        }
+    }
+    None
+}
+
+#[cfg(test)]
+mod tests {
+    use super::*;
+
+    fn given(answer: Answer, buffers: &[&[u8]]) -> Given {
+        let buffers = buffers.iter().map(|bytes| bytes.to_vec()).collect();
+        Given { answer, buffers }
+    }
+
+    fn refused(place: usize, named: Named) -> Answer {
+        Answer::Refused {
+            number: 4,
+            place,
+            named,
+        }
+    }
+
+    #[test]
+    fn equals_do_not_differ() {
+        let one = given(Answer::Value(3), &[b"ab", b""]);
+        assert_eq!(difference(&one, &one.clone()), None);
+    }
+
+    #[test]
+    fn every_part_of_an_answer_counts() {
+        let answers = [
+            Answer::Value(0),
+            Answer::Value(4),
+            Answer::Agree,
+            Answer::Differ(4),
+            Answer::Turns(vec![Some((4, 8)), None]),
+            Answer::Turns(vec![Some((4, 8)), Some((4, 8))]),
+            refused(4, Named::Net),
+            refused(4, Named::Table),
+            refused(5, Named::Net),
+        ];
+        for (j, one) in answers.iter().enumerate() {
+            for (k, other) in answers.iter().enumerate() {
+                let (one, other) = (given(one.clone(), &[b"a"]), given(other.clone(), &[b"a"]));
+                assert_eq!(difference(&one, &other).is_none(), j == k);
+            }
+        }
+    }
+
+    #[test]
+    fn every_byte_of_every_buffer_counts() {
+        let one = given(Answer::Agree, &[b"abc", b"de"]);
+        for (buffer, at) in [(0, 0), (0, 2), (1, 0), (1, 1)] {
+            let mut other = one.clone();
+            other.buffers[buffer][at] ^= 0x80;
+            let found = difference(&one, &other).expect("a difference");
+            assert!(found.starts_with(&format!("byte {at} of buffer {buffer}:")));
+        }
+    }
+}

@@ -1,0 +1,181 @@
+//! What a call is given. Everything follows from one seed.
+
+use reference::damage::TELLING_BYTES;
+use reference::generate::{Generator, TableKind};
+use reference::sheet::{print_net_sheet, print_table_sheet};
+
+/// Bare cells with a group, as they may come: mostly good, sometimes with one thing wrong.
+pub struct Bare {
+    pub m: usize,
+    pub n: usize,
+    pub cells: Vec<u8>,
+    pub group: usize,
+}
+
+/// Numbers that a caller has no business to send.
+const ODD_NUMBERS: [usize; 9] = [0, 1, 10, 12, 64, 255, 1 << 16, 1 << 32, usize::MAX];
+
+/// The most bytes of a sheet that is no sheet.
+const MOST_NOISE: usize = 300;
+
+pub struct Inputs {
+    generator: Generator,
+    pub m: usize,
+    pub n: usize,
+}
+
+impl Inputs {
+    /// Inputs of some allowed size.
+    pub fn new(seed: u64) -> Inputs {
+        let mut generator = Generator::new(seed);
+        let (m, n) = generator.size();
+        Inputs { generator, m, n }
+    }
+
+    /// A number below the bound, which is 1 or more.
+    pub fn below(&mut self, bound: usize) -> usize {
+        self.generator.rng.below(bound)
+    }
+
+    pub fn cells_needed(&self) -> usize {
+        self.m.pow(self.n as u32)
+    }
+
+    pub fn marks_needed(&self) -> usize {
+        1 << self.n
+    }
+
+    pub fn net_sheet(&mut self) -> Vec<u8> {
+        let good = self.generator.net_sheet(self.m, self.n);
+        self.perhaps_damaged(good)
+    }
+
+    pub fn table_sheet(&mut self) -> Vec<u8> {
+        let kind = *self.generator.rng.pick(&TableKind::ALL);
+        let good = self.generator.table_sheet(self.m, self.n, kind);
+        self.perhaps_damaged(good)
+    }
+
+    /// A net sheet and a table sheet: the net's own table, the same with an ink changed, or a table sheet of another header.
+    pub fn net_and_table_sheet(&mut self) -> (Vec<u8>, Vec<u8>) {
+        let header = self.generator.header(self.m, self.n);
+        let net = self.generator.net(self.m, self.n);
+        let mut table = net.table();
+        if self.below(2) == 0 {
+            let cell = self.below(table.inks.len());
+            table.inks[cell] = self.generator.rng.level(self.m);
+        }
+        let table_sheet = match self.below(8) {
+            0 => self.other_table_sheet(),
+            1 => {
+                let mut other = header.clone();
+                other.names.rotate_left(1);
+                print_table_sheet(&other, &table)
+            }
+            _ => print_table_sheet(&header, &table),
+        };
+        let net_sheet = print_net_sheet(&header, &net);
+        (
+            self.rarely_damaged(net_sheet),
+            self.rarely_damaged(table_sheet),
+        )
+    }
+
+    fn other_table_sheet(&mut self) -> Vec<u8> {
+        let (m, n) = self.generator.size();
+        self.generator.table_sheet(m, n, TableKind::OfNet)
+    }
+
+    /// Both sheets of a check are good most of the time.
+    fn rarely_damaged(&mut self, sheet: Vec<u8>) -> Vec<u8> {
+        match self.below(4) {
+            0 => self.perhaps_damaged(sheet),
+            _ => sheet,
+        }
+    }
+
+    /// The sheet itself, the sheet with some damages, a sheet of the other kind, or bytes that are no sheet.
+    fn perhaps_damaged(&mut self, sheet: Vec<u8>) -> Vec<u8> {
+        let mut sheet = match self.below(20) {
+            0..10 => sheet,
+            10..15 => self.generator.damaged(&sheet),
+            15..18 => self.damaged_again(sheet),
+            18 => self.other_kind(),
+            _ => self.noise(),
+        };
+        // so that valgrind sees a read past the end
+        sheet.shrink_to_fit();
+        sheet
+    }
+
+    fn damaged_again(&mut self, mut sheet: Vec<u8>) -> Vec<u8> {
+        for _ in 0..2 + self.below(4) {
+            sheet = self.generator.damaged(&sheet);
+        }
+        sheet
+    }
+
+    fn other_kind(&mut self) -> Vec<u8> {
+        match self.below(2) {
+            0 => self.generator.net_sheet(self.m, self.n),
+            _ => self.other_table_sheet(),
+        }
+    }
+
+    /// Telling bytes, or any bytes, at times after a good beginning.
+    fn noise(&mut self) -> Vec<u8> {
+        let mut sheet = match self.below(3) {
+            0 => b"levels inputs\n".to_vec(),
+            _ => Vec::new(),
+        };
+        let telling = self.below(2) == 0;
+        for _ in 0..self.below(MOST_NOISE) {
+            sheet.push(match telling {
+                true => *self.generator.rng.pick(&TELLING_BYTES),
+                false => self.below(256) as u8,
+            });
+        }
+        sheet
+    }
+
+    pub fn bare(&mut self) -> Bare {
+        let kind = *self.generator.rng.pick(&TableKind::ALL);
+        let cells = self.generator.table(self.m, self.n, kind).inks;
+        let group = 1 + self.below(self.marks_needed() - 1);
+        let (m, n) = (self.m, self.n);
+        let good = Bare { m, n, cells, group };
+        match self.below(2) {
+            0 => good,
+            _ => self.one_thing_wrong(good),
+        }
+    }
+
+    fn one_thing_wrong(&mut self, mut bare: Bare) -> Bare {
+        let odd = *self.generator.rng.pick(&ODD_NUMBERS);
+        match self.below(6) {
+            0 => bare.m = odd,
+            1 => bare.n = odd,
+            2 => bare.group = odd,
+            3 => bare.group = self.marks_needed(),
+            4 => bare.cells.truncate(self.below(bare.cells.len())),
+            _ => {
+                let place = self.below(bare.cells.len());
+                bare.cells[place] = (self.m + self.below(256 - self.m)) as u8;
+            }
+        }
+        bare
+    }
+
+    /// A buffer full of random bytes. Its length is any around the need, most often enough.
+    pub fn buffer(&mut self, need: usize) -> Vec<u8> {
+        let length = match self.below(12) {
+            0 => 0,
+            1 => self.below(need + 1),
+            2 => need.saturating_sub(1),
+            3..7 => need,
+            7 => need + 1,
+            _ => need + self.below(need + 64),
+        };
+        (0..length).map(|_| self.below(256) as u8).collect()
+    }
+}
