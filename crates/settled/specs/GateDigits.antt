@@ -111,10 +111,10 @@ module _ (m n : ℕ) (pos : 0 < m) (f : ℕ → ℕ) (last : Bool) (a b : Wiring
   right = samples m n f (groupOf b)
 
   lefts : Sampled m n f a left
-  lefts = sampled m n pos f a (once .1) (few .1)
+  lefts = sampled m n pos f a (once .1)
 
   rights : Sampled m n f b right
-  rights = sampled m n pos f b (once .2) (few .2)
+  rights = sampled m n pos f b (once .2)
 
   module _ (own : ℕ → ℕ) (gives : (p : ℕ) → part m n (groupOf (gate a b)) p ≡ p → own p ≡ carried m n f last (gate a b) p) where
     digit : (u v : ℕ) → u < m → v < m → getD (gateDigits m n f last a b) (u * m + v) 0 ≡ sampledDigit left right own u v

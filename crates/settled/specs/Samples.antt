@@ -24,8 +24,8 @@ use Rattle.trees.specs.Members.{member-single, size-single, size-one, first-mem
 use Rattle.trees.specs.Levels.{level-below, level-part-in}
 use Rattle.trees.specs.Points.{points-are-parts}
 use Rattle.trees.specs.Classes.{classes-are-points, class-below, class-part, class-listed, listed-once}
-use Rattle.trees.specs.Trees.{EachOnce, EachGate}
-use Rattle.trees.specs.Wirings.{Few, group-below}
+use Rattle.trees.specs.Trees.{EachOnce}
+use Rattle.trees.specs.Wirings.{group-below}
 use Rattle.trees.specs.GateLists.{gates-in-size}
 
 -- ---- the assignments of a group of one input
@@ -80,11 +80,10 @@ weight-fits m n i pos h =
 
 -- a count of classes that did not stop
 pub counted-all : (m : ℕ) (list : List ℕ) (count : ℕ) (out : List ℕ) → length list ≤ m → Counted m list count out
-    → (count ≤ m) × (length list ≡ count) × (take count out ≡ list)
+    → (length list ≡ count) × (take count out ≡ list)
 counted-all m list count out few found =
     let e : length list ≡ count = sym (found .answer ∙ capped-few m (length list) few) in
-    let low : count ≤ m = omega arith in
-    (low, e, found .found low)
+    (e, found .found (omega arith))
 
 -- one member: the first-listed is all
 pub single-test : (n g : ℕ) → 0 < g → g < 2 ^ n → (r : ℕ) → r ≡ g - 2 ^ firstInput n g → eqb r 0 ≡ eqb (size n g) 1
@@ -126,7 +125,6 @@ module _ (m n : ℕ) (f : ℕ → ℕ) (g : ℕ) (g< : g < 2 ^ n) where
 -- what they are for a wire: all that it carries is below their number, and where what an index gives the wire's group is sample u,
 -- the wire carries u
 pub record Sampled (m n : ℕ) (f : ℕ → ℕ) (w : Wiring) (xs : List ℕ) : Type 0 where
-  pub few : length xs ≤ m
   pub all : (p : ℕ) → carried m n f false w p < length xs
   pub carries : (u p : ℕ) → u < length xs → part m n (groupOf w) p ≡ getD xs u 0 → carried m n f false w p ≡ u
 
@@ -140,7 +138,6 @@ module _ (m n : ℕ) (pos : 0 < m) (f : ℕ → ℕ) where
       let at : (u : ℕ) → u < m → getD (points m n (2 ^ i)) u 0 ≡ u * w =
       λ u u<. rw (points-single m n i h, map-at (λ l. l * w) (range 0 m) u 0 0 (rw range-length u<), range-at 0 m u 0 u<, zero-add) in
       record {
-        few = omega arith;
         all = λ p. rw count (level-below m n pos p i);
         carries = λ u p u< e.
             sym (level-part-in m n pos (2 ^ i) p i h (member-single i i ∙ eq-eqb i i refl))
@@ -150,14 +147,12 @@ module _ (m n : ℕ) (pos : 0 < m) (f : ℕ → ℕ) where
       }
 
   -- a gate's
-  sampled-gate : (a b : Wiring) → EachOnce n (gate a b) → Few m n f (groupOf (gate a b))
-      → Sampled m n f (gate a b) (classes m n f (groupOf (gate a b)))
+  sampled-gate : (a b : Wiring) → EachOnce n (gate a b) → Sampled m n f (gate a b) (classes m n f (groupOf (gate a b)))
   unfolding carried multiplicity
-  sampled-gate a b once few =
+  sampled-gate a b once =
       let g = groupOf (gate a b) in
       let g< = group-below n (gate a b) once in
       record {
-        few = few;
         all = class-below m n pos f g g<;
         carries = λ u p u< e.
             sym (class-part m n pos f g g< p)
@@ -166,9 +161,9 @@ module _ (m n : ℕ) (pos : 0 < m) (f : ℕ → ℕ) where
       }
 
   -- a wire's samples are such a list
-  pub sampled : (w : Wiring) → EachOnce n w → EachGate (Few m n f) w → Sampled m n f w (samples m n f (groupOf w))
+  pub sampled : (w : Wiring) → EachOnce n w → Sampled m n f w (samples m n f (groupOf w))
   unfolding samples groupOf gatesIn
-  sampled (input i) once few = rw (samples, eq-eqb (size n (2 ^ i)) 1 (size-single i n once)) (sampled-input i once)
-  sampled (gate a b) once few =
+  sampled (input i) once = rw (samples, eq-eqb (size n (2 ^ i)) 1 (size-single i n once)) (sampled-input i once)
+  sampled (gate a b) once =
       rw (samples, ne-eqb (size n (groupOf (gate a b))) 1 (λ e. omega (arith, gates-in-size m n f (gate a b) once)))
-      (sampled-gate a b once (few .0))
+      (sampled-gate a b once)

@@ -61,7 +61,7 @@ pub fn samples(
     out: &mut [u16],
 ) -> usize
     requires { ⌜ (Room m n (now cells) (now xs) (now ys) (now out)) × (m ≤ 9) × (0 < g) × (g < 2 ^ n) × (Few m n (inkIn (now cells)) g) ⌝ }
-    ensures { λ r. ⌜ (r ≤ m) × (length (samples m n (inkIn (now (cells .entry))) g) ≡ r) × (take r (now (out .exit)) ≡ samples m n (inkIn (now (cells .entry))) g) ⌝ }
+    ensures { λ r. ⌜ (length (samples m n (inkIn (now (cells .entry))) g) ≡ r) × (take r (now (out .exit)) ≡ samples m n (inkIn (now (cells .entry))) g) ⌝ }
 {
     if single(g) {
         let i = first_input(n, g);

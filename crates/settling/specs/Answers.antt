@@ -3,10 +3,10 @@
 use Prim.Native.Nat.{ℕ, _-_, _≤_, _<_}
 use mathlib.Core.Path.{_≡_, sym, ap, _∙_, subst}
 use mathlib.Core.List.{List}
-use native.Mathlib.Nat.{sub-zero}
 use lib.ListN.{length, take}
 use Rattle.rules.specs.Calls.{Made, accepted, refused, written, writtenSheet}
 use Rattle.laws.specs.Outcomes.{sheet-15, sheet-written}
+use Rattle.radix.specs.Fronts.{front}
 use Rattle.groups.specs.declared.call.Answer.{Answer}
 use Rattle.groups.specs.Answers.{answerOf}
 use Rattle.printing.specs.Put.{Wrote}
@@ -20,7 +20,7 @@ madeOf r cells marks output = record { answer = answerOf r; cells = cells; marks
 module _ (sheet own buffer output : List ℕ) (count : ℕ) (did : Wrote own sheet buffer count) where
   -- the sheet stands at its front
   printed-front : take (count - 0) buffer ≡ sheet
-  printed-front = rw sub-zero ((λ i. take (did .length i) (did .text i)) ∙ written-front own sheet)
+  printed-front = front count buffer sheet ((λ i. take (did .length i) (did .text i)) ∙ written-front own sheet)
 
   pub sheet-short : length output < count → (cells marks : List ℕ)
       → record { answer = refused 15 count; cells = cells; marks = marks; output = output } ≡ writtenSheet sheet cells marks output

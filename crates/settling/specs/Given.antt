@@ -1,7 +1,7 @@
 -- A table by a header's names in a sheet, and its inks; what the code asks of it, and the outcomes of settling it.
 -- Assumes nothing.
 use Prim.Native.Nat.{ℕ, _^_, _≤_, _<_}
-use mathlib.Core.Path.{_≡_, sym, ap, ap₂, _∙_, subst, subst⁻¹}
+use mathlib.Core.Path.{_≡_, sym, _∙_, subst, subst⁻¹}
 use mathlib.Core.Bool.{true, _&&_, and-eq-true-iff}
 use mathlib.Core.List.{List}
 use native.Mathlib.Omega.{arith}
@@ -12,11 +12,11 @@ use Rattle.rules.specs.Printed.{printedNet}
 use Rattle.rules.specs.Kept.{KeptHeader, KeptTable, KeptNet}
 use Rattle.rules.specs.Marks.{markIn, marksOf, marksLength, noTreePlace}
 use Rattle.rules.specs.Groups.{wholeGroup}
-use Rattle.rules.specs.Calls.{accepted, refused, inkIn, written, settledNet, writtenSheet, afterMarks, settledInto}
+use Rattle.rules.specs.Calls.{refused, inkIn, written, settledNet, writtenSheet, afterMarks, settledInto}
 use Rattle.laws.specs.Outcomes.{marksOfTable, into-13, into-14, into-marked, marked-16, marked-tree}
 use Rattle.nets.specs.declared.forms.Header.{Header}
 use Rattle.nets.specs.declared.forms.Net.{Net}
-use Rattle.nets.specs.Forms.{headerOf, gatesOf}
+use Rattle.nets.specs.Forms.{headerOf}
 use Rattle.laws.specs.Sizes.{sized}
 use Rattle.groups.specs.declared.call.Answer.{Answer}
 use Rattle.marks.specs.Stored.{held}

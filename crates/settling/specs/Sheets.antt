@@ -1,16 +1,15 @@
 -- What reading a sheet gives settling and making.
 -- Assumes nothing.
-use Prim.Native.Nat.{ℕ, _-_, _^_, _≤_, _<_}
-use mathlib.Core.Path.{_≡_, refl, sym, ap, ap₂, _∙_, subst, subst⁻¹, subst₂}
+use Prim.Native.Nat.{ℕ, _-_, _^_, _≤_}
+use mathlib.Core.Path.{_≡_, sym, ap, ap₂, _∙_, subst⁻¹, subst₂}
 use mathlib.Core.Bool.{true}
 use mathlib.Core.List.{List}
-use native.Mathlib.Nat.{sub-zero}
 use native.Mathlib.Omega.{arith}
-use lib.ListN.{length, take}
-use Rattle.rules.specs.Limits.{fewestInputs, mostInputs, mostCells, sizeFits}
+use lib.ListN.{take}
+use Rattle.rules.specs.Limits.{fewestInputs, mostCells, sizeFits}
 use Rattle.rules.specs.Kept.{KeptNet, KeptTable, IsNet}
 use Rattle.rules.specs.Value.{tableOf}
-use Rattle.rules.specs.Calls.{Made, accepted, refused, readNet, readTable, tableOfNet, settledInto, settleCall, makeCall}
+use Rattle.rules.specs.Calls.{accepted, refused, readNet, readTable, tableOfNet, settledInto, settleCall, makeCall}
 use Rattle.laws.specs.Outcomes.{settle-refused, settle-accepted, make-refused, make-accepted}
 use Rattle.nets.specs.declared.forms.Header.{Header}
 use Rattle.nets.specs.declared.forms.Net.{Net}
@@ -26,11 +25,11 @@ use Rattle.readback.specs.ReadBack.{net-accepted, table-accepted}
 use Rattle.demands.specs.Settles.{kept-table}
 use Rattle.fields.specs.Header.{HeaderHeld}
 use Rattle.fields.specs.declared.steps.Outcome.the-variants.{Accepted, Refused}
-use Rattle.sheets.specs.Answers.{NetReads, netAnswer}
+use Rattle.sheets.specs.Answers.{NetReads}
 use Rattle.sheets.specs.declared.net.NetRead.{NetRead}
-use Rattle.tables.specs.Answers.{TableReads, tableAnswer, inksIn}
+use Rattle.tables.specs.Answers.{TableReads, inksIn}
 use Rattle.tables.specs.declared.sheet.TableRead.{TableRead}
-use Rattle.settling.specs.Given.{kept-size, Given, given-size}
+use Rattle.settling.specs.Given.{kept-size, Given}
 
 names-inside : (s : List ℕ) (h : Header) → HeaderHeld s h → NamesInside s h
 unfolding fewestInputs

@@ -30,6 +30,7 @@ pub fn write_sheet(s: &[u8], header: Header, gates: Net, out: &mut [u8]) -> Answ
             place: length,
         };
     }
-    front::copy_front(&printed[0..length], out);
+    let text = &printed[0..length];
+    front::copy_front(text, out);
     Answer::Accepted(length)
 }

@@ -1,6 +1,6 @@
 -- `settled::digits::class_digits` meets its contract: the lists that it writes from are the group's classes and the other inputs'
 -- assignments. Assumes nothing.
-use Prim.Native.Nat.{ℕ, _-_, _*_, _≤_}
+use Prim.Native.Nat.{ℕ, _-_, _*_}
 use mathlib.Core.Path.{_≡_, sym, ap, ap₂, _∙_, subst₂}
 use mathlib.Core.Bool.{false}
 use mathlib.Core.List.{List}
@@ -69,7 +69,7 @@ counted : (c : tie.After-group-classes) →
     let a = c .before .before .before .before .before .before .before .before .before .before .before .args in
     let l = classes (a .m) (a .n) (inkIn (a .cells .now)) (a .g) in
     let k = c .group-classes .result in
-    (k ≤ a .m) × (length l ≡ k) × (take k (c .group-classes .last .1 .1 .1 .1 .1 .1 .0) ≡ l)
+    (length l ≡ k) × (take k (c .group-classes .last .1 .1 .1 .1 .1 .1 .0) ≡ l)
 unfolding multiplicity
 counted c =
     let a = c .before .before .before .before .before .before .before .before .before .before .before .args in
@@ -78,7 +78,7 @@ counted c =
 part-write-digits-end-2 : tie.Need-part-write-digits-end-2
 part-write-digits-end-2 c =
     let found = counted (c .before .before .before .before .before .before .before .before .before .before .before .before) in
-    fits-in (c .before .before .before .before .before .before .before .before .before .before .before .before .group-classes .result) (c .before .before .before .before .before .before .before .before .before .before .before .before .group-classes .last .1 .1 .1 .1 .1 .1 .0) _ (sym (found .1)) (found .2)
+    fits-in (c .before .before .before .before .before .before .before .before .before .before .before .before .group-classes .result) (c .before .before .before .before .before .before .before .before .before .before .before .before .group-classes .last .1 .1 .1 .1 .1 .1 .0) _ (sym (found .0)) (found .1)
 
 -- the other inputs' assignments
 ys-are : (c : tie.After-offsets) →
@@ -93,7 +93,7 @@ ys-are c =
 firsts-are : (c : tie.After-group-classes) →
     let a = c .before .before .before .before .before .before .before .before .before .before .before .args in
     take (c .group-classes .result - 0) (c .group-classes .last .1 .1 .1 .1 .1 .1 .0) ≡ classes (a .m) (a .n) (inkIn (a .cells .now)) (a .g)
-firsts-are c = front (c .group-classes .result) (c .group-classes .last .1 .1 .1 .1 .1 .1 .0) _ (counted c .2)
+firsts-are c = front (c .group-classes .result) (c .group-classes .last .1 .1 .1 .1 .1 .1 .0) _ (counted c .1)
 
 write-digits-requires : tie.Need-write-digits-requires
 write-digits-requires c κs =

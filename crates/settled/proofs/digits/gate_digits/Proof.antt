@@ -98,18 +98,18 @@ part-write-digits-start-3 c = search needs
 left-are : (c : tie.After-samples) →
     let a = c .before .before .before .before .before .before .args in
     take (c .samples .result - 0) (c .samples .last .1 .1 .1 .1 .1 .1 .0) ≡ samples (a .m) (a .n) (inkIn (a .cells .now)) (a .a)
-left-are c = front (c .samples .result) (c .samples .last .1 .1 .1 .1 .1 .1 .0) _ (c .samples .ensures .2)
+left-are c = front (c .samples .result) (c .samples .last .1 .1 .1 .1 .1 .1 .0) _ (c .samples .ensures .1)
 
 right-are : (c : tie.After-samples2) →
     let a = c .before .before .before .before .before .before .before .before .before .before .before .before .before .args in
     take (c .samples2 .result - 0) (c .samples2 .last .1 .1 .1 .1 .1 .1 .0) ≡ samples (a .m) (a .n) (inkIn (a .cells .now)) (a .b)
-right-are c = front (c .samples2 .result) (c .samples2 .last .1 .1 .1 .1 .1 .1 .0) _ (c .samples2 .ensures .2)
+right-are c = front (c .samples2 .result) (c .samples2 .last .1 .1 .1 .1 .1 .1 .0) _ (c .samples2 .ensures .1)
 
 left-fits : (c : tie.After-samples) → c .samples .result ≤ length (c .samples .last .1 .1 .1 .1 .1 .1 .0)
-left-fits c = fits-in (c .samples .result) (c .samples .last .1 .1 .1 .1 .1 .1 .0) _ (sym (c .samples .ensures .1)) (c .samples .ensures .2)
+left-fits c = fits-in (c .samples .result) (c .samples .last .1 .1 .1 .1 .1 .1 .0) _ (sym (c .samples .ensures .0)) (c .samples .ensures .1)
 
 right-fits : (c : tie.After-samples2) → c .samples2 .result ≤ length (c .samples2 .last .1 .1 .1 .1 .1 .1 .0)
-right-fits c = fits-in (c .samples2 .result) (c .samples2 .last .1 .1 .1 .1 .1 .1 .0) _ (sym (c .samples2 .ensures .1)) (c .samples2 .ensures .2)
+right-fits c = fits-in (c .samples2 .result) (c .samples2 .last .1 .1 .1 .1 .1 .1 .0) _ (sym (c .samples2 .ensures .0)) (c .samples2 .ensures .1)
 
 -- their sums are assignments of both groups together
 sums : (c : tie.After-samples2) →

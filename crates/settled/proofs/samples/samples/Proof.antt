@@ -55,7 +55,6 @@ returns c =
     let w = a .m ^ (a .n - 1 - firstInput (a .n) (a .g)) in
     let same : samples (a .m) (a .n) (inkIn (a .cells .now)) (a .g) ≡ levelPoints (a .m) w =
     samples-single (a .m) (a .n) _ (a .g) (start .pre .3) (sym (c .before .before .before .before .before .before .before .single .ensures (a .n) (start .pre .3)) ∙ c .before .before .before .before .before .before .if1 .taken) in (
-      omega arith,
       ap length same ∙ level-points-length (a .m) w,
       c .before .before .level-points .ensures
           ∙ ap (levelPoints (a .m)) (c .before .before .before .before .power .ensures ∙ ap (λ (j : ℕ). a .m ^ (a .n - 1 - j)) (c .before .before .before .before .before .first-input .ensures))
@@ -80,7 +79,7 @@ returns-2 c =
     let same : samples (a .m) (a .n) f (a .g) ≡ classes (a .m) (a .n) f (a .g) =
     samples-several (a .m) (a .n) f (a .g) (start .pre .3) (sym (c .before .before .before .before .before .before .before .before .before .before .before .single .ensures (a .n) (start .pre .3)) ∙ c .before .before .before .before .before .before .before .before .before .before .if1 .left) in
     let found = counted-all (a .m) (classes (a .m) (a .n) f (a .g)) _ _ (start .pre .4) (c .before .before .before .before .before .before .group-classes .ensures) in
-    (found .0, ap length same ∙ found .1, found .2 ∙ sym same)
+    (ap length same ∙ found .0, found .1 ∙ sym same)
 
 pub samples-spec : {M : Type 1} → statement M
 samples-spec =

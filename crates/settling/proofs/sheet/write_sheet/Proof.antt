@@ -16,15 +16,15 @@ print-net-requires c κs = c .before .before .before .pre
 returns : tie.Need-returns
 returns c = sheet-short _ _ _ _ _ (c .before .before .print-net .ensures) (c .if1 .taken)
 
-sub-copy-front : tie.Need-sub-copy-front
-sub-copy-front c = search needs
+sub-text : tie.Need-sub-text
+sub-text c = search needs
 
-part-copy-front-start : tie.Need-part-copy-front-start
-part-copy-front-start c = search needs
+part-text-start : tie.Need-part-text-start
+part-text-start c = search needs
 
-part-copy-front-end : tie.Need-part-copy-front-end
+part-text-end : tie.Need-part-text-end
 unfolding mostSettled
-part-copy-front-end c = omega (arith, c .before .before .before .print-net .ensures .length, c .before .before .before .before .before .before .before .pre .2, c .before .before .before .print-net .kept)
+part-text-end c = omega (arith, c .before .before .before .print-net .ensures .length, c .before .before .before .before .before .before .before .pre .2, c .before .before .before .print-net .kept)
 
 copy-front-requires : tie.Need-copy-front-requires
 copy-front-requires c κs = search needs
@@ -43,9 +43,9 @@ write-sheet-spec =
     slice-aggregate-print-net
     print-net-requires
     returns
-    sub-copy-front
-    part-copy-front-start
-    part-copy-front-end
+    sub-text
+    part-text-start
+    part-text-end
     copy-front-requires
     same-length
     returns-2)
