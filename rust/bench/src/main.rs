@@ -70,6 +70,73 @@ fn marking(m: usize, n: usize, kind: TableKind) -> f64 {
     proved.as_secs_f64() / plain.as_secs_f64()
 }
 
+fn making(m: usize, n: usize, kind: TableKind) -> f64 {
+    let mut generator = Generator::new(12);
+    let sheets: Vec<Vec<u8>> = (0..TABLES)
+        .map(|_| generator.table_sheet(m, n, kind))
+        .collect();
+    for sheet in &sheets {
+        assert_eq!(
+            sitgurp::made(sheet).ok(),
+            plain::making(sheet),
+            "both make alike"
+        );
+    }
+    let proved = least(&sheets, |sheet| {
+        black_box(sitgurp::made(black_box(sheet))).ok();
+    });
+    let plain = least(&sheets, |sheet| {
+        black_box(plain::making(black_box(sheet)));
+    });
+    proved.as_secs_f64() / plain.as_secs_f64()
+}
+
+/// Reading alone: with no cells buffer making reads the whole sheet and is then refused with 13.
+fn reading(m: usize, n: usize, kind: TableKind) -> f64 {
+    let mut generator = Generator::new(13);
+    let sheets: Vec<Vec<u8>> = (0..TABLES)
+        .map(|_| generator.table_sheet(m, n, kind))
+        .collect();
+    let proved = least(&sheets, |sheet| {
+        black_box(sitgurp::make(black_box(sheet), &mut [], &mut [], &mut [])).ok();
+    });
+    let second = least(&sheets, |sheet| {
+        black_box(reference::make(black_box(sheet), &mut [], &mut [], &mut [])).ok();
+    });
+    proved.as_secs_f64() / second.as_secs_f64()
+}
+
+/// A net sheet against its own table sheet.
+fn checking(m: usize, n: usize, _kind: TableKind) -> f64 {
+    let mut generator = Generator::new(14);
+    let sheets: Vec<(Vec<u8>, Vec<u8>)> = (0..TABLES)
+        .map(|_| generator.net_sheet(m, n))
+        .map(|net| {
+            (
+                net.clone(),
+                sitgurp::table_of(&net).expect("a good net sheet"),
+            )
+        })
+        .collect();
+    let mut cells = vec![0; sitgurp::MOST_CELLS];
+    let proved = least(&sheets, |(net, table)| {
+        black_box(sitgurp::check(black_box(net), table, &mut cells)).ok();
+    });
+    let second = least(&sheets, |(net, table)| {
+        black_box(reference::check(black_box(net), table, &mut cells)).ok();
+    });
+    proved.as_secs_f64() / second.as_secs_f64()
+}
+
 fn main() {
     report("marking, proved / plain", marking);
+    report("making, proved / plain", making);
+    report(
+        "reading a table sheet, proved / second implementation",
+        reading,
+    );
+    report(
+        "checking a net against its table, proved / second implementation",
+        checking,
+    );
 }

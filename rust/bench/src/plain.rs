@@ -1,6 +1,9 @@
 //! What a good engineer writes in an afternoon: offset lists for each group, an early exit at the first difference, splits by
 //! subset enumeration. Not the second implementation, which is plain rather than quick.
 
+use reference::net::{Gate, Net, Wire};
+use reference::sheet::{print_net_sheet, read_table_sheet};
+
 /// The offsets of a group's assignments into the cells, first-listed member slowest.
 fn offsets(m: usize, n: usize, group: usize, out: &mut Vec<usize>) {
     out.clear();
@@ -79,4 +82,87 @@ pub fn marking(m: usize, n: usize, cells: &[u8], marks: &mut [u8]) -> u8 {
         };
     }
     marks[whole]
+}
+
+/// Each row's class, in the rows' order.
+fn row_classes(m: usize, n: usize, cells: &[u8], group: usize) -> (Vec<usize>, Vec<u8>) {
+    let (mut rows, mut columns, mut firsts) = (Vec::new(), Vec::new(), Vec::new());
+    offsets(m, n, group, &mut rows);
+    offsets(m, n, ((1 << n) - 1) ^ group, &mut columns);
+    classes(m, cells, &rows, &columns, &mut firsts);
+    let same = |a: usize, b: usize| {
+        columns
+            .iter()
+            .all(|&column| cells[a + column] == cells[b + column])
+    };
+    let class = |&row: &usize| {
+        firsts
+            .iter()
+            .position(|&first| same(row, first))
+            .expect("a class") as u8
+    };
+    let of_rows = rows.iter().map(class).collect();
+    (rows, of_rows)
+}
+
+/// What a group's wire carries at each of its rows: a single input its level, the whole group the ink, any other its class.
+fn carried(m: usize, n: usize, cells: &[u8], group: usize) -> (Vec<usize>, Vec<u8>) {
+    let mut rows = Vec::new();
+    if group == (1 << n) - 1 {
+        offsets(m, n, group, &mut rows);
+        return (rows, cells.to_vec());
+    }
+    if group & (group - 1) == 0 {
+        offsets(m, n, group, &mut rows);
+        return (rows, (0..m as u8).collect());
+    }
+    row_classes(m, n, cells, group)
+}
+
+/// Adds the gates of a group with several members, A's, B's and its own, and answers its wire.
+fn add_gates(
+    m: usize,
+    n: usize,
+    cells: &[u8],
+    marks: &[u8],
+    group: usize,
+    gates: &mut Vec<Gate>,
+) -> Wire {
+    let Some(a) = split(marks, group) else {
+        return Wire::Input(group.trailing_zeros() as usize);
+    };
+    let left = add_gates(m, n, cells, marks, a, gates);
+    let right = add_gates(m, n, cells, marks, group ^ a, gates);
+    let (a_rows, a_values) = carried(m, n, cells, a);
+    let (b_rows, b_values) = carried(m, n, cells, group ^ a);
+    let (rows, values) = carried(m, n, cells, group);
+    let mut own = vec![0; cells.len()];
+    rows.iter()
+        .zip(&values)
+        .for_each(|(&row, &value)| own[row] = value);
+    let mut digits = vec![0; m * m];
+    for (p, u) in a_rows.iter().zip(&a_values) {
+        for (q, v) in b_rows.iter().zip(&b_values) {
+            digits[usize::from(*u) * m + usize::from(*v)] = own[p + q];
+        }
+    }
+    gates.push(Gate {
+        left,
+        right,
+        digits,
+    });
+    Wire::Gate(gates.len())
+}
+
+/// A table sheet's settled net sheet, or nothing where there is no tree.
+pub fn making(sheet: &[u8]) -> Option<Vec<u8>> {
+    let (header, table) = read_table_sheet(sheet).ok()?;
+    let (m, n) = (header.m, header.n);
+    let mut marks = vec![0; 1 << n];
+    if marking(m, n, &table.inks, &mut marks) != 2 {
+        return None;
+    }
+    let mut gates = Vec::new();
+    add_gates(m, n, &table.inks, &marks, (1 << n) - 1, &mut gates);
+    Some(print_net_sheet(&header, &Net { m, n, gates }))
 }
