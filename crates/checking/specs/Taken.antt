@@ -7,7 +7,7 @@ use mathlib.Core.List.{List}
 use native.Mathlib.Nat.{sub-zero, one-le-pow}
 use native.Mathlib.Omega.{arith}
 use lib.ListN.{length, take}
-use Rattle.rules.specs.Limits.{fewestLevels, mostLevels, fewestInputs, mostInputs, mostCells, sizeFits}
+use Rattle.rules.specs.Limits.{mostInputs, mostCells, sizeFits}
 use Rattle.rules.specs.Sheets.{Gate}
 use Rattle.rules.specs.Kept.{KeptNet, IsNet}
 use Rattle.rules.specs.Value.{tableOf}
@@ -85,21 +85,18 @@ module _ (s : List ℕ) (h : Header) (net : Net) (taken : NetTaken s h net) wher
   fits = sized (h .levels) (h .inputs) (taken .header .fits)
 
   pub levels-most : h .levels ≤ 9
-  unfolding mostLevels
   levels-most = fits .levels-most
 
   pub inputs-most : h .inputs ≤ mostInputs
   inputs-most = fits .inputs-most
 
   pub cells-some : 0 < h .levels ^ h .inputs
-  unfolding fewestLevels
   cells-some = one-le-pow _ _ (omega (arith, fits .levels-least))
 
   pub cells-most : h .levels ^ h .inputs ≤ mostCells
   cells-most = fits .cells-most
 
   pub names-inside : NamesInside s h
-  unfolding fewestInputs
   names-inside = record { some = omega (arith, fits .inputs-least); count = fits .inputs-most; inside = taken .header .names }
 
   same-cells : net .levels ^ net .inputs ≡ h .levels ^ h .inputs

@@ -3,6 +3,7 @@ ghost use mathlib.Core.Path.{_≡_};
 ghost use mathlib.Core.List.{map};
 ghost use Prim.Native.Nat.{_≤_, _<_};
 ghost use Rattle.rules.specs.Lists.{range, same};
+ghost use Rattle.rules.specs.Limits.{mostInputs};
 ghost use Rattle.rules.specs.Calls.{sameNames, sameHeader};
 ghost use Rattle.nets.specs.Forms.{nameIn, headerOf};
 ghost use Rattle.fields.specs.Names.{NameHeld, NamesHeld};
@@ -12,7 +13,7 @@ use nets::forms::Header;
 
 // Have both sheets the same name for input i?
 fn same_input(s: &[u8], h: Header, t: &[u8], k: Header, i: usize) -> bool
-    requires { ⌜ (i < 11) × NameHeld (now s) h i × NameHeld (now t) k i ⌝ }
+    requires { ⌜ (i < mostInputs) × NameHeld (now s) h i × NameHeld (now t) k i ⌝ }
     ensures { λ r. ⌜ r ≡ same (nameIn (now (s .entry)) h i) (nameIn (now (t .entry)) k i) ⌝ }
 {
     let start = h.starts[i] as usize;
@@ -22,7 +23,7 @@ fn same_input(s: &[u8], h: Header, t: &[u8], k: Header, i: usize) -> bool
 
 // Have both the same first n names?
 fn same_names(s: &[u8], h: Header, t: &[u8], k: Header, n: usize) -> bool
-    requires { ⌜ (n ≤ 11) × NamesHeld (now s) h n × NamesHeld (now t) k n ⌝ }
+    requires { ⌜ (n ≤ mostInputs) × NamesHeld (now s) h n × NamesHeld (now t) k n ⌝ }
     ensures { λ r. ⌜ r ≡ sameNames (map (nameIn (now (s .entry)) h) (range 0 n)) (map (nameIn (now (t .entry)) k) (range 0 n)) ⌝ }
 {
     let mut i: usize = 0;

@@ -1,7 +1,7 @@
 -- The byte after a field, by place.
 -- Assumes nothing.
 use Prim.Native.Nat.{ℕ, suc, _+_, _-_, _≤_, _<_}
-use mathlib.Core.Path.{_≡_, refl, sym, ap, _∙_}
+use mathlib.Core.Path.{_≡_, sym, ap, _∙_}
 use mathlib.Core.Bool.{Bool, true, false}
 use mathlib.Core.List.{List, [], _∷_}
 use native.Mathlib.Numerals.{add-one}
@@ -13,7 +13,7 @@ use borrow.Author.Tests.{eq-eqb, ne-eqb}
 use Rattle.rules.specs.Fields.{Read, read, turnedBack, separator, afterField}
 use Rattle.fields.specs.Steps.{judgedAs, stepAs, itself}
 use Rattle.fields.specs.declared.steps.Step.{Step}
-use Rattle.fields.specs.declared.steps.Step.the-variants.{On, Back}
+use Rattle.fields.specs.declared.steps.Step.the-variants.{On}
 use Rattle.fields.specs.declared.steps.Verdict.{Verdict}
 use Rattle.fields.specs.declared.steps.Verdict.the-variants.{Good, Bad}
 

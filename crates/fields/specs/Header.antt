@@ -1,16 +1,16 @@
 -- The first three lines, field by field.
 -- Assumes nothing.
-use Prim.Native.Nat.{ℕ, zero, suc, _+_, _-_, _^_, _≤_, _<_}
+use Prim.Native.Nat.{ℕ, _≤_}
 use Prim.Native.String.{String}
-use mathlib.Core.Path.{_≡_, refl, sym, ap, _∙_}
-use mathlib.Core.Bool.{Bool, true, false, _&&_}
-use mathlib.Core.List.{List, [], _∷_}
+use mathlib.Core.Path.{_≡_, refl, _∙_}
+use mathlib.Core.Bool.{true}
+use mathlib.Core.List.{List, []}
 use native.Mathlib.Omega.{arith}
 use borrow.Author.Tests.{le-leb}
-use lib.ListN.{length, take, drop}
+use lib.ListN.{drop}
 use Rattle.rules.specs.Text.{space, newline, text}
 use Rattle.rules.specs.Limits.{levelsFit, inputsFit, cellsFit, sizeFits, fewestInputs, mostInputs}
-use Rattle.rules.specs.Fields.{Read, read, turnedBack, Reader, then, _>>=_, give, field, theWord}
+use Rattle.rules.specs.Fields.{Reader, then, _>>=_, give, field, theWord}
 use Rattle.rules.specs.Sheets as sheets
 use Rattle.rules.specs.Sheets.{levelsField, inputsField, nameFields, headerLines}
 use Rattle.nets.specs.Forms.{headerOf}
@@ -19,7 +19,7 @@ use Rattle.fields.specs.Chained.{chained-back, chained-on, then-then, ne
 use Rattle.fields.specs.Names.{NamesHeld}
 use Rattle.fields.specs.Taken.{word-on}
 use Rattle.fields.specs.Lines.{NamesRead}
-use Rattle.fields.specs.Steps.{stepAs, itself, nothing, spelled}
+use Rattle.fields.specs.Steps.{stepAs, nothing, spelled}
 use Rattle.fields.specs.declared.steps.Step.{Step}
 use Rattle.fields.specs.declared.steps.Step.the-variants.{On, Back}
 use Rattle.fields.specs.declared.lines.HeaderRead.{HeaderRead}
@@ -69,14 +69,14 @@ module _ {A : Type 0} (f : ℕ → A) (one : Reader A) (rest : A → Reader shee
       }
 
 pub from-names : (s : List ℕ) (at m n last : ℕ) (r : HeaderRead) → NamesRead s at m n last r
-    → levelsFit m ≡ true → 2 ≤ n → n ≤ 11 → cellsFit m n ≡ true → HeaderRest s at (fromNames last m n) r
-unfolding sizeFits inputsFit fewestInputs mostInputs
+    → levelsFit m ≡ true → fewestInputs ≤ n → n ≤ mostInputs → cellsFit m n ≡ true → HeaderRest s at (fromNames last m n) r
+unfolding sizeFits inputsFit
 from-names s at m n last r names ml n2 n11 cells =
     record {
       reads = names .reads;
       held = λ value next e.
           record {
-            fits = rw (names .levels, names .inputs, ml, le-leb 2 n n2, le-leb n 11 n11, cells) refl;
+            fits = rw (names .levels, names .inputs, ml, le-leb fewestInputs n n2, le-leb n mostInputs n11, cells) refl;
             names = rw (names .inputs) (names .held value next e);
           };
     }

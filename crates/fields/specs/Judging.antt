@@ -1,6 +1,6 @@
 -- A judged field, by place: what each function that reads one field comes to.
 -- Assumes nothing.
-use Prim.Native.Nat.{ℕ, zero, suc, _+_, _-_, _≤_, _<_}
+use Prim.Native.Nat.{ℕ, suc, _+_, _-_, _<_}
 use mathlib.Core.Path.{_≡_, refl, sym, ap, _∙_}
 use mathlib.Core.List.{List, [], _∷_}
 use mathlib.Core.Bool.{Bool, true, false}
@@ -9,7 +9,7 @@ use native.Mathlib.Omega.{arith}
 use lib.ListN.{length, take, drop, length-drop}
 use lib.Seq.{length-take-le}
 use lib.Dec.{eqb}
-use Rattle.rules.specs.Fields.{Read, read, turnedBack, Judge, Judged, good, bad, separator, afterField, fieldOf, field, run, past}
+use Rattle.rules.specs.Fields.{Read, read, turnedBack, Judge, separator, afterField, fieldOf, field}
 use Rattle.fields.specs.Runs.{FieldEnd}
 use Rattle.fields.specs.Steps.{judgedAs, stepAs, itself}
 use Rattle.fields.specs.declared.steps.Step.{Step}

@@ -2,23 +2,23 @@
 -- Assumes nothing.
 use Prim.Native.Nat.{ℕ, zero, suc, _+_, _-_, _*_, _≤_, _<_}
 use mathlib.Core.Path.{_≡_, refl, sym, ap, _∙_}
-use mathlib.Core.Bool.{Bool, true, false, cond, not, _&&_}
+use mathlib.Core.Bool.{Bool, true, false}
 use mathlib.Core.List.{List, [], _∷_, _++_, map}
 use native.Mathlib.Omega.{arith}
-use native.Mathlib.Nat.{le-refl, zero-add, sub-zero}
+use native.Mathlib.Nat.{zero-add, sub-zero}
 use native.Mathlib.Numerals.{add-one}
-use lib.ListN.{length, take, drop, getD, set, replicate, length-set, length-drop}
+use lib.ListN.{length, take, drop, getD, set, length-set, length-drop}
 use lib.Seq.{length-take-le, getD-set-same, getD-set-other}
-use lib.Dec.{eqb, leb}
+use lib.Dec.{eqb}
 use borrow.Author.Tests.{eqb-true, eqb-false}
 use Rattle.laws.specs.Concat.{map-append}
 use Rattle.laws.specs.Ranges.{range-suc}
 use Rattle.rules.specs.Lists.{range}
 use Rattle.rules.specs.Text.{space}
-use Rattle.rules.specs.Fields.{Read, read, turnedBack, then, give, good, bad, afterField, field}
-use Rattle.rules.specs.Sheets as sheets
+use Rattle.rules.specs.Fields.{turnedBack, then, give, afterField, field}
 use Rattle.rules.specs.Sheets.{nameField, nameFields}
-use Rattle.nets.specs.Forms.{nameIn, headerOf}
+use Rattle.rules.specs.Limits.{mostInputs}
+use Rattle.nets.specs.Forms.{noNames, nameIn, headerOf}
 use Rattle.nets.specs.declared.forms.Header.{Header}
 use Rattle.fields.specs.Chained.{never-both}
 use Rattle.fields.specs.Ends.{after-bad, after-on}
@@ -29,7 +29,6 @@ use Rattle.fields.specs.Runs.{FieldEnd}
 use Rattle.fields.specs.Steps.{judgedAs, stepAs, itself}
 use Rattle.fields.specs.declared.steps.Step.{Step}
 use Rattle.fields.specs.declared.steps.Step.the-variants.{On, Back}
-use Rattle.fields.specs.declared.steps.Verdict.{Verdict}
 use Rattle.fields.specs.declared.steps.Verdict.the-variants.{Good, Bad}
 use Rattle.fields.specs.declared.lines.HeaderRead.{HeaderRead}
 
@@ -116,19 +115,15 @@ namesTo s h i = map (nameIn s h) (range 0 i)
 pub record Reading (s : List ℕ) (at m n last : ℕ) (h : Header) (place i : ℕ) : Type 0 where
   pub levels : h .levels ≡ m
   pub inputs : h .inputs ≡ n
-  pub starts : length (h .starts) ≡ 11
-  pub lens : length (h .lens) ≡ 11
+  pub starts : length (h .starts) ≡ mostInputs
+  pub lens : length (h .lens) ≡ mostInputs
   pub most : i ≤ n
   pub near : place ≤ at + 9 * i
   pub held : NamesHeld s h i
   pub reads : nameFields last n [] (drop at s) at ≡ nameFields last (n - i) (namesTo s h i) (drop place s) place
 
--- the header with no name yet
-abbrev pub unnamed : ℕ → ℕ → Header
-unnamed m n = record { levels = m; inputs = n; starts = replicate 11 0; lens = replicate 11 0 }
-
-pub names-start : (s : List ℕ) (at m n last : ℕ) → Reading s at m n last (unnamed m n) at 0
-unfolding range
+pub names-start : (s : List ℕ) (at m n last : ℕ) → Reading s at m n last (noNames m n) at 0
+unfolding range noNames
 names-start s at m n last =
     record {
       levels = refl;
@@ -210,7 +205,7 @@ module _ (s : List ℕ) (at m n last : ℕ) (h : Header) (place i : ℕ) (readin
           held = λ value next q. absurd (never-both r number back value next e q);
         }
 
-    pub names-next : (len next : ℕ) → n ≤ 11 → r ≡ On len next → Reading s at m n last (named h i place len) next (i + 1)
+    pub names-next : (len next : ℕ) → n ≤ mostInputs → r ≡ On len next → Reading s at m n last (named h i place len) next (i + 1)
     unfolding then
     names-next len next few e =
         record {

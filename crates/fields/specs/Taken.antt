@@ -1,8 +1,8 @@
 -- What a field that was read tells: its value is good, and the next place is just after its separator.
 -- Assumes nothing.
-use Prim.Native.Nat.{ℕ, suc, _+_, _-_, _^_, _≤_, _<_}
+use Prim.Native.Nat.{ℕ, suc, _+_, _-_, _≤_}
 use mathlib.Core.Path.{_≡_, refl, sym, ap, _∙_}
-use mathlib.Core.Bool.{Bool, true, false, cond, _&&_}
+use mathlib.Core.Bool.{Bool, true, false, _&&_}
 use mathlib.Core.Option.{Option, none, some}
 use mathlib.Core.List.{List, [], _∷_}
 use native.Mathlib.Omega.{arith}
@@ -11,17 +11,17 @@ use lib.Dec.{leb}
 use borrow.Author.Tests.{leb-true}
 use Rattle.rules.specs.Lists.{same}
 use Rattle.rules.specs.Text.{isDigit, decimal}
-use Rattle.rules.specs.Limits.{levelsFit, inputsFit, cellsFit, sizeFits, fewestLevels, mostLevels, fewestInputs, mostInputs, mostCells}
-use Rattle.rules.specs.Fields.{Read, read, turnedBack, Judge, Judged, good, bad, judged, separator, afterField, fieldOf, field, run, past}
+use Rattle.rules.specs.Limits.{levelsFit, cellsFit, fewestLevels, mostLevels, fewestInputs, mostInputs}
+use Rattle.rules.specs.Fields.{read, Judge, Judged, good, bad, judged, afterField, fieldOf, field, run, past}
 use Rattle.rules.specs.Sheets.{levelsField, inputsOf, inputsField}
-use Rattle.fields.specs.Both.{and-left, and-right}
+use Rattle.fields.specs.Both.{and-right}
 use Rattle.fields.specs.Compared.{same-true}
 use Rattle.fields.specs.Decimals.{decimal-length}
 use Rattle.fields.specs.Ends.{separator-read}
 use Rattle.fields.specs.Finding.{found-in}
 use Rattle.fields.specs.Steps.{spelled, stepAs, itself, nothing}
 use Rattle.fields.specs.declared.steps.Step.{Step}
-use Rattle.fields.specs.declared.steps.Step.the-variants.{On, Back}
+use Rattle.fields.specs.declared.steps.Step.the-variants.{On}
 
 after-read : {A : Type 0} (j : Judged A) (a : A) (due : ℕ) (t rest : List ℕ) (at end next : ℕ)
     → afterField j due t at end ≡ read a rest next → (j ≡ good a) × (next ≡ suc end)
@@ -58,52 +58,27 @@ levels-told (b ∷ []) m e =
     (rw (told .1) at (and-right (isDigit 10 b) (levelsFit (b - 48)) (told .0)), refl)
 levels-told (b ∷ d ∷ w) m e = let z : _≡_ {A = ℕ} 0 1 = cc in absurd (omega arith)
 
-inputs-found : (w : List ℕ) (n : ℕ) → inputsOf w ≡ some n → (2 ≤ n) × (n ≤ 11) × (length w ≤ 2)
-unfolding inputsOf fewestInputs mostInputs
+inputs-found : (w : List ℕ) (n : ℕ) → inputsOf w ≡ some n → (fewestInputs ≤ n) × (n ≤ mostInputs) × (length w ≤ 2)
+unfolding inputsOf
 inputs-found w n e =
-    let found = found-in (λ k. same w (decimal k)) 2 10 n e in
+    let found = found-in (λ k. same w (decimal k)) fewestInputs (mostInputs + 1 - fewestInputs) n e in
     (found .0, omega (arith, found .1), rw (same-true w (decimal n) (found .2)) (decimal-length n (omega (arith, found .1))))
 
-pub inputs-told : (m n : ℕ) (w : List ℕ) → inputsField m w ≡ good n → (2 ≤ n) × (n ≤ 11) × (cellsFit m n ≡ true) × (length w ≤ 2)
+pub inputs-told : (m n : ℕ) (w : List ℕ) → inputsField m w ≡ good n → (fewestInputs ≤ n) × (n ≤ mostInputs) × (cellsFit m n ≡ true) × (length w ≤ 2)
 unfolding inputsField
 inputs-told m n w e = go (inputsOf w) refl e
   where
     go : (o : Option ℕ) → inputsOf w ≡ o → _≡_ {A = Judged ℕ} (elim o [ none ↦ bad 3 | some k ↦ judged (cellsFit m k) k 3 ]) (good n)
-        → (2 ≤ n) × (n ≤ 11) × (cellsFit m n ≡ true) × (length w ≤ 2)
+        → (fewestInputs ≤ n) × (n ≤ mostInputs) × (cellsFit m n ≡ true) × (length w ≤ 2)
     go none q h = let z : _≡_ {A = ℕ} 0 1 = cc in absurd (omega arith)
     go (some k) q h =
         let told = judged-good (cellsFit m k) k n 3 h in
         let found = inputs-found w k q in
         (rw (told .1) at (found .0), rw (told .1) at (found .1), rw (told .1) at (told .0), found .2)
 
-pub levels-most : (m : ℕ) → levelsFit m ≡ true → m ≤ 9
-unfolding levelsFit fewestLevels mostLevels
-levels-most m e = leb-true m 9 (and-right (leb 2 m) _ e)
-
--- a size within a sheet's bounds, in numbers
-pub record Sized (m n : ℕ) : Type 0 where
-  pub levels-least : 2 ≤ m
-  pub levels-most : m ≤ 9
-  pub inputs-least : 2 ≤ n
-  pub inputs-most : n ≤ 11
-  pub cells-most : m ^ n ≤ 2187
-
-pub size-told : (m n : ℕ) → sizeFits m n ≡ true → Sized m n
-unfolding sizeFits levelsFit inputsFit cellsFit fewestLevels mostLevels fewestInputs mostInputs mostCells
-size-told m n e =
-    record {
-      levels-least = leb-true 2 m (and-left _ _ ml);
-      levels-most = levels-most m ml;
-      inputs-least = leb-true 2 n (and-left _ _ nl);
-      inputs-most = leb-true n 11 (and-right (leb 2 n) _ nl);
-      cells-most = leb-true (m ^ n) 2187 (and-right (levelsFit m && inputsFit n) _ e);
-    }
-  where
-    ml : levelsFit m ≡ true
-    ml = and-left _ _ (and-left _ _ e)
-
-    nl : inputsFit n ≡ true
-    nl = and-right (levelsFit m) _ (and-left _ _ e)
+pub levels-most : (m : ℕ) → levelsFit m ≡ true → m ≤ mostLevels
+unfolding levelsFit
+levels-most m e = leb-true m mostLevels (and-right (leb fewestLevels m) _ e)
 
 -- ---- the same of a step onward
 
@@ -120,7 +95,7 @@ module _ (s : List ℕ) (step : Step) (at value next : ℕ) (on : step ≡ On va
       (fit .0, omega (arith, told .1, fit .1))
 
   pub inputs-on : (m due : ℕ) → stepAs itself s step ≡ field (inputsField m) due (drop at s) at
-      → (2 ≤ value) × (value ≤ 11) × (cellsFit m value ≡ true) × (next ≤ at + 3)
+      → (fewestInputs ≤ value) × (value ≤ mostInputs) × (cellsFit m value ≡ true) × (next ≤ at + 3)
   inputs-on m due e =
       let told = field-read (inputsField m) value due (drop at s) (drop next s) at next (sym e ∙ ap (stepAs itself s) on) in
       let fit = inputs-told m value (run (drop at s)) (told .0) in

@@ -1,17 +1,16 @@
 -- The levels field, by its byte; the inputs field, by the number that it is the decimal value of.
 -- Assumes nothing.
-use Prim.Native.Nat.{ℕ, _+_, _-_, _^_, _≤_, _<_}
+use Prim.Native.Nat.{ℕ, _-_, _^_, _≤_, _<_}
 use mathlib.Core.Path.{_≡_, refl, sym, ap, _∙_}
-use mathlib.Core.Bool.{Bool, true, false, cond, _&&_, and-false}
-use mathlib.Core.Option.{Option, none, some}
+use mathlib.Core.Bool.{and-false}
+use mathlib.Core.Option.{some}
 use mathlib.Core.List.{List, [], _∷_}
 use native.Mathlib.Omega.{arith}
 use lib.ListN.{length, getD}
-use lib.Dec.{leb, ltb}
 use borrow.Author.Tests.{le-leb, lt-leb, lt-ltb, le-ltb}
 use Rattle.rules.specs.Text.{isDigit}
-use Rattle.rules.specs.Limits.{levelsFit, fewestLevels, mostLevels, fewestInputs, mostInputs, cellsFit, mostCells}
-use Rattle.rules.specs.Fields.{Judged, good, bad, judged}
+use Rattle.rules.specs.Limits.{levelsFit, fewestInputs, mostInputs, cellsFit, mostCells}
+use Rattle.rules.specs.Fields.{good, bad}
 use Rattle.rules.specs.Sheets.{levelsField, inputsOf, inputsField}
 use Rattle.fields.specs.Finding.{found-in}
 use Rattle.fields.specs.Steps.{optionOf}
@@ -31,15 +30,15 @@ by-byte (b ∷ d ∷ w) e = absurd (omega arith)
 
 module _ (b : ℕ) where
   low : b < 50 → bad 2 ≡ levelsField (b ∷ [])
-  unfolding levelsField isDigit levelsFit fewestLevels mostLevels
+  unfolding levelsField isDigit levelsFit
   low h = simp (lt-leb 2 (b - 48) (omega arith), and-false)
 
   high : 57 < b → bad 2 ≡ levelsField (b ∷ [])
-  unfolding levelsField isDigit levelsFit fewestLevels mostLevels
+  unfolding levelsField isDigit levelsFit
   high h = simp (le-ltb b 58 (omega arith), and-false)
 
   right : 50 ≤ b → b ≤ 57 → good (b - 48) ≡ levelsField (b ∷ [])
-  unfolding levelsField isDigit levelsFit fewestLevels mostLevels
+  unfolding levelsField isDigit levelsFit
   right h k = simp (le-leb 48 b (omega arith), lt-ltb b 58 (omega arith), le-leb 2 (b - 48) (omega arith), le-leb (b - 48) 9 (omega arith))
 
 module _ (w : List ℕ) (b : ℕ) (e : length w ≡ 1) (q : b ≡ getD w 0 0) where
@@ -52,8 +51,8 @@ module _ (w : List ℕ) (b : ℕ) (e : length w ≡ 1) (q : b ≡ getD w 0 0) wh
   pub levels-good : 50 ≤ b → b ≤ 57 → good (b - 48) ≡ levelsField w
   levels-good h k = rw (by-byte w e, ← q) (right b h k)
 
-pub inputs-range : (w : List ℕ) (n : ℕ) → inputsOf w ≡ some n → (2 ≤ n) × (n ≤ 11)
-unfolding inputsOf fewestInputs mostInputs
+pub inputs-range : (w : List ℕ) (n : ℕ) → inputsOf w ≡ some n → (fewestInputs ≤ n) × (n ≤ mostInputs)
+unfolding inputsOf
 inputs-range w n e = let f = found-in _ 2 10 n e in (f .0, omega (arith, f .1))
 
 pub inputs-none : (w : List ℕ) (m : ℕ) (r : Found) → optionOf r ≡ inputsOf w → r ≡ Nowhere → bad 3 ≡ inputsField m w
@@ -64,13 +63,13 @@ module _ (w : List ℕ) (m n p : ℕ) (r : Found) (e : optionOf r ≡ inputsOf w
   inputs-are : inputsOf w ≡ some n
   inputs-are = sym e ∙ ap optionOf q
 
-  pub inputs-most : n ≤ 11
+  pub inputs-most : n ≤ mostInputs
   inputs-most = inputs-range w n inputs-are .1
 
-  pub inputs-fit : p ≡ m ^ n → p ≤ 2187 → good n ≡ inputsField m w
-  unfolding inputsField cellsFit mostCells
-  inputs-fit s h = rw (inputs-are, inputsField) (rw (← s, le-leb p 2187 h) refl)
+  pub inputs-fit : p ≡ m ^ n → p ≤ mostCells → good n ≡ inputsField m w
+  unfolding inputsField cellsFit
+  inputs-fit s h = rw (inputs-are, inputsField) (rw (← s, le-leb p mostCells h) refl)
 
-  pub inputs-over : p ≡ m ^ n → 2187 < p → bad 3 ≡ inputsField m w
-  unfolding inputsField cellsFit mostCells
-  inputs-over s h = rw (inputs-are, inputsField) (rw (← s, lt-leb p 2187 h) refl)
+  pub inputs-over : p ≡ m ^ n → mostCells < p → bad 3 ≡ inputsField m w
+  unfolding inputsField cellsFit
+  inputs-over s h = rw (inputs-are, inputsField) (rw (← s, lt-leb p mostCells h) refl)

@@ -14,7 +14,7 @@ use crate::steps::Step;
 use crate::values::inputs_field;
 use crate::values::levels_field;
 use crate::words::word_field;
-use nets::forms::Header;
+use nets::forms::no_names;
 
 // The sheet is turned back: no header.
 pub fn turned(number: usize, place: usize) -> HeaderRead
@@ -22,12 +22,7 @@ pub fn turned(number: usize, place: usize) -> HeaderRead
 {
     HeaderRead {
         step: Step::Back { number, place },
-        header: Header {
-            levels: 0,
-            inputs: 0,
-            starts: [0u16; 11],
-            lens: [0u8; 11],
-        },
+        header: no_names(0, 0),
     }
 }
 

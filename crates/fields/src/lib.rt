@@ -1,7 +1,6 @@
 // Reading a sheet field by field, as document 01 judges it, up to the end of line 3.
 pub mod ends;
 pub mod header;
-pub mod limits;
 pub mod lines;
 pub mod names;
 pub mod numbers;

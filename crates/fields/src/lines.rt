@@ -1,9 +1,9 @@
 // The first three lines of a sheet.
 ghost use mathlib.Core.Path.{_≡_};
-ghost use mathlib.Core.List.{map, []};
+ghost use mathlib.Core.List.{map};
 ghost use Prim.Native.Nat.{_+_, _-_, _≤_, _<_};
-ghost use lib.ListN.{drop};
 ghost use Rattle.rules.specs.Lists.{range};
+ghost use Rattle.rules.specs.Limits.{mostInputs};
 ghost use Rattle.nets.specs.Forms.{nameIn};
 ghost use Rattle.fields.specs.Names.{NamesHeld};
 ghost use Rattle.fields.specs.Lines.{NameRead, dueBefore, NamesRead};
@@ -14,6 +14,7 @@ use crate::runs::field_end;
 use crate::steps::Step;
 use crate::steps::Verdict;
 use nets::forms::Header;
+use nets::forms::no_names;
 
 // What reading line 3 comes to: on a step onward the header is whole.
 pub struct HeaderRead {
@@ -23,7 +24,7 @@ pub struct HeaderRead {
 
 // The name after the first `count`; a step onward has its length.
 pub fn name_field(s: &[u8], at: usize, header: Header, count: usize, due: u8) -> Step
-    requires { ⌜ (count ≤ 11) × NamesHeld (now s) header count ⌝ }
+    requires { ⌜ (count ≤ mostInputs) × NamesHeld (now s) header count ⌝ }
     ensures { λ r. ⌜ NameRead (now (s .entry)) at due (map (nameIn (now (s .entry)) header) (range 0 count)) r ⌝ }
 {
     let end = field_end(s, at);
@@ -55,15 +56,10 @@ pub fn due_after(i: usize, n: usize, last: u8) -> u8
 
 // The `inputs` names from `at` on.
 pub fn name_fields(s: &[u8], at: usize, levels: usize, inputs: usize, last: u8) -> HeaderRead
-    requires { ⌜ (inputs ≤ 11) × (at ≤ 20) ⌝ }
+    requires { ⌜ (inputs ≤ mostInputs) × (at ≤ 20) ⌝ }
     ensures { λ r. ⌜ NamesRead (now (s .entry)) at levels inputs last r ⌝ }
 {
-    let mut header = Header {
-        levels,
-        inputs,
-        starts: [0u16; 11],
-        lens: [0u8; 11],
-    };
+    let mut header = no_names(levels, inputs);
     let mut place = at;
     let mut i: usize = 0;
     while i < inputs {

@@ -1,11 +1,9 @@
 // The names of line 3. They stay in the sheet: a header by value has where each begins and how long it is.
 ghost use mathlib.Core.Path.{_≡_};
-ghost use mathlib.Core.Bool.{_||_};
 ghost use mathlib.Core.List.{map};
 ghost use Prim.Native.Nat.{_≤_, _<_};
-ghost use lib.ListN.{length, drop};
 ghost use Rattle.rules.specs.Lists.{range, all, any, same};
-ghost use Rattle.rules.specs.Text.{isDigit};
+ghost use Rattle.rules.specs.Limits.{mostInputs};
 ghost use Rattle.rules.specs.Sheets.{isLetter, isName};
 ghost use Rattle.nets.specs.Forms.{nameIn};
 ghost use Rattle.fields.specs.Names.{isNameByte, NameHeld, NamesHeld, isNew};
@@ -68,7 +66,7 @@ pub fn is_name(w: &[u8]) -> bool
 
 // Is w the name of input i?
 pub fn same_name(s: &[u8], header: Header, i: usize, w: &[u8]) -> bool
-    requires { ⌜ (i < 11) × NameHeld (now s) header i ⌝ }
+    requires { ⌜ (i < mostInputs) × NameHeld (now s) header i ⌝ }
     ensures { λ r. ⌜ r ≡ same (now (w .entry)) (nameIn (now (s .entry)) header i) ⌝ }
 {
     let start = header.starts[i] as usize;
@@ -78,7 +76,7 @@ pub fn same_name(s: &[u8], header: Header, i: usize, w: &[u8]) -> bool
 
 // Is w the name of one of the first `count` inputs?
 pub fn is_repeated(s: &[u8], header: Header, count: usize, w: &[u8]) -> bool
-    requires { ⌜ (count ≤ 11) × NamesHeld (now s) header count ⌝ }
+    requires { ⌜ (count ≤ mostInputs) × NamesHeld (now s) header count ⌝ }
     ensures { λ r. ⌜ r ≡ any (same (now (w .entry))) (map (nameIn (now (s .entry)) header) (range 0 count)) ⌝ }
 {
     let mut i: usize = 0;
@@ -93,7 +91,7 @@ pub fn is_repeated(s: &[u8], header: Header, count: usize, w: &[u8]) -> bool
 
 // Is w a name that none of the first `count` inputs has?
 pub fn is_new_name(s: &[u8], header: Header, count: usize, w: &[u8]) -> bool
-    requires { ⌜ (count ≤ 11) × NamesHeld (now s) header count ⌝ }
+    requires { ⌜ (count ≤ mostInputs) × NamesHeld (now s) header count ⌝ }
     ensures { λ r. ⌜ r ≡ isNew (map (nameIn (now (s .entry)) header) (range 0 count)) (now (w .entry)) ⌝ }
 {
     if is_name(w) {

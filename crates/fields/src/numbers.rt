@@ -1,6 +1,6 @@
-// Decimal values, and powers.
+// Decimal values.
 ghost use mathlib.Core.Path.{_≡_};
-ghost use Prim.Native.Nat.{_^_, _≤_, _<_};
+ghost use Prim.Native.Nat.{_<_};
 ghost use Rattle.rules.specs.Lists.{same};
 ghost use Rattle.rules.specs.Text.{decimal};
 
@@ -8,20 +8,6 @@ pub fn wide(b: u8) -> usize
     ensures { λ r. ⌜ r ≡ b ⌝ }
 {
     b as usize
-}
-
-// m to the power n, for a digit m and n small enough that it fits.
-pub fn power(m: usize, n: usize) -> usize
-    requires { ⌜ (m ≤ 9) × (n ≤ 16) ⌝ }
-    ensures { λ r. ⌜ r ≡ m ^ n ⌝ }
-{
-    let mut p: usize = 1;
-    let mut i: usize = 0;
-    while i < n {
-        p = p * m;
-        i += 1;
-    }
-    p
 }
 
 // Is w the decimal value of n?

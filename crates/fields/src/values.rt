@@ -2,13 +2,12 @@
 ghost use mathlib.Core.Path.{_≡_};
 ghost use Prim.Native.Nat.{_≤_};
 ghost use lib.ListN.{drop};
+ghost use Rattle.rules.specs.Limits.{mostLevels};
 ghost use Rattle.rules.specs.Fields.{field};
 ghost use Rattle.rules.specs.Sheets.{levelsField, inputsOf, inputsField};
 ghost use Rattle.fields.specs.Steps.{judgedAs, stepAs, itself, optionOf};
 use crate::ends::after_field;
-use crate::limits;
 use crate::numbers::is_decimal;
-use crate::numbers::power;
 use crate::numbers::wide;
 use crate::runs::NEWLINE;
 use crate::runs::SPACE;
@@ -16,6 +15,8 @@ use crate::runs::field_end;
 use crate::steps::Found;
 use crate::steps::Step;
 use crate::steps::Verdict;
+use radix::limits;
+use radix::powers::power;
 
 pub fn judge_levels(w: &[u8]) -> Verdict
     ensures { λ r. ⌜ judgedAs itself r ≡ levelsField (now (w .entry)) ⌝ }
@@ -62,7 +63,7 @@ pub fn inputs_of(w: &[u8]) -> Found
 }
 
 pub fn judge_inputs(w: &[u8], m: usize) -> Verdict
-    requires { ⌜ m ≤ 9 ⌝ }
+    requires { ⌜ m ≤ mostLevels ⌝ }
     ensures { λ r. ⌜ judgedAs itself r ≡ inputsField m (now (w .entry)) ⌝ }
 {
     match inputs_of(w) {
@@ -77,7 +78,7 @@ pub fn judge_inputs(w: &[u8], m: usize) -> Verdict
 }
 
 pub fn inputs_field(s: &[u8], at: usize, m: usize) -> Step
-    requires { ⌜ m ≤ 9 ⌝ }
+    requires { ⌜ m ≤ mostLevels ⌝ }
     ensures { λ r. ⌜ stepAs itself (now (s .entry)) r ≡ field (inputsField m) 10 (drop at (now (s .entry))) at ⌝ }
 {
     let end = field_end(s, at);

@@ -6,6 +6,8 @@ use mathlib.Core.Logic.{_↔_}
 use mathlib.Core.Bool.{true, _&&_, and-eq-true-iff}
 use borrow.Author.Tests.{leb-true}
 use Rattle.rules.specs.Limits.{fewestLevels, mostLevels, fewestInputs, mostInputs, mostCells, levelsFit, inputsFit, cellsFit, sizeFits}
+use Rattle.rules.specs.Sheets.{Header}
+use Rattle.rules.specs.Kept.{KeptHeader}
 use Rattle.laws.specs.Tests.{both-leb}
 
 pub record Size (m n : ℕ) : Type 0 where
@@ -15,16 +17,16 @@ pub record Size (m n : ℕ) : Type 0 where
   pub inputs-most : n ≤ mostInputs
   pub cells-most : m ^ n ≤ mostCells
 
-pub levels-fit : (m : ℕ) → (levelsFit m ≡ true) ↔ ((2 ≤ m) × (m ≤ 9))
-unfolding levelsFit fewestLevels mostLevels
-levels-fit m = both-leb 2 m m 9
+pub levels-fit : (m : ℕ) → (levelsFit m ≡ true) ↔ ((fewestLevels ≤ m) × (m ≤ mostLevels))
+unfolding levelsFit
+levels-fit m = both-leb fewestLevels m m mostLevels
 
-pub inputs-fit : (n : ℕ) → (inputsFit n ≡ true) ↔ ((2 ≤ n) × (n ≤ 11))
-unfolding inputsFit fewestInputs mostInputs
-inputs-fit n = both-leb 2 n n 11
+pub inputs-fit : (n : ℕ) → (inputsFit n ≡ true) ↔ ((fewestInputs ≤ n) × (n ≤ mostInputs))
+unfolding inputsFit
+inputs-fit n = both-leb fewestInputs n n mostInputs
 
 pub sized : (m n : ℕ) → sizeFits m n ≡ true → Size m n
-unfolding sizeFits cellsFit fewestLevels mostLevels fewestInputs mostInputs
+unfolding sizeFits cellsFit
 sized m n e =
     let (sides, cells) = and-eq-true-iff (levelsFit m && inputsFit n) (cellsFit m n) .0 e in
     let (levels, inputs) = and-eq-true-iff (levelsFit m) (inputsFit n) .0 sides in
@@ -37,3 +39,13 @@ sized m n e =
       inputs-most = d;
       cells-most = leb-true _ _ cells;
     }
+
+-- a header that keeps the rules is within the bounds
+pub kept-fits : (h : Header) → KeptHeader h → sizeFits (h .levels) (h .inputs) ≡ true
+unfolding sizeFits
+kept-fits h kept =
+    and-eq-true-iff (levelsFit (h .levels) && inputsFit (h .inputs)) (cellsFit (h .levels) (h .inputs)) .1
+    (and-eq-true-iff (levelsFit (h .levels)) (inputsFit (h .inputs)) .1 (kept .levels, kept .inputs), kept .cells)
+
+pub kept-size : (h : Header) → KeptHeader h → Size (h .levels) (h .inputs)
+kept-size h kept = sized (h .levels) (h .inputs) (kept-fits h kept)

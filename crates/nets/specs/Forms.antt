@@ -2,9 +2,11 @@
 -- Assumes nothing.
 use Prim.Native.Nat.{ℕ, _*_}
 use mathlib.Core.List.{List, map}
-use lib.ListN.{getD, take, drop}
+use lib.ListN.{getD, take, drop, replicate}
 use Rattle.rules.specs.Lists.{range}
 use Rattle.rules.specs.Sheets as sheets
+use Rattle.rules.specs.Limits.{mostInputs}
+use Rattle.nets.specs.Room.{mostGates, mostDigits}
 use Rattle.nets.specs.declared.forms.Header.{Header}
 use Rattle.nets.specs.declared.forms.Net.{Net}
 
@@ -26,3 +28,12 @@ gateOf net k =
 
 unfoldable pub gatesOf : Net → List sheets.Gate
 gatesOf net = map (gateOf net) (range 0 (net .gates))
+
+-- a header with no name yet
+unfoldable pub noNames : ℕ → ℕ → Header
+noNames m n = record { levels = m; inputs = n; starts = replicate mostInputs 0; lens = replicate mostInputs 0 }
+
+-- a net with no gate yet
+unfoldable pub noGates : ℕ → ℕ → Net
+noGates m n =
+    record { levels = m; inputs = n; gates = 0; left = replicate mostGates 0; right = replicate mostGates 0; digits = replicate mostDigits 0 }

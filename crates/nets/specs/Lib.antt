@@ -1,4 +1,5 @@
 pub mod Forms
+pub mod Room
 pub mod Sound
 pub mod Evaluating
 pub mod Values

@@ -6,7 +6,7 @@ use mathlib.Core.Bool.{true}
 use native.Mathlib.Omega.{arith}
 use lib.ListN.{length, length-map}
 use Rattle.rules.specs.Lists.{range}
-use Rattle.rules.specs.Limits.{fewestLevels, fewestInputs, sizeFits}
+use Rattle.rules.specs.Limits.{sizeFits}
 use Rattle.rules.specs.Kept.{IsNet}
 use Rattle.laws.specs.Ranges.{range-length}
 use Rattle.laws.specs.Sizes.{Size, sized}
@@ -27,7 +27,6 @@ module _ (net : Net) (sound : Sound net) where
   sound-size = sized (net .levels) (net .inputs) (sound .size)
 
   pub levels-pos : 0 < net .levels
-  unfolding fewestLevels
   levels-pos = omega (arith, sound-size .levels-least)
 
   -- "Then n − 1 gate lines"
@@ -35,5 +34,4 @@ module _ (net : Net) (sound : Sound net) where
   gates-count = ap suc (sym (gates-length net)) ∙ sound .gates .count
 
   pub gates-pos : 0 < net .gates
-  unfolding fewestInputs
   gates-pos = omega (arith, gates-count, sound-size .inputs-least)

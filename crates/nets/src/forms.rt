@@ -1,11 +1,16 @@
 // The two forms, with room for the largest size that document 01 allows. specs/Forms.antt says what each stands for.
+ghost use mathlib.Core.Path.{_≡_};
+ghost use Rattle.nets.specs.Forms.{noGates, noNames};
+use radix::limits::MOST_DIGITS;
+use radix::limits::MOST_GATES;
+use radix::limits::MOST_INPUTS;
 
 // A sheet's first three lines. Names stay in the sheet: name i is the `lens[i]` bytes from `starts[i]` on.
 pub struct Header {
     pub levels: usize,
     pub inputs: usize,
-    pub starts: [u16; 11],
-    pub lens: [u8; 11],
+    pub starts: [u16; MOST_INPUTS],
+    pub lens: [u8; MOST_INPUTS],
 }
 
 // A net's gates. References are numbered as in document 01's definitions: input i is i, from 0, and gate k, from 1, is
@@ -14,7 +19,33 @@ pub struct Net {
     pub levels: usize,
     pub inputs: usize,
     pub gates: usize,
-    pub left: [u8; 10],
-    pub right: [u8; 10],
-    pub digits: [u8; 162],
+    pub left: [u8; MOST_GATES],
+    pub right: [u8; MOST_GATES],
+    pub digits: [u8; MOST_DIGITS],
+}
+
+// A header with no name yet.
+pub fn no_names(levels: usize, inputs: usize) -> Header
+    ensures { λ r. ⌜ r ≡ noNames levels inputs ⌝ }
+{
+    Header {
+        levels,
+        inputs,
+        starts: [0u16; MOST_INPUTS],
+        lens: [0u8; MOST_INPUTS],
+    }
+}
+
+// A net with no gate yet.
+pub fn no_gates(levels: usize, inputs: usize) -> Net
+    ensures { λ r. ⌜ r ≡ noGates levels inputs ⌝ }
+{
+    Net {
+        levels,
+        inputs,
+        gates: 0,
+        left: [0u8; MOST_GATES],
+        right: [0u8; MOST_GATES],
+        digits: [0u8; MOST_DIGITS],
+    }
 }

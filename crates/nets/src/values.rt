@@ -1,5 +1,4 @@
 // The value of a net at an assignment, and its table.
-ghost use mathlib.Core.Path.{_≡_};
 ghost use Prim.Native.Nat.{_^_, _≤_};
 ghost use lib.ListN.{length};
 ghost use Rattle.nets.specs.Sound.{Sound};

@@ -14,6 +14,7 @@ use Rattle.rules.specs.Printed.{line, firstLines, printedGate, printedNet}
 use Rattle.rules.specs.Sheets as sheets
 use Rattle.nets.specs.declared.forms.Header.{Header}
 use Rattle.nets.specs.declared.forms.Net.{Net}
+use Rattle.nets.specs.Room.{mostDigits}
 use Rattle.nets.specs.Forms.{headerOf, gateOf, gatesOf}
 use Rattle.printing.specs.Lines.{range-next}
 use Rattle.printing.specs.Names.{namesIn}
@@ -32,7 +33,7 @@ gateLines s h net = concatMap (printedGate (namesIn s h)) (gatesOf net)
 -- no more gates than the form has room for, and each digit is one digit
 pub record GatesInside (net : Net) : Type 0 where
   pub count : net .gates < mostInputs
-  pub room : net .gates * (net .levels * net .levels) ≤ 162
+  pub room : net .gates * (net .levels * net .levels) ≤ mostDigits
   pub digits : (k : ℕ) → k < net .gates * (net .levels * net .levels) → getD (net .digits) k 0 < 10
 
 -- the lines of the gates from the one with k gates before it on

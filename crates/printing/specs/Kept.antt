@@ -1,84 +1,31 @@
 -- A net or a table that keeps the rules of document 01 has what printing asks.
 -- Assumes nothing.
-use Prim.Native.Nat.{ℕ, zero, suc, _+_, _-_, _*_, _/_, _%_, _≤_, _<_}
-use mathlib.Core.Path.{_≡_, refl, sym, ap, subst, _∙_}
-use mathlib.Core.Bool.{Bool, true, false, not, _||_, and-eq-true-iff, false≢true}
+use Prim.Native.Nat.{ℕ, zero, suc, _-_, _*_, _/_, _%_, _<_}
+use mathlib.Core.Path.{_≡_, sym, ap, subst, _∙_}
 use mathlib.Core.List.{List, [], _∷_}
 use native.Mathlib.Nat.{zero-add, mul-zero, mod-lt, div-add-mod', div-lt-iff-lt-mul}
-use native.Mathlib.Decide.{decLe}
 use native.Mathlib.Omega.{arith}
-use borrow.Author.Tests.{leb-true}
-use lib.Dec.{leb}
 use lib.ListN.{length, getD, drop, length-map}
 use lib.Seq.{getD-take, getD-drop}
-use Rattle.rules.specs.Lists.{range, all}
-use Rattle.rules.specs.Limits.{fewestLevels, mostLevels, fewestInputs, mostInputs, mostCells, levelsFit, inputsFit, cellsFit}
+use Rattle.rules.specs.Lists.{range}
 use Rattle.rules.specs.Sheets as sheets
 use Rattle.rules.specs.Kept.{KeptNet, KeptTable, GateTable, Tables}
 use Rattle.nets.specs.declared.forms.Header.{Header}
 use Rattle.nets.specs.declared.forms.Net.{Net}
 use Rattle.nets.specs.Forms.{headerOf, gateOf, gatesOf}
+use Rattle.nets.specs.Room.{digits-room}
+use Rattle.laws.specs.Sizes.{levels-fit, inputs-fit, kept-fits}
 use Rattle.laws.specs.Ranges.{range-length, range-at}
 use Rattle.printing.specs.Maps.{getD-map}
 use Rattle.printing.specs.Names.{NamesInside}
 use Rattle.printing.specs.Gates.{GatesInside, netIn}
 use Rattle.printing.specs.Tables.{TableInside, tableIn}
 
-levels-fit : (m : ℕ) → levelsFit m ≡ true → (fewestLevels ≤ m) × (m ≤ mostLevels)
-unfolding levelsFit
-levels-fit m e =
-    let b = and-eq-true-iff (leb fewestLevels m) (leb m mostLevels) .0 e in
-    (leb-true fewestLevels m (b .0), leb-true m mostLevels (b .1))
-
-inputs-fit : (n : ℕ) → inputsFit n ≡ true → (fewestInputs ≤ n) × (n ≤ mostInputs)
-unfolding inputsFit
-inputs-fit n e =
-    let b = and-eq-true-iff (leb fewestInputs n) (leb n mostInputs) .0 e in
-    (leb-true fewestInputs n (b .0), leb-true n mostInputs (b .1))
-
 pub table-inside : (s : List ℕ) (h : Header) (inks : List ℕ) → NamesInside s h → KeptTable (tableIn s h inks) → TableInside s h inks
-unfolding headerOf fewestLevels mostLevels
+unfolding headerOf
 table-inside s h inks names kept =
-    let fit = levels-fit (h .levels) (kept .header .levels) in
+    let fit = levels-fit (h .levels) .0 (kept .header .levels) in
     record { names = names; someLevels = omega arith; levels = fit .1; digits = λ k l. omega (arith, fit .1, kept .below k l) }
-
--- ---- the form has room for the digits of every net
-
--- what every element passes, the first and the rest pass
-all-parts : (test : ℕ → Bool) (x : ℕ) (xs : List ℕ) → all test (x ∷ xs) ≡ true → (test x ≡ true) × (all test xs ≡ true)
-unfolding all
-all-parts test x xs = go (test x) refl
-  where
-    go : (t : Bool) → test x ≡ t → all test (x ∷ xs) ≡ true → (test x ≡ true) × (all test xs ≡ true)
-    go true e h = (e, rw (e, all) at h)
-    go false e h = absurd (false≢true (rw (e, all) at h))
-
-all-at : (test : ℕ → Bool) (from count i : ℕ) → all test (range from count) ≡ true → from ≤ i → i < from + count → test i ≡ true
-unfolding range
-all-at test from zero i e l h = absurd (omega arith)
-all-at test from (suc count) i e l h =
-    let parts = all-parts test from (range (suc from) count) e in
-    elim (decLe (suc from) i) [
-      | yes k ↦ all-at test (suc from) count i (parts .1) k (omega arith)
-      | no k ↦ subst (λ (j : ℕ). test j ≡ true) (omega arith) (parts .0)
-    ]
-
-roomFor : ℕ → ℕ → Bool
-roomFor m n = not (cellsFit m n) || leb ((n - 1) * (m * m)) 162
-
--- computed for every size
-every-size : all (λ m. all (roomFor m) (range fewestInputs (suc mostInputs - fewestInputs))) (range fewestLevels (suc mostLevels - fewestLevels)) ≡ true
-unfolding all range roomFor cellsFit fewestInputs mostInputs fewestLevels mostLevels mostCells
-every-size = refl
-
-digits-fit : (m n : ℕ) → levelsFit m ≡ true → inputsFit n ≡ true → cellsFit m n ≡ true → (n - 1) * (m * m) ≤ 162
-unfolding roomFor fewestInputs mostInputs fewestLevels mostLevels
-digits-fit m n a b c =
-    let ms = levels-fit m a in
-    let ns = inputs-fit n b in
-    let row = all-at (λ m. all (roomFor m) (range fewestInputs (suc mostInputs - fewestInputs))) fewestLevels (suc mostLevels - fewestLevels) m every-size (ms .0) (omega (arith, ms .1)) in
-    let cell = all-at (roomFor m) fewestInputs (suc mostInputs - fewestInputs) n row (ns .0) (omega (arith, ns .1)) in
-    leb-true ((n - 1) * (m * m)) 162 (rw c at cell)
 
 -- ---- the digit at any place is a gate's
 
@@ -117,14 +64,14 @@ module _ (net : Net) (tables : Tables (net .levels) (gatesOf net)) where
       subst (λ (d : ℕ). d < net .levels) here (table .below j (omega (arith, table .count)))
 
 pub gates-inside : (s : List ℕ) (h : Header) (net : Net) → net .levels ≡ h .levels → KeptNet (netIn s h net) → GatesInside net
-unfolding headerOf mostLevels
+unfolding headerOf
 gates-inside s h net e kept =
     let count : suc (net .gates) ≡ h .inputs = ap suc (sym (gates-count net)) ∙ kept .gates .count in
-    let few = levels-fit (h .levels) (kept .header .levels) .1 in
+    let few = levels-fit (h .levels) .0 (kept .header .levels) .1 in
     let tables = subst (λ (m : ℕ). Tables m (gatesOf net)) (sym e) (kept .gates .rules .tables) in
     let gates : h .inputs - 1 ≡ net .gates = omega arith in
     record {
-      count = omega (arith, inputs-fit (h .inputs) (kept .header .inputs) .1);
-      room = rw e (rw gates at (digits-fit (h .levels) (h .inputs) (kept .header .levels) (kept .header .inputs) (kept .header .cells)));
+      count = omega (arith, inputs-fit (h .inputs) .0 (kept .header .inputs) .1);
+      room = rw e (rw gates at (digits-room (h .levels) (h .inputs) (kept-fits (headerOf s h) (kept .header))));
       digits = λ k l. omega (arith, few, e, digit-below net tables k l);
     }

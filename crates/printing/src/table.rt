@@ -17,6 +17,7 @@ use crate::header::print_pair;
 use crate::put::copy;
 use crate::wide::wide;
 use nets::forms::Header;
+use radix::limits::MOST_INPUTS;
 
 // A row: each level with a space behind it, then the ink with a line feed.
 fn print_row(levels: &[u8], ink: u8, out: &mut [u8], at: usize) -> usize
@@ -58,7 +59,7 @@ fn print_rows(m: usize, n: usize, inks: &[u8], out: &mut [u8], at: usize) -> usi
     requires { ⌜ (0 < m) × (m ≤ mostLevels) × (n ≤ mostInputs) × ((k : ℕ) → k < length (now inks) → getD (now inks) k 0 < 10) × Room (now out) at (printedRows m n 0 (now inks)) ⌝ }
     ensures { λ r. ⌜ Put (now (out .entry)) at (printedRows m n 0 (now (inks .entry))) (now (out .exit)) r ⌝ }
 {
-    let mut levels = [0u8; 11];
+    let mut levels = [0u8; MOST_INPUTS];
     let mut k: usize = 0;
     let mut p: usize = at;
     while k < inks.len() {

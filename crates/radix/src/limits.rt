@@ -7,6 +7,12 @@ pub const FEWEST_INPUTS: usize = 2;
 
 pub const MOST_INPUTS: usize = 11;
 
+// The gates of a net, one fewer than its inputs.
+pub const MOST_GATES: usize = MOST_INPUTS - 1;
+
+// The digits of all gates of a net: that none of an allowed size has more is shown in nets/specs/Room.antt.
+pub const MOST_DIGITS: usize = 162;
+
 pub const MOST_CELLS: usize = 2187;
 
 // The length of the longest settled sheet.

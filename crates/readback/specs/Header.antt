@@ -1,6 +1,6 @@
 -- The first three lines of a sheet.
 -- Assumes nothing.
-use Prim.Native.Nat.{ℕ, _≤_}
+use Prim.Native.Nat.{ℕ}
 use mathlib.Core.Path.{_≡_, refl, sym}
 use mathlib.Core.Bool.{true}
 use mathlib.Core.List.{List, [], _∷_, _++_, append-assoc, append-nil}
@@ -10,26 +10,11 @@ use Rattle.rules.specs.Fields.{isSeparator}
 use Rattle.rules.specs.Sheets.{Header, headerLines}
 use Rattle.rules.specs.Printed.{line}
 use Rattle.rules.specs.Kept.{KeptHeader}
-use Rattle.laws.specs.Sizes.{levels-fit, inputs-fit}
 use Rattle.readback.specs.Spells.{Spells, spells-give, spells-then, spells-as}
 use Rattle.readback.specs.Fields.{plain, isWord, spells-field, judges-word}
 use Rattle.readback.specs.Judges.{judges-levels, judges-inputs}
 use Rattle.readback.specs.Fresh.{fresh-first}
 use Rattle.readback.specs.Names.{ended, spells-names}
-
--- the bounds on levels and inputs
-pub record Size (h : Header) : Type 0 where
-  pub two-levels : 2 ≤ h .levels
-  pub nine-levels : h .levels ≤ 9
-  pub two-inputs : 2 ≤ h .inputs
-  pub eleven-inputs : h .inputs ≤ 11
-
--- a header that keeps the rules has such a size
-pub kept-size : (h : Header) → KeptHeader h → Size h
-kept-size h k =
-    let (a, b) = levels-fit (h .levels) .0 (k .levels) in
-    let (c, d) = inputs-fit (h .inputs) .0 (k .inputs) in
-    record { two-levels = a; nine-levels = b; two-inputs = c; eleven-inputs = d }
 
 -- two lines, and the names with `last` after the last one
 unfoldable pub headText : ℕ → Header → List ℕ

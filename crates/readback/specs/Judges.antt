@@ -12,7 +12,7 @@ use lib.Dec.{eqb, leb}
 use borrow.Author.Tests.{leb-true, eqb-true, eq-eqb, not-true}
 use Rattle.rules.specs.Lists.{range, all, any, same, find}
 use Rattle.rules.specs.Text.{text, digitByte, isDigit, decimal}
-use Rattle.rules.specs.Limits.{fewestInputs, mostInputs, levelsFit, inputsFit, cellsFit}
+use Rattle.rules.specs.Limits.{levelsFit, inputsFit, cellsFit}
 use Rattle.rules.specs.Fields.{Judged, good, bad, Judge, judged}
 use Rattle.rules.specs.Sheets.{levelsField, inputsOf, inputsField, isLetter, letterFirst, isName, nameField, digitsField, levelField, inkField}
 use Rattle.rules.specs.Kept.{GateTable}
@@ -93,7 +93,7 @@ module _ (print : ℕ → List ℕ) (from count : ℕ) (test : ℕ → Bool) (u 
 
 -- the inputs field: the decimal values from 2 to 11 that leave the cells within their bound
 pub judges-inputs : (m : ℕ) → Judges (inputsField m) ((n : ℕ) × (inputsFit n ≡ true) × (cellsFit m n ≡ true)) (λ x. x .0) (λ x. decimal (x .0))
-unfolding inputsField inputsOf fewestInputs mostInputs looking verdict
+unfolding inputsField inputsOf looking verdict
 judges-inputs m = record { passes = λ x. passes (x .0) (x .1) (x .2); word = λ x. decimal-word (x .0); only = only }
   where
     passes : (n : ℕ) → inputsFit n ≡ true → cellsFit m n ≡ true → inputsField m (decimal n) ≡ good n

@@ -11,7 +11,7 @@ use lib.Dec.{leb}
 use borrow.Author.Tests.{leb-true}
 use Rattle.rules.specs.Lists.{range, all, concatMap}
 use Rattle.rules.specs.Text.{text}
-use Rattle.rules.specs.Limits.{cellsFit, mostCells, mostSettled}
+use Rattle.rules.specs.Limits.{fewestLevels, mostLevels, fewestInputs, mostInputs, cellsFit, mostSettled}
 use Rattle.rules.specs.Sheets.{Gate, Net, referenceText}
 use Rattle.rules.specs.Printed.{line, firstLines, printedGate, printedNet}
 use Rattle.rules.specs.Kept.{GoodNames, GateTable, RefersBack, Tables, KeptNet}
@@ -21,7 +21,7 @@ use Rattle.readback.specs.Decimals.{decimal-short}
 use Rattle.readback.specs.Judges.{name-parts}
 use Rattle.readback.specs.Names.{good-name}
 use Rattle.readback.specs.References.{Refers, toInput, toGate, refers}
-use Rattle.readback.specs.Header.{kept-size}
+use Rattle.laws.specs.Sizes.{Size, kept-size}
 
 -- ---- the parts of a sheet
 
@@ -88,23 +88,22 @@ sheet-length net k =
 boundTest : ℕ → ℕ → Bool
 boundTest m n = not (cellsFit m n) || leb (bound m n) mostSettled
 
--- it is so for all levels from 2 to 9 and inputs from 2 to 11
-boundTests : all (λ m. all (boundTest m) (range 2 10)) (range 2 8) ≡ true
-unfolding all range boundTest bound cellsFit mostCells mostSettled
+-- it is so for all levels and inputs within their bounds
+boundTests : all (λ m. all (boundTest m) (range fewestInputs (mostInputs + 1 - fewestInputs))) (range fewestLevels (mostLevels + 1 - fewestLevels)) ≡ true
+unfolding all range boundTest bound cellsFit
 boundTests = refl
 
 -- so the bound is small for all sizes that a sheet may have
-size-bound : (m n : ℕ) → 2 ≤ m → m ≤ 9 → 2 ≤ n → n ≤ 11 → cellsFit m n ≡ true → bound m n ≤ mostSettled
+size-bound : (m n : ℕ) → Size m n → cellsFit m n ≡ true → bound m n ≤ mostSettled
 unfolding boundTest
-size-bound m n a b c d e =
-    let row = all-mem (λ m. all (boundTest m) (range 2 10)) (mem-range 2 8 m a (omega arith)) boundTests in
-    let t = all-mem (boundTest m) (mem-range 2 10 n c (omega arith)) row in
+size-bound m n z e =
+    let row = all-mem (λ m. all (boundTest m) (range fewestInputs (mostInputs + 1 - fewestInputs)))
+    (mem-range fewestLevels (mostLevels + 1 - fewestLevels) m (z .levels-least) (omega (arith, z .levels-most))) boundTests in
+    let t = all-mem (boundTest m) (mem-range fewestInputs (mostInputs + 1 - fewestInputs) n (z .inputs-least) (omega (arith, z .inputs-most))) row in
     leb-true (bound m n) mostSettled (rw e at t)
 
 -- no net sheet is longer than 512 bytes
 pub net-length : (net : Net) → KeptNet net → length (printedNet net) ≤ mostSettled
 net-length net kept =
     let h = net .header in
-    let z = kept-size h (kept .header) in
-    le-trans (sheet-length net kept)
-    (size-bound (h .levels) (h .inputs) (z .two-levels) (z .nine-levels) (z .two-inputs) (z .eleven-inputs) (kept .header .cells))
+    le-trans (sheet-length net kept) (size-bound (h .levels) (h .inputs) (kept-size h (kept .header)) (kept .header .cells))

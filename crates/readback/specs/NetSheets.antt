@@ -17,7 +17,8 @@ use Rattle.readback.specs.Spells.{SpellsTo, spells-then, spells-as}
 use Rattle.readback.specs.Fields.{plain, isWord, spells-field, judges-word, Ended, spells-end}
 use Rattle.readback.specs.Fresh.{fresh-first}
 use Rattle.readback.specs.Names.{ended}
-use Rattle.readback.specs.Header.{kept-size, headText, spells-header}
+use Rattle.laws.specs.Sizes.{kept-size}
+use Rattle.readback.specs.Header.{headText, spells-header}
 use Rattle.readback.specs.Gates.{GatesAfter, spells-gates}
 
 -- a line is its words, ended by a line feed

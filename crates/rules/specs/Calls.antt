@@ -2,14 +2,13 @@
 -- two programs), with 'Turned back because of the input' and '.. of the state'. For each call: its answer, and what each
 -- buffer lent to it holds afterwards, on accepted and on refused inputs alike.
 -- Assumes nothing.
-use Prim.Native.Nat.{ℕ, zero, suc, _+_, _-_, _^_}
-use mathlib.Core.Bool.{Bool, true, false, not, cond, _&&_, _||_}
-use mathlib.Core.Option.{Option, none, some}
+use Prim.Native.Nat.{ℕ, _^_}
+use mathlib.Core.Bool.{Bool, true, false, not, _&&_, _||_}
 use mathlib.Core.List.{List, [], _∷_, _++_}
 use lib.ListN.{length, getD, take, drop, replicate}
 use lib.Dec.{eqb, leb, ltb}
 use Rattle.rules.specs.Lists.{range, all, firstPlace, same}
-use Rattle.rules.specs.Text.{space, newline, text, decimal}
+use Rattle.rules.specs.Text.{text, decimal}
 use Rattle.rules.specs.Limits.{sizeFits, mostSettled, mostRead, mostCells, mostInputs}
 use Rattle.rules.specs.Fields.{Read, read, turnedBack}
 use Rattle.rules.specs.Sheets.{Header, Net, Table, netSheet, tableSheet}

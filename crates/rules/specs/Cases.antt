@@ -1,16 +1,16 @@
 -- Document 01, section 'Proofs on squared paper': the starred cases 1 to 8 as one theorem, `starred-hold`, and the other two,
 -- `unstarred-hold`. Sheets are written as in the document, with `/` for the line feed.
 -- Assumes nothing.
-use Prim.Native.Nat.{ℕ, zero, suc, _+_, _*_, _/_, _%_, _^_, max}
+use Prim.Native.Nat.{ℕ, _+_, _*_, _%_, _^_, max}
 use Prim.Native.String.{String}
 use mathlib.Core.Path.{_≡_, refl}
 use mathlib.Core.Bool.{Bool, true, false, cond, not, _&&_, _||_}
-use mathlib.Core.List.{List, [], _∷_, _++_, map}
+use mathlib.Core.List.{List, [], _∷_, map}
 use lib.ListN.{length, getD}
 use lib.Dec.{eqb, leb}
 use Rattle.rules.specs.Lists.{range}
 use Rattle.rules.specs.Text.{newline, text, isDigit}
-use Rattle.rules.specs.Sheets.{Header, Net, Table, levelsAt}
+use Rattle.rules.specs.Sheets.{Net, Table, levelsAt}
 use Rattle.rules.specs.Printed.{printedTable}
 use Rattle.rules.specs.Marks.{markIn, marksOf}
 use Rattle.rules.specs.Calls.{Answer, accepted, refused, onward, inkIn, readNet, tableOfNet, multiplicityCall, settleProgram, makeProgram}

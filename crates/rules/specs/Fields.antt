@@ -2,7 +2,7 @@
 -- A reader takes the bytes that are left and their place in the sheet. It gives a value, the bytes then left and their place,
 -- or the number and the place with which the sheet is turned back.
 -- Assumes nothing.
-use Prim.Native.Nat.{ℕ, zero, suc, _+_}
+use Prim.Native.Nat.{ℕ, suc, _+_}
 use Prim.Native.String.{String}
 use mathlib.Core.Bool.{Bool, true, false, cond, _||_}
 use mathlib.Core.List.{List, [], _∷_}

@@ -5,7 +5,7 @@ use mathlib.Core.Bool.{Bool, true, false, cond}
 use mathlib.Core.List.{List, [], _∷_, _++_, map}
 use lib.ListN.{length}
 use lib.Dec.{eqb, leb}
-use Rattle.rules.specs.Lists.{range, all, any, those, concatMap, firstPlace}
+use Rattle.rules.specs.Lists.{range, all, any, those, concatMap}
 
 -- "A group is a set of inputs, numbered by the sum of 2 to the power i over its members, where i is the place in line 3 from
 -- 0."

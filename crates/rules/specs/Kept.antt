@@ -1,9 +1,9 @@
 -- Document 01, section 'Sheets', said without a reader: the rules that a header, a net's gates and a table's inks keep. A sheet is
 -- accepted exactly when it is the print of a net or a table that keeps them (the theorems are in the crate `readback`).
 -- Assumes nothing.
-use Prim.Native.Nat.{ℕ, zero, suc, _+_, _*_, _^_, _<_}
+use Prim.Native.Nat.{ℕ, suc, _+_, _*_, _^_, _<_}
 use mathlib.Core.Path.{_≡_}
-use mathlib.Core.Bool.{Bool, true, false}
+use mathlib.Core.Bool.{true, false}
 use mathlib.Core.List.{List, [], _∷_}
 use lib.ListN.{length, getD}
 use lib.Dec.{eqb}

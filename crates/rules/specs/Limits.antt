@@ -5,21 +5,21 @@ use mathlib.Core.Bool.{Bool, _&&_}
 use lib.Dec.{leb}
 
 -- "Levels, written m, is one digit from 2 to 9."
-unfoldable pub fewestLevels : ℕ
+abbrev pub fewestLevels : ℕ
 fewestLevels = 2
 
-unfoldable pub mostLevels : ℕ
+abbrev pub mostLevels : ℕ
 mostLevels = 9
 
 -- "Inputs, written n, is 2 to 11"
-unfoldable pub fewestInputs : ℕ
+abbrev pub fewestInputs : ℕ
 fewestInputs = 2
 
-unfoldable pub mostInputs : ℕ
+abbrev pub mostInputs : ℕ
 mostInputs = 11
 
 -- "m to the power n, the number of cells, is at most 2,187."
-unfoldable pub mostCells : ℕ
+abbrev pub mostCells : ℕ
 mostCells = 2_187
 
 unfoldable pub levelsFit : ℕ → Bool
@@ -36,9 +36,9 @@ unfoldable pub sizeFits : ℕ → ℕ → Bool
 sizeFits m n = levelsFit m && inputsFit n && cellsFit m n
 
 -- "the settled sheet's length, which is never over 512"
-unfoldable pub mostSettled : ℕ
+abbrev pub mostSettled : ℕ
 mostSettled = 512
 
 -- "at most its first 65,536 bytes, which are then the sheet"
-unfoldable pub mostRead : ℕ
+abbrev pub mostRead : ℕ
 mostRead = 65_536

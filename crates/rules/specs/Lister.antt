@@ -3,13 +3,13 @@
 -- of any other, and after the last line answers that none is left."
 -- Assumes nothing.
 use Prim.Native.Nat.{ℕ, zero, suc, _+_}
-use mathlib.Core.Bool.{Bool, true, false}
-use mathlib.Core.List.{List, [], _∷_, _++_}
-use lib.ListN.{length, getD, take, drop}
+use mathlib.Core.Bool.{true, false}
+use mathlib.Core.List.{List, [], _∷_}
+use lib.ListN.{length, drop}
 use lib.Dec.{eqb, ltb}
 use Rattle.rules.specs.Text.{newline}
 use Rattle.rules.specs.Sheets.{Net}
-use Rattle.rules.specs.Calls.{Answer, accepted, refused, readNet, onward}
+use Rattle.rules.specs.Calls.{Answer, accepted, readNet, onward}
 
 -- a part of a sheet: where it begins and how long it is
 pub record Part : Type 0 where

@@ -1,7 +1,7 @@
 -- A few functions on lists that the definitions share. Nothing here is of document 01.
 -- A test's arm waits for the test (`elim`), so that a long list is left at the first element that decides.
 -- Assumes nothing.
-use Prim.Native.Nat.{ℕ, zero, suc, _+_}
+use Prim.Native.Nat.{ℕ, zero, suc}
 use mathlib.Core.Bool.{Bool, true, false}
 use mathlib.Core.Option.{Option, none, some}
 use mathlib.Core.List.{List, [], _∷_, _++_}

@@ -2,12 +2,12 @@
 -- Assumes nothing.
 use Prim.Native.Nat.{ℕ, zero, suc, _+_, _-_, _^_}
 use mathlib.Core.Bool.{Bool, true, false, not, _&&_, _||_}
-use mathlib.Core.Option.{Option, none, some}
+use mathlib.Core.Option.{none, some}
 use mathlib.Core.List.{List, [], _∷_, _++_}
-use lib.ListN.{getD, drop, length}
-use lib.Dec.{eqb, leb, ltb}
-use Rattle.rules.specs.Lists.{range, all, any, those, concatMap, find, firstPlace}
-use Rattle.rules.specs.Groups.{member, size, multiplicity, wholeGroup}
+use lib.ListN.{getD}
+use lib.Dec.{eqb, leb}
+use Rattle.rules.specs.Lists.{range, all, any, those, concatMap, find}
+use Rattle.rules.specs.Groups.{member, size, multiplicity}
 
 -- every member of a is a member of g
 unfoldable pub inside : ℕ → ℕ → ℕ → Bool

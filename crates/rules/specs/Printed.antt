@@ -1,6 +1,6 @@
 -- Document 01, section 'Sheets', the other way: the bytes of a sheet from its header and its gates or inks.
 -- Assumes nothing.
-use Prim.Native.Nat.{ℕ, zero, suc}
+use Prim.Native.Nat.{ℕ, suc}
 use mathlib.Core.List.{List, [], _∷_, _++_, map}
 use Rattle.rules.specs.Lists.{concatMap}
 use Rattle.rules.specs.Text.{space, newline, text, digitByte, decimal}

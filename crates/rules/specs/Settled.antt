@@ -1,16 +1,15 @@
 -- Document 01, section 'The settled net'. The choice of the wiring (`splitOf`, `settledWiring`) and the rule for the gates'
 -- digits over any wiring (`gateDigits`, `gateList`) are kept apart.
 -- Assumes nothing.
-use Prim.Native.Nat.{ℕ, zero, suc, _+_, _-_, _*_, _^_}
+use Prim.Native.Nat.{ℕ, zero, suc, _+_, _-_, _^_}
 use mathlib.Core.Bool.{Bool, true, false, _&&_}
-use mathlib.Core.Option.{Option, none, some}
+use mathlib.Core.Option.{none, some}
 use mathlib.Core.List.{List, [], _∷_, _++_, map}
-use lib.ListN.{length}
 use lib.Dec.{eqb}
 use Rattle.rules.specs.Lists.{range, concatMap, find, firstPlace}
 use Rattle.rules.specs.Sheets.{Gate, level}
 use Rattle.rules.specs.Groups.{member, size, wholeGroup, others, points, part, alikeOver, classes}
-use Rattle.rules.specs.Marks.{partsAt, marksOf}
+use Rattle.rules.specs.Marks.{partsAt}
 
 -- A wiring: which two things each gate joins, left and right.
 pub data Wiring : Type 0 where

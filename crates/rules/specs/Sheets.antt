@@ -9,7 +9,7 @@ use lib.Dec.{eqb, leb, ltb}
 use Rattle.rules.specs.Lists.{range, all, any, find, same}
 use Rattle.rules.specs.Text.{space, newline, text, digitByte, isDigit, decimal}
 use Rattle.rules.specs.Limits.{levelsFit, cellsFit, fewestInputs, mostInputs}
-use Rattle.rules.specs.Fields.{Read, read, turnedBack, Reader, _>>=_, give, Judged, good, bad, Judge, judged, field, theWord, closed}
+use Rattle.rules.specs.Fields.{Reader, _>>=_, give, bad, Judge, judged, field, theWord, closed}
 
 -- ---- the two header lines and the names
 

@@ -8,7 +8,6 @@ use native.Mathlib.Nat.{lt-of-lt-of-le}
 use native.Mathlib.Omega.{arith}
 use lib.ListN.{length, getD}
 use lib.Seq.{paste}
-use Rattle.rules.specs.Limits.{mostLevels}
 use Rattle.rules.specs.Groups.{part, points, others, classes, multiplicity}
 use Rattle.rules.specs.Settled.{Wiring, gate, groupOf, gateDigits}
 use Rattle.groups.specs.Within.{Within, part-within}
@@ -62,7 +61,7 @@ module _ (m n : ℕ) (cells : List ℕ) (f : ℕ → ℕ) (g : ℕ) (left right 
   sum-inside u v u< v< = lt-of-lt-of-le (subst (λ (p : ℕ). p < m ^ n) (sums u v u< v<) (part-below m n (sized .some) g _)) (sized .count)
 
   pub class-ready : g < 2 ^ n → Few m n f g → Ready cells (points m n (others n g)) (classes m n f g) left right
-  unfolding multiplicity mostLevels
+  unfolding multiplicity
   class-ready g< few =
       let own : (j : ℕ) → j < length (classes m n f g) → part m n g (getD (classes m n f g) j 0) ≡ getD (classes m n f g) j 0 =
       λ j j<. points-are-parts m n (sized .some) g _ (classes-are-points m n (sized .some) f g g< j j<) .0 in

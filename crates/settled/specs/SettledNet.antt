@@ -8,7 +8,7 @@ use native.Mathlib.Nat.{le-of-eq}
 use native.Mathlib.Omega.{arith}
 use lib.ListN.{length}
 use Rattle.rules.specs.Lists.{range}
-use Rattle.rules.specs.Limits.{fewestLevels, fewestInputs, sizeFits}
+use Rattle.rules.specs.Limits.{sizeFits}
 use Rattle.rules.specs.Sheets.{Gate}
 use Rattle.rules.specs.Groups.{wholeGroup}
 use Rattle.rules.specs.Marks.{markIn, marksOf, marksLength, storedMarks}
@@ -17,7 +17,7 @@ use Rattle.rules.specs.Calls.{written}
 use Rattle.rules.specs.Kept.{IsNet}
 use Rattle.nets.specs.declared.forms.Net.{Net}
 use Rattle.nets.specs.Forms.{gateOf, gatesOf}
-use Rattle.radix.specs.Sizes.{sizes}
+use Rattle.laws.specs.Sizes.{sized}
 use Rattle.marks.specs.Stored.{held, held-written}
 use Rattle.trees.specs.Members.{size-whole}
 use Rattle.trees.specs.MarkRule.{marks-length}
@@ -50,10 +50,10 @@ no-gates net e = ap (λ (k : ℕ). map (gateOf net) (range 0 k)) e
 pub settled-whole : (m n : ℕ) (f : ℕ → ℕ) → sizeFits m n ≡ true → ((p : ℕ) → p < m ^ n → f p < m)
     → markIn (marksOf m n f) (wholeGroup n) ≡ 2 → (g : ℕ) (none net : Net) (reference : ℕ) → Wired m n f true g none net reference
     → g ≡ wholeGroup n → none .levels ≡ m → none .inputs ≡ n → none .gates ≡ 0 → SettledNet m n f net
-unfolding fewestLevels fewestInputs settledGates settledWiring
+unfolding settledGates settledWiring
 settled-whole m n f fit inks two g none net reference any whole levels inputs empty =
     let wired : Wired m n f true (wholeGroup n) none net reference = subst (λ (k : ℕ). Wired m n f true k none net reference) whole any in
-    let s = sizes m n fit in
+    let s = sized m n fit in
     let gates : gatesOf net ≡ settledGates m n f (marksOf m n f) =
     wired .gates n (le-of-eq (size-whole n))
     ∙ ap₂ (λ (gs : List Gate) (k : ℕ). gs ++ gateList m n f true k (settledWiring n (marksOf m n f))) (no-gates none empty) empty in
@@ -62,5 +62,5 @@ settled-whole m n f fit inks two g none net reference any whole levels inputs em
       inputs = wired .inputs ∙ inputs;
       count = wired .count ∙ omega (arith, size-whole n);
       gates = gates;
-      kept = subst⁻¹ (IsNet m n) gates (settled-net m n (omega (arith, s .some-levels)) (omega (arith, s .some-inputs)) f inks two .0);
+      kept = subst⁻¹ (IsNet m n) gates (settled-net m n (omega (arith, s .levels-least)) (omega (arith, s .inputs-least)) f inks two .0);
     }

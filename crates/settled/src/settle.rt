@@ -7,6 +7,7 @@ ghost use Rattle.rules.specs.Limits.{sizeFits};
 ghost use Rattle.rules.specs.Groups.{size, wholeGroup};
 ghost use Rattle.rules.specs.Marks.{markIn, marksOf};
 ghost use Rattle.rules.specs.Calls.{inkIn};
+ghost use Rattle.nets.specs.Room.{mostGates, mostDigits};
 ghost use Rattle.settled.specs.Sized.{Sized};
 ghost use Rattle.settled.specs.Ready.{Parts};
 ghost use Rattle.settled.specs.Growth.{Joined};
@@ -30,7 +31,7 @@ fn join(
     right: u8,
     net: forms::Net,
 ) -> forms::Net
-    requires { ⌜ (Sized m n (now cells)) × (Parts m n (inkIn (now cells)) a b) × (net .levels ≡ m) × (net .gates < 10) × ((net .gates + 1) * (m * m) ≤ 162) ⌝ }
+    requires { ⌜ (Sized m n (now cells)) × (Parts m n (inkIn (now cells)) a b) × (net .levels ≡ m) × (net .gates < mostGates) × ((net .gates + 1) * (m * m) ≤ mostDigits) ⌝ }
     ensures { λ r. ⌜ Joined m n (inkIn (now (cells .entry))) last a b left right net r ⌝ }
 {
     let k = net.gates;
@@ -105,14 +106,7 @@ pub fn settled_net(m: usize, n: usize, cells: &[u8], marks: &[u8]) -> forms::Net
         × (MarksIn m n (inkIn (now cells)) (now marks)) × (markIn (marksOf m n (inkIn (now cells))) (wholeGroup n) ≡ 2) ⌝ }
     ensures { λ r. ⌜ SettledNet m n (inkIn (now (cells .entry))) r ⌝ }
 {
-    let none = forms::Net {
-        levels: m,
-        inputs: n,
-        gates: 0,
-        left: [0; 10],
-        right: [0; 10],
-        digits: [0; 162],
-    };
+    let none = forms::no_gates(m, n);
     let built = settle_group(m, n, cells, marks, powers::power(2, n) - 1, true, none);
     built.net
 }

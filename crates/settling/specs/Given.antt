@@ -2,14 +2,13 @@
 -- Assumes nothing.
 use Prim.Native.Nat.{ℕ, _^_, _≤_, _<_}
 use mathlib.Core.Path.{_≡_, sym, _∙_, subst, subst⁻¹}
-use mathlib.Core.Bool.{true, _&&_, and-eq-true-iff}
+use mathlib.Core.Bool.{true}
 use mathlib.Core.List.{List}
 use native.Mathlib.Omega.{arith}
 use lib.ListN.{length}
-use Rattle.rules.specs.Limits.{fewestLevels, sizeFits, levelsFit, inputsFit, cellsFit, mostSettled}
-use Rattle.rules.specs.Sheets as sheets
+use Rattle.rules.specs.Limits.{sizeFits, mostSettled}
 use Rattle.rules.specs.Printed.{printedNet}
-use Rattle.rules.specs.Kept.{KeptHeader, KeptTable, KeptNet}
+use Rattle.rules.specs.Kept.{KeptTable, KeptNet}
 use Rattle.rules.specs.Marks.{markIn, marksOf, marksLength, noTreePlace}
 use Rattle.rules.specs.Groups.{wholeGroup}
 use Rattle.rules.specs.Calls.{refused, inkIn, written, settledNet, writtenSheet, afterMarks, settledInto}
@@ -17,7 +16,7 @@ use Rattle.laws.specs.Outcomes.{marksOfTable, into-13, into-14, into-marked, ma
 use Rattle.nets.specs.declared.forms.Header.{Header}
 use Rattle.nets.specs.declared.forms.Net.{Net}
 use Rattle.nets.specs.Forms.{headerOf}
-use Rattle.laws.specs.Sizes.{sized}
+use Rattle.laws.specs.Sizes.{sized, kept-fits}
 use Rattle.groups.specs.declared.call.Answer.{Answer}
 use Rattle.marks.specs.Stored.{held}
 use Rattle.marks.specs.Marking.{Marking}
@@ -31,12 +30,6 @@ use Rattle.settled.specs.SettledNet.{SettledNet, marks-in}
 use Rattle.settling.specs.Answers.{madeOf}
 use Rattle.settling.specs.Place.{place-agree}
 
-pub kept-size : (h : sheets.Header) → KeptHeader h → sizeFits (h .levels) (h .inputs) ≡ true
-unfolding sizeFits
-kept-size h kept =
-    and-eq-true-iff (levelsFit (h .levels) && inputsFit (h .inputs)) (cellsFit (h .levels) (h .inputs)) .1
-    (and-eq-true-iff (levelsFit (h .levels)) (inputsFit (h .inputs)) .1 (kept .levels, kept .inputs), kept .cells)
-
 -- the table that the header's names in the sheet s and the inks make keeps the rules, and the names are in the sheet
 pub record Given (s : List ℕ) (h : Header) (inks : List ℕ) : Type 0 where
   pub names : NamesInside s h
@@ -45,7 +38,7 @@ pub record Given (s : List ℕ) (h : Header) (inks : List ℕ) : Type 0 where
 module _ (s : List ℕ) (h : Header) (inks : List ℕ) (given : Given s h inks) where
   pub given-size : sizeFits (h .levels) (h .inputs) ≡ true
   unfolding headerOf
-  given-size = kept-size (headerOf s h) (given .kept .header)
+  given-size = kept-fits (headerOf s h) (given .kept .header)
 
   pub given-count : length inks ≡ h .levels ^ h .inputs
   unfolding headerOf
@@ -105,7 +98,6 @@ module _ (s : List ℕ) (h : Header) (inks : List ℕ) (given : Given s h inks) 
 
     module _ (room : marksLength (h .inputs) ≤ length marks-then) where
       pub marks-held : MarksIn (h .levels) (h .inputs) (inkIn inks) marks-then
-      unfolding fewestLevels
       marks-held =
           marks-in (h .levels) (h .inputs) (omega (arith, sized (h .levels) (h .inputs) given-size .levels-least)) (inkIn inks) marks marks-then (did .buffer) room
 

@@ -6,7 +6,7 @@ use mathlib.Core.Bool.{true}
 use mathlib.Core.List.{List}
 use native.Mathlib.Omega.{arith}
 use lib.ListN.{take}
-use Rattle.rules.specs.Limits.{fewestInputs, mostCells, sizeFits}
+use Rattle.rules.specs.Limits.{mostCells, sizeFits}
 use Rattle.rules.specs.Kept.{KeptNet, KeptTable, IsNet}
 use Rattle.rules.specs.Value.{tableOf}
 use Rattle.rules.specs.Calls.{accepted, refused, readNet, readTable, tableOfNet, settledInto, settleCall, makeCall}
@@ -16,7 +16,7 @@ use Rattle.nets.specs.declared.forms.Net.{Net}
 use Rattle.nets.specs.Forms.{headerOf, gatesOf}
 use Rattle.nets.specs.Sound.{Sound}
 use Rattle.nets.specs.Evaluating.{Tabled}
-use Rattle.laws.specs.Sizes.{sized}
+use Rattle.laws.specs.Sizes.{sized, kept-fits}
 use Rattle.radix.specs.Fronts.{front}
 use Rattle.printing.specs.Names.{NamesInside}
 use Rattle.printing.specs.Gates.{netIn}
@@ -29,10 +29,9 @@ use Rattle.sheets.specs.Answers.{NetReads}
 use Rattle.sheets.specs.declared.net.NetRead.{NetRead}
 use Rattle.tables.specs.Answers.{TableReads, inksIn}
 use Rattle.tables.specs.declared.sheet.TableRead.{TableRead}
-use Rattle.settling.specs.Given.{kept-size, Given}
+use Rattle.settling.specs.Given.{Given}
 
 names-inside : (s : List ℕ) (h : Header) → HeaderHeld s h → NamesInside s h
-unfolding fewestInputs
 names-inside s h held =
     let size = sized (h .levels) (h .inputs) (held .fits) in
     record { some = omega (arith, size .inputs-least); count = size .inputs-most; inside = held .names }
@@ -55,7 +54,7 @@ module _ (s : List ℕ) (h : Header) (net : Net) (given : GivenNet s h net) wher
   unfolding headerOf
   net-sound =
       record {
-        size = subst₂ (λ (m n : ℕ). sizeFits m n ≡ true) (sym (given .levels)) (sym (given .inputs)) (kept-size (headerOf s h) (given .kept .header));
+        size = subst₂ (λ (m n : ℕ). sizeFits m n ≡ true) (sym (given .levels)) (sym (given .inputs)) (kept-fits (headerOf s h) (given .kept .header));
         gates = subst₂ (λ (m n : ℕ). IsNet m n (gatesOf net)) (sym (given .levels)) (sym (given .inputs)) (given .kept .gates);
       }
 

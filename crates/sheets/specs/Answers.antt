@@ -1,15 +1,15 @@
 -- What reading a net sheet answers, in document 01's definitions.
 -- Assumes nothing.
 use Prim.Native.Nat.{ℕ, _-_, _≤_, _<_}
-use mathlib.Core.Path.{_≡_, refl, sym, ap, _∙_}
+use mathlib.Core.Path.{_≡_, ap, _∙_}
 use mathlib.Core.List.{List, []}
 use native.Mathlib.Omega.{arith}
 use lib.ListN.{length, drop}
-use Rattle.rules.specs.Text.{space, newline, text}
-use Rattle.rules.specs.Fields.{Read, Reader, then, _>>=_, give, field, theWord, closed}
+use Rattle.rules.specs.Text.{space, newline}
+use Rattle.rules.specs.Fields.{Reader, then, _>>=_, give, field, theWord, closed}
 use Rattle.rules.specs.Sheets as sheets
 use Rattle.rules.specs.Sheets.{headerLines, gateLines, netSheet}
-use Rattle.rules.specs.Calls.{Answer, accepted, refused, answered, readNet}
+use Rattle.rules.specs.Calls.{Answer, refused, answered, readNet}
 use Rattle.nets.specs.Forms.{headerOf, gatesOf}
 use Rattle.nets.specs.declared.forms.Header.{Header}
 use Rattle.nets.specs.declared.forms.Net.{Net}
@@ -17,7 +17,6 @@ use Rattle.fields.specs.Chained.{chained-back, chained-on, answered-back, answe
 use Rattle.fields.specs.Header.{HeaderHeld, HeaderRest}
 use Rattle.fields.specs.Steps.{stepAs, nothing, outcomeAs}
 use Rattle.fields.specs.declared.lines.HeaderRead.{HeaderRead}
-use Rattle.fields.specs.declared.steps.Outcome.{Outcome}
 use Rattle.fields.specs.declared.steps.Outcome.the-variants.{Accepted, Refused}
 use Rattle.fields.specs.declared.steps.Step.{Step}
 use Rattle.fields.specs.declared.steps.Step.the-variants.{On, Back}

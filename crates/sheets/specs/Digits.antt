@@ -2,17 +2,17 @@
 -- Assumes nothing.
 use Prim.Native.Nat.{ℕ, zero, suc, _+_, _-_, _*_, _≤_, _<_}
 use mathlib.Core.Path.{_≡_, refl, sym, ap, _∙_}
-use mathlib.Core.Bool.{Bool, true, false, _&&_, and-false}
+use mathlib.Core.Bool.{Bool, true, false, and-false}
 use mathlib.Core.List.{List, [], _∷_, map}
 use native.Mathlib.Omega.{arith}
 use native.Mathlib.Numerals.{add-one}
 use lib.ListN.{length, take, drop, getD, set, length-drop, length-map, List·getD-map}
-use lib.Seq.{length-take-le, getD-take, getD-drop, paste, paste-zero, paste-suc}
-use lib.Dec.{leb, ltb, eqb}
+use lib.Seq.{length-take-le, getD-take, getD-drop, paste, paste-suc}
+use lib.Dec.{leb, ltb}
 use borrow.Author.Tests.{lt-leb, le-leb, le-ltb, lt-ltb, eq-eqb, ne-eqb, leb-true}
 use Rattle.rules.specs.Lists.{all}
 use Rattle.rules.specs.Text.{isDigit}
-use Rattle.rules.specs.Fields.{Read, turnedBack, bad, afterField, field}
+use Rattle.rules.specs.Fields.{turnedBack, bad, afterField, field}
 use Rattle.rules.specs.Sheets.{digitsField}
 use Rattle.fields.specs.Both.{and-left}
 use Rattle.fields.specs.Chained.{never-both}
@@ -22,7 +22,6 @@ use Rattle.fields.specs.Runs.{FieldEnd}
 use Rattle.fields.specs.Steps.{judgedAs, stepAs, itself}
 use Rattle.fields.specs.declared.steps.Step.{Step}
 use Rattle.fields.specs.declared.steps.Step.the-variants.{On, Back}
-use Rattle.fields.specs.declared.steps.Verdict.{Verdict}
 use Rattle.fields.specs.declared.steps.Verdict.the-variants.{Good, Bad}
 
 -- the `count` digits that stand in the sheet from `at` on, as numbers

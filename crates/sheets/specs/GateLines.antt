@@ -1,28 +1,24 @@
 -- All gate lines.
 -- Assumes nothing.
-use Prim.Native.Nat.{ℕ, zero, suc, _+_, _-_, _≤_, _<_}
+use Prim.Native.Nat.{ℕ, suc, _+_, _-_, _≤_, _<_}
 use mathlib.Core.Path.{_≡_, refl, sym, ap, _∙_}
 use mathlib.Core.List.{List, [], _∷_, _++_}
 use native.Mathlib.Omega.{arith}
-use lib.ListN.{drop, replicate}
+use lib.ListN.{drop}
 use Rattle.rules.specs.Lists.{range}
-use Rattle.rules.specs.Fields.{Read, read, turnedBack, Reader, then, _>>=_, give}
+use Rattle.rules.specs.Fields.{Read, read, turnedBack, then, give}
 use Rattle.rules.specs.Sheets as sheets
 use Rattle.rules.specs.Sheets.{gateLine, gateLines}
-use Rattle.fields.specs.Chained.{chained-back, chained-on, never-both}
+use Rattle.fields.specs.Chained.{never-both}
 use Rattle.fields.specs.Header.{HeaderHeld}
-use Rattle.fields.specs.Steps.{stepAs, nothing}
-use Rattle.fields.specs.declared.steps.Step.{Step}
+use Rattle.fields.specs.Steps.{stepAs}
 use Rattle.fields.specs.declared.steps.Step.the-variants.{On, Back}
-use Rattle.nets.specs.Forms.{gatesOf}
+use Rattle.nets.specs.Forms.{gatesOf, noGates}
 use Rattle.nets.specs.declared.forms.Header.{Header}
 use Rattle.nets.specs.declared.forms.Net.{Net}
-use Rattle.sheets.specs.Gates.{NetForm, GateRest, GateRoom, More, oneGate}
+use Rattle.sheets.specs.Gates.{NetForm, GateRest, GateRoom, oneGate}
 use Rattle.sheets.specs.References.{namesOf}
 use Rattle.sheets.specs.declared.gates.GatesRead.{GatesRead}
-
-abbrev pub noGates : ℕ → ℕ → Net
-noGates m n = record { levels = m; inputs = n; gates = 0; left = replicate 10 0; right = replicate 10 0; digits = replicate 162 0 }
 
 -- a net that has all the gates that a sheet's header asks for
 pub record NetWhole (h : Header) (net : Net) : Type 0 where
@@ -57,7 +53,7 @@ pub record Building (s : List ℕ) (at : ℕ) (h : Header) (net : Net) (place k 
       ≡ gateLines (h .levels) (namesOf s h) (h .inputs - k) (gatesOf net) (drop place s) place
 
 pub build-start : (s : List ℕ) (at : ℕ) (h : Header) → 2 ≤ h .inputs → Building s at h (noGates (h .levels) (h .inputs)) at 1
-unfolding gatesOf range
+unfolding gatesOf range noGates
 build-start s at h two =
     record {
       form = record { lefts = refl; rights = refl; digits = refl };

@@ -1,25 +1,25 @@
 -- Gate lines, one after the other.
 -- Assumes nothing.
-use Prim.Native.Nat.{ℕ, zero, suc, _+_, _-_, _*_, _≤_, _<_}
+use Prim.Native.Nat.{ℕ, _+_, _*_, _≤_, _<_}
 use mathlib.Core.Path.{_≡_, refl, sym, ap, _∙_}
 use mathlib.Core.List.{List, [], _∷_, _++_, map, append-assoc}
 use native.Mathlib.Nat.{mul-le-mul-right, zero-add}
 use native.Mathlib.Numerals.{add-one}
 use native.Mathlib.Omega.{arith}
-use lib.ListN.{length, take, drop, getD, set, length-drop, length-set, length-map, take-append-drop}
+use lib.ListN.{length, take, drop, set, length-drop, length-set, length-map, take-append-drop}
 use lib.Seq.{paste, length-paste, length-take-le, take-all, take-at, drop-at, take-append-le, drop-append-le, getD-set-same, getD-set-other}
 use Rattle.rules.specs.Lists.{range}
 use Rattle.rules.specs.Text.{space, newline}
-use Rattle.rules.specs.Fields.{Read, read, turnedBack, Reader, then, _>>=_, give, field}
+use Rattle.rules.specs.Fields.{read, Reader, then, _>>=_, give, field}
 use Rattle.rules.specs.Sheets as sheets
-use Rattle.rules.specs.Sheets.{referenceField, digitsField, usedBy, gateLine, gateLines}
+use Rattle.rules.specs.Sheets.{referenceField, digitsField, usedBy, gateLine}
 use Rattle.laws.specs.Concat.{map-append}
 use Rattle.laws.specs.Ranges.{range-length, range-suc}
 use Rattle.fields.specs.Chained.{chained-back, chained-on, then-then, never-both}
 use Rattle.fields.specs.Header.{HeaderHeld}
 use Rattle.fields.specs.Ranges.{map-range}
 use Rattle.fields.specs.Steps.{stepAs, itself}
-use Rattle.fields.specs.Taken.{size-told}
+use Rattle.laws.specs.Sizes.{sized}
 use Rattle.fields.specs.declared.steps.Step.{Step}
 use Rattle.fields.specs.declared.steps.Step.the-variants.{On, Back}
 use Rattle.nets.specs.Forms.{gateOf, gatesOf}
@@ -27,14 +27,14 @@ use Rattle.nets.specs.declared.forms.Header.{Header}
 use Rattle.nets.specs.declared.forms.Net.{Net}
 use Rattle.sheets.specs.Digits.{digitsAt, DigitsRead}
 use Rattle.sheets.specs.References.{namesOf, names-count, spare}
-use Rattle.sheets.specs.Room.{digits-room}
+use Rattle.nets.specs.Room.{mostDigits, gate-room}
 use Rattle.sheets.specs.declared.gates.GatesRead.{GatesRead}
 
 -- a net with room for the largest size
 pub record NetForm (net : Net) : Type 0 where
   pub lefts : length (net .left) ≡ 10
   pub rights : length (net .right) ≡ 10
-  pub digits : length (net .digits) ≡ 162
+  pub digits : length (net .digits) ≡ mostDigits
 
 -- the net with one gate more
 pub record Grown (net : Net) (gate : sheets.Gate) (r : Net) : Type 0 where
@@ -69,7 +69,7 @@ module _ (d : List ℕ) (from : ℕ) (v : List ℕ) (n : ℕ) (fits : from + n �
 -- ---- one gate more
 
 module _ (net : Net) (left right : ℕ) (v digits : List ℕ) (form : NetForm net) (few : net .gates < 10)
-    (room : (net .gates + 1) * (net .levels * net .levels) ≤ 162) (long : length v ≡ net .levels * net .levels)
+    (room : (net .gates + 1) * (net .levels * net .levels) ≤ mostDigits) (long : length v ≡ net .levels * net .levels)
     (pasted : digits ≡ paste (net .digits) (net .gates * (net .levels * net .levels)) v (net .levels * net .levels)) where
   abbrev size : ℕ
   size = net .levels * net .levels
@@ -297,25 +297,25 @@ module _ (s : List ℕ) (at : ℕ) (h : Header) (net : Net) (nowhere : ℕ) (bey
 
 pub record Room (net : Net) : Type 0 where
   pub few : net .gates < 10
-  pub digits : (net .gates + 1) * (net .levels * net .levels) ≤ 162
+  pub digits : (net .gates + 1) * (net .levels * net .levels) ≤ mostDigits
   pub levels : net .levels ≤ 9
 
 pub room-told : (s : List ℕ) (h : Header) (net : Net) → GateRoom s h net → Room net
 room-told s h net given =
-    let size = size-told (h .levels) (h .inputs) (given .held .fits) in
+    let size = sized (h .levels) (h .inputs) (given .held .fits) in
     record {
       few = omega (arith, given .room, size .inputs-most);
-      digits = rw (given .levels) (digits-room (h .levels) (h .inputs) (net .gates) (given .held .fits) (omega (arith, given .room)));
+      digits = rw (given .levels) (gate-room (h .levels) (h .inputs) (given .held .fits) (net .gates) (omega (arith, given .room)));
       levels = rw (given .levels) (size .levels-most);
     }
 
 -- every reference of a line is far below 256
 pub reference-small : (s : List ℕ) (h : Header) (net : Net) (value : ℕ) → GateRoom s h net → value < length (namesOf s h) + net .gates → value < 255
 reference-small s h net value given below =
-    let size = size-told (h .levels) (h .inputs) (given .held .fits) in
+    let size = sized (h .levels) (h .inputs) (given .held .fits) in
     omega (arith, below, names-count s h, given .room, size .inputs-most)
 
 pub references-few : (s : List ℕ) (h : Header) (net : Net) → GateRoom s h net → length (namesOf s h) + net .gates ≤ 255
 references-few s h net given =
-    let size = size-told (h .levels) (h .inputs) (given .held .fits) in
+    let size = sized (h .levels) (h .inputs) (given .held .fits) in
     omega (arith, names-count s h, given .room, size .inputs-most)

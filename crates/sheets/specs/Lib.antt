@@ -3,4 +3,3 @@ pub mod Digits
 pub mod GateLines
 pub mod Gates
 pub mod References
-pub mod Room

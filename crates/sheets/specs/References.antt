@@ -1,29 +1,29 @@
 -- References, by name and by number.
 -- Assumes nothing.
-use Prim.Native.Nat.{ℕ, zero, suc, _+_, _-_, _≤_, _<_}
+use Prim.Native.Nat.{ℕ, _+_, _-_, _≤_, _<_}
 use mathlib.Core.Path.{_≡_, refl, sym, ap, _∙_}
-use mathlib.Core.Bool.{Bool, true, false, not}
+use mathlib.Core.Bool.{true, false, not}
 use mathlib.Core.Option.{Option, none, some}
 use mathlib.Core.List.{List, [], _∷_, map}
-use native.Mathlib.Nat.{add-zero, zero-add}
+use native.Mathlib.Nat.{zero-add}
 use native.Mathlib.Omega.{arith}
 use borrow.Author.Tests.{lt-ltb, le-ltb, eq-eqb, ne-eqb}
 use lib.ListN.{length, drop, getD, length-map}
-use lib.Dec.{eqb, ltb}
-use Rattle.rules.specs.Lists.{range, find, any, same}
+use lib.Dec.{eqb}
+use Rattle.rules.specs.Lists.{range, any, same}
 use Rattle.rules.specs.Text.{decimal}
-use Rattle.rules.specs.Fields.{Read, Judged, good, bad, judged, field, run}
+use Rattle.rules.specs.Fields.{Judged, good, bad, judged, field, run}
 use Rattle.laws.specs.Ranges.{range-length}
 use Rattle.fields.specs.Ranges.{range-first, range-none, map-range-at}
 use Rattle.fields.specs.Finding.{found-in}
 use Rattle.fields.specs.Steps.{stepAs, itself, optionOf}
 use Rattle.fields.specs.Taken.{field-read, judged-good}
 use Rattle.fields.specs.declared.steps.Step.{Step}
-use Rattle.fields.specs.declared.steps.Step.the-variants.{On, Back}
+use Rattle.fields.specs.declared.steps.Step.the-variants.{On}
 use Rattle.fields.specs.declared.steps.Found.{Found}
 use Rattle.fields.specs.declared.steps.Found.the-variants.{At, Nowhere}
 use Rattle.rules.specs.Sheets.{referenceText, referenceOf, referenceField, usedBy}
-use Rattle.nets.specs.Forms.{nameIn, gateOf, gatesOf}
+use Rattle.nets.specs.Forms.{nameIn, gateOf}
 use Rattle.nets.specs.declared.forms.Header.{Header}
 use Rattle.nets.specs.declared.forms.Net.{Net}
 

@@ -2,8 +2,10 @@
 ghost use mathlib.Core.Path.{_≡_};
 ghost use Prim.Native.Nat.{_+_, _*_, _≤_};
 ghost use lib.ListN.{length};
+ghost use Rattle.nets.specs.Room.{mostDigits};
 ghost use lib.Seq.{paste};
 ghost use Rattle.rules.specs.Lists.{all};
+ghost use Rattle.rules.specs.Limits.{mostLevels};
 ghost use Rattle.rules.specs.Text.{isDigit};
 ghost use Rattle.sheets.specs.Digits.{DigitsRead, areDigits, digitsAt};
 use fields::ends::after_field;
@@ -12,10 +14,11 @@ use fields::runs::NEWLINE;
 use fields::runs::field_end;
 use fields::steps::Step;
 use fields::steps::Verdict;
+use radix::limits::MOST_DIGITS;
 
 // Is every byte of w a digit below m?
 pub fn are_digits(w: &[u8], m: usize) -> bool
-    requires { ⌜ m ≤ 9 ⌝ }
+    requires { ⌜ m ≤ mostLevels ⌝ }
     ensures { λ r. ⌜ r ≡ all (isDigit m) (now (w .entry)) ⌝ }
 {
     let mut i: usize = 0;
@@ -34,7 +37,7 @@ pub fn are_digits(w: &[u8], m: usize) -> bool
 
 // The table field of a gate; a step onward has its length.
 pub fn digits_field(s: &[u8], at: usize, m: usize) -> Step
-    requires { ⌜ m ≤ 9 ⌝ }
+    requires { ⌜ m ≤ mostLevels ⌝ }
     ensures { λ r. ⌜ DigitsRead (now (s .entry)) at m r ⌝ }
 {
     let end = field_end(s, at);
@@ -60,8 +63,8 @@ pub fn digits_field(s: &[u8], at: usize, m: usize) -> Step
 }
 
 // Copies the `count` digits that stand in the sheet from `at` on.
-pub fn copy_digits(s: &[u8], at: usize, count: usize, digits: &mut [u8; 162], from: usize)
-    requires { ⌜ (at + count ≤ length (now s)) × (from + count ≤ 162) × (length (now digits) ≡ 162) × areDigits (now s) at count ⌝ }
+pub fn copy_digits(s: &[u8], at: usize, count: usize, digits: &mut [u8; MOST_DIGITS], from: usize)
+    requires { ⌜ (at + count ≤ length (now s)) × (from + count ≤ mostDigits) × (length (now digits) ≡ mostDigits) × areDigits (now s) at count ⌝ }
     ensures { λ _. ⌜ now (digits .exit) ≡ paste (now (digits .entry)) from (digitsAt (now (s .entry)) at count) count ⌝ }
 {
     let mut i: usize = 0;

@@ -1,12 +1,13 @@
 // Gate lines.
-ghost use mathlib.Core.Path.{_≡_};
 ghost use Prim.Native.Nat.{_+_, _*_, _≤_, _<_};
 ghost use lib.ListN.{length};
+ghost use Rattle.rules.specs.Limits.{mostLevels};
+ghost use Rattle.nets.specs.Room.{mostGates, mostDigits};
 ghost use Rattle.fields.specs.Header.{HeaderHeld};
 ghost use Rattle.sheets.specs.Digits.{areDigits, digitsAt};
 ghost use Rattle.nets.specs.Forms.{gatesOf};
 ghost use Rattle.sheets.specs.Gates.{NetForm, Grown, GateRest, GateRoom, fromDigits, fromRight, oneGate};
-ghost use Rattle.sheets.specs.GateLines.{noGates, GatesAll};
+ghost use Rattle.sheets.specs.GateLines.{GatesAll};
 ghost use Rattle.sheets.specs.References.{namesOf};
 use crate::digits::copy_digits;
 use crate::digits::digits_field;
@@ -14,6 +15,7 @@ use crate::references::reference_field;
 use fields::steps::Step;
 use nets::forms::Header;
 use nets::forms::Net;
+use nets::forms::no_gates;
 
 // No reference: every reference is below it.
 const NO_REFERENCE: usize = 255;
@@ -26,7 +28,7 @@ pub struct GatesRead {
 
 // The net with one gate more, whose digits stand in the sheet from `at` on.
 pub fn with_gate(s: &[u8], at: usize, net: Net, left: usize, right: usize) -> Net
-    requires { ⌜ NetForm net × (net .gates < 10) × ((net .gates + 1) * (net .levels * net .levels) ≤ 162) × (net .levels ≤ 9) × (left < 256) × (right < 256) × (at + net .levels * net .levels ≤ length (now s)) × areDigits (now s) at (net .levels * net .levels) ⌝ }
+    requires { ⌜ NetForm net × (net .gates < mostGates) × ((net .gates + 1) * (net .levels * net .levels) ≤ mostDigits) × (net .levels ≤ mostLevels) × (left < 256) × (right < 256) × (at + net .levels * net .levels ≤ length (now s)) × areDigits (now s) at (net .levels * net .levels) ⌝ }
     ensures { λ r. ⌜ Grown net (record { left = left; right = right; digits = digitsAt (now (s .entry)) at (net .levels * net .levels) }) r ⌝ }
 {
     let gates = net.gates;
@@ -49,7 +51,7 @@ pub fn with_gate(s: &[u8], at: usize, net: Net, left: usize, right: usize) -> Ne
 
 // From a gate's table field on.
 pub fn from_digits(s: &[u8], at: usize, net: Net, left: usize, right: usize) -> GatesRead
-    requires { ⌜ NetForm net × (net .gates < 10) × ((net .gates + 1) * (net .levels * net .levels) ≤ 162) × (net .levels ≤ 9) × (left < 256) × (right < 256) ⌝ }
+    requires { ⌜ NetForm net × (net .gates < mostGates) × ((net .gates + 1) * (net .levels * net .levels) ≤ mostDigits) × (net .levels ≤ mostLevels) × (left < 256) × (right < 256) ⌝ }
     ensures { λ r. ⌜ GateRest (now (s .entry)) at (fromDigits (net .levels) (gatesOf net) left right) net r ⌝ }
 {
     let step = digits_field(s, at, net.levels);
@@ -90,20 +92,6 @@ pub fn gate_line(s: &[u8], at: usize, header: Header, net: Net) -> GatesRead
             net,
         },
         Step::On { value, next } => from_right(s, next, header, net, value),
-    }
-}
-
-// A net with no gate yet.
-pub fn no_gates(levels: usize, inputs: usize) -> Net
-    ensures { λ r. ⌜ r ≡ noGates levels inputs ⌝ }
-{
-    Net {
-        levels,
-        inputs,
-        gates: 0,
-        left: [0u8; 10],
-        right: [0u8; 10],
-        digits: [0u8; 162],
     }
 }
 

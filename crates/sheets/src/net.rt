@@ -1,13 +1,11 @@
 // A whole net sheet.
 ghost use mathlib.Core.Path.{_≡_};
 ghost use lib.ListN.{drop};
-ghost use Rattle.rules.specs.Sheets.{netSheet};
 ghost use Rattle.nets.specs.Forms.{headerOf};
 ghost use Rattle.fields.specs.Header.{HeaderHeld};
 ghost use Rattle.fields.specs.Steps.{stepAs, nothing};
 ghost use Rattle.sheets.specs.Answers.{NetReads, NetRest, headingLine, fromHeading, fromGates};
 use crate::gates::gate_lines;
-use crate::gates::no_gates;
 use fields::header::header_lines;
 use fields::runs::NEWLINE;
 use fields::runs::SPACE;
@@ -16,6 +14,7 @@ use fields::steps::Step;
 use fields::words::word_field;
 use nets::forms::Header;
 use nets::forms::Net;
+use nets::forms::no_gates;
 
 // What reading a net sheet comes to: the header and the net are the sheet's where it is accepted.
 pub struct NetRead {

@@ -8,6 +8,7 @@ ghost use Rattle.rules.specs.Lists.{any, same};
 ghost use Rattle.rules.specs.Fields.{field};
 ghost use Rattle.rules.specs.Sheets.{referenceText, referenceOf, referenceField, usedBy};
 ghost use Rattle.nets.specs.Forms.{gatesOf};
+ghost use Rattle.nets.specs.Room.{mostGates};
 ghost use Rattle.fields.specs.Header.{HeaderHeld};
 ghost use Rattle.fields.specs.Steps.{judgedAs, stepAs, itself, optionOf};
 ghost use Rattle.sheets.specs.References.{namesOf};
@@ -25,7 +26,7 @@ use nets::forms::Net;
 
 // Does w refer to r?
 pub fn refers(s: &[u8], header: Header, w: &[u8], r: usize) -> bool
-    requires { ⌜ HeaderHeld (now s) header × (r < header .inputs + 10) ⌝ }
+    requires { ⌜ HeaderHeld (now s) header × (r < header .inputs + mostGates) ⌝ }
     ensures { λ yes. ⌜ yes ≡ same (now (w .entry)) (referenceText (namesOf (now (s .entry)) header) r) ⌝ }
 {
     let inputs = header.inputs;
@@ -37,7 +38,7 @@ pub fn refers(s: &[u8], header: Header, w: &[u8], r: usize) -> bool
 
 // What w refers to, with `earlier` gates before its line.
 pub fn reference_of(s: &[u8], header: Header, earlier: usize, w: &[u8]) -> Found
-    requires { ⌜ HeaderHeld (now s) header × (earlier ≤ 10) ⌝ }
+    requires { ⌜ HeaderHeld (now s) header × (earlier ≤ mostGates) ⌝ }
     ensures { λ r. ⌜ optionOf r ≡ referenceOf (namesOf (now (s .entry)) header) earlier (now (w .entry)) ⌝ }
 {
     let end = header.inputs + earlier;
@@ -53,7 +54,7 @@ pub fn reference_of(s: &[u8], header: Header, earlier: usize, w: &[u8]) -> Found
 
 // Does a gate use r?
 pub fn is_used(net: Net, r: usize) -> bool
-    requires { ⌜ net .gates ≤ 10 ⌝ }
+    requires { ⌜ net .gates ≤ mostGates ⌝ }
     ensures { λ yes. ⌜ yes ≡ any (eqb r) (usedBy (gatesOf net)) ⌝ }
 {
     let gates = net.gates;
@@ -72,7 +73,7 @@ pub fn is_used(net: Net, r: usize) -> bool
 
 // A reference after the gates of `net`; `taken` counts as used too.
 pub fn judge_reference(s: &[u8], header: Header, net: Net, taken: usize, w: &[u8]) -> Verdict
-    requires { ⌜ HeaderHeld (now s) header × (net .gates ≤ 10) ⌝ }
+    requires { ⌜ HeaderHeld (now s) header × (net .gates ≤ mostGates) ⌝ }
     ensures { λ r. ⌜ judgedAs itself r ≡ referenceField (namesOf (now (s .entry)) header) (net .gates) (taken ∷ usedBy (gatesOf net)) (now (w .entry)) ⌝ }
 {
     match reference_of(s, header, net.gates, w) {
@@ -90,7 +91,7 @@ pub fn judge_reference(s: &[u8], header: Header, net: Net, taken: usize, w: &[u8
 }
 
 pub fn reference_field(s: &[u8], at: usize, header: Header, net: Net, taken: usize) -> Step
-    requires { ⌜ HeaderHeld (now s) header × (net .gates ≤ 10) ⌝ }
+    requires { ⌜ HeaderHeld (now s) header × (net .gates ≤ mostGates) ⌝ }
     ensures { λ r. ⌜ stepAs itself (now (s .entry)) r ≡ field (referenceField (namesOf (now (s .entry)) header) (net .gates) (taken ∷ usedBy (gatesOf net))) 32 (drop at (now (s .entry))) at ⌝ }
 {
     let end = field_end(s, at);

@@ -3,7 +3,6 @@
 use mathlib.Core.Path.{sym, _∙_}
 use native.Mathlib.Omega.{arith}
 use borrow.Author.Tests.{not-true, not-false}
-use Rattle.rules.specs.Limits.{mostInputs, mostCells}
 use Rattle.checking.specs.Taken.{sound, levels-most, inputs-most, cells-some, cells-most, own-most, front-length}
 use Rattle.checking.specs.Judging.{headers-differ, inks-long, cells-short, cells-long}
 use borrow.Author.Needs.{needs}
@@ -11,7 +10,6 @@ use Rattle.checking.proofs.check.check_accepted.Statement.{statement}
 use Rattle.checking.proofs.check.check_accepted.Tie as tie
 
 power-requires : tie.Need-power-requires
-unfolding mostInputs
 power-requires c κs =
     let taken = c .before .before .before .before .pre .0 in
     (levels-most _ _ _ taken, omega (arith, inputs-most _ _ _ taken))
@@ -34,7 +32,6 @@ slice-aggregate-table : tie.Need-slice-aggregate-table
 slice-aggregate-table c = search needs
 
 table-requires : tie.Need-table-requires
-unfolding mostCells
 table-requires c κs =
     let taken = c .before .before .before .before .before .before .before .before .before .pre .0 in
     (sound _ _ _ taken, own-most _ _ _ taken)
@@ -46,7 +43,6 @@ part-compare-into-start : tie.Need-part-compare-into-start
 part-compare-into-start c = search needs
 
 part-compare-into-end : tie.Need-part-compare-into-end
-unfolding mostCells
 part-compare-into-end c = omega (arith, cells-most _ _ _ (c .before .before .before .before .before .before .before .before .before .before .before .before .pre .0), c .before .before .before .before .before .before .before .power .ensures)
 
 sub-compare-into-2 : tie.Need-sub-compare-into-2

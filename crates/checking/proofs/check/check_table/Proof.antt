@@ -2,7 +2,6 @@
 -- Assumes nothing.
 use mathlib.Core.Path.{sym}
 use native.Mathlib.Omega.{arith}
-use Rattle.rules.specs.Limits.{mostCells}
 use Rattle.laws.specs.Outcomes.{check-table-refused}
 use Rattle.checking.specs.Taken.{table-refused, table-taken}
 use borrow.Author.Needs.{needs}
@@ -13,7 +12,6 @@ slice-aggregate-read-table : tie.Need-slice-aggregate-read-table
 slice-aggregate-read-table c = search needs
 
 read-table-requires : tie.Need-read-table-requires
-unfolding mostCells
 read-table-requires c κs = omega arith
 
 enum-known-outcome : tie.Need-enum-known-outcome

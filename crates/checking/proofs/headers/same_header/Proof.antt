@@ -1,7 +1,6 @@
 -- `checking::headers::same_header` meets its contract: levels, inputs, then the names.
 -- Assumes nothing.
 use mathlib.Core.Path.{_∙_}
-use Rattle.rules.specs.Limits.{mostInputs}
 use Rattle.laws.specs.Sizes.{sized}
 use Rattle.checking.specs.Headers.{levels-differ, inputs-differ, by-names}
 use Rattle.checking.proofs.headers.same_header.Statement.{statement}
@@ -14,7 +13,6 @@ returns-2 : tie.Need-returns-2
 returns-2 c = inputs-differ _ _ _ _ (c .before .before .before .if1 .left) (c .if2 .taken)
 
 same-names-requires : tie.Need-same-names-requires
-unfolding mostInputs
 same-names-requires c κs =
     let start = c .before .before .before .before .before .before .before .before in
     let h = start .args .h in

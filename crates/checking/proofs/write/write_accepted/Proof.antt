@@ -1,7 +1,6 @@
 -- `checking::write::write_accepted` meets its contract: the sheet's length, the net's table, then the sheet.
 -- Assumes nothing.
 use native.Mathlib.Omega.{arith}
-use Rattle.rules.specs.Limits.{mostInputs, mostCells}
 use Rattle.checking.specs.Taken.{sound, levels-most, inputs-most, cells-most, own-most, front-inside}
 use Rattle.checking.specs.Writing.{output-short, output-long, output-written}
 use borrow.Author.Needs.{needs}
@@ -9,7 +8,6 @@ use Rattle.checking.proofs.write.write_accepted.Statement.{statement}
 use Rattle.checking.proofs.write.write_accepted.Tie as tie
 
 power-requires : tie.Need-power-requires
-unfolding mostInputs
 power-requires c κs =
     let taken = c .before .before .pre in
     (levels-most _ _ _ taken, omega (arith, inputs-most _ _ _ taken))
@@ -26,7 +24,6 @@ slice-aggregate-table : tie.Need-slice-aggregate-table
 slice-aggregate-table c = search needs
 
 table-requires : tie.Need-table-requires
-unfolding mostCells
 table-requires c κs =
     let taken = c .before .before .before .before .before .before .pre in
     (sound _ _ _ taken, own-most _ _ _ taken)
@@ -38,7 +35,6 @@ part-print-table-start : tie.Need-part-print-table-start
 part-print-table-start c = search needs
 
 part-print-table-end : tie.Need-part-print-table-end
-unfolding mostCells
 part-print-table-end c = omega (arith, cells-most _ _ _ (c .before .before .before .before .before .before .before .before .before .pre), c .before .before .before .before .before .before .power .ensures)
 
 print-table-requires : tie.Need-print-table-requires

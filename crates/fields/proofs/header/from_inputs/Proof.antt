@@ -2,7 +2,6 @@
 -- Assumes nothing.
 use borrow.Author.Needs.{needs}
 use native.Mathlib.Omega.{arith}
-use borrow.Author.Tests.{leb-true}
 use Rattle.rules.specs.Text.{newline}
 use Rattle.rules.specs.Fields.{field}
 use Rattle.rules.specs.Sheets.{inputsField}

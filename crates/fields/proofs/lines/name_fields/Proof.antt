@@ -1,6 +1,7 @@
 -- `fields::lines::name_fields` meets its contract. The loop's invariant: the names from here are the names from the start.
 -- Assumes nothing.
 use Prim.Native.Nat.{_-_}
+use mathlib.Core.Path.{sym, subst}
 use borrow.Author.Needs.{needs}
 use native.Mathlib.Omega.{arith}
 use Rattle.fields.specs.Lines.{Reading, names-start, names-done, names-back, names-next}
@@ -13,14 +14,19 @@ Inv-loop s at levels inputs last header₀ place₀ i₀ header place i = Readin
 abbrev μ-loop : tie.MeasureT-loop
 μ-loop s at levels inputs last header₀ place₀ i₀ header place i = inputs - i
 
+no-names-requires : tie.Need-no-names-requires Inv-loop μ-loop
+no-names-requires c κs = tt
+
 loop-holds : tie.Need-loop-holds Inv-loop μ-loop
-loop-holds c = names-start _ _ _ _ _
+loop-holds c =
+    let a = c .before .before .args in
+    subst (λ header. Reading (a .s .now) (a .at) (a .levels) (a .inputs) (a .last) header (a .at) 0) (sym (c .no-names .ensures)) (names-start _ _ _ _ _)
 
 due-after-requires : tie.Need-due-after-requires Inv-loop μ-loop
 due-after-requires c κs = c .loop-test .taken
 
 name-field-requires : tie.Need-name-field-requires Inv-loop μ-loop
-name-field-requires c κs = (omega (arith, c .before .before .loop .inv .most, c .before .before .before .before .pre .0), c .before .before .loop .inv .held)
+name-field-requires c κs = (omega (arith, c .before .before .loop .inv .most, c .before .before .before .before .before .pre .0), c .before .before .loop .inv .held)
 
 enum-told : tie.Need-enum-told Inv-loop μ-loop
 enum-told c = search needs
@@ -34,22 +40,22 @@ enum-known-step : tie.Need-enum-known-step Inv-loop μ-loop
 enum-known-step c = search needs
 
 cast-header : tie.Need-cast-header Inv-loop μ-loop
-cast-header c = record { fits = omega (arith, c .before .before .before .before .before .before .loop .inv .near, c .before .before .before .before .before .loop-test .taken, c .before .before .before .before .before .before .before .before .pre .0, c .before .before .before .before .before .before .before .before .pre .1) }
+cast-header c = record { fits = omega (arith, c .before .before .before .before .before .before .loop .inv .near, c .before .before .before .before .before .loop-test .taken, c .before .before .before .before .before .before .before .before .before .pre .0, c .before .before .before .before .before .before .before .before .before .pre .1) }
 
 mul-header : tie.Need-mul-header Inv-loop μ-loop
-mul-header c = omega (arith, c .before .before .before .before .before .loop-test .taken, c .before .before .before .before .before .before .before .before .pre .0)
+mul-header c = omega (arith, c .before .before .before .before .before .loop-test .taken, c .before .before .before .before .before .before .before .before .before .pre .0)
 
 element-write-header : tie.Need-element-write-header Inv-loop μ-loop
-element-write-header c = omega (arith, c .before .before .before .before .before .loop-test .taken, c .before .before .before .before .before .before .before .before .pre .0)
+element-write-header c = omega (arith, c .before .before .before .before .before .loop-test .taken, c .before .before .before .before .before .before .before .before .before .pre .0)
 
 cast-header-2 : tie.Need-cast-header-2 Inv-loop μ-loop
 cast-header-2 c = omega (arith, c .before .before .before .name-field .ensures .held _ _ (c .before .step .given .1) .0)
 
 element-write-header-2 : tie.Need-element-write-header-2 Inv-loop μ-loop
-element-write-header-2 c = omega (arith, c .before .before .before .before .before .loop-test .taken, c .before .before .before .before .before .before .before .before .pre .0)
+element-write-header-2 c = omega (arith, c .before .before .before .before .before .loop-test .taken, c .before .before .before .before .before .before .before .before .before .pre .0)
 
 add-i : tie.Need-add-i Inv-loop μ-loop
-add-i c = omega (arith, c .before .before .before .before .before .loop-test .taken, c .before .before .before .before .before .before .before .before .pre .0)
+add-i c = omega (arith, c .before .before .before .before .before .loop-test .taken, c .before .before .before .before .before .before .before .before .before .pre .0)
 
 loop-less : tie.Need-loop-less Inv-loop μ-loop
 loop-less c = omega (arith, c .before .before .before .before .before .loop-test .taken)
@@ -57,7 +63,7 @@ loop-less c = omega (arith, c .before .before .before .before .before .loop-test
 loop-again : tie.Need-loop-again Inv-loop μ-loop
 loop-again c =
     names-next _ _ _ _ _ _ _ _ (c .before .before .before .before .before .before .loop .inv) _ _ (c .before .before .before .before .before .loop-test .taken) (c .before .before .before .before .due-after .ensures) (c .before .before .before .name-field .ensures) _ _
-    (c .before .before .before .before .before .before .before .before .pre .0) (c .before .step .given .1)
+    (c .before .before .before .before .before .before .before .before .before .pre .0) (c .before .step .given .1)
 
 returns-2 : tie.Need-returns-2 Inv-loop μ-loop
 returns-2 c = names-done _ _ _ _ _ _ _ _ (c .before .loop .inv) (c .loop-test .left)
@@ -68,6 +74,7 @@ name-fields-spec =
     (tie.spec
     Inv-loop
     μ-loop
+    no-names-requires
     loop-holds
     due-after-requires
     name-field-requires

@@ -2,7 +2,6 @@
 -- Assumes nothing.
 use borrow.Author.Needs.{needs}
 use mathlib.Core.Path.{sym, _∙_}
-use borrow.Author.Tests.{le-leb}
 use Rattle.fields.specs.Names.{digit-low, digit-high}
 use Rattle.fields.proofs.names.is_name_byte.Statement.{statement}
 use Rattle.fields.proofs.names.is_name_byte.Tie as tie

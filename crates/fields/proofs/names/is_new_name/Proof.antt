@@ -1,7 +1,7 @@
 -- `fields::names::is_new_name` meets its contract.
 -- Assumes nothing.
 use borrow.Author.Needs.{needs}
-use mathlib.Core.Path.{sym, ap, _∙_}
+use mathlib.Core.Path.{ap}
 use mathlib.Core.Bool.{not}
 use Rattle.fields.proofs.names.is_new_name.Statement.{statement}
 use Rattle.fields.proofs.names.is_new_name.Tie as tie

@@ -1,7 +1,7 @@
 -- `fields::names::is_repeated` meets its contract. The loop's invariant: one of all has the name exactly when one from `i` on has.
 -- Assumes nothing.
 use Prim.Native.Nat.{_-_}
-use mathlib.Core.Path.{_≡_, refl, sym, _∙_}
+use mathlib.Core.Path.{_≡_, sym, _∙_}
 use mathlib.Core.List.{map}
 use native.Mathlib.Omega.{arith}
 use native.Mathlib.Nat.{sub-zero}

@@ -1,8 +1,6 @@
 -- `fields::names::same_name` meets its contract: the part of the sheet is the name.
 -- Assumes nothing.
 use borrow.Author.Needs.{needs}
-use Prim.Native.Nat.{ℕ}
-use mathlib.Core.Path.{ap, _∙_}
 use native.Mathlib.Nat.{add-sub-cancel-left}
 use Rattle.nets.specs.Forms.{nameIn}
 use Rattle.fields.proofs.names.same_name.Statement.{statement}

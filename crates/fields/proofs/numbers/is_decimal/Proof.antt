@@ -1,7 +1,6 @@
 -- `fields::numbers::is_decimal` meets its contract, by the number of digits.
 -- Assumes nothing.
 use borrow.Author.Needs.{needs}
-use mathlib.Core.Path.{sym}
 use Rattle.fields.specs.Decimals.{one-long, one-same, two-long, two-tens, two-same}
 use Rattle.fields.proofs.numbers.is_decimal.Statement.{statement}
 use Rattle.fields.proofs.numbers.is_decimal.Tie as tie

@@ -1,7 +1,6 @@
 -- `fields::runs::field_end` meets its contract. The loop's invariant: no separator stands from `at` up to `end`.
 -- Assumes nothing.
 use Prim.Native.Nat.{_-_}
-use mathlib.Core.Path.{_≡_}
 use native.Mathlib.Omega.{arith}
 use lib.ListN.{length}
 use Rattle.fields.specs.Runs.{Scanned, scan-start, scan-next, scan-stop, scan-end, is-space, is-newline, is-neither}

@@ -1,6 +1,6 @@
 -- `fields::same::same_bytes` meets its contract. The loop's invariant: the two are the same exactly when their rests are.
 -- Assumes nothing.
-use Prim.Native.Nat.{_-_, _≤_}
+use Prim.Native.Nat.{_-_}
 use mathlib.Core.Path.{_≡_, refl, sym, _∙_}
 use native.Mathlib.Omega.{arith}
 use lib.ListN.{length, drop}

@@ -5,7 +5,6 @@ use mathlib.Core.Path.{_≡_, refl, sym, _∙_}
 use native.Mathlib.Omega.{arith}
 use Rattle.rules.specs.Lists.{range, find, same}
 use Rattle.rules.specs.Text.{decimal}
-use Rattle.rules.specs.Limits.{fewestInputs, mostInputs}
 use Rattle.rules.specs.Sheets.{inputsOf}
 use Rattle.fields.specs.Finding.{find-here, find-next, find-none}
 use Rattle.fields.proofs.values.inputs_of.Statement.{statement}
@@ -18,7 +17,7 @@ abbrev μ-loop : tie.MeasureT-loop
 μ-loop w n₀ n = 12 - n
 
 loop-holds : tie.Need-loop-holds Inv-loop μ-loop
-unfolding inputsOf fewestInputs mostInputs
+unfolding inputsOf
 loop-holds c = (refl, omega arith)
 
 is-decimal-requires : tie.Need-is-decimal-requires Inv-loop μ-loop

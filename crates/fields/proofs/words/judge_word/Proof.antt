@@ -1,7 +1,6 @@
 -- `fields::words::judge_word` meets its contract.
 -- Assumes nothing.
 use borrow.Author.Needs.{needs}
-use mathlib.Core.Path.{sym, _∙_}
 use Rattle.fields.specs.Steps.{spelled}
 use Rattle.fields.proofs.words.judge_word.Statement.{statement}
 use Rattle.fields.proofs.words.judge_word.Tie as tie

@@ -2,8 +2,7 @@
 use mathlib.Core.Path.{sym, _∙_}
 use native.Mathlib.Omega.{arith}
 use borrow.Author.Tests.{not-true, not-false}
-use Rattle.rules.specs.Limits.{fewestLevels, mostLevels, fewestInputs, mostInputs}
-use Rattle.radix.specs.Sizes.{sizes}
+use Rattle.laws.specs.Sizes.{sized}
 use Rattle.groups.specs.Answers.{bare-size, bare-length, bare-cell, bare-good}
 use borrow.Author.Needs.{needs}
 use Rattle.groups.proofs.bare.bare_cells.Statement.{statement}
@@ -16,11 +15,10 @@ returns : tie.Need-returns
 returns c = bare-size _ _ _ (sym (c .before .size-fits .ensures) ∙ not-true _ (c .if1 .taken))
 
 power-requires : tie.Need-power-requires
-unfolding fewestLevels mostLevels fewestInputs mostInputs
 power-requires c κs =
     let a = c .before .before .before .args in
-    let fit = sizes (a .m) (a .n) (sym (c .before .size-fits .ensures) ∙ not-false _ (c .if1 .left)) in
-    omega (arith, fit .levels, fit .inputs)
+    let fit = sized (a .m) (a .n) (sym (c .before .size-fits .ensures) ∙ not-false _ (c .if1 .left)) in
+    omega (arith, fit .levels-most, fit .inputs-most)
 
 returns-2 : tie.Need-returns-2
 returns-2 c = bare-length _ _ _ (λ e. c .if2 .taken (e ∙ sym (c .before .power .ensures)))

@@ -2,9 +2,8 @@
 -- room.
 -- Assumes nothing.
 use native.Mathlib.Omega.{arith}
-use Rattle.rules.specs.Limits.{fewestLevels, mostLevels, mostInputs, mostCells}
 use Rattle.rules.specs.Groups.{multiplicity}
-use Rattle.radix.specs.Sizes.{sizes}
+use Rattle.laws.specs.Sizes.{sized}
 use Rattle.groups.specs.Answers.{group-empty, group-past, group-counted}
 use borrow.Author.Needs.{needs}
 use Rattle.groups.proofs.call.group_answer.Statement.{statement}
@@ -14,11 +13,10 @@ returns : tie.Need-returns
 returns c = group-empty _ _ _ _ (c .if1 .taken)
 
 power-requires : tie.Need-power-requires
-unfolding mostInputs
 power-requires c κs =
     let start = c .before .before in
-    let fit = sizes (start .args .m) (start .args .n) (start .pre .0) in
-    omega (arith, fit .inputs)
+    let fit = sized (start .args .m) (start .args .n) (start .pre .0) in
+    omega (arith, fit .inputs-most)
 
 returns-2 : tie.Need-returns-2
 returns-2 c = group-past _ _ _ _ (omega (arith, c .before .power .ensures, c .if2 .taken))
@@ -33,11 +31,10 @@ slice-aggregate-group-classes-3 : tie.Need-slice-aggregate-group-classes-3
 slice-aggregate-group-classes-3 c = search needs
 
 group-classes-requires : tie.Need-group-classes-requires
-unfolding fewestLevels mostLevels mostInputs mostCells
 group-classes-requires c κs =
     let start = c .before .before .before .before .before .before .before in
-    let fit = sizes (start .args .m) (start .args .n) (start .pre .0) in
-    omega (arith, fit .some-levels, fit .levels, fit .inputs, fit .cells, start .pre .1, c .before .before .before .before .power .ensures)
+    let fit = sized (start .args .m) (start .args .n) (start .pre .0) in
+    omega (arith, fit .levels-least, fit .levels-most, fit .inputs-most, fit .cells-most, start .pre .1, c .before .before .before .before .power .ensures)
 
 returns-3 : tie.Need-returns-3
 unfolding multiplicity

@@ -1,17 +1,15 @@
 -- `marks::call::mark_into` meets its contract: refusal 14, or what `mark_all` writes and answers. Assumes nothing.
 use native.Mathlib.Omega.{arith}
-use Rattle.rules.specs.Limits.{mostInputs}
-use Rattle.radix.specs.Sizes.{sizes}
+use Rattle.laws.specs.Sizes.{sized}
 use Rattle.marks.specs.Answers.{marks-short, marks-written}
 use borrow.Author.Needs.{needs}
 use Rattle.marks.proofs.call.mark_into.Statement.{statement}
 use Rattle.marks.proofs.call.mark_into.Tie as tie
 
 marks-length-requires : tie.Need-marks-length-requires
-unfolding mostInputs
 marks-length-requires c κs =
     let start = c .before .before in
-    omega (arith, sizes (start .args .m) (start .args .n) (start .pre .0) .inputs)
+    omega (arith, sized (start .args .m) (start .args .n) (start .pre .0) .inputs-most)
 
 returns : tie.Need-returns
 returns c = marks-short _ _ _ _ (c .before .marks-length .result) (c .before .marks-length .ensures) (c .if1 .taken)

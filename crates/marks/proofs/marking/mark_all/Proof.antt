@@ -7,10 +7,9 @@ use native.Mathlib.Omega.{arith}
 use borrow.Author.Count.{falls}
 use lib.ListN.{length}
 use lib.Pow.{pow-pos}
-use Rattle.rules.specs.Limits.{fewestLevels, mostLevels, mostInputs, mostCells}
 use Rattle.rules.specs.Marks.{markIn}
 use Rattle.rules.specs.Calls.{inkIn}
-use Rattle.radix.specs.Sizes.{sizes}
+use Rattle.laws.specs.Sizes.{sized}
 use Rattle.marks.specs.Stored.{held}
 use Rattle.marks.specs.Marking.{Below, below-none, has-room, below-next, below-all}
 use Rattle.marks.proofs.marking.mark_all.Statement.{statement}
@@ -24,10 +23,9 @@ abbrev μ-loop : tie.MeasureT-loop
 μ-loop m n cells marks₀ xs₀ ys₀ firsts₀ end g₀ marks xs ys firsts g = end - g
 
 power-requires : tie.Need-power-requires Inv-loop μ-loop
-unfolding fewestLevels mostLevels mostInputs mostCells
 power-requires c κs =
     let start = c .before .before in
-    omega (arith, sizes (start .args .m) (start .args .n) (start .pre .0) .inputs)
+    omega (arith, sized (start .args .m) (start .args .n) (start .pre .0) .inputs-most)
 
 loop-holds : tie.Need-loop-holds Inv-loop μ-loop
 loop-holds c =
@@ -44,14 +42,13 @@ slice-aggregate-mark-group-3 : tie.Need-slice-aggregate-mark-group-3 Inv-loop μ
 slice-aggregate-mark-group-3 c = sym (c .before .before .before .before .loop .inv .3)
 
 mark-group-requires : tie.Need-mark-group-requires Inv-loop μ-loop
-unfolding fewestLevels mostLevels mostInputs mostCells
 mark-group-requires c κs =
     let start = c .before .before .before .before .before .before .before .before .before in
     let a = start .args in
     let l = c .before .before .before .before .before .loop in
-    let fit = sizes (a .m) (a .n) (start .pre .0) in
+    let fit = sized (a .m) (a .n) (start .pre .0) in
     let room = has-room (a .m) (a .n) (inkIn (a .cells .now)) (a .marks .now) (start .pre .2) (l .g) (l .marks) (l .inv .4) in
-    omega (arith, fit .some-levels, fit .levels, fit .inputs, fit .cells, start .pre .1, l .inv .0, l .inv .1, l .inv .2, l .inv .3, c .before .before .before .before .loop-test .taken, room)
+    omega (arith, fit .levels-least, fit .levels-most, fit .inputs-most, fit .cells-most, start .pre .1, l .inv .0, l .inv .1, l .inv .2, l .inv .3, c .before .before .before .before .loop-test .taken, room)
 
 put-mark-requires : tie.Need-put-mark-requires Inv-loop μ-loop
 put-mark-requires c κs =
@@ -95,14 +92,13 @@ same-length : tie.Need-same-length Inv-loop μ-loop
 same-length c = c .before .before .before .loop .inv .4 .same
 
 returns : tie.Need-returns Inv-loop μ-loop
-unfolding fewestLevels
 returns c =
     let start = c .before .before .before .before .before .before .before in
     let a = start .args in
     let l = c .before .before .before .loop in
     let all : l .g ≡ 2 ^ a .n = omega (arith, l .inv .0, l .inv .4 .low, c .before .before .loop-test .left) in
     let end : l .g ≡ c .before .before .before .before .power .result = omega (arith, l .inv .0) in
-    let some : 0 < a .m = omega (arith, sizes (a .m) (a .n) (start .pre .0) .some-levels) in
+    let some : 0 < a .m = omega (arith, sized (a .m) (a .n) (start .pre .0) .levels-least) in
     below-all (a .m) (a .n) (inkIn (a .cells .now)) (a .marks .now) (start .pre .2) (l .g) (l .marks) (l .inv .4) some all
     (c .mark-at .result) (c .mark-at .ensures ∙ ap (λ (k : ℕ). markIn (held (l .marks)) (k - 1)) (sym end))
 

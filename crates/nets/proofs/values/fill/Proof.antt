@@ -6,7 +6,6 @@ use native.Mathlib.Nat.{one-le-pow}
 use native.Mathlib.Omega.{arith}
 use lib.ListN.{length, take}
 use Rattle.rules.specs.Lists.{range}
-use Rattle.rules.specs.Limits.{mostLevels, mostInputs}
 use Rattle.rules.specs.Sheets.{levelsAt}
 use Rattle.laws.specs.Levels.{zeros-front}
 use Rattle.nets.specs.Sound.{sound-size, levels-pos, gates-count}
@@ -31,7 +30,6 @@ abbrev start : tie.At-loop Inv-loop μ-loop → tie.Start Inv-loop μ-loop
 start c = c .before .before .before .before .before .before
 
 power-requires : tie.Need-power-requires Inv-loop μ-loop
-unfolding mostLevels mostInputs
 power-requires c κs = omega (arith, sound-size _ (c .before .before .before .before .pre .0))
 
 cells-pos : (c : tie.After-power Inv-loop μ-loop) → 0 < c .before .before .before .before .before .args .m ^ c .before .before .before .before .before .args .n
@@ -42,11 +40,10 @@ sub-last c = omega (arith, c .power .ensures, cells-pos c)
 
 -- room for the values of the inputs and the gates
 room : (c : tie.At-loop Inv-loop μ-loop) → start c .args .n + start c .args .gates ≤ length (c .loop .values)
-unfolding mostInputs
 room c = omega (arith, c .loop .inv .1, gates-count _ (start c .pre .0), sound-size _ (start c .pre .0) .inputs-most)
 
 loop-holds : tie.Need-loop-holds Inv-loop μ-loop
-unfolding mostInputs range
+unfolding range
 loop-holds c =
     let start = c .before .before .before .before .before in
     (omega arith, refl, zeros-front (start .args .m) (start .args .n) 32 (omega (arith, sound-size _ (start .pre .0) .inputs-most)), refl)
@@ -74,7 +71,6 @@ slice-aggregate-next-levels : tie.Need-slice-aggregate-next-levels Inv-loop μ-l
 slice-aggregate-next-levels c = sym (c .before .before .value .kept .1 .1 .1 .1 .1 .1 .0 ∙ c .before .before .before .before .before .loop .inv .1)
 
 next-levels-requires : tie.Need-next-levels-requires Inv-loop μ-loop
-unfolding mostLevels
 next-levels-requires c κs =
     let head = c .before .before .before .before .before in
     omega (arith, sound-size _ (start head .pre .0) .levels-most, c .before .before .value .kept, room head)

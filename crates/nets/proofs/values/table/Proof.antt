@@ -19,7 +19,6 @@ slice-aggregate-fill-3 : tie.Need-slice-aggregate-fill-3
 slice-aggregate-fill-3 c = search needs
 
 fill-requires : tie.Need-fill-requires
-unfolding mostInputs
 fill-requires c κs =
     let start = c .before .before .before .before .before .before .before .before in
     let net = start .args .net in

@@ -6,7 +6,6 @@ use mathlib.Core.List.{List}
 use native.Mathlib.Numerals.{add-one}
 use native.Mathlib.Omega.{arith}
 use lib.ListN.{getD}
-use Rattle.rules.specs.Limits.{mostInputs}
 use Rattle.printing.specs.Names.{lensTotal}
 use Rattle.printing.proofs.header.names_length.Statement.{statement}
 use Rattle.printing.proofs.header.names_length.Tie as tie
@@ -26,7 +25,6 @@ unfolding lensTotal
 loop-holds c = (omega arith, refl, omega arith)
 
 array-read-wide : tie.Need-array-read-wide Inv-loop μ-loop
-unfolding mostInputs
 array-read-wide c = omega (arith, c .before .before .before .pre)
 
 wide-requires : tie.Need-wide-requires Inv-loop μ-loop
@@ -36,11 +34,9 @@ add-total : tie.Need-add-total Inv-loop μ-loop
 add-total c = omega arith
 
 add-total-2 : tie.Need-add-total-2 Inv-loop μ-loop
-unfolding mostInputs
 add-total-2 c = omega (arith, c .before .before .before .before .pre)
 
 add-i : tie.Need-add-i Inv-loop μ-loop
-unfolding mostInputs
 add-i c = omega (arith, c .before .before .before .before .pre)
 
 loop-less : tie.Need-loop-less Inv-loop μ-loop

@@ -6,7 +6,6 @@ use mathlib.Core.List.{List}
 use native.Mathlib.Omega.{arith}
 use borrow.Author.Needs.{needs}
 use lib.ListN.{getD, take, drop, length}
-use Rattle.rules.specs.Limits.{mostInputs}
 use Rattle.nets.specs.declared.forms.Header.{Header}
 use Rattle.nets.specs.Forms.{nameIn}
 use Rattle.printing.specs.Names.{NamesInside}
@@ -14,7 +13,6 @@ use Rattle.printing.proofs.header.print_name.Statement.{statement}
 use Rattle.printing.proofs.header.print_name.Tie as tie
 
 room : {s : List ℕ} {h : Header} → NamesInside s h → {i : ℕ} → i < h .inputs → i < 11
-unfolding mostInputs
 room n l = omega (arith, n .count)
 
 -- the part of the sheet that the code takes

@@ -5,7 +5,6 @@ use mathlib.Core.List.{List, [], _∷_, _++_, map}
 use native.Mathlib.Omega.{arith}
 use borrow.Author.Needs.{needs}
 use lib.ListN.{getD}
-use Rattle.rules.specs.Limits.{mostInputs}
 use Rattle.rules.specs.Text.{space, newline, digitByte}
 use Rattle.rules.specs.Printed.{printedGate}
 use Rattle.nets.specs.Forms.{gateOf}
@@ -53,7 +52,6 @@ after-table c = put-left (after-second (c .before .before .before .before)) (c .
 
 -- the form has room for the gate
 place : (c : tie.Start) → c .args .k < 10
-unfolding mostInputs
 place c = omega (arith, c .pre .1 .count, c .pre .2)
 
 array-read-wide : tie.Need-array-read-wide

@@ -8,7 +8,6 @@ use native.Mathlib.Nat.{sub-zero}
 use native.Mathlib.Omega.{arith}
 use lib.ListN.{length, getD, take, drop, length-append, length-drop}
 use lib.Seq.{take-at}
-use Rattle.rules.specs.Limits.{mostLevels, mostInputs}
 use Rattle.rules.specs.Sheets.{levelsAt}
 use Rattle.rules.specs.Printed.{printedRows}
 use Rattle.printing.specs.Put.{Put, Left, all-left, put-left, room-for, none-left}
@@ -36,7 +35,6 @@ part : (c : tie.In-loop Inv-loop μ-loop) → take (c .before .before .before .b
 part c = rw sub-zero (c .before .loop .inv .1)
 
 within : (c : tie.In-loop Inv-loop μ-loop) → c .before .before .before .before .args .n ≤ length (c .before .loop .levels)
-unfolding mostInputs
 within c = omega (arith, c .before .before .before .before .pre .2, c .before .loop .inv .0)
 
 turn : (c : tie.In-loop Inv-loop μ-loop)
@@ -46,7 +44,6 @@ turn c = rw (rows-next (c .before .before .before .before .args .m) (c .before .
 -- every level is a digit
 digit : (c : tie.In-loop Inv-loop μ-loop) (i : ℕ) → i < length (levelsAt (c .before .before .before .before .args .m) (c .before .before .before .before .args .n) (c .before .loop .k))
     → getD (levelsAt (c .before .before .before .before .args .m) (c .before .before .before .before .args .n) (c .before .loop .k)) i 0 < 10
-unfolding mostLevels
 digit c i h = omega (arith, levels-below (c .before .before .before .before .args .m) (c .before .before .before .before .pre .0) (c .before .before .before .before .args .n) (c .before .loop .k) i h, c .before .before .before .before .pre .1)
 
 next : (c : tie.After-count-up Inv-loop μ-loop)
@@ -65,7 +62,6 @@ row-put : (c : tie.After-print-row Inv-loop μ-loop) → Put (c .before .before 
 row-put c = rw (part (c .before .before .before .before .before)) at (c .print-row .ensures)
 
 loop-holds : tie.Need-loop-holds Inv-loop μ-loop
-unfolding mostInputs
 loop-holds c = (refl, levels-first (c .before .before .args .m) (c .before .before .args .n) 11 (omega arith), all-left (c .before .before .pre .4))
 
 sub-print-row : tie.Need-sub-print-row Inv-loop μ-loop
@@ -94,7 +90,6 @@ part-levels-end : tie.Need-part-levels-end Inv-loop μ-loop
 part-levels-end c = within (c .before .before .before .before .before .before .before)
 
 count-up-requires : tie.Need-count-up-requires Inv-loop μ-loop
-unfolding mostLevels
 count-up-requires c κs = omega (arith, c .before .before .before .before .before .before .before .before .before .before .before .before .pre .1)
 
 add-k : tie.Need-add-k Inv-loop μ-loop

@@ -5,7 +5,6 @@ use mathlib.Core.Path.{ap}
 use native.Mathlib.Nat.{mul-le-mul}
 use native.Mathlib.Omega.{arith}
 use borrow.Author.Needs.{needs}
-use Rattle.rules.specs.Limits.{mostInputs, mostCells}
 use Rattle.printing.specs.Names.{names-total}
 use Rattle.printing.specs.Tables.{table-length}
 use Rattle.printing.proofs.table.table_length.Statement.{statement}
@@ -13,11 +12,9 @@ use Rattle.printing.proofs.table.table_length.Tie as tie
 
 -- bounds far above the limits, which suffice for the sums
 inputs : (c : tie.Start) → c .args .h .inputs ≤ 64
-unfolding mostInputs
 inputs c = omega (arith, c .pre .0)
 
 rows : (c : tie.Start) → c .args .cells * (2 * c .args .h .inputs + 2) ≤ 65536 * 130
-unfolding mostCells
 rows c =
     let cells : c .args .cells ≤ 65536 = omega (arith, c .pre .1) in
     let row : 2 * c .args .h .inputs + 2 ≤ 130 = omega (arith, inputs c) in

@@ -1,24 +1,24 @@
 -- `radix::powers::size_fits` meets its contract: each test decides one part of `sizeFits`. Assumes nothing.
 use borrow.Author.Needs.{needs}
 use borrow.Author.Tests.{le-leb, lt-leb}
-use Rattle.rules.specs.Limits.{fewestLevels, mostLevels, fewestInputs, mostInputs, mostCells, levelsFit, inputsFit, cellsFit, sizeFits}
+use Rattle.rules.specs.Limits.{levelsFit, inputsFit, cellsFit, sizeFits}
 use Rattle.radix.proofs.powers.size_fits.Statement.{statement}
 use Rattle.radix.proofs.powers.size_fits.Tie as tie
 
 returns : tie.Need-returns
-unfolding sizeFits levelsFit fewestLevels
+unfolding sizeFits levelsFit
 returns c = simp (lt-leb _ _ (c .if1 .taken))
 
 returns-2 : tie.Need-returns-2
-unfolding sizeFits levelsFit fewestLevels mostLevels
+unfolding sizeFits levelsFit
 returns-2 c = simp (le-leb _ _ (c .before .if1 .left), lt-leb _ _ (c .if2 .taken))
 
 returns-3 : tie.Need-returns-3
-unfolding sizeFits levelsFit inputsFit fewestLevels mostLevels fewestInputs
+unfolding sizeFits levelsFit inputsFit
 returns-3 c = simp (le-leb _ _ (c .before .before .if1 .left), le-leb _ _ (c .before .if2 .left), lt-leb _ _ (c .if3 .taken))
 
 returns-4 : tie.Need-returns-4
-unfolding sizeFits levelsFit inputsFit fewestLevels mostLevels fewestInputs mostInputs
+unfolding sizeFits levelsFit inputsFit
 returns-4 c =
     simp (
       le-leb _ _ (c .before .before .before .if1 .left),
@@ -31,7 +31,7 @@ power-requires : tie.Need-power-requires
 power-requires c κs = search needs
 
 returns-5 : tie.Need-returns-5
-unfolding sizeFits levelsFit inputsFit cellsFit fewestLevels mostLevels fewestInputs mostInputs mostCells
+unfolding sizeFits levelsFit inputsFit cellsFit
 returns-5 c =
     simp (
       c .power .ensures,

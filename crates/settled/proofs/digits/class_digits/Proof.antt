@@ -8,7 +8,6 @@ use native.Mathlib.Omega.{arith}
 use borrow.Author.Needs.{needs}
 use lib.ListN.{length, take}
 use lib.Seq.{paste}
-use Rattle.rules.specs.Limits.{mostLevels, mostInputs, mostCells}
 use Rattle.rules.specs.Groups.{others, points, classes, multiplicity}
 use Rattle.rules.specs.Calls.{inkIn}
 use Rattle.radix.specs.Fronts.{fits-in, front, rest-others}
@@ -20,7 +19,6 @@ use Rattle.settled.proofs.digits.class_digits.Statement.{statement}
 use Rattle.settled.proofs.digits.class_digits.Tie as tie
 
 power-requires : tie.Need-power-requires
-unfolding mostInputs
 power-requires c κs = omega (arith, c .before .before .before .before .before .before .pre .0 .inputs)
 
 sub-rest : tie.Need-sub-rest
@@ -33,7 +31,6 @@ slice-aggregate-group-classes : tie.Need-slice-aggregate-group-classes
 slice-aggregate-group-classes c = search needs
 
 group-classes-requires : tie.Need-group-classes-requires
-unfolding mostLevels
 group-classes-requires c κs =
     let start = c .before .before .before .before .before .before .before .before .before .before in
     let a = start .args in
@@ -41,7 +38,6 @@ group-classes-requires c κs =
     (room (a .m) (a .n) (a .cells .now) (a .xs .now) (a .ys .now) _ sized (start .pre .1) (start .pre .2) (omega (arith, sized .levels)), start .pre .3)
 
 offsets-requires : tie.Need-offsets-requires
-unfolding mostInputs mostCells
 offsets-requires c κs =
     let start = c .before .before .before .before .before .before .before .before .before .before .before .before .before .before .before .before .before in
     let sized = start .pre .0 in

@@ -9,7 +9,6 @@ use borrow.Author.Needs.{needs}
 use lib.ListN.{length, take}
 use lib.Pow.{pow-mono}
 use lib.Seq.{paste}
-use Rattle.rules.specs.Limits.{mostLevels, mostInputs, mostCells}
 use Rattle.rules.specs.Groups.{others, points, classes}
 use Rattle.rules.specs.Calls.{inkIn}
 use Rattle.rules.specs.Settled.{gateDigits}
@@ -32,7 +31,6 @@ slice-aggregate-samples-3 : tie.Need-slice-aggregate-samples-3
 slice-aggregate-samples-3 c = search needs
 
 samples-requires : tie.Need-samples-requires
-unfolding mostLevels mostCells
 samples-requires c κs =
     let start = c .before .before .before .before .before in
     let a = start .args in
@@ -56,7 +54,6 @@ slice-aggregate-samples-6 : tie.Need-slice-aggregate-samples-6
 slice-aggregate-samples-6 c = search needs
 
 samples-requires-2 : tie.Need-samples-requires-2
-unfolding mostLevels mostCells
 samples-requires-2 c κs =
     let start = c .before .before .before .before .before .before .before .before .before .before .before .before in
     let a = start .args in
@@ -142,7 +139,6 @@ write-digits-requires c κs =
     (sized .some, last-ready (a .m) (a .n) (a .cells .now) (inkIn (a .cells .now)) (a .a + a .b) _ _ sized (sums (c .before .before .before .before .before .before .before .before .before .before .before .before .before)), start .pre .2)
 
 add-class-digits : tie.Need-add-class-digits
-unfolding mostInputs
 add-class-digits c =
     let start = c .before .before .before .before .before .before .before .before .before .before .before .before .before .before .before .before .before in
     let a = start .args in
@@ -174,7 +170,6 @@ slice-aggregate-class-digits-2 : tie.Need-slice-aggregate-class-digits-2
 slice-aggregate-class-digits-2 c = search needs
 
 class-digits-requires : tie.Need-class-digits-requires
-unfolding mostCells
 class-digits-requires c κs =
     let start = c .before .before .before .before .before .before .before .before .before .before .before .before .before .before .before .before .before .before .before .before .before .before .before .before in
     let a = start .args in

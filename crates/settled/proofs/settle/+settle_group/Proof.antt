@@ -8,7 +8,6 @@ use native.Mathlib.Nat.{lt-of-lt-of-le}
 use native.Mathlib.Omega.{arith}
 use borrow.Author.Tests.{eqb-true, eqb-false}
 use lib.Pow.{pow-mono}
-use Rattle.rules.specs.Limits.{mostInputs}
 use Rattle.rules.specs.Groups.{size}
 use Rattle.rules.specs.Marks.{inside, markIn, marksOf}
 use Rattle.rules.specs.Settled.{firstInput, splitOf}
@@ -61,7 +60,6 @@ settle-group-single-requires t c κs =
     two-says (a .m) (a .n) (pre .0 .some) (inkIn (a .cells .now)) (a .g) (pre .2) (pre .3) .some
 
 settle-group-first-input-requires : (t : ℕ) → settle-group-lts.Need-first-input-requires (called t) (settle-group-at t) settle-group.Post
-unfolding mostInputs
 settle-group-first-input-requires t c κs = omega (arith, c .before .before .before .before .pre .1 .0 .inputs)
 
 -- a single input
@@ -75,7 +73,6 @@ one t c =
     (is-one, size-one (a .n) (a .g) (pre .2) is-one .0)
 
 settle-group-cast-t17 : (t : ℕ) → settle-group-lts.Need-cast-t17 (called t) (settle-group-at t) settle-group.Post
-unfolding mostInputs
 settle-group-cast-t17 t c = omega (arith, c .first-input .ensures, one t c, c .before .before .before .before .before .pre .1 .0 .inputs)
 
 settle-group-returns : (t : ℕ) → settle-group-lts.Need-returns (called t) (settle-group-at t) settle-group.Post
@@ -86,7 +83,6 @@ settle-group-returns t c =
     (wired-single (a .m) (a .n) f (a .last) (a .g) (a .net) (one t c .1) (one t c .0))
 
 settle-group-split-of-requires : (t : ℕ) → settle-group-lts.Need-split-of-requires (called t) (settle-group-at t) settle-group.Post
-unfolding mostInputs
 settle-group-split-of-requires t c κs =
     let a = c .before .before .before .before .args in
     let pre = c .before .before .before .before .pre .1 in (
@@ -158,11 +154,9 @@ two-more t c =
     omega (arith, c .before .before .settle-group .ensures .count, c .settle-group2 .ensures .count, sizes t s, start t s .pre .1 .5)
 
 settle-group-add-reference : (t : ℕ) → settle-group-lts.Need-add-reference (called t) (settle-group-at t) settle-group.Post
-unfolding mostInputs
 settle-group-add-reference t c = omega (arith, two-more t (c .before .before), c .before .before .before .before .before .before .before .before .before .before .pre .1 .0 .inputs)
 
 settle-group-cast-reference : (t : ℕ) → settle-group-lts.Need-cast-reference (called t) (settle-group-at t) settle-group.Post
-unfolding mostInputs
 settle-group-cast-reference t c = omega (arith, two-more t (c .before .before), c .before .before .before .before .before .before .before .before .before .before .pre .1 .0 .inputs)
 
 settle-group-sub-join : (t : ℕ) → settle-group-lts.Need-sub-join (called t) (settle-group-at t) settle-group.Post

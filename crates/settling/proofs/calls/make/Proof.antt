@@ -1,7 +1,6 @@
 -- `settling::calls::make` meets its contract. Assumes nothing.
 use mathlib.Core.Path.{_∙_}
 use native.Mathlib.Omega.{arith}
-use Rattle.rules.specs.Limits.{mostLevels, mostInputs, mostCells}
 use Rattle.laws.specs.Sizes.{sized}
 use Rattle.settling.specs.Sheets.{table-refused, table-size, table-given, table-accepts}
 use borrow.Author.Needs.{needs}
@@ -12,7 +11,6 @@ slice-aggregate-read-table : tie.Need-slice-aggregate-read-table
 slice-aggregate-read-table c = search needs
 
 read-table-requires : tie.Need-read-table-requires
-unfolding mostCells
 read-table-requires c κs = omega arith
 
 enum-known-outcome : tie.Need-enum-known-outcome
@@ -22,7 +20,6 @@ enum-told : tie.Need-enum-told
 enum-told c = search needs
 
 power-requires : tie.Need-power-requires
-unfolding mostLevels mostInputs
 power-requires c κs =
     let h = c .before .before .before .before .read-table .result .header in
     let size = sized (h .levels) (h .inputs) (table-size _ _ _ (c .before .before .before .before .read-table .ensures) (c .enum-told .given .1)) in
@@ -35,7 +32,6 @@ part-settle-into-start : tie.Need-part-settle-into-start
 part-settle-into-start c = search needs
 
 part-settle-into-end : tie.Need-part-settle-into-end
-unfolding mostCells
 part-settle-into-end c =
     let read = c .before .before .before .before .before .before .read-table in
     let h = read .result .header in

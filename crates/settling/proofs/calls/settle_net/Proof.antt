@@ -1,7 +1,6 @@
 -- `settling::calls::settle_net` meets its contract. Assumes nothing.
 use mathlib.Core.Path.{_∙_}
 use native.Mathlib.Omega.{arith}
-use Rattle.rules.specs.Limits.{mostCells}
 use Rattle.settling.specs.Sheets.{net-sound, net-room, net-table-given, net-settled}
 use borrow.Author.Needs.{needs}
 use Rattle.settling.proofs.calls.settle_net.Statement.{statement}
@@ -11,7 +10,6 @@ slice-aggregate-table : tie.Need-slice-aggregate-table
 slice-aggregate-table c = search needs
 
 table-requires : tie.Need-table-requires
-unfolding mostCells
 table-requires c κs = (net-sound _ _ _ (c .before .before .before .before .before .pre), net-room _ _ _ (c .before .before .before .before .before .pre))
 
 sub-settle-into : tie.Need-sub-settle-into
@@ -21,7 +19,6 @@ part-settle-into-start : tie.Need-part-settle-into-start
 part-settle-into-start c = search needs
 
 part-settle-into-end : tie.Need-part-settle-into-end
-unfolding mostCells
 part-settle-into-end c =
     let start = c .before .before .before .before .before .before .before .before in
     let table = c .before .before .table in

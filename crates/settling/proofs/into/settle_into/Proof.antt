@@ -1,7 +1,6 @@
 -- `settling::into::settle_into` meets its contract. Assumes nothing.
 use mathlib.Core.Path.{_∙_}
 use native.Mathlib.Omega.{arith}
-use Rattle.rules.specs.Limits.{mostInputs}
 use Rattle.laws.specs.Sizes.{sized}
 use Rattle.settling.specs.Given.{given-size, given-13, given-14, given-marked}
 use borrow.Author.Needs.{needs}
@@ -12,7 +11,6 @@ returns : tie.Need-returns
 returns c = given-13 _ _ _ (c .before .before .before .before .before .before .pre) _ _ _ (c .if1 .taken)
 
 marks-length-requires : tie.Need-marks-length-requires
-unfolding mostInputs
 marks-length-requires c κs =
     let start = c .before .before .before .before .before .before in
     let h = start .args .header in

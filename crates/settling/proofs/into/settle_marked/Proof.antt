@@ -2,7 +2,6 @@
 use mathlib.Core.Path.{sym}
 use native.Mathlib.Nat.{le-of-eq}
 use native.Mathlib.Omega.{arith}
-use Rattle.rules.specs.Limits.{mostInputs}
 use Rattle.laws.specs.Sizes.{sized}
 use Rattle.settling.specs.Given.{given-size, given-count, given-below, settled-inside, settled-short, given-two, marks-held, given-16, given-tree}
 use borrow.Author.Needs.{needs}
@@ -18,7 +17,6 @@ mark-all-requires c κs =
     (given-size _ _ _ (start .pre .0), le-of-eq (sym (given-count _ _ _ (start .pre .0))), start .pre .2)
 
 no-tree-place-requires : tie.Need-no-tree-place-requires
-unfolding mostInputs
 no-tree-place-requires c κs =
     let start = c .before .before .before .before .before .before .before .before .before .before .before .before .before .before .before in
     let h = start .args .header in (

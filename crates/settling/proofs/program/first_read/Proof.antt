@@ -2,7 +2,6 @@
 use mathlib.Core.Path.{refl, sym}
 use lib.Seq.{take-all}
 use borrow.Author.Needs.{needs}
-use Rattle.rules.specs.Limits.{mostRead}
 use Rattle.settling.proofs.program.first_read.Statement.{statement}
 use Rattle.settling.proofs.program.first_read.Tie as tie
 
@@ -16,11 +15,9 @@ part-result-end : tie.Need-part-result-end
 part-result-end c = search needs
 
 returns : tie.Need-returns
-unfolding mostRead
 returns c = refl
 
 returns-2 : tie.Need-returns-2
-unfolding mostRead
 returns-2 c = sym (take-all _ _ (c .if1 .left))
 
 pub first-read-spec : {M : Type 1} → statement M

@@ -1,5 +1,5 @@
 -- `settling::program::make_output` meets its contract. Assumes nothing.
-use Rattle.rules.specs.Limits.{mostInputs, mostCells, mostSettled}
+use Rattle.rules.specs.Limits.{mostSettled}
 use Rattle.rules.specs.Marks.{marksLength}
 use Rattle.rules.specs.Calls.{zeros}
 use Rattle.settling.specs.Program.{make-fits, answer-fits, prints-made}
@@ -23,13 +23,12 @@ make-requires : tie.Need-make-requires
 make-requires c κs = search needs
 
 output-of-requires : tie.Need-output-of-requires
-unfolding mostSettled
 output-of-requires c κs =
     let did = c .before .before .before .make in
     answer-fits (did .result) _ _ (zeros mostSettled) _ _ (make-fits _ _ _ _) (did .ensures) (did .kept .1 .1 .1 .0)
 
 returns : tie.Need-returns
-unfolding mostInputs mostCells mostSettled marksLength
+unfolding marksLength
 returns c =
     let did = c .before .before .before .before .make in
     prints-made _ _ (c .before .before .before .before .before .before .before .before .first-read .ensures) (did .result) _ _ _ _ (c .output-of .ensures) (did .ensures)

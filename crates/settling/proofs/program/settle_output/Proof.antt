@@ -1,5 +1,5 @@
 -- `settling::program::settle_output` meets its contract. Assumes nothing.
-use Rattle.rules.specs.Limits.{mostInputs, mostCells, mostSettled}
+use Rattle.rules.specs.Limits.{mostSettled}
 use Rattle.rules.specs.Marks.{marksLength}
 use Rattle.rules.specs.Calls.{zeros}
 use Rattle.settling.specs.Program.{settle-fits, answer-fits, prints-settled}
@@ -23,13 +23,12 @@ settle-requires : tie.Need-settle-requires
 settle-requires c κs = search needs
 
 output-of-requires : tie.Need-output-of-requires
-unfolding mostSettled
 output-of-requires c κs =
     let did = c .before .before .before .settle in
     answer-fits (did .result) _ _ (zeros mostSettled) _ _ (settle-fits _ _ _ _) (did .ensures) (did .kept .1 .1 .1 .0)
 
 returns : tie.Need-returns
-unfolding mostInputs mostCells mostSettled marksLength
+unfolding marksLength
 returns c =
     let did = c .before .before .before .before .settle in
     prints-settled _ _ (c .before .before .before .before .before .before .before .before .first-read .ensures) (did .result) _ _ _ _ (c .output-of .ensures) (did .ensures)

@@ -1,7 +1,6 @@
 -- `settling::sheet::write_sheet` meets its contract. Assumes nothing.
 use native.Mathlib.Omega.{arith}
 use borrow.Author.Needs.{needs}
-use Rattle.rules.specs.Limits.{mostSettled}
 use Rattle.settling.specs.Answers.{sheet-short, sheet-copied}
 use Rattle.settling.proofs.sheet.write_sheet.Statement.{statement}
 use Rattle.settling.proofs.sheet.write_sheet.Tie as tie
@@ -10,7 +9,6 @@ slice-aggregate-print-net : tie.Need-slice-aggregate-print-net
 slice-aggregate-print-net c = search needs
 
 print-net-requires : tie.Need-print-net-requires
-unfolding mostSettled
 print-net-requires c κs = c .before .before .before .pre
 
 returns : tie.Need-returns
@@ -23,7 +21,6 @@ part-text-start : tie.Need-part-text-start
 part-text-start c = search needs
 
 part-text-end : tie.Need-part-text-end
-unfolding mostSettled
 part-text-end c = omega (arith, c .before .before .before .print-net .ensures .length, c .before .before .before .before .before .before .before .pre .2, c .before .before .before .print-net .kept)
 
 copy-front-requires : tie.Need-copy-front-requires

@@ -2,10 +2,10 @@
 -- Assumes nothing.
 use borrow.Author.Needs.{needs}
 use Prim.Native.Nat.{_-_}
-use mathlib.Core.Path.{_≡_, refl, sym, ap, _∙_, subst}
+use mathlib.Core.Path.{sym, subst}
 use native.Mathlib.Omega.{arith}
-use Rattle.fields.specs.Taken.{size-told}
-use Rattle.sheets.specs.GateLines.{Building, noGates, build-start, build-done, build-room, build-back, build-next}
+use Rattle.laws.specs.Sizes.{sized}
+use Rattle.sheets.specs.GateLines.{Building, build-start, build-done, build-room, build-back, build-next}
 use Rattle.sheets.proofs.gates.gate_lines.Statement.{statement}
 use Rattle.sheets.proofs.gates.gate_lines.Tie as tie
 
@@ -21,7 +21,7 @@ no-gates-requires c κs = tt
 loop-holds : tie.Need-loop-holds Inv-loop μ-loop
 loop-holds c =
     let a = c .before .before .args in
-    let size = size-told _ _ (c .before .before .pre .fits) in
+    let size = sized _ _ (c .before .before .pre .fits) in
     subst (λ net. Building (a .s .now) (a .at) (a .header) net (a .at) 1) (sym (c .no-gates .ensures)) (build-start _ _ _ (size .inputs-least))
 
 gate-line-requires : tie.Need-gate-line-requires Inv-loop μ-loop

@@ -1,7 +1,7 @@
 -- `sheets::references::is_used` meets its contract. The loop's invariant: one of all gates uses r exactly when one from `k` on does.
 -- Assumes nothing.
-use Prim.Native.Nat.{_-_, _≤_}
-use mathlib.Core.Path.{_≡_, refl, sym, _∙_}
+use Prim.Native.Nat.{_-_}
+use mathlib.Core.Path.{_≡_, sym, _∙_}
 use mathlib.Core.List.{map}
 use native.Mathlib.Nat.{sub-zero}
 use native.Mathlib.Omega.{arith}

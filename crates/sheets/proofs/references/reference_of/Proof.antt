@@ -1,13 +1,13 @@
 -- `sheets::references::reference_of` meets its contract. The loop's invariant: the first from `r` on is the first of all.
 -- Assumes nothing.
-use Prim.Native.Nat.{_+_, _-_, _≤_}
-use mathlib.Core.Path.{_≡_, refl, sym, ap, _∙_}
+use Prim.Native.Nat.{_-_}
+use mathlib.Core.Path.{_≡_, sym, _∙_}
 use native.Mathlib.Nat.{sub-zero}
 use native.Mathlib.Omega.{arith}
 use Rattle.rules.specs.Lists.{range, find, same}
 use Rattle.rules.specs.Sheets.{referenceText, referenceOf}
 use Rattle.fields.specs.Finding.{find-here, find-next, find-none}
-use Rattle.fields.specs.Taken.{size-told}
+use Rattle.laws.specs.Sizes.{sized}
 use Rattle.sheets.specs.References.{namesOf, names-count}
 use Rattle.sheets.proofs.references.reference_of.Statement.{statement}
 use Rattle.sheets.proofs.references.reference_of.Tie as tie
@@ -19,7 +19,7 @@ abbrev μ-loop : tie.MeasureT-loop
 μ-loop s header earlier w end r₀ r = end - r
 
 add-end : tie.Need-add-end Inv-loop μ-loop
-add-end c = let size = size-told _ _ (c .before .before .before .pre .0 .fits) in omega (arith, size .inputs-most)
+add-end c = let size = sized _ _ (c .before .before .before .pre .0 .fits) in omega (arith, size .inputs-most)
 
 loop-holds : tie.Need-loop-holds Inv-loop μ-loop
 unfolding referenceOf
@@ -32,7 +32,7 @@ returns : tie.Need-returns Inv-loop μ-loop
 returns c = sym (c .before .before .before .loop .inv ∙ find-here _ (c .before .before .before .loop .r) _ (c .before .before .loop-test .taken) (sym (c .before .refers .ensures) ∙ c .if1 .taken))
 
 add-r : tie.Need-add-r Inv-loop μ-loop
-add-r c = let size = size-told _ _ (c .before .before .before .before .before .before .before .pre .0 .fits) in omega (arith, size .inputs-most, c .before .before .loop-test .taken, c .before .before .before .before .before .before .before .pre .1)
+add-r c = let size = sized _ _ (c .before .before .before .before .before .before .before .pre .0 .fits) in omega (arith, size .inputs-most, c .before .before .loop-test .taken, c .before .before .before .before .before .before .before .pre .1)
 
 loop-less : tie.Need-loop-less Inv-loop μ-loop
 loop-less c = omega (arith, c .before .before .loop-test .taken)

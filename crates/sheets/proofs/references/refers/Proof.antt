@@ -3,19 +3,19 @@
 use borrow.Author.Needs.{needs}
 use mathlib.Core.Path.{_∙_}
 use native.Mathlib.Omega.{arith}
-use Rattle.fields.specs.Taken.{size-told}
+use Rattle.laws.specs.Sizes.{sized}
 use Rattle.sheets.specs.References.{refers-input, refers-gate}
 use Rattle.sheets.proofs.references.refers.Statement.{statement}
 use Rattle.sheets.proofs.references.refers.Tie as tie
 
 same-name-requires : tie.Need-same-name-requires
-same-name-requires c κs = let size = size-told _ _ (c .before .before .before .pre .0 .fits) in (omega (arith, size .inputs-most), c .before .before .before .pre .0 .names _ (c .if1 .taken))
+same-name-requires c κs = let size = sized _ _ (c .before .before .before .pre .0 .fits) in (omega (arith, size .inputs-most), c .before .before .before .pre .0 .names _ (c .if1 .taken))
 
 returns : tie.Need-returns
 returns c = c .same-name .ensures ∙ refers-input _ _ _ _ (c .before .if1 .taken)
 
 add-is-decimal : tie.Need-add-is-decimal
-add-is-decimal c = let size = size-told _ _ (c .before .before .before .pre .0 .fits) in omega (arith, size .inputs-most)
+add-is-decimal c = let size = sized _ _ (c .before .before .before .pre .0 .fits) in omega (arith, size .inputs-most)
 
 sub-is-decimal : tie.Need-sub-is-decimal
 sub-is-decimal c = search needs

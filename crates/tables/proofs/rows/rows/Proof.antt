@@ -5,7 +5,7 @@ use mathlib.Core.Path.{_≡_, refl, sym, _∙_}
 use native.Mathlib.Omega.{arith}
 use borrow.Author.Needs.{needs}
 use lib.ListN.{length, length-set}
-use Rattle.rules.specs.Limits.{fewestLevels, mostLevels, mostInputs}
+use Rattle.rules.specs.Limits.{mostInputs}
 use Rattle.laws.specs.Sizes.{Size, sized}
 use Rattle.tables.specs.Rows.{InRows, rows-start, rows-back, rows-next, rows-done, ink-below}
 use Rattle.tables.proofs.rows.rows.Statement.{statement}
@@ -28,7 +28,6 @@ size c = sized (c .args .m) (c .args .n) (c .pre .0)
 
 -- room for the levels of all inputs
 room : (c : tie.At-loop Inv-loop μ-loop) → start c .args .n ≤ length (c .loop .levels)
-unfolding mostInputs
 room c = omega (arith, c .loop .inv .1, size (start c) .inputs-most)
 
 -- a turn's index is a cell's
@@ -36,11 +35,9 @@ more : (c : tie.In-loop Inv-loop μ-loop) → c .before .loop .p < start (c .bef
 more c = omega (arith, c .loop-test .taken, c .before .before .power .ensures)
 
 power-requires : tie.Need-power-requires Inv-loop μ-loop
-unfolding mostLevels mostInputs
 power-requires c κs = omega (arith, size (c .before .before))
 
 loop-holds : tie.Need-loop-holds Inv-loop μ-loop
-unfolding mostInputs
 loop-holds c = (refl, refl, rows-start _ _ _ _ mostInputs _ (size (c .before .before .before) .inputs-most))
 
 slice-aggregate-row : tie.Need-slice-aggregate-row Inv-loop μ-loop
@@ -64,7 +61,6 @@ enum-known-step : tie.Need-enum-known-step Inv-loop μ-loop
 enum-known-step c = search needs
 
 cast-cells : tie.Need-cast-cells Inv-loop μ-loop
-unfolding mostLevels
 cast-cells c =
     let turn = c .before .before .before .before .before in
     let small = ink-below _ _ _ _ _ _ _ _ (turn .before .loop .inv .2) (more turn) _ (c .before .before .before .row .ensures) _ _ (c .before .step .given .1) in
@@ -79,7 +75,6 @@ slice-aggregate-next-levels : tie.Need-slice-aggregate-next-levels Inv-loop μ-l
 slice-aggregate-next-levels c = sym (c .before .before .before .before .before .before .before .loop .inv .1)
 
 next-levels-requires : tie.Need-next-levels-requires Inv-loop μ-loop
-unfolding mostLevels
 next-levels-requires c κs =
     let head = c .before .before .before .before .before .before .before in
     omega (arith, room head, size (start head) .levels-most)
@@ -93,7 +88,6 @@ loop-less : tie.Need-loop-less Inv-loop μ-loop
 loop-less c = omega (arith, more (c .before .before .before .before .before .before .before .before))
 
 loop-again : tie.Need-loop-again Inv-loop μ-loop
-unfolding fewestLevels
 loop-again c =
     let turn = c .before .before .before .before .before .before .before .before in
     let head = turn .before in (
