@@ -48,10 +48,12 @@ pub enum Verdict {
     Differ(usize),
 }
 
+/// The answer of a call that takes one sheet or none: 1 to 8 are that sheet's.
 fn answered(answer: ffi::Answer, named: Named, sheet: &[u8]) -> Result<usize, Refusal> {
     match answer.number {
         0 => Ok(answer.value),
-        number => Err(Refusal::new(number, answer.value, named, sheet)),
+        number @ 1..=8 => Err(Refusal::new(number, answer.value, named, sheet)),
+        number => Err(Refusal::new(number, answer.value, Named::Neither, sheet)),
     }
 }
 

@@ -22,7 +22,6 @@ pub struct Refusal {
 
 impl Refusal {
     pub(crate) fn new(number: usize, place: usize, named: Named, sheet: &[u8]) -> Refusal {
-        let named = if number <= 8 { named } else { Named::Neither };
         let position = (number <= 8).then(|| position(sheet, place));
         Refusal {
             number,
