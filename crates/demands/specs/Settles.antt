@@ -6,12 +6,14 @@
 use Prim.Native.Nat.{ℕ, _^_, _≤_, _<_}
 use mathlib.Core.Path.{_≡_, refl, sym, ap, _∙_, subst}
 use mathlib.Core.Logic.{_↔_}
+use mathlib.Core.Bool.{false≢true}
 use mathlib.Core.List.{List}
 use native.Mathlib.Nat.{lt-of-not-le}
 use native.Mathlib.Decide.{decLe}
 use native.Mathlib.Omega.{arith}
 use lib.ListN.{length, take, drop}
 use lib.Seq.{take-at}
+use Rattle.rules.specs.Lists.{any}
 use Rattle.rules.specs.Limits.{mostSettled}
 use Rattle.rules.specs.Sheets.{Net, Table}
 use Rattle.rules.specs.Printed.{printedNet}
@@ -23,7 +25,7 @@ use Rattle.trees.specs.Uniqueness.{settledOf, table-length, net-inks, net-two, 
 use Rattle.demands.specs.Bounds.{levels-pos, inputs-several}
 use Rattle.demands.specs.FirstLines.{threeLines, three-lines, same-lines}
 use Rattle.readback.specs.ReadBack.{net-read-back, net-accepted}
-use Rattle.readback.specs.Numbers.{net-refusal}
+use Rattle.readback.specs.Numbers.{OneOf, netNumbers, net-refusal}
 use Rattle.readback.specs.Length.{net-length}
 
 -- the sheet that a call wrote: as many bytes from the front of the output as it answers
@@ -177,11 +179,12 @@ into-not-16 t two cells marks output place e =
 
 -- "Settling never gives 16."
 pub settle-never-16 : (s cells marks output : List ℕ) (place : ℕ) → settleCall s cells marks output .answer ≡ refused 16 place → ⊥
+unfolding OneOf any
 settle-never-16 s cells marks output place e = go (readNet s) refl
   where
     go : (a : Answer Net) → readNet s ≡ a → ⊥
     go (refused number at) d =
-        other-number number at place (λ q. omega (arith, net-refusal s number at d))
+        other-number number at place (λ q. false≢true (subst (OneOf netNumbers) q (net-refusal s number at d)))
         (sym (ap (λ (made : Made). made .answer) (settle-refused s cells marks output number at d)) ∙ e)
     go (accepted net) d =
         into-not-16 (tableOfNet net) (net-whole-two net (net-accepted s net d .1)) cells marks output place
