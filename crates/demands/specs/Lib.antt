@@ -5,5 +5,6 @@ pub mod Lines
 pub mod FirstLines
 pub mod Listing
 pub mod Settles
+pub mod Refusals
 pub mod Makes
 pub mod Checks

@@ -4,10 +4,11 @@
 -- same order."
 -- Assumes nothing.
 use Prim.Native.Nat.{ℕ, _^_, _≤_, _<_}
-use mathlib.Core.Path.{_≡_, sym, ap, _∙_, subst, subst⁻¹}
+use mathlib.Core.Path.{_≡_, refl, sym, ap, _∙_, subst, subst⁻¹}
 use mathlib.Core.Logic.{_↔_}
-use mathlib.Core.List.{List}
+use mathlib.Core.List.{List, [], _∷_}
 use lib.ListN.{length}
+use Rattle.rules.specs.Lists.{any}
 use Rattle.rules.specs.Sheets.{Net, Table}
 use Rattle.rules.specs.Printed.{printedNet}
 use Rattle.rules.specs.Marks.{marksLength, storedMarks, noTreePlace}
@@ -18,7 +19,8 @@ use Rattle.trees.specs.Existence.{TreeExists, tree-exists, settled-net}
 use Rattle.trees.specs.Uniqueness.{table-is, table-at}
 use Rattle.demands.specs.Bounds.{levels-pos, inputs-several}
 use Rattle.readback.specs.ReadBack.{net-read-back, net-accepted, table-accepted}
-use Rattle.demands.specs.Settles.{sheetOf, Long, settled-written, settles, table-path, not-16}
+use Rattle.demands.specs.Settles.{sheetOf, Long, settled-written, settles, table-path}
+use Rattle.demands.specs.Refusals.{not-given, sheet-numbers}
 
 -- some gate list, whatever its wiring and digits, is a net of the table's levels and inputs and computes its inks
 abbrev pub HasTree : Table → Type 0
@@ -79,9 +81,10 @@ module _ (s : List ℕ) (t : Table) (reads : readTable s ≡ accepted t) where
   -- Making refuses the table with 16 exactly when no gate list, whatever its wiring and its tables, is a net that computes it, ..
   pub make-refuses : (cells marks output : List ℕ) → t .header .levels ^ t .header .inputs ≤ length cells → marksLength (t .header .inputs) ≤ length marks
       → ((place : ℕ) × (makeCall s cells marks output .answer ≡ refused 16 place)) ↔ (HasTree t → ⊥)
+  unfolding any
   make-refuses cells marks output cells-fit marks-fit =
       let marked = make-accepted s cells marks output t reads ∙ into-marked t cells marks output cells-fit marks-fit in (
-        λ r tree. not-16 (printedNet (settledNet t)) (written cells (t .inks)) (written marks (storedMarks (marksOfTable t))) output (r .0)
+        λ r tree. not-given (15 ∷ []) _ (sheet-numbers (15 ∷ []) refl (printedNet (settledNet t)) (written cells (t .inks)) (written marks (storedMarks (marksOfTable t))) output) 16 (r .0) refl
             (sym (ap (λ (made : Made). made .answer) (marked ∙ marked-tree t cells marks output (two-tree t kept .0 tree))) ∙ r .1),
         λ none. (noTreePlace (t .header .inputs) (marksOfTable t), ap (λ (made : Made). made .answer) (marked ∙ marked-16 t cells marks output (λ two. none (two-tree t kept .1 two)))),
       )

@@ -15,12 +15,9 @@ use Rattle.rules.specs.Limits.{levelsFit, cellsFit}
 use Rattle.rules.specs.Fields.{Read, read, turnedBack, Reader, then, _>>=_, give, Judged, good, bad, Judge, judged, run, past, separator, afterField, fieldOf, field, theWord, closed}
 use Rattle.rules.specs.Sheets.{Gate, levelsField, inputsOf, inputsField, isName, nameField, nameFields, headerLines, referenceOf, referenceField, digitsField, usedBy, gateLine, gateLines, netSheet, levelsAt, levelField, inkField, levelFields, rowLines, tableSheet}
 use Rattle.rules.specs.Calls.{Answer, refused, answered, readNet, readTable}
+use Rattle.laws.specs.Distinct.{In}
 use Rattle.readback.specs.Spells.{not-read}
 use Rattle.readback.specs.Fields.{not-good}
-
--- the number is one of those listed
-unfoldable pub OneOf : List ℕ → ℕ → Type 0
-OneOf numbers number = any (eqb number) numbers ≡ true
 
 abbrev pub netNumbers : List ℕ
 netNumbers = 1 ∷ 2 ∷ 3 ∷ 4 ∷ 6 ∷ 7 ∷ 8 ∷ []
@@ -29,22 +26,22 @@ abbrev pub tableNumbers : List ℕ
 tableNumbers = 1 ∷ 2 ∷ 3 ∷ 4 ∷ 5 ∷ 6 ∷ []
 
 -- The numbers that both kinds of sheet have are the section's; 7 and 8 are a net sheet's, and 5 a table sheet's.
-module _ (numbers : List ℕ) (one : OneOf numbers 1) (two : OneOf numbers 2) (three : OneOf numbers 3) (four : OneOf numbers 4) (six : OneOf numbers 6) where
+module _ (numbers : List ℕ) (one : In 1 numbers) (two : In 2 numbers) (three : In 3 numbers) (four : In 4 numbers) (six : In 6 numbers) where
   -- every number with which a judge, or a reader, turns back is one of `numbers`
   abbrev AmongJudge : {A : Type 0} → Judge A → Type 0
-  AmongJudge judge = (w : List ℕ) (k : ℕ) → judge w ≡ bad k → OneOf numbers k
+  AmongJudge judge = (w : List ℕ) (k : ℕ) → judge w ≡ bad k → In k numbers
 
   abbrev Among : {A : Type 0} → Reader A → Type 0
-  Among r = (s : List ℕ) (at k place : ℕ) → r s at ≡ turnedBack k place → OneOf numbers k
+  Among r = (s : List ℕ) (at k place : ℕ) → r s at ≡ turnedBack k place → In k numbers
 
   -- a number that is named
-  named-bad : {A : Type 0} (number k : ℕ) → OneOf numbers number → _≡_ {A = Judged A} (bad number) (bad k) → OneOf numbers k
-  named-bad number k h e = subst (OneOf numbers) (let z : number ≡ k = cc in z) h
+  named-bad : {A : Type 0} (number k : ℕ) → In number numbers → _≡_ {A = Judged A} (bad number) (bad k) → In k numbers
+  named-bad number k h e = subst (λ (k : ℕ). In k numbers) (let z : number ≡ k = cc in z) h
 
-  named-turned : {A : Type 0} (number at k place : ℕ) → OneOf numbers number → _≡_ {A = Read A} (turnedBack number at) (turnedBack k place) → OneOf numbers k
-  named-turned number at k place h e = subst (OneOf numbers) (let z : number ≡ k = cc in z) h
+  named-turned : {A : Type 0} (number at k place : ℕ) → In number numbers → _≡_ {A = Read A} (turnedBack number at) (turnedBack k place) → In k numbers
+  named-turned number at k place h e = subst (λ (k : ℕ). In k numbers) (let z : number ≡ k = cc in z) h
 
-  test-bad : {A : Type 0} (t : Bool) (a : A) (number k : ℕ) → OneOf numbers number → judged t a number ≡ bad k → OneOf numbers k
+  test-bad : {A : Type 0} (t : Bool) (a : A) (number k : ℕ) → In number numbers → judged t a number ≡ bad k → In k numbers
   test-bad true a number k h e = absurd (not-good k a (sym e))
   test-bad false a number k h e = named-bad number k h e
 
@@ -57,16 +54,16 @@ module _ (numbers : List ℕ) (one : OneOf numbers 1) (two : OneOf numbers 2) (t
   unfolding then
   among-then {A} r next h i s at k place e = go (r s at) refl e
     where
-      go : (u : Read A) → r s at ≡ u → then u next ≡ turnedBack k place → OneOf numbers k
+      go : (u : Read A) → r s at ≡ u → then u next ≡ turnedBack k place → In k numbers
       go (read a rest p) d e = i a rest p k place e
       go (turnedBack number p) d e = named-turned number p k place (h s at number p d) e
 
-  among-separator : {A : Type 0} (a : A) (due : ℕ) (s : List ℕ) (at k place : ℕ) → separator a due s at ≡ turnedBack k place → OneOf numbers k
+  among-separator : {A : Type 0} (a : A) (due : ℕ) (s : List ℕ) (at k place : ℕ) → separator a due s at ≡ turnedBack k place → In k numbers
   unfolding separator
   among-separator a due [] at k place e = named-turned 1 at k place one e
   among-separator {A} a due (b ∷ s) at k place e = go (eqb b due) e
     where
-      go : (t : Bool) → _≡_ {A = Read A} (elim t [ true ↦ read a s (suc at) | false ↦ turnedBack 1 at ]) (turnedBack k place) → OneOf numbers k
+      go : (t : Bool) → _≡_ {A = Read A} (elim t [ true ↦ read a s (suc at) | false ↦ turnedBack 1 at ]) (turnedBack k place) → In k numbers
       go true e = absurd (not-read k place a s (suc at) (sym e))
       go false e = named-turned 1 at k place one e
 
@@ -74,11 +71,11 @@ module _ (numbers : List ℕ) (one : OneOf numbers 1) (two : OneOf numbers 2) (t
   unfolding field fieldOf afterField
   among-field {A} judge due h s at k place e = go (run s) e
     where
-      judged-field : (w : List ℕ) (u : Judged A) → judge w ≡ u → (end : ℕ) → afterField u due (past s) at end ≡ turnedBack k place → OneOf numbers k
+      judged-field : (w : List ℕ) (u : Judged A) → judge w ≡ u → (end : ℕ) → afterField u due (past s) at end ≡ turnedBack k place → In k numbers
       judged-field w (good a) d end e = among-separator a due (past s) end k place e
       judged-field w (bad number) d end e = named-turned number at k place (h w number d) e
 
-      go : (w : List ℕ) → fieldOf judge due w (past s) at ≡ turnedBack k place → OneOf numbers k
+      go : (w : List ℕ) → fieldOf judge due w (past s) at ≡ turnedBack k place → In k numbers
       go [] e = named-turned 1 at k place one e
       go (b ∷ w) e = judged-field (b ∷ w) (judge (b ∷ w)) refl _ e
 
@@ -98,7 +95,7 @@ module _ (numbers : List ℕ) (one : OneOf numbers 1) (two : OneOf numbers 2) (t
   unfolding inputsField
   among-inputs m w k e = go (inputsOf w) e
     where
-      go : (o : Option ℕ) → _≡_ {A = Judged ℕ} (elim o [ none ↦ bad 3 | some n ↦ judged (cellsFit m n) n 3 ]) (bad k) → OneOf numbers k
+      go : (o : Option ℕ) → _≡_ {A = Judged ℕ} (elim o [ none ↦ bad 3 | some n ↦ judged (cellsFit m n) n 3 ]) (bad k) → In k numbers
       go none e = named-bad 3 k three e
       go (some n) e = test-bad (cellsFit m n) n 3 k three e
 
@@ -106,11 +103,11 @@ module _ (numbers : List ℕ) (one : OneOf numbers 1) (two : OneOf numbers 2) (t
   unfolding nameField
   among-name earlier w k e = test-bad (isName w && not (any (same w) earlier)) w 4 k four e
 
-  among-reference : OneOf numbers 7 → OneOf numbers 8 → (names : List (List ℕ)) (earlier : ℕ) (used : List ℕ) → AmongJudge (referenceField names earlier used)
+  among-reference : In 7 numbers → In 8 numbers → (names : List (List ℕ)) (earlier : ℕ) (used : List ℕ) → AmongJudge (referenceField names earlier used)
   unfolding referenceField
   among-reference seven eight names earlier used w k e = go (referenceOf names earlier w) e
     where
-      go : (o : Option ℕ) → _≡_ {A = Judged ℕ} (elim o [ none ↦ bad 7 | some r ↦ judged (not (any (eqb r) used)) r 8 ]) (bad k) → OneOf numbers k
+      go : (o : Option ℕ) → _≡_ {A = Judged ℕ} (elim o [ none ↦ bad 7 | some r ↦ judged (not (any (eqb r) used)) r 8 ]) (bad k) → In k numbers
       go none e = named-bad 7 k seven e
       go (some r) e = test-bad (not (any (eqb r) used)) r 8 k eight e
 
@@ -118,7 +115,7 @@ module _ (numbers : List ℕ) (one : OneOf numbers 1) (two : OneOf numbers 2) (t
   unfolding digitsField
   among-digits m w k e = test-bad (eqb (length w) (m * m) && all (isDigit m) w) (map (λ b. b - 48) w) 6 k six e
 
-  among-level : OneOf numbers 5 → (due : ℕ) → AmongJudge (levelField due)
+  among-level : In 5 numbers → (due : ℕ) → AmongJudge (levelField due)
   unfolding levelField
   among-level five due w k e = test-bad (same w (digitByte due ∷ [])) tt 5 k five e
 
@@ -151,19 +148,19 @@ module _ (numbers : List ℕ) (one : OneOf numbers 1) (two : OneOf numbers 2) (t
       among-then _ _ (among-field (inputsField m) newline (among-inputs m)) (λ n.
       among-then _ _ (among-names last n []) (λ names. among-give _)))))
 
-  among-gate : OneOf numbers 7 → OneOf numbers 8 → (m : ℕ) (names : List (List ℕ)) (earlier : List Gate) → Among (gateLine m names earlier)
+  among-gate : In 7 numbers → In 8 numbers → (m : ℕ) (names : List (List ℕ)) (earlier : List Gate) → Among (gateLine m names earlier)
   unfolding gateLine
   among-gate seven eight m names earlier =
       among-then _ _ (among-field _ space (among-reference seven eight names (length earlier) (usedBy earlier))) (λ left.
       among-then _ _ (among-field _ space (among-reference seven eight names (length earlier) (left ∷ usedBy earlier))) (λ right.
       among-then _ _ (among-field (digitsField m) newline (among-digits m)) (λ digits. among-give _)))
 
-  among-gates : OneOf numbers 7 → OneOf numbers 8 → (m : ℕ) (names : List (List ℕ)) (count : ℕ) (earlier : List Gate) → Among (gateLines m names count earlier)
+  among-gates : In 7 numbers → In 8 numbers → (m : ℕ) (names : List (List ℕ)) (count : ℕ) (earlier : List Gate) → Among (gateLines m names count earlier)
   unfolding gateLines
   among-gates seven eight m names zero earlier = among-give earlier
   among-gates seven eight m names (suc count) earlier = among-then _ _ (among-gate seven eight m names earlier) (λ g. among-gates seven eight m names count (earlier ++ (g ∷ [])))
 
-  among-net : OneOf numbers 7 → OneOf numbers 8 → Among netSheet
+  among-net : In 7 numbers → In 8 numbers → Among netSheet
   unfolding netSheet
   among-net seven eight =
       among-then _ _ (among-header newline) (λ h.
@@ -173,19 +170,19 @@ module _ (numbers : List ℕ) (one : OneOf numbers 1) (two : OneOf numbers 2) (t
       among-then _ _ (among-gates seven eight (h .levels) (h .names) (h .inputs - 1) []) (λ gates.
       among-then _ _ among-closed (λ _. among-give _))))))
 
-  among-row : OneOf numbers 5 → (levels : List ℕ) → Among (levelFields levels)
+  among-row : In 5 numbers → (levels : List ℕ) → Among (levelFields levels)
   unfolding levelFields
   among-row five [] = among-give tt
   among-row five (l ∷ ls) = among-then _ _ (among-field (levelField l) space (among-level five l)) (λ _. among-row five ls)
 
-  among-rows : OneOf numbers 5 → (m n p count : ℕ) (inks : List ℕ) → Among (rowLines m n p count inks)
+  among-rows : In 5 numbers → (m n p count : ℕ) (inks : List ℕ) → Among (rowLines m n p count inks)
   unfolding rowLines
   among-rows five m n p zero inks = among-give inks
   among-rows five m n p (suc count) inks =
       among-then _ _ (among-row five (levelsAt m n p)) (λ _.
       among-then _ _ (among-field (inkField m) newline (among-ink m)) (λ ink. among-rows five m n (suc p) count (inks ++ (ink ∷ []))))
 
-  among-table : OneOf numbers 5 → Among tableSheet
+  among-table : In 5 numbers → Among tableSheet
   unfolding tableSheet
   among-table five =
       among-then _ _ (among-header space) (λ h.
@@ -197,21 +194,21 @@ module _ (numbers : List ℕ) (one : OneOf numbers 1) (two : OneOf numbers 2) (t
 
 -- every number with which a call refuses is one of `numbers`
 abbrev pub Refuses : List ℕ → {A : Type 0} → (List ℕ → Answer A) → Type 0
-Refuses numbers call = (s : List ℕ) (number place : ℕ) → call s ≡ refused number place → OneOf numbers number
+Refuses numbers call = (s : List ℕ) (number place : ℕ) → call s ≡ refused number place → In number numbers
 
-among-answer : {A : Type 0} (numbers : List ℕ) (r : Reader A) → ((s : List ℕ) (at k place : ℕ) → r s at ≡ turnedBack k place → OneOf numbers k)
+among-answer : {A : Type 0} (numbers : List ℕ) (r : Reader A) → ((s : List ℕ) (at k place : ℕ) → r s at ≡ turnedBack k place → In k numbers)
     → Refuses numbers (λ s. answered (r s 0))
 unfolding answered
 among-answer {A} numbers r h s number place e = go (r s 0) refl e
   where
-    go : (u : Read A) → r s 0 ≡ u → answered u ≡ refused number place → OneOf numbers number
+    go : (u : Read A) → r s 0 ≡ u → answered u ≡ refused number place → In number numbers
     go (read a rest p) d e = absurd (let z : _≡_ {A = ℕ} 0 1 = cc in omega arith)
-    go (turnedBack k p) d e = subst (OneOf numbers) (let same : k ≡ number = cc in same) (h s 0 k p d)
+    go (turnedBack k p) d e = subst (λ (k : ℕ). In k numbers) (let same : k ≡ number = cc in same) (h s 0 k p d)
 
 pub net-refusal : Refuses netNumbers readNet
-unfolding readNet OneOf any
+unfolding readNet any
 net-refusal = among-answer netNumbers netSheet (among-net netNumbers refl refl refl refl refl refl refl)
 
 pub table-refusal : Refuses tableNumbers readTable
-unfolding readTable OneOf any
+unfolding readTable any
 table-refusal = among-answer tableNumbers tableSheet (among-table tableNumbers refl refl refl refl refl refl)
