@@ -80,7 +80,7 @@ refuses : {A : Type 0} (numbers : List ℕ) (k at : ℕ) → In k numbers → Gi
 refuses numbers k at h number place e = subst (λ (k : ℕ). In k numbers) (let z : k ≡ number = cc in z) h
 
 -- what holds in both arms of a test
-by-test : {X : Type 0} (P : X → Type 0) (t : Bool) (a b : X) → P a → P b → P (elim t [ true ↦ a | false ↦ b ])
+pub by-test : {X : Type 0} (P : X → Type 0) (t : Bool) (a b : X) → P a → P b → P (elim t [ true ↦ a | false ↦ b ])
 by-test P true a b h k = h
 by-test P false a b h k = k
 
