@@ -8,3 +8,4 @@ pub mod Settles
 pub mod Refusals
 pub mod Makes
 pub mod Checks
+pub mod Programs

@@ -5,7 +5,7 @@
 -- Assumes nothing.
 use Prim.Native.Nat.{ℕ, _^_, _≤_, _<_}
 use mathlib.Core.Path.{_≡_, refl, sym, ap, _∙_, subst, subst⁻¹}
-use mathlib.Core.Logic.{_↔_, _⊎_, inl, inr}
+use mathlib.Core.Logic.{_↔_}
 use mathlib.Core.List.{List, [], _∷_}
 use native.Mathlib.Decide.{ℕ-discrete}
 use native.Mathlib.Omega.{arith}
@@ -111,6 +111,11 @@ into-accepted t cells marks output sheet =
         (by-test Wrote (ltb (length output) (length (printedNet (settledNet t)))) _ _ (λ e. absurd (no-sheet 15 _ sheet e))
         (λ e. (two, sym (written-front output (printedNet (settledNet t))) ∙ same-sheet _ sheet e)))
 
+-- the two ways in which making ends on an accepted table sheet with long buffers
+pub data Making (t : Table) (made : Made) : Type 0 where
+  no-tree : (HasTree t → ⊥) → made .answer ≡ refused 16 (noTreePlace (t .header .inputs) (marksOfTable t)) → Making t made
+  some-tree : HasTree t → sheetOf made ≡ accepted (printedNet (settledNet t)) → Making t made
+
 -- ---- the demand
 
 module _ (s : List ℕ) (t : Table) (reads : readTable s ≡ accepted t) where
@@ -159,24 +164,18 @@ module _ (s : List ℕ) (t : Table) (reads : readTable s ≡ accepted t) where
       ∙ ap (λ (u : Table). accepted (printedNet (settledNet u))) (sym same)
       ∙ sym (settles r net reads-net cells' marks' output' long')
 
-  -- Where the output has room for the settled sheet if there is a tree, making comes to one of the two: there is no tree, and it refuses
-  -- with 16 at its place, or there is one, and it writes the settled sheet.
+  -- So making comes to one of the two, where the output has room for the settled sheet if there is one.
   pub make-either : (cells marks output : List ℕ) → t .header .levels ^ t .header .inputs ≤ length cells → marksLength (t .header .inputs) ≤ length marks
-      → (HasTree t → length (printedNet (settledNet t)) ≤ length output)
-      → ((HasTree t → ⊥) × (makeCall s cells marks output .answer ≡ refused 16 (noTreePlace (t .header .inputs) (marksOfTable t))))
-      ⊎ (HasTree t × (sheetOf (makeCall s cells marks output) ≡ accepted (printedNet (settledNet t))))
+      → (HasTree t → length (printedNet (settledNet t)) ≤ length output) → Making t (makeCall s cells marks output)
   make-either cells marks output cells-fit marks-fit output-fits = go (ℕ-discrete _ 2)
     where
-      go : Dec (WholeTwo t)
-          → ((HasTree t → ⊥) × (makeCall s cells marks output .answer ≡ refused 16 (noTreePlace (t .header .inputs) (marksOfTable t))))
-          ⊎ (HasTree t × (sheetOf (makeCall s cells marks output) ≡ accepted (printedNet (settledNet t))))
-      go (no other) = inl (
-        λ tree. other (two-tree t kept .0 tree),
-        ap (λ (made : Made). made .answer) (make-accepted s cells marks output t reads ∙ into-marked t cells marks output cells-fit marks-fit ∙ marked-16 t cells marks output other),
-      )
+      go : Dec (WholeTwo t) → Making t (makeCall s cells marks output)
+      go (no other) =
+          no-tree (λ tree. other (two-tree t kept .0 tree))
+          (ap (λ (made : Made). made .answer) (make-accepted s cells marks output t reads ∙ into-marked t cells marks output cells-fit marks-fit ∙ marked-16 t cells marks output other))
       go (yes two) =
           let tree = two-tree t kept .1 two in
-          inr (tree, makes cells marks output tree (record { cells-fit = cells-fit; marks-fit = marks-fit; output-fits = output-fits tree }))
+          some-tree tree (makes cells marks output tree (record { cells-fit = cells-fit; marks-fit = marks-fit; output-fits = output-fits tree }))
 
   -- The sheet that making leaves in the output, whatever the buffers, is a net that has exactly that table.
   pub made-sheet : (cells marks output sheet : List ℕ) → sheetOf (makeCall s cells marks output) ≡ accepted sheet

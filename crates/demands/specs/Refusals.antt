@@ -56,7 +56,7 @@ abbrev pub TurnsDown : Verdict → Type 0
 TurnsDown verdict = (named : Named) (number place : ℕ) → verdict ≡ turnedDown named number place → In number (checkNumbers named)
 
 -- a number of a list is one of every list that has all of it
-wider : (fewer more : List ℕ) → all (λ k. any (eqb k) more) fewer ≡ true → (number : ℕ) → In number fewer → In number more
+pub wider : (fewer more : List ℕ) → all (λ k. any (eqb k) more) fewer ≡ true → (number : ℕ) → In number fewer → In number more
 unfolding any
 wider [] more h number i = absurd (true≢false (sym i))
 wider (k ∷ fewer) more h number i =
@@ -76,7 +76,7 @@ not-given numbers a gives number place h e = true≢false (sym (gives number pla
 accepts : {A : Type 0} (numbers : List ℕ) (a : A) → Gives numbers (accepted a)
 accepts numbers a number place e = absurd (let z : _≡_ {A = ℕ} 0 1 = cc in omega arith)
 
-refuses : {A : Type 0} (numbers : List ℕ) (k at : ℕ) → In k numbers → Gives {A = A} numbers (refused k at)
+pub refuses : {A : Type 0} (numbers : List ℕ) (k at : ℕ) → In k numbers → Gives {A = A} numbers (refused k at)
 refuses numbers k at h number place e = subst (λ (k : ℕ). In k numbers) (let z : k ≡ number = cc in z) h
 
 -- what holds in both arms of a test
