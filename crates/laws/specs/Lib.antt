@@ -10,6 +10,8 @@ pub mod Pigeonhole
 pub mod Places
 pub mod Ranges
 pub mod Rows
+pub mod Runs
 pub mod Same
 pub mod Sizes
 pub mod Tests
+pub mod Walks

@@ -1,6 +1,6 @@
 -- Laws of `range`.
 -- Assumes nothing.
-use Prim.Native.Nat.{ℕ, zero, suc, _+_, _≤_, _<_}
+use Prim.Native.Nat.{ℕ, zero, suc, _+_, _-_, _≤_, _<_}
 use mathlib.Core.Path.{_≡_, refl, sym, ap, _∙_}
 use mathlib.Core.Logic.{_⊎_, inl, inr}
 use mathlib.Core.List.{List, [], _∷_, _++_, map, List·Memᴰ, List·Memᴰ·head, List·Memᴰ·tail, List·Memᴰ·cases-cons, List·Memᴰ·not-nil}
@@ -34,6 +34,16 @@ pub range-shift : (from count : ℕ) → range (suc from) count ≡ map suc (ran
 unfolding range
 range-shift from zero = refl
 range-shift from (suc count) = ap {B = List ℕ} (λ r. suc from ∷ r) (range-shift (suc from) count)
+
+-- a range by its ends: its first number and the rest, ..
+pub range-next : (i end : ℕ) → i < end → range i (end - i) ≡ i ∷ range (i + 1) (end - (i + 1))
+unfolding range
+range-next i end h = let counted : end - i ≡ suc (end - (i + 1)) = omega arith in rw (counted, add-one)
+
+-- .. or nothing
+pub range-none : (i end : ℕ) → end ≤ i → range i (end - i) ≡ []
+unfolding range
+range-none i end h = let none-left : end - i ≡ 0 = omega arith in rw none-left
 
 -- numbers moved up
 pub map-range : (a from count : ℕ) → map (λ l. a + l) (range from count) ≡ range (a + from) count
