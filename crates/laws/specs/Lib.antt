@@ -6,6 +6,7 @@ pub mod Finds
 pub mod FirstPlaces
 pub mod Levels
 pub mod Outcomes
+pub mod Pastes
 pub mod Pigeonhole
 pub mod Places
 pub mod Ranges
