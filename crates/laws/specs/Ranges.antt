@@ -1,6 +1,6 @@
 -- Laws of `range`.
 -- Assumes nothing.
-use Prim.Native.Nat.{ℕ, zero, suc, _+_, _≤_, _<_}
+use Prim.Native.Nat.{ℕ, zero, suc, _+_, _-_, _≤_, _<_}
 use mathlib.Core.Path.{_≡_, refl, sym, ap, _∙_}
 use mathlib.Core.Logic.{_⊎_, inl, inr}
 use mathlib.Core.List.{List, [], _∷_, _++_, map, List·Memᴰ, List·Memᴰ·head, List·Memᴰ·tail, List·Memᴰ·cases-cons, List·Memᴰ·not-nil}
@@ -29,6 +29,13 @@ range-append from (suc j) k = rw (suc-add, range-append (suc from) j k, suc-add,
 pub range-suc : (from count : ℕ) → range from (suc count) ≡ range from count ++ ((from + count) ∷ [])
 unfolding range
 range-suc from count = ap (range from) (sym (add-one count)) ∙ range-append from count 1
+
+-- the numbers from i up to n, the first of them taken off
+pub range-next : (i n : ℕ) → i < n → range i (n - i) ≡ i ∷ range (i + 1) (n - (i + 1))
+unfolding range
+range-next i n h =
+    let e : n - i ≡ suc (n - (i + 1)) = omega arith in
+    rw (e, ← add-one i)
 
 pub range-shift : (from count : ℕ) → range (suc from) count ≡ map suc (range from count)
 unfolding range
