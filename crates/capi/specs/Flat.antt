@@ -1,7 +1,7 @@
 -- An answer as two numbers, as the calls for C and Rust give it.
 -- Assumes nothing.
 use Prim.Native.Nat.{ℕ}
-use mathlib.Core.Path.{_≡_}
+use mathlib.Core.Path.{_≡_, ap, _∙_}
 use mathlib.Core.List.{List}
 use Rattle.rules.specs.Calls.{Answer, accepted, refused, Marked, Made, Written, Checked, Named, netNamed, tableNamed, neither, Verdict, agree, differ, turnedDown}
 use Rattle.rules.specs.Lister.{Turn, gateAt, noneLeft}
@@ -31,6 +31,16 @@ pub record FlatMade (made : Made) (r : SitgurpAnswer) (cells marks output : List
   pub cells-then : cells ≡ made .cells
   pub marks-then : marks ≡ made .marks
   pub output-then : output ≡ made .output
+
+pub flat-made : {made : Made} {answer : Answer ℕ} {r : SitgurpAnswer} {cells marks output : List ℕ} → record { answer = answer; cells = cells; marks = marks; output = output } ≡ made
+    → r ≡ flatOf answer → FlatMade made r cells marks output
+flat-made did e =
+    record {
+      answer = e ∙ ap (λ (m : Made). flatOf (m .answer)) did;
+      cells-then = ap (λ (m : Made). m .cells) did;
+      marks-then = ap (λ (m : Made). m .marks) did;
+      output-then = ap (λ (m : Made). m .output) did;
+    }
 
 -- what table writing answers, and its output
 pub record FlatWritten (written : Written) (r : SitgurpAnswer) (output : List ℕ) : Type 0 where

@@ -4,10 +4,10 @@ ghost use Rattle.rules.specs.Calls.{multiplicityCall, markingCall, settleCall, 
 ghost use Rattle.groups.specs.Answers.{answerOf};
 ghost use Rattle.rules.specs.Lister.{listing};
 ghost use Rattle.lister.specs.Calls.{listedAs};
-ghost use Rattle.checking.specs.Answers.{namedOf, verdictOf};
+ghost use Rattle.comparing.specs.Answers.{namedOf, verdictOf};
 ghost use Rattle.capi.specs.Flat.{flatOf, flatTurn, flatNamed, flatVerdict, FlatMarked, FlatMade, FlatWritten, FlatChecked};
-use checking::verdict::Named;
-use checking::verdict::Verdict;
+use comparing::verdict::Named;
+use comparing::verdict::Verdict;
 use groups::call::Answer;
 use lister::calls::Listed;
 use lister::turns::Turn;
@@ -135,7 +135,7 @@ pub extern "C" fn sitgurp_make(
 pub extern "C" fn sitgurp_write_table(sheet: &[u8], out: &mut [u8]) -> SitgurpAnswer
     ensures { λ r. ⌜ FlatWritten (writeTableCall (now (sheet .entry)) (now (out .entry))) r (now (out .exit)) ⌝ }
 {
-    flat(checking::write::write_table(sheet, out))
+    flat(writing::write::write_table(sheet, out))
 }
 
 // Kind 0: they agree. Kind 1: they differ, first at index `value`. Kind 2: refused with `number` at place `value`, which names the

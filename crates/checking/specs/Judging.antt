@@ -4,22 +4,20 @@ use Prim.Native.Nat.{ℕ, _-_, _^_, _≤_, _<_}
 use mathlib.Core.Path.{_≡_, sym, ap, ap₂, _∙_, subst⁻¹}
 use mathlib.Core.Bool.{true, false, _&&_, and-eq-true-iff}
 use mathlib.Core.List.{List}
-use native.Mathlib.Nat.{sub-zero}
 use native.Mathlib.Omega.{arith}
 use lib.Dec.{eqb}
 use lib.ListN.{length, take, length-take}
 use borrow.Author.Tests.{eqb-true}
 use Rattle.rules.specs.Calls.{Checked, turnedDown, neither, sameNames, sameHeader, checkedInto, checkCall}
 use Rattle.laws.specs.Outcomes.{check-accepted, check-12, check-13, check-compared}
-use Rattle.readback.specs.ReadBack.{table-accepted}
 use Rattle.nets.specs.declared.forms.Header.{Header}
 use Rattle.nets.specs.declared.forms.Net.{Net}
 use Rattle.nets.specs.Forms.{headerOf}
 use Rattle.nets.specs.Evaluating.{Tabled}
 use Rattle.tables.specs.Answers.{inksIn, tableIn}
-use Rattle.printing.specs.Gates.{netIn}
-use Rattle.checking.specs.Answers.{comparedInto}
-use Rattle.checking.specs.Taken.{NetTaken, TableTaken, front}
+use Rattle.lines.specs.Names.{netIn}
+use Rattle.comparing.specs.Answers.{comparedInto}
+use Rattle.accepted.specs.Taken.{NetTaken, TableTaken, front, inks-front, inks-given}
 
 -- sheets with the same header have as many cells
 same-cells : (s : List ℕ) (h : Header) (t : List ℕ) (k : Header) → sameHeader (headerOf s h) (headerOf t k) ≡ true
@@ -43,10 +41,7 @@ module _ (s : List ℕ) (h : Header) (net : Net) (taken : NetTaken s h net) (t :
 
     inks-length : length (inksIn inks k) ≡ count
     unfolding headerOf
-    inks-length = table-accepted t (tableIn t inks k) (other .reads) .1 .count ∙ sym count-is
-
-    front-inks : take (count - 0) inks ≡ inksIn inks k
-    front-inks = ap (λ (n : ℕ). take n inks) (sub-zero count ∙ count-is)
+    inks-length = ap length (sym (inks-front t k inks other count count-is)) ∙ inks-given t k inks other count count-is .kept .count ∙ sym count-is
 
     -- the buffer holds all inks
     pub inks-long : count ≤ length inks
@@ -61,5 +56,5 @@ module _ (s : List ℕ) (h : Header) (net : Net) (taken : NetTaken s h net) (t :
         → r ≡ comparedInto (take (count - 0) after) (take (count - 0) inks) cells → r ≡ checkCall s t cells
     cells-long long before after all did r e =
         let fits : length (inksIn inks k) ≤ length cells = omega (arith, inks-length) in
-        e ∙ ap₂ (λ (xs ys : List ℕ). comparedInto xs ys cells) (front s h net taken before after all count did is) front-inks
+        e ∙ ap₂ (λ (xs ys : List ℕ). comparedInto xs ys cells) (front s h net taken before after all count did is) (inks-front t k inks other count count-is)
         ∙ sym (both-accepted ∙ check-compared (netIn s h net) (tableIn t inks k) cells same fits)

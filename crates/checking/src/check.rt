@@ -1,12 +1,12 @@
 // The check call: a net sheet against a table sheet.
 ghost use mathlib.Core.Path.{_≡_};
 ghost use Rattle.rules.specs.Calls.{checkCall};
-ghost use Rattle.checking.specs.Answers.{checkedOf};
-ghost use Rattle.checking.specs.Taken.{NetTaken, TableTaken};
+ghost use Rattle.comparing.specs.Answers.{checkedOf};
+ghost use Rattle.accepted.specs.Taken.{NetTaken, TableTaken};
 use crate::headers::same_header;
-use crate::verdict::Named;
-use crate::verdict::Verdict;
-use crate::verdict::compare_into;
+use comparing::verdict::Named;
+use comparing::verdict::Verdict;
+use comparing::verdict::compare_into;
 use fields::steps::Outcome;
 use nets::forms::Header;
 use nets::forms::Net;

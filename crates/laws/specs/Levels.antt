@@ -5,9 +5,11 @@ use mathlib.Core.Path.{_≡_, refl, sym, ap, _∙_}
 use mathlib.Core.Bool.{Bool, true, false, cond, _&&_, and-false}
 use mathlib.Core.List.{List, [], _∷_, _++_}
 use native.Mathlib.Nat.{pow-zero, pow-succ', div-one, div-div-eq-div-mul, div-add-mod', mod-lt, suc-mul, zero-div, zero-mod, zero-add}
+use native.Mathlib.Numerals.{add-one}
 use native.Mathlib.Omega.{arith}
 use native.Mathlib.Decide.{decLe}
-use lib.ListN.{length, getD, take, replicate}
+use lib.ListN.{length, getD, take, drop, replicate, length-append, length-drop}
+use lib.Seq.{take-at}
 use lib.Dec.{leb}
 use lib.Arith.{digits-div, digits-mod}
 use borrow.Author.Tests.{le-leb, lt-leb}
@@ -119,3 +121,15 @@ levels-next m (suc n) p pos = rw (levels-suc m n p, levels-suc m n (suc p)) (go 
         → levelsAt m n (suc p / m) ++ (suc p % m ∷ []) ≡ nextLevels m (levelsAt m n (p / m) ++ (p % m ∷ []))
     go (yes t) ih = rw (next-turn m (levelsAt m n (p / m)) (p % m) t, ← ih, step-turn m p pos t .0, step-turn m p pos t .1)
     go (no t) ih = let u : p % m + 1 < m = omega arith in rw (next-up m (levelsAt m n (p / m)) (p % m) u, step-up m p u .0, step-up m p u .1)
+
+-- levels at the front of a list, taken to those of the next index
+module _ (m n p : ℕ) (pos : 0 < m) (before after : List ℕ) (front : take n before ≡ levelsAt m n p)
+    (step : after ≡ nextLevels m (take n before) ++ drop n before) where
+  pub front-next : take n after ≡ levelsAt m n (p + 1)
+  front-next =
+      rw (step, front, take-at (nextLevels m (levelsAt m n p)) (drop n before) n (next-length m _ ∙ levels-length m n p), add-one)
+      (sym (levels-next m n p pos))
+
+  pub front-kept : n ≤ length before → length after ≡ length before
+  front-kept fits =
+      rw (step, front) (simp (length-append, length-drop, next-length, levels-length) (omega arith))

@@ -1,6 +1,7 @@
 pub mod Bounds
 pub mod Concat
 pub mod Counts
+pub mod Decimals
 pub mod Distinct
 pub mod Finds
 pub mod FirstPlaces

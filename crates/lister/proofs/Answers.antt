@@ -19,7 +19,7 @@ use Rattle.lister.specs.Turns.{turnAt, isNone, partIn, turnThen, Says}
 use Rattle.lister.specs.declared.turns.Turn.the-variants.{Line, NoneLeft}
 use Rattle.lister.proofs.Steps.{line-within, stays}
 
-pub turn-stands : (s : List ℕ) (net : Net) (k : ℕ) → readNet s ≡ accepted net → turnAt s (standsAt s k) ≡ turnOf s net k
+turn-stands : (s : List ℕ) (net : Net) (k : ℕ) → readNet s ≡ accepted net → turnAt s (standsAt s k) ≡ turnOf s net k
 unfolding turnAt lineStart turnOf lineAt
 turn-stands s net k reads = go (decLt k (length (net .gates)))
   where

@@ -31,12 +31,12 @@ same-refused m p n q e = let i : m ≡ n = cc in let j : p ≡ q = cc in rw (i, 
 
 module _ (s : List ℕ) where
   -- an accepted sheet is opened where a lister starts, ..
-  pub open-accepted : (net : Net) (at : ℕ) → readNet s ≡ accepted net → at ≡ standsAt s 0 → openedAs (At at) ≡ opening s
+  open-accepted : (net : Net) (at : ℕ) → readNet s ≡ accepted net → at ≡ standsAt s 0 → openedAs (At at) ≡ opening s
   unfolding openedAs opening onward
   open-accepted net at r e = rw (r, opening) (ap accepted e)
 
   -- .. and any other is refused
-  pub open-refused : (number place : ℕ) → readNet s ≡ refused number place → openedAs (NotOpened number place) ≡ opening s
+  open-refused : (number place : ℕ) → readNet s ≡ refused number place → openedAs (NotOpened number place) ≡ opening s
   unfolding openedAs opening onward
   open-refused number place r = rw (r, opening)
 
@@ -59,7 +59,7 @@ module _ (s : List ℕ) (o : Opened) (e : openedAs o ≡ opening s) where
       go (refused number place) r = absurd (differ _ _ _ (ap openedAs (sym d) ∙ e ∙ sym (open-refused s number place r)))
 
   -- the refusal of one that was not opened is the sheet's
-  pub not-opened : (number place : ℕ) → o ≡ NotOpened number place → readNet s ≡ refused number place
+  not-opened : (number place : ℕ) → o ≡ NotOpened number place → readNet s ≡ refused number place
   unfolding openedAs
   not-opened number place d = go (readNet s) refl
     where

@@ -1,27 +1,28 @@
 -- A net's gates: what printing them asks, and the lines that they make.
 -- Assumes nothing.
 use Prim.Native.Nat.{ℕ, _+_, _-_, _*_, _≤_, _<_}
-use mathlib.Core.Path.{_≡_, ap}
+use mathlib.Core.Path.{_≡_, ap, _∙_}
 use mathlib.Core.List.{List, [], _∷_, _++_, map, append-assoc}
-use native.Mathlib.Nat.{mul-le-mul-right, sub-zero}
+use native.Mathlib.Nat.{zero-add, mul-le-mul-right, sub-zero}
 use native.Mathlib.Omega.{arith}
+use borrow.Author.Tests.{lt-ltb, le-ltb}
 use lib.ListN.{length, getD, drop, length-take}
 use lib.Seq.{getD-take, getD-drop}
 use Rattle.rules.specs.Lists.{range, concatMap}
 use Rattle.rules.specs.Limits.{mostInputs}
 use Rattle.rules.specs.Text.{text, decimal}
 use Rattle.rules.specs.Printed.{line, firstLines, printedGate, printedNet}
-use Rattle.rules.specs.Sheets as sheets
+use Rattle.rules.specs.Sheets.{referenceText}
 use Rattle.nets.specs.declared.forms.Header.{Header}
 use Rattle.nets.specs.declared.forms.Net.{Net}
 use Rattle.nets.specs.Room.{mostDigits}
-use Rattle.nets.specs.Forms.{headerOf, gateOf, gatesOf}
-use Rattle.printing.specs.Lines.{range-next}
-use Rattle.printing.specs.Names.{namesIn}
+use Rattle.nets.specs.Forms.{nameIn, headerOf, gateOf, gatesOf}
+use Rattle.laws.specs.Ranges.{range-next, map-range-length, map-range-at}
+use Rattle.lines.specs.Names.{namesIn, netIn}
 
--- the net of the sheet's names and the form's gates
-abbrev pub netIn : List ℕ → Header → Net → sheets.Net
-netIn s h net = record { header = headerOf s h; gates = gatesOf net }
+-- what a reference is printed as
+abbrev pub referenceIn : List ℕ → Header → ℕ → List ℕ
+referenceIn s h r = referenceText (namesIn s h) r
 
 -- the line of the gate with k gates before it, and all gate lines
 abbrev pub gateLine : List ℕ → Header → Net → ℕ → List ℕ
@@ -74,3 +75,21 @@ pub net-parts : (s : List ℕ) (h : Header) (net : Net) → printedNet (netIn s 
     ++ (line (text "left" ∷ text "right" ∷ text "table" ∷ []) ++ concatMap (printedGate (headerOf s h .names)) (gatesOf net)))
 unfolding printedNet firstLines headerOf
 net-parts s h net = simp append-assoc
+
+module _ (s : List ℕ) (h : Header) where
+  names-length : length (namesIn s h) ≡ h .inputs
+  unfolding headerOf
+  names-length = map-range-length (nameIn s h) 0 (h .inputs)
+
+  -- a reference is printed as a name, or as a gate's number
+  pub reference-name : (r : ℕ) → r < h .inputs → referenceIn s h r ≡ nameIn s h r
+  unfolding referenceText headerOf
+  reference-name r l =
+      rw (names-length, lt-ltb r (h .inputs) l, referenceText)
+      (map-range-at (nameIn s h) 0 (h .inputs) r [] l ∙ ap (nameIn s h) (zero-add r))
+
+  pub reference-gate : (r : ℕ) → h .inputs ≤ r → referenceIn s h r ≡ decimal (r - h .inputs + 1)
+  unfolding referenceText
+  reference-gate r l =
+      let e : r + 1 - h .inputs ≡ r - h .inputs + 1 = omega arith in
+      rw (names-length, le-ltb r (h .inputs) l, referenceText, names-length) (ap decimal e)

@@ -1,42 +1,30 @@
--- A net or a table that keeps the rules of document 01 has what printing asks.
+-- A net that keeps the rules of document 01 has what printing asks.
 -- Assumes nothing.
 use Prim.Native.Nat.{ℕ, zero, suc, _-_, _*_, _/_, _%_, _<_}
 use mathlib.Core.Path.{_≡_, sym, ap, subst, _∙_}
 use mathlib.Core.List.{List, [], _∷_}
 use native.Mathlib.Nat.{zero-add, mul-zero, mod-lt, div-add-mod', div-lt-iff-lt-mul}
 use native.Mathlib.Omega.{arith}
-use lib.ListN.{length, getD, drop, length-map}
+use lib.ListN.{length, getD, drop}
 use lib.Seq.{getD-take, getD-drop}
-use Rattle.rules.specs.Lists.{range}
 use Rattle.rules.specs.Sheets as sheets
-use Rattle.rules.specs.Kept.{KeptNet, KeptTable, GateTable, Tables}
+use Rattle.rules.specs.Kept.{KeptNet, GateTable, Tables}
 use Rattle.nets.specs.declared.forms.Header.{Header}
 use Rattle.nets.specs.declared.forms.Net.{Net}
 use Rattle.nets.specs.Forms.{headerOf, gateOf, gatesOf}
+use Rattle.nets.specs.Sound.{gates-length}
 use Rattle.nets.specs.Room.{digits-room}
 use Rattle.laws.specs.Sizes.{levels-fit, inputs-fit, kept-fits}
-use Rattle.laws.specs.Ranges.{range-length, range-at}
-use Rattle.printing.specs.Maps.{getD-map}
-use Rattle.printing.specs.Names.{NamesInside}
-use Rattle.printing.specs.Gates.{GatesInside, netIn}
-use Rattle.printing.specs.Tables.{TableInside, tableIn}
+use Rattle.laws.specs.Ranges.{map-range-at}
+use Rattle.lines.specs.Names.{netIn}
+use Rattle.printing.specs.Gates.{GatesInside}
 
-pub table-inside : (s : List ℕ) (h : Header) (inks : List ℕ) → NamesInside s h → KeptTable (tableIn s h inks) → TableInside s h inks
-unfolding headerOf
-table-inside s h inks names kept =
-    let fit = levels-fit (h .levels) .0 (kept .header .levels) in
-    record { names = names; someLevels = omega arith; levels = fit .1; digits = λ k l. omega (arith, fit .1, kept .below k l) }
-
--- ---- the digit at any place is a gate's
+-- the digit at any place is a gate's
 
 tables-at : (m : ℕ) (gates : List sheets.Gate) (k : ℕ) (d : sheets.Gate) → Tables m gates → k < length gates → GateTable m (getD gates k d .digits)
 tables-at m [] k d t h = absurd (omega arith)
 tables-at m (g ∷ gates) zero d t h = t .0
 tables-at m (g ∷ gates) (suc k) d t h = tables-at m gates k d (t .1) (omega arith)
-
-gates-count : (net : Net) → length (gatesOf net) ≡ net .gates
-unfolding gatesOf
-gates-count net = length-map (range 0 (net .gates)) (gateOf net) ∙ range-length 0 (net .gates)
 
 factor-positive : (a b i : ℕ) → i < a * b → 0 < b
 factor-positive a zero i h = absurd (omega (arith, rw mul-zero at h))
@@ -45,10 +33,10 @@ factor-positive a (suc b) i h = omega arith
 module _ (net : Net) (tables : Tables (net .levels) (gatesOf net)) where
   gate-table : (k : ℕ) → k < net .gates → GateTable (net .levels) (gateOf net k .digits)
   unfolding gatesOf
-  gate-table k h = subst (λ (g : sheets.Gate). GateTable (net .levels) (g .digits)) at (tables-at (net .levels) (gatesOf net) k (gateOf net 0) tables (rw gates-count h))
+  gate-table k h = subst (λ (g : sheets.Gate). GateTable (net .levels) (g .digits)) at (tables-at (net .levels) (gatesOf net) k (gateOf net 0) tables (rw gates-length h))
     where
       at : getD (gatesOf net) k (gateOf net 0) ≡ gateOf net k
-      at = getD-map (gateOf net) (range 0 (net .gates)) k (gateOf net 0) 0 (rw range-length h) ∙ ap (gateOf net) (range-at 0 (net .gates) k 0 h ∙ zero-add k)
+      at = map-range-at (gateOf net) 0 (net .gates) k (gateOf net 0) h ∙ ap (gateOf net) (zero-add k)
 
   digit-below : (i : ℕ) → i < net .gates * (net .levels * net .levels) → getD (net .digits) i 0 < net .levels
   unfolding gateOf
@@ -66,7 +54,7 @@ module _ (net : Net) (tables : Tables (net .levels) (gatesOf net)) where
 pub gates-inside : (s : List ℕ) (h : Header) (net : Net) → net .levels ≡ h .levels → KeptNet (netIn s h net) → GatesInside net
 unfolding headerOf
 gates-inside s h net e kept =
-    let count : suc (net .gates) ≡ h .inputs = ap suc (sym (gates-count net)) ∙ kept .gates .count in
+    let count : suc (net .gates) ≡ h .inputs = ap suc (sym (gates-length net)) ∙ kept .gates .count in
     let few = levels-fit (h .levels) .0 (kept .header .levels) .1 in
     let tables = subst (λ (m : ℕ). Tables m (gatesOf net)) (sym e) (kept .gates .rules .tables) in
     let gates : h .inputs - 1 ≡ net .gates = omega arith in

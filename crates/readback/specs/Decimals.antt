@@ -1,17 +1,17 @@
 -- Decimal values and digits: what their bytes are, and that different numbers have different decimal values.
 -- Assumes nothing.
-use Prim.Native.Nat.{ℕ, zero, suc, _+_, _-_, _*_, _/_, _%_, _≤_, _<_}
+use Prim.Native.Nat.{ℕ, suc, _+_, _-_, _*_, _%_, _≤_, _<_}
 use mathlib.Core.Path.{_≡_, refl, sym, _∙_, ap}
-use mathlib.Core.Bool.{Bool, true, false}
+use mathlib.Core.Bool.{Bool, true}
 use mathlib.Core.Logic.{_↔_}
 use mathlib.Core.List.{List, [], _∷_, _++_}
 use native.Mathlib.Omega.{arith}
 use lib.ListN.{length, length-append}
-use lib.Dec.{ltb}
-use borrow.Author.Tests.{ltb-true, ltb-false, ne-eqb}
+use borrow.Author.Tests.{ne-eqb}
 use Rattle.rules.specs.Lists.{all}
-use Rattle.rules.specs.Text.{space, newline, digitByte, isDigit, decimalF, decimal}
+use Rattle.rules.specs.Text.{space, newline, digitByte, isDigit, decimal}
 use Rattle.rules.specs.Fields.{isSeparator}
+use Rattle.laws.specs.Decimals.{by-digits}
 use Rattle.laws.specs.Tests.{both-leb, all-iff, all-append, all-weaker}
 use Rattle.readback.specs.Fields.{plain, isWord}
 
@@ -44,34 +44,10 @@ digits-word m = high-word (isDigit m) (λ b e. digit-iff m b .0 e .0)
 
 -- ---- decimal values
 
--- A decimal value is one digit, or the decimal value of n / 10 and one more digit.
-module _ (P : ℕ → List ℕ → Type 0) (one : (n : ℕ) → n < 10 → P n (digitByte n ∷ []))
-    (more : (n : ℕ) (w : List ℕ) → 10 ≤ n → P (n / 10) w → P n (w ++ (digitByte (n % 10) ∷ []))) where
-  by-digits : (fuel n : ℕ) → n ≤ fuel → P n (decimalF fuel n)
-  unfolding decimalF
-  by-digits zero n h =
-      let e : n % 10 ≡ n = omega arith in
-      rw e (one n (omega arith))
-  by-digits (suc fuel) n h = go (ltb n 10) refl (by-digits fuel (n / 10))
-    where
-      go : (t : Bool) → ltb n 10 ≡ t → (n / 10 ≤ fuel → P (n / 10) (decimalF fuel (n / 10))) → P n (decimalF (suc fuel) n)
-      go true e r = rw (e, decimalF) (one n (ltb-true n 10 e))
-      go false e r =
-          let h10 : 10 ≤ n = ltb-false n 10 e in
-          rw (e, decimalF) (more n (decimalF fuel (n / 10)) h10 (r (omega arith)))
-
-  by-decimal : (n : ℕ) → P n (decimal n)
-  unfolding decimal
-  by-decimal n = by-digits n n (omega arith)
-
--- a decimal value below 10
-pub decimal-digit : (n : ℕ) → n < 10 → decimal n ≡ digitByte n ∷ []
-decimal-digit n h = by-decimal (λ n w. n < 10 → w ≡ digitByte n ∷ []) (λ n l k. refl) (λ n w l e k. absurd (omega arith)) n h
-
 -- every byte is a digit's, and there is one
 pub decimal-digits : (n : ℕ) → (all (isDigit 10) (decimal n) ≡ true) × (0 < length (decimal n))
 unfolding all
-decimal-digits n = by-decimal (λ n w. (all (isDigit 10) w ≡ true) × (0 < length w)) (λ n h. (last n h, omega arith))
+decimal-digits n = by-digits (λ n w. (all (isDigit 10) w ≡ true) × (0 < length w)) (λ n h. (last n h, omega arith))
     (λ n w l e. (all-append (isDigit 10) w (digitByte (n % 10) ∷ []) (e .0) (last (n % 10) (omega arith)), rw length-append (omega arith))) n
   where
     last : (d : ℕ) → d < 10 → all (isDigit 10) (digitByte d ∷ []) ≡ true
@@ -95,16 +71,8 @@ valueOf-last before (c ∷ w) b = valueOf-last (before * 10 + (c - 48)) w b
 -- a decimal value writes its number
 decimal-value : (n : ℕ) → valueOf 0 (decimal n) ≡ n
 unfolding valueOf digitByte
-decimal-value n = by-decimal (λ n w. valueOf 0 w ≡ n) (λ n h. omega arith) (λ n w l e. valueOf-last 0 w (48 + n % 10) ∙ (omega arith)) n
+decimal-value n = by-digits (λ n w. valueOf 0 w ≡ n) (λ n h. omega arith) (λ n w l e. valueOf-last 0 w (48 + n % 10) ∙ (omega arith)) n
 
 -- different numbers have different decimal values
 pub decimal-injective : (m n : ℕ) → decimal m ≡ decimal n → m ≡ n
 decimal-injective m n e = sym (decimal-value m) ∙ ap (valueOf 0) e ∙ decimal-value n
-
--- below 100 there are at most two digits
-pub decimal-short : (n : ℕ) → n < 100 → length (decimal n) ≤ 2
-decimal-short n = by-decimal (λ n w. (n < 10 → length w ≤ 1) × (n < 100 → length w ≤ 2)) (λ n h. omega arith)
-    (λ n w l e. (λ k. absurd (omega arith), λ k. two n w k (e .0 (omega arith)))) n .1
-  where
-    two : (n : ℕ) (w : List ℕ) → n < 100 → length w ≤ 1 → length (w ++ (digitByte (n % 10) ∷ [])) ≤ 2
-    two n w k h = rw length-append (omega arith)

@@ -22,7 +22,8 @@ use Rattle.laws.specs.Same.{same-refl, same-true}
 use Rattle.laws.specs.Places.{mem-getD}
 use Rattle.laws.specs.Finds.{found-is, found-only, first-in-range}
 use Rattle.readback.specs.Fields.{isWord, Judges, not-good, judged-good}
-use Rattle.readback.specs.Decimals.{high-plain, high-word, digit-iff, digit-byte, digits-word, decimal-digit, decimal-word, decimal-injective}
+use Rattle.laws.specs.Decimals.{decimal-one}
+use Rattle.readback.specs.Decimals.{high-plain, high-word, digit-iff, digit-byte, digits-word, decimal-word, decimal-injective}
 
 -- the digit of a digit's byte
 byte-digit : (d : ℕ) → digitByte d - 48 ≡ d
@@ -47,7 +48,7 @@ levels-only (b ∷ []) a e =
     let (t, q) = judged-good (isDigit 10 b && levelsFit (b - 48)) (b - 48) 2 a e in
     let (d, h) = and-eq-true-iff (isDigit 10 b) (levelsFit (b - 48)) .0 t in
     let (k, p) = digit-back 10 b d in
-    ((b - 48, h), q, ap (λ c. c ∷ []) p ∙ sym (decimal-digit (b - 48) k))
+    ((b - 48, h), q, ap (λ c. c ∷ []) p ∙ sym (decimal-one (b - 48) k))
 
 -- the levels field: the decimal values from 2 to 9
 pub judges-levels : Judges levelsField ((m : ℕ) × (levelsFit m ≡ true)) (λ x. x .0) (λ x. decimal (x .0))
@@ -57,7 +58,7 @@ judges-levels = record { passes = λ x. passes (x .0) (x .1); word = λ x. decim
     passes : (m : ℕ) → levelsFit m ≡ true → levelsField (decimal m) ≡ good m
     passes m h =
         let (_, k) = levels-fit m .0 h in
-        rw (decimal-digit m (omega arith), byte-digit m, digit-byte 10 m (omega arith), h) refl
+        rw (decimal-one m (omega arith), byte-digit m, digit-byte 10 m (omega arith), h) refl
 
 -- A judge that looks for the number, of a range, whose print the field is, and then tests the number.
 module _ (print : ℕ → List ℕ) (from count : ℕ) (test : ℕ → Bool) (u v : ℕ) where

@@ -1,5 +1,2 @@
-pub mod Answers
-pub mod Given
-pub mod Place
+pub mod Calls
 pub mod Program
-pub mod Sheets

@@ -13,15 +13,15 @@ use Rattle.rules.specs.Sheets.{Net, Table}
 use Rattle.rules.specs.Printed.{printedNet}
 use Rattle.rules.specs.Groups.{wholeGroup}
 use Rattle.rules.specs.Marks.{markIn, marksLength, storedMarks}
-use Rattle.rules.specs.Calls.{Answer, accepted, refused, Made, written, readNet, readTable, tableOfNet, settledNet, writtenSheet, settledInto, settleCall, makeCall, programOutput, zeros, settleProgram, makeProgram}
+use Rattle.rules.specs.Calls.{Answer, accepted, refused, Made, written, readNet, readTable, tableOfNet, settledNet, writtenSheet, settledInto, settleCall, makeCall, programOutput, zeros}
 use Rattle.laws.specs.Outcomes.{WholeTwo, marksOfTable, into-13, into-14, into-marked, marked-16, marked-tree, sheet-15, sheet-written, settle-refused, settle-accepted, make-refused, make-accepted}
 use Rattle.groups.specs.declared.call.Answer as own
 use Rattle.groups.specs.declared.call.Answer.the-variants.{Accepted, Refused}
 use Rattle.groups.specs.Answers.{answerOf}
-use Rattle.printing.specs.Put.{Wrote}
-use Rattle.printing.specs.Refusals.{refusalLines}
+use Rattle.lines.specs.Put.{Wrote}
+use Rattle.lines.specs.Refusals.{refusalLines}
 use Rattle.demands.specs.Settles.{written-front}
-use Rattle.settling.specs.Answers.{madeOf}
+use Rattle.endings.specs.Answers.{madeOf}
 use Rattle.settling.specs.declared.program.Printed.{Printed}
 
 -- a text at the front of its bytes, and what lending that part asks
@@ -82,12 +82,6 @@ module _ (output : List ℕ) where
         go (accepted t) e = subst⁻¹ (Fits output) (make-accepted s cells marks output t e) (into-fits t cells marks)
         go (refused number place) e = subst⁻¹ (Fits output) (make-refused s cells marks output number place e) (refusal-fits number place cells marks)
 
--- so it is of a call's own answer
-pub answer-fits : (r : own.Answer) (cells marks before after : List ℕ) (made : Made) → Fits before made → madeOf r cells marks after ≡ made
-    → length after ≡ length before → (any-cells any-marks : List ℕ) → Fits after (madeOf r any-cells any-marks after)
-answer-fits r cells marks before after made fits is same any-cells any-marks k e =
-    omega (arith, fits k (sym (ap (λ (m : Made). m .answer) is) ∙ e))
-
 -- ---- the two ways to print
 
 pub prints-sheet : (r : own.Answer) (k : ℕ) → r ≡ Accepted k → (output : List ℕ) → ((cells marks : List ℕ) → Fits output (madeOf r cells marks output))
@@ -108,20 +102,22 @@ prints-refusal r number place is before after k did output cells marks =
     prints after k (wrote-fits before (refusalLines number place) after k did) _
     (rw is ((λ i. take (did .length i) (did .text i)) ∙ written-front before (refusalLines number place)))
 
--- ---- the two programs
+-- ---- a program by its call, with buffers of its own
 
-module _ (input s : List ℕ) (cut : s ≡ take mostRead input) (r : own.Answer) (cells marks output : List ℕ) (p : Printed)
-    (own-output : (any-cells any-marks : List ℕ) → Prints p (programOutput (madeOf r any-cells any-marks output))) where
-  pub prints-settled : madeOf r cells marks output ≡ settleCall s (zeros mostCells) (zeros (marksLength mostInputs)) (zeros mostSettled)
-      → Prints p (settleProgram input)
-  unfolding settleProgram
-  prints-settled is =
-      subst (λ (made : Made). Prints p (programOutput made))
-      (is ∙ ap (λ (sheet : List ℕ). settleCall sheet (zeros mostCells) (zeros (marksLength mostInputs)) (zeros mostSettled)) cut) (own-output cells marks)
+abbrev pub Call : Type 0
+Call = List ℕ → List ℕ → List ℕ → List ℕ → Made
 
-  pub prints-made : madeOf r cells marks output ≡ makeCall s (zeros mostCells) (zeros (marksLength mostInputs)) (zeros mostSettled)
-      → Prints p (makeProgram input)
-  unfolding makeProgram
-  prints-made is =
-      subst (λ (made : Made). Prints p (programOutput made))
-      (is ∙ ap (λ (sheet : List ℕ). makeCall sheet (zeros mostCells) (zeros (marksLength mostInputs)) (zeros mostSettled)) cut) (own-output cells marks)
+abbrev pub calledOn : Call → List ℕ → Made
+calledOn call s = call s (zeros mostCells) (zeros (marksLength mostInputs)) (zeros mostSettled)
+
+module _ (call : Call) (s : List ℕ) (r : own.Answer) (cells marks output : List ℕ) (is : madeOf r cells marks output ≡ calledOn call s) where
+  -- the sheet that it accepts is within its output
+  pub output-fits : Fits (zeros mostSettled) (calledOn call s) → length output ≡ length (zeros mostSettled)
+      → (own-cells own-marks : List ℕ) → Fits output (madeOf r own-cells own-marks output)
+  output-fits fits same own-cells own-marks k e = omega (arith, fits k (sym (ap (λ (m : Made). m .answer) is) ∙ e))
+
+  -- what is printed of its answer is what the program prints
+  pub output-prints : (input : List ℕ) → s ≡ take mostRead input → (p : Printed)
+      → ((own-cells own-marks : List ℕ) → Prints p (programOutput (madeOf r own-cells own-marks output)))
+      → Prints p (programOutput (calledOn call (take mostRead input)))
+  output-prints input cut p prints = subst (λ (made : Made). Prints p (programOutput made)) (is ∙ ap (calledOn call) cut) (prints cells marks)

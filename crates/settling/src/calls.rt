@@ -1,10 +1,8 @@
 // Settling and making. Any sheet and buffers of any length may come in.
 ghost use mathlib.Core.Path.{_≡_};
-ghost use Rattle.rules.specs.Calls.{tableOfNet, settledInto, settleCall, makeCall};
-ghost use Rattle.printing.specs.Gates.{netIn};
-ghost use Rattle.settling.specs.Answers.{madeOf};
-ghost use Rattle.settling.specs.Sheets.{GivenNet};
-use crate::into;
+ghost use Rattle.rules.specs.Calls.{settleCall, makeCall};
+ghost use Rattle.endings.specs.Answers.{madeOf};
+ghost use Rattle.accepted.specs.Taken.{NetTaken};
 use fields::steps::Outcome;
 use groups::call::Answer;
 use nets::forms::Header;
@@ -13,6 +11,7 @@ use nets::values;
 use radix::limits;
 use radix::powers;
 use sheets::net;
+use synthesis::into;
 use tables::sheet;
 
 // The net's table goes into an array of its own first: a refusal must change no buffer.
@@ -24,9 +23,9 @@ fn settle_net(
     marks: &mut [u8],
     out: &mut [u8],
 ) -> Answer
-    requires { ⌜ GivenNet (now s) header gates ⌝ }
+    requires { ⌜ NetTaken (now s) header gates ⌝ }
     ensures { λ r. ⌜ madeOf r (now (cells .exit)) (now (marks .exit)) (now (out .exit))
-        ≡ settledInto (tableOfNet (netIn (now (s .entry)) header gates)) (now (cells .entry)) (now (marks .entry)) (now (out .entry)) ⌝ }
+        ≡ settleCall (now (s .entry)) (now (cells .entry)) (now (marks .entry)) (now (out .entry)) ⌝ }
 {
     let mut inks = [0u8; limits::MOST_CELLS];
     let count = values::table(gates, &mut inks);

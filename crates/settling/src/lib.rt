@@ -1,7 +1,3 @@
 // Settling and making: from a sheet to the sheet of its settled net, and what the two programs print.
 pub mod calls;
-pub mod front;
-pub mod into;
-pub mod place;
 pub mod program;
-pub mod sheet;

@@ -5,12 +5,12 @@ ghost use Prim.Native.Nat.{ℕ};
 ghost use lib.ListN.{take};
 ghost use Rattle.rules.specs.Limits.{mostRead};
 ghost use Rattle.rules.specs.Calls.{programOutput, settleProgram, makeProgram};
-ghost use Rattle.settling.specs.Answers.{madeOf};
+ghost use Rattle.endings.specs.Answers.{madeOf};
 ghost use Rattle.settling.specs.Program.{Fits, Prints};
 use crate::calls;
 use groups::call::Answer;
+use lines::refusal;
 use marks::stored;
-use printing::refusal;
 use radix::limits;
 
 // The first `length` bytes are the text.

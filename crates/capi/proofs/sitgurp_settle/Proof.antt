@@ -1,7 +1,5 @@
 -- `capi::sitgurp_settle` meets its contract: it is the call, its answer as two numbers. Assumes nothing.
-use mathlib.Core.Path.{ap, _∙_}
-use Rattle.rules.specs.Calls.{Made}
-use Rattle.capi.specs.Flat.{flatOf}
+use Rattle.capi.specs.Flat.{flat-made}
 use borrow.Author.Needs.{needs}
 use Rattle.capi.proofs.sitgurp_settle.Statement.{statement}
 use Rattle.capi.proofs.sitgurp_settle.Tie as tie
@@ -22,14 +20,7 @@ same-length-3 : tie.Need-same-length-3
 same-length-3 c = search needs
 
 returns : tie.Need-returns
-returns c =
-    let did = c .before .before .before .before .before .before .before .settle .ensures in
-    record {
-      answer = c .flat .ensures ∙ ap (λ (r : Made). flatOf (r .answer)) did;
-      cells-then = ap (λ (r : Made). r .cells) did;
-      marks-then = ap (λ (r : Made). r .marks) did;
-      output-then = ap (λ (r : Made). r .output) did;
-    }
+returns c = flat-made (c .before .before .before .before .before .before .before .settle .ensures) (c .flat .ensures)
 
 pub sitgurp-settle-spec : {M : Type 1} → statement M
 sitgurp-settle-spec =

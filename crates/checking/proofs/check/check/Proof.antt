@@ -2,7 +2,7 @@
 -- Assumes nothing.
 use mathlib.Core.Path.{sym}
 use Rattle.laws.specs.Outcomes.{check-net-refused}
-use Rattle.checking.specs.Taken.{net-refused, net-taken}
+use Rattle.accepted.specs.Taken.{net-refused, net-taken}
 use borrow.Author.Needs.{needs}
 use Rattle.checking.proofs.check.check.Statement.{statement}
 use Rattle.checking.proofs.check.check.Tie as tie

@@ -3,7 +3,7 @@
 use mathlib.Core.Path.{sym, _∙_}
 use native.Mathlib.Omega.{arith}
 use borrow.Author.Tests.{not-true, not-false}
-use Rattle.checking.specs.Taken.{sound, levels-most, inputs-most, cells-some, cells-most, own-most, front-length}
+use Rattle.accepted.specs.Taken.{held-size, cells-some, sound, own-most, front-length}
 use Rattle.checking.specs.Judging.{headers-differ, inks-long, cells-short, cells-long}
 use borrow.Author.Needs.{needs}
 use Rattle.checking.proofs.check.check_accepted.Statement.{statement}
@@ -11,8 +11,8 @@ use Rattle.checking.proofs.check.check_accepted.Tie as tie
 
 power-requires : tie.Need-power-requires
 power-requires c κs =
-    let taken = c .before .before .before .before .pre .0 in
-    (levels-most _ _ _ taken, omega (arith, inputs-most _ _ _ taken))
+    let size = held-size _ _ (c .before .before .before .before .pre .0 .header) in
+    (size .levels-most, omega (arith, size .inputs-most))
 
 same-header-requires : tie.Need-same-header-requires
 same-header-requires c κs = search needs
@@ -43,7 +43,7 @@ part-compare-into-start : tie.Need-part-compare-into-start
 part-compare-into-start c = search needs
 
 part-compare-into-end : tie.Need-part-compare-into-end
-part-compare-into-end c = omega (arith, cells-most _ _ _ (c .before .before .before .before .before .before .before .before .before .before .before .before .pre .0), c .before .before .before .before .before .before .before .power .ensures)
+part-compare-into-end c = omega (arith, held-size _ _ (c .before .before .before .before .before .before .before .before .before .before .before .before .pre .0 .header) .cells-most, c .before .before .before .before .before .before .before .power .ensures)
 
 sub-compare-into-2 : tie.Need-sub-compare-into-2
 sub-compare-into-2 c = search needs
@@ -61,7 +61,7 @@ compare-into-requires : tie.Need-compare-into-requires
 compare-into-requires c κs =
     let taken = c .before .before .before .before .before .before .before .before .before .before .before .before .before .before .before .pre .0 in
     let count = c .before .before .before .before .before .before .before .before .before .before .power .ensures in
-    (omega (arith, cells-some _ _ _ taken, count, front-length _ _ _ taken _ _ _ _ (c .before .before .before .before .before .table2 .ensures) count), search needs, search needs)
+    (omega (arith, cells-some _ _ (taken .header), count, front-length _ _ _ taken _ _ _ _ (c .before .before .before .before .before .table2 .ensures) count), search needs, search needs)
 
 same-length : tie.Need-same-length
 same-length c = search needs

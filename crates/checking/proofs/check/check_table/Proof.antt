@@ -3,7 +3,7 @@
 use mathlib.Core.Path.{sym}
 use native.Mathlib.Omega.{arith}
 use Rattle.laws.specs.Outcomes.{check-table-refused}
-use Rattle.checking.specs.Taken.{table-refused, table-taken}
+use Rattle.accepted.specs.Taken.{table-refused, table-taken}
 use borrow.Author.Needs.{needs}
 use Rattle.checking.proofs.check.check_table.Statement.{statement}
 use Rattle.checking.proofs.check.check_table.Tie as tie

@@ -5,8 +5,8 @@ use mathlib.Core.List.{List, map}
 use native.Mathlib.Omega.{arith}
 use lib.ListN.{length, getD, set, drop, length-drop, length-map}
 use Rattle.rules.specs.Text.{digitByte}
-use Rattle.printing.specs.Maps.{getD-map}
-use Rattle.printing.specs.Put.{Left, all-left, next-left, past-left}
+use Rattle.laws.specs.Places.{map-at}
+use Rattle.lines.specs.Put.{Left, all-left, next-left, past-left}
 use Rattle.printing.proofs.net.print_digits.Statement.{statement}
 use Rattle.printing.proofs.net.print_digits.Tie as tie
 
@@ -23,7 +23,7 @@ room digits i p n h = rw (length-drop, length-map) at h
 turn : (digits : List ℕ) (i : ℕ) {out : List ℕ} {p : ℕ} {out₀ : List ℕ} {at : ℕ} {t : List ℕ} → i < length digits → Left out p (drop i (map digitByte digits)) out₀ at t
     → Left (set out p (48 + getD digits i 0)) (p + 1) (drop (i + 1) (map digitByte digits)) out₀ at t
 unfolding digitByte
-turn digits i h l = rw (getD-map digitByte digits i 0 0 h) at (next-left (map digitByte digits) i (rw length-map h) l)
+turn digits i h l = rw (map-at digitByte digits i 0 0 h) at (next-left (map digitByte digits) i (rw length-map h) l)
 
 loop-holds : tie.Need-loop-holds Inv-loop μ-loop
 loop-holds c = (omega arith, all-left (c .pre .0))

@@ -8,10 +8,9 @@ use lib.ListN.{getD}
 use Rattle.rules.specs.Text.{space, newline, digitByte}
 use Rattle.rules.specs.Printed.{printedGate}
 use Rattle.nets.specs.Forms.{gateOf}
-use Rattle.printing.specs.Put.{Put, Left, parts-left, put-left, room-for, room-byte, last-put}
-use Rattle.printing.specs.Names.{referenceIn}
-use Rattle.printing.specs.Gates.{gateLine}
-use Rattle.printing.specs.Lines.{line-three}
+use Rattle.lines.specs.Put.{Put, Left, parts-left, put-left, room-for, room-byte, last-put}
+use Rattle.printing.specs.Gates.{referenceIn, gateLine}
+use Rattle.lines.specs.Lines.{line-three}
 use Rattle.printing.proofs.net.print_gate.Statement.{statement}
 use Rattle.printing.proofs.net.print_gate.Tie as tie
 

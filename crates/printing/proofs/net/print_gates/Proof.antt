@@ -4,7 +4,7 @@ use Prim.Native.Nat.{ℕ, _+_, _-_}
 use mathlib.Core.Path.{sym}
 use mathlib.Core.List.{List, _++_}
 use native.Mathlib.Omega.{arith}
-use Rattle.printing.specs.Put.{Left, parts-left, put-left, room-for, none-left}
+use Rattle.lines.specs.Put.{Left, parts-left, put-left, room-for, none-left}
 use Rattle.printing.specs.Gates.{gateLine, gateLines, linesFrom, lines-all, lines-next, lines-none}
 use Rattle.printing.proofs.net.print_gates.Statement.{statement}
 use Rattle.printing.proofs.net.print_gates.Tie as tie

@@ -6,9 +6,9 @@ use native.Mathlib.Omega.{arith}
 use borrow.Author.Needs.{needs}
 use Rattle.rules.specs.Text.{space, newline, text, decimal}
 use Rattle.rules.specs.Printed.{line, printedNet}
-use Rattle.printing.specs.Put.{Left, parts-left, put-left, room-for, last-put, put-wrote}
-use Rattle.printing.specs.Names.{namesIn}
-use Rattle.printing.specs.Gates.{netIn, gateLines, net-parts}
+use Rattle.lines.specs.Put.{Left, parts-left, put-left, room-for, last-put, put-wrote}
+use Rattle.lines.specs.Names.{namesIn, netIn}
+use Rattle.printing.specs.Gates.{gateLines, net-parts}
 use Rattle.printing.proofs.net.print_net.Statement.{statement}
 use Rattle.printing.proofs.net.print_net.Tie as tie
 

@@ -1,7 +1,7 @@
 -- `printing::net::print_reference` meets its contract.
 -- Assumes nothing.
 use borrow.Author.Needs.{needs}
-use Rattle.printing.specs.Names.{reference-name, reference-gate}
+use Rattle.printing.specs.Gates.{reference-name, reference-gate}
 use Rattle.printing.proofs.net.print_reference.Statement.{statement}
 use Rattle.printing.proofs.net.print_reference.Tie as tie
 

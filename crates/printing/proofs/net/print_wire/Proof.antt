@@ -4,8 +4,8 @@ use Prim.Native.Nat.{ℕ}
 use mathlib.Core.List.{List, [], _∷_, _++_}
 use borrow.Author.Needs.{needs}
 use Rattle.rules.specs.Text.{space}
-use Rattle.printing.specs.Names.{referenceIn}
-use Rattle.printing.specs.Put.{Left, all-left, put-left, room-for, room-byte, last-put}
+use Rattle.printing.specs.Gates.{referenceIn}
+use Rattle.lines.specs.Put.{Left, all-left, put-left, room-for, room-byte, last-put}
 use Rattle.printing.proofs.net.print_wire.Statement.{statement}
 use Rattle.printing.proofs.net.print_wire.Tie as tie
 

@@ -1,8 +1,9 @@
 -- `settling::calls::make` meets its contract. Assumes nothing.
-use mathlib.Core.Path.{_∙_}
+use mathlib.Core.Path.{sym, _∙_}
 use native.Mathlib.Omega.{arith}
-use Rattle.laws.specs.Sizes.{sized}
-use Rattle.settling.specs.Sheets.{table-refused, table-size, table-given, table-accepts}
+use Rattle.laws.specs.Outcomes.{make-refused}
+use Rattle.accepted.specs.Taken.{held-size, table-taken, table-refused, inks-given}
+use Rattle.settling.specs.Calls.{table-settled}
 use borrow.Author.Needs.{needs}
 use Rattle.settling.proofs.calls.make.Statement.{statement}
 use Rattle.settling.proofs.calls.make.Tie as tie
@@ -21,8 +22,7 @@ enum-told c = search needs
 
 power-requires : tie.Need-power-requires
 power-requires c κs =
-    let h = c .before .before .before .before .read-table .result .header in
-    let size = sized (h .levels) (h .inputs) (table-size _ _ _ (c .before .before .before .before .read-table .ensures) (c .enum-told .given .1)) in
+    let size = held-size _ _ (c .before .before .before .before .read-table .ensures .held (c .enum-told .given .1) .header) in
     (omega (arith, size .levels-most), omega (arith, size .inputs-most))
 
 sub-settle-into : tie.Need-sub-settle-into
@@ -34,14 +34,13 @@ part-settle-into-start c = search needs
 part-settle-into-end : tie.Need-part-settle-into-end
 part-settle-into-end c =
     let read = c .before .before .before .before .before .before .read-table in
-    let h = read .result .header in
-    omega (arith, c .before .power .ensures, sized (h .levels) (h .inputs) (table-size _ _ _ (read .ensures) (c .before .before .enum-told .given .1)) .cells-most, read .kept)
+    omega (arith, c .before .power .ensures, held-size _ _ (read .ensures .held (c .before .before .enum-told .given .1) .header) .cells-most, read .kept)
 
 settle-into-requires : tie.Need-settle-into-requires
-settle-into-requires c κs = table-given _ _ _ (c .before .before .before .before .before .before .before .before .before .before .read-table .ensures) (c .before .before .before .before .before .before .enum-told .given .1) _ (c .before .before .before .before .before .power .ensures)
+settle-into-requires c κs = inks-given _ _ _ (table-taken _ _ _ (c .before .before .before .before .before .before .before .before .before .before .read-table .ensures) (c .before .before .before .before .before .before .enum-told .given .1)) _ (c .before .before .before .before .before .power .ensures)
 
 returns : tie.Need-returns
-returns c = table-refused _ _ _ (c .before .before .before .before .before .read-table .ensures) _ _ (c .before .outcome .given .1) _ _ _
+returns c = sym (make-refused _ _ _ _ _ _ (table-refused _ _ _ (c .before .before .before .before .before .read-table .ensures) _ _ (c .before .outcome .given .1)))
 
 same-length : tie.Need-same-length
 same-length c = search needs
@@ -55,7 +54,7 @@ same-length-3 c = search needs
 returns-2 : tie.Need-returns-2
 returns-2 c =
     c .before .before .before .before .before .before .settle-into .ensures
-    ∙ table-accepts _ _ _ (c .before .before .before .before .before .before .before .before .before .before .before .before .before .before .before .before .before .read-table .ensures) (c .before .before .before .before .before .before .before .before .before .before .before .before .before .enum-told .given .1) _ (c .before .before .before .before .before .before .before .before .before .before .before .before .power .ensures) _ _ _
+    ∙ table-settled _ _ _ (table-taken _ _ _ (c .before .before .before .before .before .before .before .before .before .before .before .before .before .before .before .before .before .read-table .ensures) (c .before .before .before .before .before .before .before .before .before .before .before .before .before .enum-told .given .1)) _ (c .before .before .before .before .before .before .before .before .before .before .before .before .power .ensures) _ _ _
 
 pub make-spec : {M : Type 1} → statement M
 make-spec =

@@ -1,6 +1,7 @@
 -- `settling::calls::settle` meets its contract. Assumes nothing.
-use mathlib.Core.Path.{_∙_}
-use Rattle.settling.specs.Sheets.{net-refused, net-given, net-accepts}
+use mathlib.Core.Path.{sym}
+use Rattle.laws.specs.Outcomes.{settle-refused}
+use Rattle.accepted.specs.Taken.{net-refused, net-taken}
 use borrow.Author.Needs.{needs}
 use Rattle.settling.proofs.calls.settle.Statement.{statement}
 use Rattle.settling.proofs.calls.settle.Tie as tie
@@ -15,10 +16,10 @@ enum-told : tie.Need-enum-told
 enum-told c = search needs
 
 settle-net-requires : tie.Need-settle-net-requires
-settle-net-requires c κs = net-given _ _ (c .before .before .before .before .before .before .before .read-net .ensures) (c .before .before .before .enum-told .given .1)
+settle-net-requires c κs = net-taken _ _ (c .before .before .before .before .before .before .before .read-net .ensures) (c .before .before .before .enum-told .given .1)
 
 returns : tie.Need-returns
-returns c = net-refused _ _ (c .before .before .before .before .before .read-net .ensures) _ _ (c .before .outcome .given .1) _ _ _
+returns c = sym (settle-refused _ _ _ _ _ _ (net-refused _ _ (c .before .before .before .before .before .read-net .ensures) _ _ (c .before .outcome .given .1)))
 
 same-length : tie.Need-same-length
 same-length c = search needs
@@ -30,7 +31,7 @@ same-length-3 : tie.Need-same-length-3
 same-length-3 c = search needs
 
 returns-2 : tie.Need-returns-2
-returns-2 c = c .before .before .before .before .before .before .settle-net .ensures ∙ net-accepts _ _ (c .before .before .before .before .before .before .before .before .before .before .before .before .before .before .read-net .ensures) (c .before .before .before .before .before .before .before .before .before .before .enum-told .given .1) _ _ _
+returns-2 c = c .before .before .before .before .before .before .settle-net .ensures
 
 pub settle-spec : {M : Type 1} → statement M
 settle-spec =

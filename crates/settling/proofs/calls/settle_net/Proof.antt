@@ -1,7 +1,8 @@
 -- `settling::calls::settle_net` meets its contract. Assumes nothing.
 use mathlib.Core.Path.{_∙_}
 use native.Mathlib.Omega.{arith}
-use Rattle.settling.specs.Sheets.{net-sound, net-room, net-table-given, net-settled}
+use Rattle.accepted.specs.Taken.{sound, own-most}
+use Rattle.settling.specs.Calls.{net-given, net-settled}
 use borrow.Author.Needs.{needs}
 use Rattle.settling.proofs.calls.settle_net.Statement.{statement}
 use Rattle.settling.proofs.calls.settle_net.Tie as tie
@@ -10,7 +11,7 @@ slice-aggregate-table : tie.Need-slice-aggregate-table
 slice-aggregate-table c = search needs
 
 table-requires : tie.Need-table-requires
-table-requires c κs = (net-sound _ _ _ (c .before .before .before .before .before .pre), net-room _ _ _ (c .before .before .before .before .before .pre))
+table-requires c κs = (sound _ _ _ (c .before .before .before .before .before .pre), own-most _ _ _ (c .before .before .before .before .before .pre))
 
 sub-settle-into : tie.Need-sub-settle-into
 sub-settle-into c = search needs
@@ -22,10 +23,10 @@ part-settle-into-end : tie.Need-part-settle-into-end
 part-settle-into-end c =
     let start = c .before .before .before .before .before .before .before .before in
     let table = c .before .before .table in
-    omega (arith, table .ensures .result, net-room _ _ _ (start .pre), table .kept)
+    omega (arith, table .ensures .result, own-most _ _ _ (start .pre), table .kept)
 
 settle-into-requires : tie.Need-settle-into-requires
-settle-into-requires c κs = net-table-given _ _ _ (c .before .before .before .before .before .before .before .before .before .before .before .before .pre) _ _ _ (c .before .before .before .before .before .before .table .ensures)
+settle-into-requires c κs = net-given _ _ _ (c .before .before .before .before .before .before .before .before .before .before .before .before .pre) _ _ _ (c .before .before .before .before .before .before .table .ensures)
 
 same-length : tie.Need-same-length
 same-length c = search needs

@@ -1,8 +1,7 @@
 -- `settling::program::make_output` meets its contract. Assumes nothing.
-use Rattle.rules.specs.Limits.{mostSettled}
 use Rattle.rules.specs.Marks.{marksLength}
-use Rattle.rules.specs.Calls.{zeros}
-use Rattle.settling.specs.Program.{make-fits, answer-fits, prints-made}
+use Rattle.rules.specs.Calls.{makeCall, makeProgram}
+use Rattle.settling.specs.Program.{make-fits, output-fits, output-prints}
 use borrow.Author.Needs.{needs}
 use Rattle.settling.proofs.program.make_output.Statement.{statement}
 use Rattle.settling.proofs.program.make_output.Tie as tie
@@ -23,15 +22,16 @@ make-requires : tie.Need-make-requires
 make-requires c κs = search needs
 
 output-of-requires : tie.Need-output-of-requires
+unfolding marksLength
 output-of-requires c κs =
     let did = c .before .before .before .make in
-    answer-fits (did .result) _ _ (zeros mostSettled) _ _ (make-fits _ _ _ _) (did .ensures) (did .kept .1 .1 .1 .0)
+    output-fits makeCall _ (did .result) _ _ _ (did .ensures) (make-fits _ _ _ _) (did .kept .1 .1 .1 .0)
 
 returns : tie.Need-returns
-unfolding marksLength
+unfolding marksLength makeProgram
 returns c =
     let did = c .before .before .before .before .make in
-    prints-made _ _ (c .before .before .before .before .before .before .before .before .first-read .ensures) (did .result) _ _ _ _ (c .output-of .ensures) (did .ensures)
+    output-prints makeCall _ (did .result) _ _ _ (did .ensures) (c .before .before .before .before .before .before .before .before .before .before .args .s .now) (c .before .before .before .before .before .before .before .before .first-read .ensures) _ (c .output-of .ensures)
 
 pub make-output-spec : {M : Type 1} → statement M
 make-output-spec =

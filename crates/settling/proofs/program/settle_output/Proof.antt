@@ -1,8 +1,7 @@
 -- `settling::program::settle_output` meets its contract. Assumes nothing.
-use Rattle.rules.specs.Limits.{mostSettled}
 use Rattle.rules.specs.Marks.{marksLength}
-use Rattle.rules.specs.Calls.{zeros}
-use Rattle.settling.specs.Program.{settle-fits, answer-fits, prints-settled}
+use Rattle.rules.specs.Calls.{settleCall, settleProgram}
+use Rattle.settling.specs.Program.{settle-fits, output-fits, output-prints}
 use borrow.Author.Needs.{needs}
 use Rattle.settling.proofs.program.settle_output.Statement.{statement}
 use Rattle.settling.proofs.program.settle_output.Tie as tie
@@ -23,15 +22,16 @@ settle-requires : tie.Need-settle-requires
 settle-requires c κs = search needs
 
 output-of-requires : tie.Need-output-of-requires
+unfolding marksLength
 output-of-requires c κs =
     let did = c .before .before .before .settle in
-    answer-fits (did .result) _ _ (zeros mostSettled) _ _ (settle-fits _ _ _ _) (did .ensures) (did .kept .1 .1 .1 .0)
+    output-fits settleCall _ (did .result) _ _ _ (did .ensures) (settle-fits _ _ _ _) (did .kept .1 .1 .1 .0)
 
 returns : tie.Need-returns
-unfolding marksLength
+unfolding marksLength settleProgram
 returns c =
     let did = c .before .before .before .before .settle in
-    prints-settled _ _ (c .before .before .before .before .before .before .before .before .first-read .ensures) (did .result) _ _ _ _ (c .output-of .ensures) (did .ensures)
+    output-prints settleCall _ (did .result) _ _ _ (did .ensures) (c .before .before .before .before .before .before .before .before .before .before .args .s .now) (c .before .before .before .before .before .before .before .before .first-read .ensures) _ (c .output-of .ensures)
 
 pub settle-output-spec : {M : Type 1} → statement M
 settle-output-spec =

@@ -1,0 +1,136 @@
+-- A sheet that was read, by value: its refusal, or its parts and what the calls on them ask.
+-- Assumes nothing.
+use Prim.Native.Nat.{ℕ, _-_, _^_, _≤_, _<_}
+use mathlib.Core.Path.{_≡_, sym, ap, ap₂, _∙_, subst⁻¹}
+use mathlib.Core.List.{List}
+use native.Mathlib.Nat.{sub-zero, one-le-pow}
+use native.Mathlib.Omega.{arith}
+use lib.ListN.{length, take}
+use Rattle.rules.specs.Limits.{mostCells}
+use Rattle.rules.specs.Sheets.{Gate}
+use Rattle.rules.specs.Kept.{KeptNet, KeptTable, IsNet}
+use Rattle.rules.specs.Value.{tableOf}
+use Rattle.rules.specs.Calls.{accepted, refused, readNet, readTable, tableOfNet}
+use Rattle.laws.specs.Sizes.{Size, sized}
+use Rattle.trees.specs.Uniqueness.{table-length}
+use Rattle.nets.specs.declared.forms.Header.{Header}
+use Rattle.nets.specs.declared.forms.Net.{Net}
+use Rattle.nets.specs.Forms.{headerOf, gatesOf}
+use Rattle.nets.specs.Sound.{Sound}
+use Rattle.nets.specs.Evaluating.{Tabled}
+use Rattle.fields.specs.Header.{HeaderHeld}
+use Rattle.fields.specs.Steps.{outcomeAs}
+use Rattle.fields.specs.declared.steps.Outcome.the-variants.{Accepted, Refused}
+use Rattle.sheets.specs.Answers.{NetReads}
+use Rattle.sheets.specs.declared.net.NetRead.{NetRead}
+use Rattle.tables.specs.Answers as tables
+use Rattle.tables.specs.Answers.{TableReads, inksIn}
+use Rattle.tables.specs.declared.sheet.TableRead.{TableRead}
+use Rattle.lines.specs.Names.{NamesInside, netIn, tableIn}
+use Rattle.readback.specs.ReadBack.{net-accepted, table-accepted}
+use Rattle.demands.specs.Settles.{kept-table}
+
+-- the header and the net of an accepted net sheet
+pub record NetTaken (s : List ℕ) (h : Header) (net : Net) : Type 0 where
+  pub reads : readNet s ≡ accepted (netIn s h net)
+  pub header : HeaderHeld s h
+  pub levels : net .levels ≡ h .levels
+  pub inputs : net .inputs ≡ h .inputs
+
+-- the header of an accepted table sheet, whose inks stand at the front of `cells`
+pub record TableTaken (s : List ℕ) (h : Header) (cells : List ℕ) : Type 0 where
+  pub reads : readTable s ≡ accepted (tables.tableIn s cells h)
+  pub header : HeaderHeld s h
+
+-- the table that the header's names in the sheet s and the inks make keeps the rules, and the names are in the sheet
+pub record Given (s : List ℕ) (h : Header) (inks : List ℕ) : Type 0 where
+  pub names : NamesInside s h
+  pub kept : KeptTable (tableIn s h inks)
+
+-- ---- what reading answers
+
+module _ (s : List ℕ) (r : NetRead) (read : NetReads s r) where
+  pub net-taken : r .outcome ≡ Accepted → NetTaken s (r .header) (r .net)
+  net-taken e =
+      let held = read .held e in
+      record {
+        reads = sym (read .answer) ∙ ap (outcomeAs (netIn s (r .header) (r .net))) e;
+        header = held .header;
+        levels = held .whole .levels;
+        inputs = held .whole .inputs;
+      }
+
+  pub net-refused : (number place : ℕ) → r .outcome ≡ Refused number place → readNet s ≡ refused number place
+  net-refused number place e = sym (read .answer) ∙ ap (outcomeAs (netIn s (r .header) (r .net))) e
+
+module _ (s cells : List ℕ) (r : TableRead) (read : TableReads s cells r) where
+  pub table-taken : r .outcome ≡ Accepted → TableTaken s (r .header) cells
+  table-taken e = record { reads = sym (read .answer) ∙ ap (outcomeAs (tables.tableIn s cells (r .header))) e; header = read .held e .header }
+
+  pub table-refused : (number place : ℕ) → r .outcome ≡ Refused number place → readTable s ≡ refused number place
+  table-refused number place e = sym (read .answer) ∙ ap (outcomeAs (tables.tableIn s cells (r .header))) e
+
+-- ---- what the calls ask
+
+module _ (s : List ℕ) (h : Header) (held : HeaderHeld s h) where
+  pub held-size : Size (h .levels) (h .inputs)
+  held-size = sized (h .levels) (h .inputs) (held .fits)
+
+  pub names-inside : NamesInside s h
+  names-inside = record { some = omega (arith, held-size .inputs-least); count = held-size .inputs-most; inside = held .names }
+
+  pub cells-some : 0 < h .levels ^ h .inputs
+  cells-some = one-le-pow _ _ (omega (arith, held-size .levels-least))
+
+is-net : {m m' n n' : ℕ} {gates : List Gate} → m ≡ m' → n ≡ n' → IsNet m' n' gates → IsNet m n gates
+is-net e q h = rw (e, q) h
+
+-- a net
+module _ (s : List ℕ) (h : Header) (net : Net) (taken : NetTaken s h net) where
+  kept : KeptNet (netIn s h net)
+  kept = net-accepted s (netIn s h net) (taken .reads) .1
+
+  pub sound : Sound net
+  unfolding headerOf
+  sound = record { size = rw (taken .levels, taken .inputs) (taken .header .fits); gates = is-net (taken .levels) (taken .inputs) (kept .gates) }
+
+  pub own-cells : net .levels ^ net .inputs ≡ h .levels ^ h .inputs
+  own-cells = ap₂ _^_ (taken .levels) (taken .inputs)
+
+  pub own-most : net .levels ^ net .inputs ≤ mostCells
+  own-most = rw own-cells (held-size s h (taken .header) .cells-most)
+
+  own-inks : tableOf (net .levels) (net .inputs) (gatesOf net) ≡ tableOfNet (netIn s h net) .inks
+  unfolding tableOfNet headerOf
+  own-inks = λ i. tableOf (taken .levels i) (taken .inputs i) (gatesOf net)
+
+  pub own-length : length (tableOfNet (netIn s h net) .inks) ≡ h .levels ^ h .inputs
+  unfolding tableOfNet headerOf
+  own-length = table-length (h .levels) (h .inputs) (gatesOf net)
+
+  -- its table, written to the front of a buffer
+  module _ (before after : List ℕ) (all count : ℕ) (did : Tabled net before after all) (is : count ≡ h .levels ^ h .inputs) where
+    pub front : take (count - 0) after ≡ tableOfNet (netIn s h net) .inks
+    front = ap (λ (k : ℕ). take k after) (sub-zero count ∙ is ∙ sym own-cells ∙ sym (did .result)) ∙ did .front ∙ own-inks
+
+    pub front-length : length (take (count - 0) after) ≡ count
+    front-length = ap length front ∙ own-length ∙ sym is
+
+    pub front-table : tableIn s h (take (count - 0) after) ≡ tableOfNet (netIn s h net)
+    unfolding tableOfNet
+    front-table = ap (tableIn s h) front
+
+    pub front-given : Given s h (take (count - 0) after)
+    front-given = record { names = names-inside s h (taken .header); kept = subst⁻¹ KeptTable front-table (kept-table (netIn s h net) kept) }
+
+-- a table, at the front of its buffer
+module _ (s : List ℕ) (h : Header) (cells : List ℕ) (taken : TableTaken s h cells) (count : ℕ) (is : count ≡ h .levels ^ h .inputs) where
+  pub inks-front : take (count - 0) cells ≡ inksIn cells h
+  inks-front = ap (λ (k : ℕ). take k cells) (sub-zero count ∙ is)
+
+  pub inks-table : tableIn s h (take (count - 0) cells) ≡ tables.tableIn s cells h
+  inks-table = ap (tableIn s h) inks-front
+
+  pub inks-given : Given s h (take (count - 0) cells)
+  inks-given =
+      record { names = names-inside s h (taken .header); kept = subst⁻¹ KeptTable inks-table (table-accepted s (tables.tableIn s cells h) (taken .reads) .1) }

@@ -1,0 +1,72 @@
+-- `lines::header::print_names` meets its contract. The loop's invariant: the names from i on are left to write at p.
+-- Assumes nothing.
+use Prim.Native.Nat.{ℕ, _+_, _-_, _≤_}
+use mathlib.Core.List.{List, _∷_, _++_}
+use native.Mathlib.Omega.{arith}
+use Rattle.rules.specs.Text.{space}
+use Rattle.nets.specs.Forms.{nameIn}
+use Rattle.lines.specs.Put.{Left, all-left, put-left, room-for, room-byte, none-left}
+use Rattle.lines.specs.Lines.{spacedFrom, spaced-next, spaced-none}
+use Rattle.lines.proofs.header.print_names.Statement.{statement}
+use Rattle.lines.proofs.header.print_names.Tie as tie
+
+abbrev Inv-loop : tie.InvT-loop
+Inv-loop s h count out₀ at i₀ p₀ out i p = (i ≤ count) × Left out p (spacedFrom (nameIn s h) i count) out₀ at (spacedFrom (nameIn s h) 0 count)
+
+abbrev μ-loop : tie.MeasureT-loop
+μ-loop s h count out₀ at i₀ p₀ out i p = count - i
+
+abbrev name : tie.In-loop Inv-loop μ-loop → ℕ → List ℕ
+name c = nameIn (c .before .before .before .before .args .s .now) (c .before .before .before .before .args .h)
+
+abbrev later : tie.In-loop Inv-loop μ-loop → List ℕ
+later c = spacedFrom (name c) (c .before .loop .i + 1) (c .before .before .before .before .args .count)
+
+abbrev Rest : tie.In-loop Inv-loop μ-loop → List ℕ → ℕ → List ℕ → Type 0
+Rest c out p t = Left out p t (c .before .before .before .before .args .out .now) (c .before .before .before .before .args .at) (spacedFrom (name c) 0 (c .before .before .before .before .args .count))
+
+turn : (c : tie.In-loop Inv-loop μ-loop) → Rest c (c .before .loop .out) (c .before .loop .p) (name c (c .before .loop .i) ++ (space ∷ later c))
+turn c = rw (spaced-next (name c) (c .before .loop .i) (c .before .before .before .before .args .count) (c .loop-test .taken)) at (c .before .loop .inv .1)
+
+after-name : (c : tie.After-print-name Inv-loop μ-loop) → Rest (c .before .before) (c .print-name .last .1 .1 .1 .0) (c .print-name .result) (space ∷ later (c .before .before))
+after-name c = put-left (turn (c .before .before)) (c .print-name .ensures)
+
+loop-holds : tie.Need-loop-holds Inv-loop μ-loop
+loop-holds c = (omega arith, all-left (c .before .before .pre .2))
+
+print-name-requires : tie.Need-print-name-requires Inv-loop μ-loop
+print-name-requires c κs = (c .before .before .before .before .before .pre .0, omega arith, room-for (name (c .before) (c .before .before .loop .i)) (space ∷ later (c .before)) (turn (c .before)))
+
+put-requires : tie.Need-put-requires Inv-loop μ-loop
+put-requires c κs = room-byte (after-name (c .before .before .before))
+
+add-i : tie.Need-add-i Inv-loop μ-loop
+add-i c = omega arith
+
+loop-less : tie.Need-loop-less Inv-loop μ-loop
+loop-less c = omega arith
+
+loop-again : tie.Need-loop-again Inv-loop μ-loop
+unfolding space
+loop-again c = (omega arith, put-left (after-name (c .before .before .before .before .before .before)) (c .before .before .put .ensures))
+
+same-length : tie.Need-same-length Inv-loop μ-loop
+same-length c = c .before .loop .inv .1 .kept
+
+returns : tie.Need-returns Inv-loop μ-loop
+returns c = none-left (rw (spaced-none (nameIn (c .before .before .before .before .args .s .now) (c .before .before .before .before .args .h)) (c .before .loop .i) (c .before .before .before .before .args .count) (c .loop-test .left)) at (c .before .loop .inv .1))
+
+pub print-names-spec : {M : Type 1} → statement M
+print-names-spec =
+    tie.close
+    (tie.spec
+    Inv-loop
+    μ-loop
+    loop-holds
+    print-name-requires
+    put-requires
+    add-i
+    loop-less
+    loop-again
+    same-length
+    returns)

@@ -1,0 +1,57 @@
+-- `lines::header::print_names_line` meets its contract: after each call, what is left to write.
+-- Assumes nothing.
+use Prim.Native.Nat.{ℕ, _-_}
+use mathlib.Core.List.{List, [], _∷_, _++_}
+use native.Mathlib.Omega.{arith}
+use borrow.Author.Needs.{needs}
+use Rattle.rules.specs.Text.{newline}
+use Rattle.rules.specs.Printed.{line}
+use Rattle.nets.specs.Forms.{nameIn}
+use Rattle.lines.specs.Put.{Left, parts-left, put-left, room-for, room-byte, last-put}
+use Rattle.lines.specs.Lines.{spacedFrom}
+use Rattle.lines.specs.Names.{namesIn, names-line}
+use Rattle.lines.proofs.header.print_names_line.Statement.{statement}
+use Rattle.lines.proofs.header.print_names_line.Tie as tie
+
+abbrev name : tie.Start → ℕ → List ℕ
+name c = nameIn (c .args .s .now) (c .args .h)
+
+abbrev last : tie.Start → ℕ
+last c = c .args .h .inputs - 1
+
+abbrev Rest : tie.Start → List ℕ → ℕ → List ℕ → Type 0
+Rest c out at t = Left out at t (c .args .out .now) (c .args .at) (line (namesIn (c .args .s .now) (c .args .h)))
+
+start : (c : tie.Start) → Rest c (c .args .out .now) (c .args .at) (spacedFrom (name c) 0 (last c) ++ (name c (last c) ++ (newline ∷ [])))
+start c = parts-left (names-line (c .args .s .now) (c .args .h) (c .pre .0 .some)) (c .pre .1)
+
+after-names : (c : tie.After-print-names) → Rest (c .before .before .before .before .before) (c .print-names .last .1 .1 .1 .0) (c .print-names .result) (name (c .before .before .before .before .before) (last (c .before .before .before .before .before)) ++ (newline ∷ []))
+after-names c = put-left (start (c .before .before .before .before .before)) (c .print-names .ensures)
+
+after-name : (c : tie.After-print-name) → Rest (c .before .before .before .before .before .before .before .before .before) (c .print-name .last .1 .1 .1 .0) (c .print-name .result) (newline ∷ [])
+after-name c = put-left (after-names (c .before .before .before .before)) (c .print-name .ensures)
+
+sub-last : tie.Need-sub-last
+sub-last c = search needs
+
+print-names-requires : tie.Need-print-names-requires
+print-names-requires c κs =
+    (c .before .before .before .before .pre .0, omega arith, room-for (spacedFrom (name (c .before .before .before .before)) 0 (last (c .before .before .before .before))) (name (c .before .before .before .before) (last (c .before .before .before .before)) ++ (newline ∷ [])) (start (c .before .before .before .before)))
+
+print-name-requires : tie.Need-print-name-requires
+print-name-requires c κs = (c .before .before .before .before .before .before .before .before .pre .0, omega arith, room-for (name (c .before .before .before .before .before .before .before .before) (last (c .before .before .before .before .before .before .before .before))) (newline ∷ []) (after-names (c .before .before .before)))
+
+put-requires : tie.Need-put-requires
+put-requires c κs = room-byte (after-name (c .before .before .before))
+
+same-length : tie.Need-same-length
+same-length c = search needs
+
+returns : tie.Need-returns
+unfolding newline
+returns c = last-put (after-name (c .before .before .before .before .before .before)) (c .before .before .put .ensures)
+
+pub print-names-line-spec : {M : Type 1} → statement M
+print-names-line-spec =
+    tie.close
+    (tie.spec sub-last print-names-requires print-name-requires put-requires same-length returns)

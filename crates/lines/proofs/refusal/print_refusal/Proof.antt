@@ -1,0 +1,33 @@
+-- `lines::refusal::print_refusal` meets its contract: 55 bytes suffice for every number and place.
+-- Assumes nothing.
+use Prim.Native.Nat.{_≤_}
+use native.Mathlib.Omega.{arith}
+use borrow.Author.Needs.{needs}
+use lib.ListN.{length}
+use Rattle.rules.specs.Text.{space, newline, text}
+use Rattle.rules.specs.Printed.{line}
+use Rattle.lines.specs.Put.{put-wrote}
+use Rattle.lines.specs.Refusals.{refusalLines, refusal-length}
+use Rattle.lines.proofs.refusal.print_refusal.Statement.{statement}
+use Rattle.lines.proofs.refusal.print_refusal.Tie as tie
+
+room : (c : tie.Start) → length (refusalLines (c .args .number) (c .args .place)) ≤ length (c .args .out .now)
+room c = omega (arith, c .pre, refusal-length (c .args .number) (c .args .place) (c .fits .number .fits) (c .fits .place .fits))
+
+slice-aggregate-print-pair : tie.Need-slice-aggregate-print-pair
+slice-aggregate-print-pair c = search needs
+
+print-pair-requires : tie.Need-print-pair-requires
+unfolding line text space newline
+print-pair-requires c κs = omega (arith, room (c .before .before .before))
+
+same-length : tie.Need-same-length
+same-length c = search needs
+
+returns : tie.Need-returns
+unfolding line text space newline
+returns c = put-wrote (room (c .before .before .before .before .before .before)) (c .before .before .print-pair .ensures)
+
+pub print-refusal-spec : {M : Type 1} → statement M
+print-refusal-spec =
+    tie.close (tie.spec slice-aggregate-print-pair print-pair-requires same-length returns)

@@ -1,0 +1,65 @@
+// The first three lines of a sheet.
+ghost use Prim.Native.Nat.{_≤_, _<_};
+ghost use mathlib.Core.List.{[], _∷_, _++_};
+ghost use Rattle.rules.specs.Text.{decimal};
+ghost use Rattle.rules.specs.Printed.{line};
+ghost use Rattle.nets.specs.Forms.{nameIn};
+ghost use Rattle.lines.specs.Put.{Put, Room};
+ghost use Rattle.lines.specs.Lines.{spacedFrom};
+ghost use Rattle.lines.specs.Names.{NamesInside, namesIn};
+use crate::decimals::print_decimal;
+use crate::put::copy;
+use crate::put::put;
+use crate::wide::wide;
+use crate::wide::wide16;
+use nets::forms::Header;
+
+// A line, and then a line of two decimal values.
+pub fn print_pair(head: &[u8], a: usize, b: usize, out: &mut [u8], at: usize) -> usize
+    requires { ⌜ Room (now out) at (now head ++ line (decimal a ∷ decimal b ∷ [])) ⌝ }
+    ensures { λ r. ⌜ Put (now (out .entry)) at (now (head .entry) ++ line (decimal a ∷ decimal b ∷ [])) (now (out .exit)) r ⌝ }
+{
+    let p = copy(head, out, at);
+    let p = print_decimal(a, out, p);
+    let p = put(b' ', out, p);
+    let p = print_decimal(b, out, p);
+    put(b'\n', out, p)
+}
+
+// Name i.
+pub fn print_name(s: &[u8], h: Header, i: usize, out: &mut [u8], at: usize) -> usize
+    requires { ⌜ NamesInside (now s) h × (i < h .inputs) × Room (now out) at (nameIn (now s) h i) ⌝ }
+    ensures { λ r. ⌜ Put (now (out .entry)) at (nameIn (now (s .entry)) h i) (now (out .exit)) r ⌝ }
+{
+    let starts = h.starts;
+    let lens = h.lens;
+    let a = wide16(starts[i]);
+    let e = a + wide(lens[i]);
+    copy(&s[a..e], out, at)
+}
+
+// The first `count` names, each with a space behind it.
+pub fn print_names(s: &[u8], h: Header, count: usize, out: &mut [u8], at: usize) -> usize
+    requires { ⌜ NamesInside (now s) h × (count ≤ h .inputs) × Room (now out) at (spacedFrom (nameIn (now s) h) 0 count) ⌝ }
+    ensures { λ r. ⌜ Put (now (out .entry)) at (spacedFrom (nameIn (now (s .entry)) h) 0 count) (now (out .exit)) r ⌝ }
+{
+    let mut i: usize = 0;
+    let mut p: usize = at;
+    while i < count {
+        let e = print_name(s, h, i, out, p);
+        p = put(b' ', out, e);
+        i += 1;
+    }
+    p
+}
+
+// The line of all names.
+pub fn print_names_line(s: &[u8], h: Header, out: &mut [u8], at: usize) -> usize
+    requires { ⌜ NamesInside (now s) h × Room (now out) at (line (namesIn (now s) h)) ⌝ }
+    ensures { λ r. ⌜ Put (now (out .entry)) at (line (namesIn (now (s .entry)) h)) (now (out .exit)) r ⌝ }
+{
+    let last = h.inputs - 1;
+    let p = print_names(s, h, last, out, at);
+    let p = print_name(s, h, last, out, p);
+    put(b'\n', out, p)
+}

@@ -1,0 +1,38 @@
+// Text written into a buffer at a place. Each function answers the place after its text.
+ghost use Prim.Native.Nat.{_<_};
+ghost use mathlib.Core.List.{[], _∷_};
+ghost use lib.ListN.{length};
+ghost use Rattle.rules.specs.Text.{digitByte};
+ghost use Rattle.lines.specs.Put.{Put, Room};
+
+// One byte.
+pub fn put(b: u8, out: &mut [u8], at: usize) -> usize
+    requires { ⌜ at < length (now out) ⌝ }
+    ensures { λ r. ⌜ Put (now (out .entry)) at (b ∷ []) (now (out .exit)) r ⌝ }
+{
+    out[at] = b;
+    at + 1
+}
+
+// One digit.
+pub fn put_digit(d: usize, out: &mut [u8], at: usize) -> usize
+    requires { ⌜ (d < 10) × (at < length (now out)) ⌝ }
+    ensures { λ r. ⌜ Put (now (out .entry)) at (digitByte d ∷ []) (now (out .exit)) r ⌝ }
+{
+    put(48 + d as u8, out, at)
+}
+
+// All of t.
+pub fn copy(t: &[u8], out: &mut [u8], at: usize) -> usize
+    requires { ⌜ Room (now out) at (now t) ⌝ }
+    ensures { λ r. ⌜ Put (now (out .entry)) at (now (t .entry)) (now (out .exit)) r ⌝ }
+{
+    let mut i: usize = 0;
+    let mut p: usize = at;
+    while i < t.len() {
+        out[p] = t[i];
+        i += 1;
+        p += 1;
+    }
+    p
+}

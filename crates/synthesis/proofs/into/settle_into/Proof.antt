@@ -1,0 +1,50 @@
+-- `synthesis::into::settle_into` meets its contract. Assumes nothing.
+use mathlib.Core.Path.{_∙_}
+use native.Mathlib.Omega.{arith}
+use Rattle.laws.specs.Sizes.{sized}
+use Rattle.synthesis.specs.Outcomes.{given-size, given-13, given-14, given-marked}
+use borrow.Author.Needs.{needs}
+use Rattle.synthesis.proofs.into.settle_into.Statement.{statement}
+use Rattle.synthesis.proofs.into.settle_into.Tie as tie
+
+returns : tie.Need-returns
+returns c = given-13 _ _ _ (c .before .before .before .before .before .before .pre) _ _ _ (c .if1 .taken)
+
+marks-length-requires : tie.Need-marks-length-requires
+marks-length-requires c κs =
+    let start = c .before .before .before .before .before .before in
+    let h = start .args .header in
+    omega (arith, sized (h .levels) (h .inputs) (given-size _ _ _ (start .pre)) .inputs-most)
+
+returns-2 : tie.Need-returns-2
+returns-2 c = given-14 _ _ _ (c .before .before .before .before .before .before .before .before .pre) _ _ _ (c .before .before .if1 .left) _ (c .before .marks-length .ensures) (c .if2 .taken)
+
+settle-marked-requires : tie.Need-settle-marked-requires
+settle-marked-requires c κs = search needs
+
+same-length : tie.Need-same-length
+same-length c = search needs
+
+same-length-2 : tie.Need-same-length-2
+same-length-2 c = search needs
+
+same-length-3 : tie.Need-same-length-3
+same-length-3 c = search needs
+
+returns-3 : tie.Need-returns-3
+returns-3 c =
+    c .before .before .before .before .before .before .settle-marked .ensures
+    ∙ given-marked _ _ _ (c .before .before .before .before .before .before .before .before .before .before .before .before .before .before .before .before .before .before .pre) _ _ _ (c .before .before .before .before .before .before .before .before .before .before .before .before .if1 .left) _ (c .before .before .before .before .before .before .before .before .before .before .before .marks-length .ensures) (c .before .before .before .before .before .before .before .before .before .before .if2 .left)
+
+pub settle-into-spec : {M : Type 1} → statement M
+settle-into-spec =
+    tie.close
+    (tie.spec
+    returns
+    marks-length-requires
+    returns-2
+    settle-marked-requires
+    same-length
+    same-length-2
+    same-length-3
+    returns-3)

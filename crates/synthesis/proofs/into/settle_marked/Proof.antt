@@ -1,0 +1,90 @@
+-- `synthesis::into::settle_marked` meets its contract. Assumes nothing.
+use mathlib.Core.Path.{sym}
+use native.Mathlib.Nat.{le-of-eq}
+use native.Mathlib.Omega.{arith}
+use Rattle.laws.specs.Sizes.{sized}
+use Rattle.lines.specs.Put.{put-wrote}
+use Rattle.synthesis.specs.Outcomes.{given-size, given-count, given-below, settled-inside, settled-short, given-two, marks-held, given-16, given-tree}
+use borrow.Author.Needs.{needs}
+use Rattle.synthesis.proofs.into.settle_marked.Statement.{statement}
+use Rattle.synthesis.proofs.into.settle_marked.Tie as tie
+
+copy-requires : tie.Need-copy-requires
+copy-requires c κs = search needs
+
+mark-all-requires : tie.Need-mark-all-requires
+mark-all-requires c κs =
+    let start = c .before .before .before .before .before .before .before .before .before .before in
+    (given-size _ _ _ (start .pre .0), le-of-eq (sym (given-count _ _ _ (start .pre .0))), start .pre .2)
+
+no-tree-place-requires : tie.Need-no-tree-place-requires
+no-tree-place-requires c κs =
+    let start = c .before .before .before .before .before .before .before .before .before .before .before .before .before .before .before in
+    let h = start .args .header in (
+      omega (arith, sized (h .levels) (h .inputs) (given-size _ _ _ (start .pre .0)) .inputs-most),
+      omega (arith, start .pre .2, c .before .before .before .before .mark-all .kept .1 .1 .1 .0),
+    )
+
+same-length : tie.Need-same-length
+same-length c = search needs
+
+same-length-2 : tie.Need-same-length-2
+same-length-2 c = search needs
+
+returns : tie.Need-returns
+returns c =
+    let start = c .before .before .before .before .before .before .before .before .before .before .before .before .before .before .before .before in
+    let did = c .before .before .before .before .before .mark-all in
+    given-16 _ _ _ (start .pre .0) _ _ _ (did .ensures) (omega (arith, start .pre .2, did .kept .1 .1 .1 .0)) _ _ _ (put-wrote (start .pre .1) (c .before .before .before .before .before .before .before .before .before .copy .ensures) .text) (c .before .before .if1 .taken)
+    _ (c .no-tree-place .ensures)
+
+settled-net-requires : tie.Need-settled-net-requires
+settled-net-requires c κs =
+    let start = c .before .before .before .before .before .before .before .before .before .before .before .before .before .before .before in
+    let did = c .before .before .before .before .mark-all in
+    let g = start .pre .0 in (
+      given-size _ _ _ g,
+      le-of-eq (sym (given-count _ _ _ g)),
+      given-below _ _ _ g,
+      marks-held _ _ _ g _ _ _ (did .ensures) (omega (arith, start .pre .2, did .kept .1 .1 .1 .0)),
+      given-two _ _ _ g _ _ _ (did .ensures) (c .before .if1 .left),
+    )
+
+write-sheet-requires : tie.Need-write-sheet-requires
+write-sheet-requires c κs =
+    let g = c .before .before .before .before .before .before .before .before .before .before .before .before .before .before .before .before .before .pre .0 in
+    let settled = c .before .settled-net in
+    (g .names, settled-inside _ _ _ g _ (settled .ensures), settled-short _ _ _ g _ (settled .ensures))
+
+same-length-3 : tie.Need-same-length-3
+same-length-3 c = search needs
+
+same-length-4 : tie.Need-same-length-4
+same-length-4 c = search needs
+
+same-length-5 : tie.Need-same-length-5
+same-length-5 c = search needs
+
+returns-2 : tie.Need-returns-2
+returns-2 c =
+    let start = c .before .before .before .before .before .before .before .before .before .before .before .before .before .before .before .before .before .before .before .before in
+    let did = c .before .before .before .before .before .before .before .before .before .mark-all in
+    given-tree _ _ _ (start .pre .0) _ _ _ (did .ensures) _ _ _ (put-wrote (start .pre .1) (c .before .before .before .before .before .before .before .before .before .before .before .before .before .copy .ensures) .text) (c .before .before .before .before .before .before .if1 .left) _ (c .before .before .before .before .settled-net .ensures)
+    (c .before .before .write-sheet .result) _ (c .before .before .write-sheet .ensures)
+
+pub settle-marked-spec : {M : Type 1} → statement M
+settle-marked-spec =
+    tie.close
+    (tie.spec
+    copy-requires
+    mark-all-requires
+    no-tree-place-requires
+    same-length
+    same-length-2
+    returns
+    settled-net-requires
+    write-sheet-requires
+    same-length-3
+    same-length-4
+    same-length-5
+    returns-2)

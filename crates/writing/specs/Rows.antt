@@ -1,0 +1,62 @@
+-- A table sheet's rows, byte by byte.
+-- Assumes nothing.
+use Prim.Native.Nat.{ℕ, _+_, _*_, _≤_, _<_}
+use mathlib.Core.Path.{_≡_, refl, ap, _∙_}
+use mathlib.Core.List.{List, [], _∷_, _++_, map}
+use native.Mathlib.Numerals.{add-one}
+use native.Mathlib.Omega.{arith}
+use lib.ListN.{length, getD, drop, length-append, drop-of-length-le}
+use lib.Seq.{drop-cons}
+use Rattle.rules.specs.Text.{space, newline, digitByte}
+use Rattle.rules.specs.Sheets.{levelsAt}
+use Rattle.rules.specs.Printed.{line, printedRow, printedRows}
+use Rattle.laws.specs.Concat.{map-append}
+use Rattle.lines.specs.Lines.{spaced, line-last}
+
+abbrev pub oneDigit : ℕ → List ℕ
+oneDigit l = digitByte l ∷ []
+
+-- the line of some levels and an ink
+unfoldable pub rowText : List ℕ → ℕ → List ℕ
+rowText levels ink = line (map oneDigit (levels ++ (ink ∷ [])))
+
+pub row-text : (m n p ink : ℕ) → printedRow m n p ink ≡ rowText (levelsAt m n p) ink
+unfolding printedRow rowText
+row-text m n p ink = refl
+
+-- that line from level i on
+unfoldable pub rowFrom : List ℕ → ℕ → ℕ → List ℕ
+rowFrom levels ink i = spaced (map oneDigit (drop i levels)) ++ (digitByte ink ∷ newline ∷ [])
+
+digits-length : (levels : List ℕ) → length (spaced (map oneDigit levels)) ≡ 2 * length levels
+unfolding spaced
+digits-length [] = refl
+digits-length (l ∷ levels) = omega (arith, digits-length levels)
+
+module _ (levels : List ℕ) (ink : ℕ) where
+  pub row-all : rowText levels ink ≡ rowFrom levels ink 0
+  unfolding rowText rowFrom
+  row-all = ap line (map-append oneDigit levels (ink ∷ [])) ∙ line-last (map oneDigit levels) (oneDigit ink)
+
+  pub row-next : (i : ℕ) → i < length levels → rowFrom levels ink i ≡ digitByte (getD levels i 0) ∷ space ∷ rowFrom levels ink (i + 1)
+  unfolding rowFrom spaced
+  row-next i h = rw (add-one i, drop-cons levels i 0 h)
+
+  pub row-end : (i : ℕ) → length levels ≤ i → rowFrom levels ink i ≡ digitByte ink ∷ newline ∷ []
+  unfolding rowFrom spaced
+  row-end i h = rw (drop-of-length-le levels {i = i} h)
+
+  -- two bytes for each level and two for the ink
+  pub row-length : length (rowText levels ink) ≡ 2 * length levels + 2
+  unfolding rowFrom
+  row-length = ap length row-all ∙ length-append (spaced (map oneDigit levels)) (digitByte ink ∷ newline ∷ []) ∙ omega (arith, digits-length levels)
+
+-- the rows from index k on, the first of them by its levels
+pub rows-next : (m n k : ℕ) (inks : List ℕ) → k < length inks
+    → printedRows m n k (drop k inks) ≡ rowText (levelsAt m n k) (getD inks k 0) ++ printedRows m n (k + 1) (drop (k + 1) inks)
+unfolding printedRows
+rows-next m n k inks h = rw (drop-cons inks k 0 h, row-text, add-one k)
+
+pub rows-end : (m n k : ℕ) (inks : List ℕ) → length inks ≤ k → printedRows m n k (drop k inks) ≡ []
+unfolding printedRows
+rows-end m n k inks h = rw (drop-of-length-le inks {i = k} h)

@@ -1,0 +1,4 @@
+// A net sheet's table sheet, with its length known before it is written.
+pub mod lengths;
+pub mod table;
+pub mod write;
