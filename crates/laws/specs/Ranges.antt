@@ -30,13 +30,7 @@ pub range-suc : (from count : ℕ) → range from (suc count) ≡ range from cou
 unfolding range
 range-suc from count = ap (range from) (sym (add-one count)) ∙ range-append from count 1
 
--- the numbers from i up to n, the first of them taken off
-pub range-next : (i n : ℕ) → i < n → range i (n - i) ≡ i ∷ range (i + 1) (n - (i + 1))
-unfolding range
-range-next i n h =
-    let e : n - i ≡ suc (n - (i + 1)) = omega arith in
-    rw (e, ← add-one i)
-
+-- each number one more
 pub range-shift : (from count : ℕ) → range (suc from) count ≡ map suc (range from count)
 unfolding range
 range-shift from zero = refl
