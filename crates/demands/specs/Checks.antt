@@ -9,7 +9,7 @@ use mathlib.Core.List.{List, [], _∷_}
 use native.Mathlib.Nat.{zero-add, lt-of-not-le}
 use native.Mathlib.Decide.{decLe, decLt}
 use native.Mathlib.Omega.{arith}
-use lib.ListN.{length, getD, take}
+use lib.ListN.{length, getD}
 use lib.Dec.{eqb}
 use borrow.Author.Tests.{lt-ltb, le-ltb, eq-eqb, eqb-true, eqb-false, not-false, not-true}
 use Rattle.rules.specs.Lists.{range, firstPlace, same}
@@ -24,7 +24,7 @@ use Rattle.laws.specs.Same.{same-refl, same-true}
 use Rattle.laws.specs.Tests.{both-eqb}
 use Rattle.readback.specs.ReadBack.{net-accepted, table-accepted, table-read-back}
 use Rattle.trees.specs.Uniqueness.{table-at, table-length}
-use Rattle.demands.specs.Settles.{kept-table, written-front}
+use Rattle.demands.specs.Settles.{sheetIn, accepted-inj, not-refused, kept-table, written-front}
 
 -- ---- two lists of inks compared
 
@@ -216,9 +216,9 @@ module _ (s r cells : List ℕ) where
 
 -- ---- table writing
 
--- the table sheet that a call wrote: as many bytes from the front of the output as it answers
-unfoldable pub tableSheetOf : Written → Answer (List ℕ)
-tableSheetOf made = elim (made .answer) [ accepted count ↦ accepted (take count (made .output)) | refused number place ↦ refused number place ]
+-- the table sheet that table writing wrote
+abbrev pub tableSheetOf : Written → Answer (List ℕ)
+tableSheetOf made = sheetIn (made .answer) (made .output)
 
 module _ (s : List ℕ) (net : Net) (reads : readNet s ≡ accepted net) where
   -- the table sheet of an accepted net sheet is accepted, with the net's table, ..
@@ -235,19 +235,17 @@ module _ (s : List ℕ) (net : Net) (reads : readNet s ≡ accepted net) where
   -- it is what table writing writes, where the output is long enough, ..
   pub writes-table : (output : List ℕ) → length (printedTable (tableOfNet net)) ≤ length output
       → tableSheetOf (writeTableCall s output) ≡ accepted (printedTable (tableOfNet net))
-  unfolding tableSheetOf
+  unfolding sheetIn
   writes-table output long = ap tableSheetOf (table-written s output net reads long) ∙ ap accepted (written-front output (printedTable (tableOfNet net)))
 
   -- .. and it writes nothing else
   writes-only : (output sheet : List ℕ) → tableSheetOf (writeTableCall s output) ≡ accepted sheet → printedTable (tableOfNet net) ≡ sheet
-  unfolding tableSheetOf
+  unfolding sheetIn
   writes-only output sheet e = go (decLe (length (printedTable (tableOfNet net))) (length output))
     where
       go : Dec (length (printedTable (tableOfNet net)) ≤ length output) → printedTable (tableOfNet net) ≡ sheet
-      go (yes long) = let d = sym (writes-table output long) ∙ e in cc
-      go (no short) =
-          let d = sym (ap tableSheetOf (table-15 s output net reads (lt-of-not-le short))) ∙ e in
-          absurd (let z : _≡_ {A = ℕ} 0 1 = cc in omega arith)
+      go (yes long) = accepted-inj _ sheet (sym (writes-table output long) ∙ e)
+      go (no short) = absurd (not-refused sheet 15 _ (sym e ∙ ap tableSheetOf (table-15 s output net reads (lt-of-not-le short))))
 
   -- Whatever the output's length, a sheet that table writing leaves is accepted, with the net's table, ..
   pub written-accepted : (output sheet : List ℕ) → tableSheetOf (writeTableCall s output) ≡ accepted sheet → readTable sheet ≡ accepted (tableOfNet net)

@@ -8,7 +8,6 @@ use mathlib.Core.Path.{_≡_, refl, sym, ap, _∙_, subst, subst⁻¹}
 use mathlib.Core.Logic.{_↔_}
 use mathlib.Core.List.{List, [], _∷_}
 use native.Mathlib.Decide.{ℕ-discrete}
-use native.Mathlib.Omega.{arith}
 use lib.ListN.{length}
 use lib.Dec.{ltb}
 use Rattle.rules.specs.Lists.{any}
@@ -17,14 +16,14 @@ use Rattle.rules.specs.Sheets.{Net, Table}
 use Rattle.rules.specs.Printed.{printedNet}
 use Rattle.rules.specs.Marks.{marksLength, storedMarks, noTreePlace}
 use Rattle.rules.specs.Kept.{KeptNet, KeptTable}
-use Rattle.rules.specs.Calls.{Answer, accepted, refused, Made, inkIn, written, readNet, readTable, tableOfNet, settledNet, writtenSheet, afterMarks, settledInto, settleCall, makeCall}
+use Rattle.rules.specs.Calls.{accepted, refused, Made, inkIn, written, readNet, readTable, tableOfNet, settledNet, writtenSheet, afterMarks, settledInto, settleCall, makeCall}
 use Rattle.laws.specs.Outcomes.{WholeTwo, marksOfTable, make-accepted, into-marked, marked-16, marked-tree}
 use Rattle.trees.specs.Existence.{TreeExists, tree-exists, settled-net}
 use Rattle.trees.specs.Uniqueness.{table-is, table-at}
 use Rattle.demands.specs.Bounds.{levels-pos, inputs-several}
 use Rattle.readback.specs.Length.{net-length}
 use Rattle.readback.specs.ReadBack.{net-read-back, net-accepted, table-accepted}
-use Rattle.demands.specs.Settles.{sheetOf, Long, written-front, settled-written, settles, table-path}
+use Rattle.demands.specs.Settles.{sheetIn, sheetOf, accepted-inj, not-refused, Long, written-front, settled-written, settles, table-path}
 use Rattle.demands.specs.Refusals.{not-given, sheet-numbers, by-test}
 
 -- some gate list, whatever its wiring and digits, is a net of the table's levels and inputs and computes its inks
@@ -87,29 +86,22 @@ sheet-tree t has =
 
 -- ---- what was written
 
--- a call that refuses leaves no sheet
-no-sheet : (number place : ℕ) (sheet : List ℕ) → _≡_ {A = Answer (List ℕ)} (refused number place) (accepted sheet) → ⊥
-no-sheet number place sheet e = let z : _≡_ {A = ℕ} 0 1 = cc in omega arith
-
-same-sheet : (a b : List ℕ) → accepted a ≡ accepted b → a ≡ b
-same-sheet a b e = cc
-
 -- whatever the buffers, a sheet that is written is the settled net's, and the whole group has mark 2
 into-accepted : (t : Table) (cells marks output sheet : List ℕ) → sheetOf (settledInto t cells marks output) ≡ accepted sheet
     → WholeTwo t × (printedNet (settledNet t) ≡ sheet)
-unfolding settledInto sheetOf writtenSheet
+unfolding settledInto sheetIn writtenSheet
 into-accepted t cells marks output sheet =
-    by-test Wrote (ltb (length cells) (t .header .levels ^ t .header .inputs)) _ _ (λ e. absurd (no-sheet 13 _ sheet e))
-    (by-test Wrote (ltb (length marks) (marksLength (t .header .inputs))) _ _ (λ e. absurd (no-sheet 14 _ sheet e)) (marked (ℕ-discrete _ 2)))
+    by-test Wrote (ltb (length cells) (t .header .levels ^ t .header .inputs)) _ _ (λ e. absurd (not-refused sheet 13 _ (sym e)))
+    (by-test Wrote (ltb (length marks) (marksLength (t .header .inputs))) _ _ (λ e. absurd (not-refused sheet 14 _ (sym e))) (marked (ℕ-discrete _ 2)))
   where
     Wrote : Made → Type 0
     Wrote made = sheetOf made ≡ accepted sheet → WholeTwo t × (printedNet (settledNet t) ≡ sheet)
 
     marked : Dec (WholeTwo t) → Wrote (afterMarks t cells marks output)
-    marked (no other) = subst⁻¹ Wrote (marked-16 t cells marks output other) (λ e. absurd (no-sheet 16 _ sheet e))
+    marked (no other) = subst⁻¹ Wrote (marked-16 t cells marks output other) (λ e. absurd (not-refused sheet 16 _ (sym e)))
     marked (yes two) = subst⁻¹ Wrote (marked-tree t cells marks output two)
-        (by-test Wrote (ltb (length output) (length (printedNet (settledNet t)))) _ _ (λ e. absurd (no-sheet 15 _ sheet e))
-        (λ e. (two, sym (written-front output (printedNet (settledNet t))) ∙ same-sheet _ sheet e)))
+        (by-test Wrote (ltb (length output) (length (printedNet (settledNet t)))) _ _ (λ e. absurd (not-refused sheet 15 _ (sym e)))
+        (λ e. (two, sym (written-front output (printedNet (settledNet t))) ∙ accepted-inj _ sheet e)))
 
 -- the two ways in which making ends on an accepted table sheet with long buffers
 pub data Making (t : Table) (made : Made) : Type 0 where

@@ -5,7 +5,6 @@
 use Prim.Native.Nat.{ℕ, _^_, _≤_}
 use mathlib.Core.Path.{_≡_, refl, sym, ap, _∙_, subst⁻¹}
 use mathlib.Core.List.{List, [], _∷_, _++_}
-use native.Mathlib.Omega.{arith}
 use lib.ListN.{length, take, length-replicate}
 use lib.Pow.{pow-mono}
 use Rattle.rules.specs.Lists.{all, any}
@@ -21,7 +20,7 @@ use Rattle.laws.specs.Sizes.{kept-size}
 use Rattle.laws.specs.Outcomes.{marksOfTable, settle-refused, make-refused}
 use Rattle.readback.specs.Numbers.{netNumbers, tableNumbers, net-refusal, table-refusal}
 use Rattle.readback.specs.ReadBack.{net-accepted, table-accepted}
-use Rattle.demands.specs.Settles.{sheetOf, settles, settled-short}
+use Rattle.demands.specs.Settles.{sheetIn, sheetOf, accepted-inj, not-refused, settles, settled-short}
 use Rattle.demands.specs.Refusals.{Gives, refuses, wider}
 use Rattle.demands.specs.Makes.{HasTree, Making, no-tree, some-tree, made-short, make-either}
 
@@ -32,14 +31,13 @@ refusalLines number place = line (text "number" ∷ text "place" ∷ []) ++ line
 -- ---- what is printed of a call
 
 prints-sheet : (made : Made) (sheet : List ℕ) → sheetOf made ≡ accepted sheet → programOutput made ≡ sheet
-unfolding sheetOf programOutput
+unfolding sheetIn programOutput
 prints-sheet made sheet = go (made .answer)
   where
-    go : (a : Answer ℕ)
-        → _≡_ {A = Answer (List ℕ)} (elim a [ accepted count ↦ accepted (take count (made .output)) | refused number place ↦ refused number place ]) (accepted sheet)
+    go : (a : Answer ℕ) → sheetIn a (made .output) ≡ accepted sheet
         → _≡_ {A = List ℕ} (elim a [ accepted count ↦ take count (made .output) | refused number place ↦ refusalLines number place ]) sheet
-    go (accepted count) e = cc
-    go (refused number place) e = absurd (let z : _≡_ {A = ℕ} 0 1 = cc in omega arith)
+    go (accepted count) e = accepted-inj _ sheet e
+    go (refused number place) e = absurd (not-refused sheet number place (sym e))
 
 prints-refusal : (made : Made) (number place : ℕ) → made .answer ≡ refused number place → programOutput made ≡ refusalLines number place
 unfolding programOutput
@@ -47,11 +45,8 @@ prints-refusal made number place e = rw (e, programOutput)
 
 -- a call that left a sheet did not refuse
 no-refusal : (made : Made) (sheet : List ℕ) (number place : ℕ) → sheetOf made ≡ accepted sheet → made .answer ≡ refused number place → ⊥
-unfolding sheetOf
-no-refusal made sheet number place e d =
-    let a : _≡_ {A = Answer (List ℕ)} (refused number place) (accepted sheet) = rw (d, sheetOf) at e in
-    let z : _≡_ {A = ℕ} 0 1 = cc in
-    omega arith
+unfolding sheetIn
+no-refusal made sheet number place e d = not-refused sheet number place (sym e ∙ ap (λ (a : Answer ℕ). sheetIn a (made .output)) d)
 
 -- ---- the buffers suffice
 

@@ -22,7 +22,7 @@ use Rattle.laws.specs.Tests.{all-iff, any-cons}
 use Rattle.laws.specs.Outcomes.{WholeTwo, marked-16, marked-tree}
 use Rattle.readback.specs.Numbers.{netNumbers, tableNumbers, net-refusal, table-refusal}
 use Rattle.readback.specs.ReadBack.{net-accepted}
-use Rattle.demands.specs.Settles.{net-whole-two}
+use Rattle.demands.specs.Settles.{not-refused, net-whole-two}
 
 -- ---- the numbers of each call
 
@@ -74,7 +74,7 @@ not-given numbers a gives number place h e = true≢false (sym (gives number pla
 -- ---- a call's cases
 
 accepts : {A : Type 0} (numbers : List ℕ) (a : A) → Gives numbers (accepted a)
-accepts numbers a number place e = absurd (let z : _≡_ {A = ℕ} 0 1 = cc in omega arith)
+accepts numbers a number place e = absurd (not-refused a number place e)
 
 pub refuses : {A : Type 0} (numbers : List ℕ) (k at : ℕ) → In k numbers → Gives {A = A} numbers (refused k at)
 refuses numbers k at h number place e = subst (λ (k : ℕ). In k numbers) (let z : k ≡ number = cc in z) h

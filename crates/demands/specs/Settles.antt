@@ -7,6 +7,7 @@ use Prim.Native.Nat.{ℕ, _^_, _≤_, _<_}
 use mathlib.Core.Path.{_≡_, refl, sym, ap, _∙_, subst}
 use mathlib.Core.Logic.{_↔_}
 use mathlib.Core.List.{List}
+use native.Mathlib.Omega.{arith}
 use lib.ListN.{length, take, drop}
 use lib.Seq.{take-at}
 use Rattle.rules.specs.Limits.{mostSettled}
@@ -22,9 +23,20 @@ use Rattle.demands.specs.FirstLines.{threeLines, three-lines, same-lines
 use Rattle.readback.specs.ReadBack.{net-read-back, net-accepted}
 use Rattle.readback.specs.Length.{net-length}
 
--- the sheet that a call wrote: as many bytes from the front of the output as it answers
-unfoldable pub sheetOf : Made → Answer (List ℕ)
-sheetOf made = elim (made .answer) [ accepted count ↦ accepted (take count (made .output)) | refused number place ↦ refused number place ]
+-- "A call that writes a sheet answers its length, and the sheet is that many bytes from the front of the output."
+unfoldable pub sheetIn : Answer ℕ → List ℕ → Answer (List ℕ)
+sheetIn (accepted count) output = accepted (take count output)
+sheetIn (refused number place) output = refused number place
+
+-- the sheet that settling or making wrote
+abbrev pub sheetOf : Made → Answer (List ℕ)
+sheetOf made = sheetIn (made .answer) (made .output)
+
+pub accepted-inj : {A : Type 0} (a b : A) → accepted a ≡ accepted b → a ≡ b
+accepted-inj a b e = cc
+
+pub not-refused : {A : Type 0} (a : A) (number place : ℕ) → accepted a ≡ refused number place → ⊥
+not-refused a number place e = let z : _≡_ {A = ℕ} 0 1 = cc in omega arith
 
 -- "Needed: m to the n bytes, 2 to the n bytes, and the settled sheet's length"
 pub record Long (t : Table) (cells marks output : List ℕ) : Type 0 where
@@ -40,7 +52,7 @@ written-front buffer bytes = take-at bytes (drop (length bytes) buffer) (length 
 -- a table whose whole group has mark 2, and long buffers: the sheet of its settled net is written
 pub settled-written : (t : Table) (cells marks output : List ℕ) → WholeTwo t → Long t cells marks output
     → sheetOf (settledInto t cells marks output) ≡ accepted (printedNet (settledNet t))
-unfolding sheetOf
+unfolding sheetIn
 settled-written t cells marks output two long =
     ap sheetOf
     (into-marked t cells marks output (long .cells-fit) (long .marks-fit)
@@ -109,9 +121,6 @@ module _ (s : List ℕ) (net : Net) (reads : readNet s ≡ accepted net) where
   -- .. and is never over 512 bytes long
   pub settled-short : length (printedNet (settledNet (tableOfNet net))) ≤ mostSettled
   settled-short = net-length (settledNet (tableOfNet net)) (settled-kept net kept-net)
-
-accepted-inj : {A : Type 0} (a b : A) → accepted a ≡ accepted b → a ≡ b
-accepted-inj a b e = cc
 
 -- tables under one header are equal when their inks are
 pub table-path : (t u : Table) → t .header ≡ u .header → t .inks ≡ u .inks → t ≡ u
