@@ -81,11 +81,7 @@ fn flat_turn(listed: Listed) -> SitgurpTurn
                 first: 0,
                 second: 0,
             },
-            Turn::Line {
-                start,
-                count,
-                next: _,
-            } => SitgurpTurn {
+            Turn::Line { start, count } => SitgurpTurn {
                 kind: 1,
                 first: start,
                 second: count,

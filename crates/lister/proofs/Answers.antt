@@ -1,7 +1,7 @@
 -- What a lister gives at a place is what turn k gives, where k turns on an accepted sheet brought it there.
 -- Assumes nothing.
-use Prim.Native.Nat.{ℕ, _+_, _-_, _≤_, _<_, min}
-use mathlib.Core.Path.{_≡_, ap, ap₂, _∙_}
+use Prim.Native.Nat.{ℕ, _+_, _-_, _≤_, _<_}
+use mathlib.Core.Path.{_≡_, ap, _∙_}
 use mathlib.Core.List.{List, []}
 use native.Mathlib.Decide.{decLt}
 use native.Mathlib.Omega.{arith}
@@ -14,8 +14,8 @@ use Rattle.rules.specs.Sheets.{Net}
 use Rattle.rules.specs.Calls.{accepted, readNet}
 use Rattle.rules.specs.Lister.{lineLength, afterLines, Turn, gateAt, noneLeft, turnOf}
 use Rattle.demands.specs.Listing.{partOf, lineAt, gate-inside, gates-end}
-use Rattle.lister.specs.Places.{lineStart, standsAt, lineAfter}
-use Rattle.lister.specs.Turns.{turnAt, isNone, partIn, turnThen, Says}
+use Rattle.lister.specs.Places.{lineStart, standsAt}
+use Rattle.lister.specs.Turns.{turnAt, isNone, partIn, turnNumbers, Says}
 use Rattle.lister.specs.declared.turns.Turn.the-variants.{Line, NoneLeft}
 use Rattle.lister.proofs.Steps.{line-within, stays}
 
@@ -63,13 +63,13 @@ module _ (s : List ℕ) (at : ℕ) where
     pub line-end : end ≤ length s
     line-end = omega (arith, line-within s at (omega arith))
 
-    pub turn-given : (next : ℕ) → next ≡ min (end + 1) (length s) → Says s at (turnThen (lineAfter s at)) (Line at (end - at) next)
-    unfolding turnThen lineAfter
-    turn-given next e = says s at (turnThen (lineAfter s at)) _ (rw (turn-line h) (ap₂ (Line at) count (omega arith)))
+    pub turn-given : Says s at turnNumbers (Line at (end - at))
+    unfolding turnNumbers
+    turn-given = says s at turnNumbers _ (rw (turn-line h) (ap (Line at) count))
 
-  pub turn-none : length s ≤ at → Says s at (turnThen (lineAfter s at)) NoneLeft
-  unfolding turnThen
-  turn-none h = says s at (turnThen (lineAfter s at)) _ (rw (turn-end h))
+  pub turn-none : length s ≤ at → Says s at turnNumbers NoneLeft
+  unfolding turnNumbers
+  turn-none h = says s at turnNumbers _ (rw (turn-end h))
 
 module _ (s : RefT (List ℕ)) (at : ℕ) where
   pub part-given : (end : ℕ) → end ≡ at + lineLength (drop at (now s)) → at < length (now s)

@@ -17,7 +17,7 @@ use Rattle.lister.specs.declared.calls.Opened.{Opened}
 use Rattle.lister.specs.declared.calls.Opened.the-variants.{At, Refused as NotOpened}
 use Rattle.lister.specs.declared.calls.Listed.the-variants.{Given, Refused as NotListed}
 use Rattle.lister.specs.Places.{standsAt}
-use Rattle.lister.specs.Turns.{turnThen, Says}
+use Rattle.lister.specs.Turns.{turnNumbers, Says}
 use Rattle.lister.specs.Calls.{openedAs, opening, turnAs, listedAs}
 
 differ : {A : Type 0} (a : A) (number place : ℕ) → _≡_ {A = Answer A} (accepted a) (refused number place) → ⊥
@@ -72,13 +72,13 @@ module _ (s : List ℕ) (o : Opened) (e : openedAs o ≡ opening s) where
   listed-refused number place k d = sym (turn-refused s number place k (not-opened number place d))
 
   -- the code's turn stands for the turn
-  turn-as : (next : ℕ) (t : Turn) → turnAs (turnThen next t) ≡ t
-  unfolding turnAs turnThen
-  turn-as next (gateAt p) = refl
-  turn-as next noneLeft = refl
+  turn-as : (t : Turn) → turnAs (turnNumbers t) ≡ t
+  unfolding turnAs turnNumbers
+  turn-as (gateAt p) = refl
+  turn-as noneLeft = refl
 
-  pub listed-given : (first at next k : ℕ) (turn : code.Turn) → o ≡ At first → at ≡ standsAt s k → Says s at (turnThen next) turn → listedAs (Given turn) ≡ listing s k
+  pub listed-given : (first at k : ℕ) (turn : code.Turn) → o ≡ At first → at ≡ standsAt s k → Says s at turnNumbers turn → listedAs (Given turn) ≡ listing s k
   unfolding listedAs listing onward
-  listed-given first at next k turn d stands says =
+  listed-given first at k turn d stands says =
       let (net, reads, _) = opened-at first d in
-      rw (reads, listing) (ap accepted (ap turnAs (says .turn net k reads stands) ∙ turn-as next _))
+      rw (reads, listing) (ap accepted (ap turnAs (says .turn net k reads stands) ∙ turn-as _))

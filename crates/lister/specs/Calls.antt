@@ -21,7 +21,7 @@ unfoldable pub opening : List ℕ → Answer ℕ
 opening s = onward (readNet s) (λ net. accepted (standsAt s 0))
 
 unfoldable pub turnAs : code.Turn → Turn
-turnAs (Line start count next) = gateAt (record { start = start; count = count })
+turnAs (Line start count) = gateAt (record { start = start; count = count })
 turnAs NoneLeft = noneLeft
 
 unfoldable pub listedAs : Listed → Answer Turn

@@ -29,10 +29,10 @@ unfoldable pub partIn : RefT (List ℕ) → Turn → (ℕ × ℕ) × List ℕ
 partIn s (gateAt p) = ((s .ptr .0, p .start + s .ptr .1), partOf (now s) p)
 partIn s noneLeft = (s .ptr, [])
 
--- the turn in the code's numbers, with the place after it
-unfoldable pub turnThen : ℕ → Turn → code.Turn
-turnThen next (gateAt p) = Line (p .start) (p .count) next
-turnThen next noneLeft = NoneLeft
+-- the turn in the code's numbers
+unfoldable pub turnNumbers : Turn → code.Turn
+turnNumbers (gateAt p) = Line (p .start) (p .count)
+turnNumbers noneLeft = NoneLeft
 
 -- `r` is `f` of the turn of a lister at `at`; where k turns on an accepted sheet brought it there, of turn k.
 pub record Says {A : Type 0} (s : List ℕ) (at : ℕ) (f : Turn → A) (r : A) : Type 0 where

@@ -6,7 +6,7 @@ ghost use Rattle.lister.specs.Calls.{openedAs, opening, listedAs};
 use crate::places::first_gate;
 use crate::places::line_after;
 use crate::turns::Turn;
-use crate::turns::next_line;
+use crate::turns::turn_at;
 use fields::steps::Outcome;
 use sheets::net::read_net;
 
@@ -57,6 +57,6 @@ pub fn line(s: &[u8], k: usize) -> Listed
 {
     match open(s) {
         Opened::Refused { number, place } => Listed::Refused { number, place },
-        Opened::At(first) => Listed::Given(next_line(s, turns_on(s, first, k))),
+        Opened::At(first) => Listed::Given(turn_at(s, turns_on(s, first, k))),
     }
 }

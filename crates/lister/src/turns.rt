@@ -1,17 +1,11 @@
 // What a lister that stands at a place of a sheet gives at its turn, by the sheet and the place alone.
 ghost use denote.Ref.{ptr};
-ghost use Rattle.lister.specs.Turns.{Says, isNone, partIn, turnThen};
-ghost use Rattle.lister.specs.Places.{lineAfter};
+ghost use Rattle.lister.specs.Turns.{Says, isNone, partIn, turnNumbers};
 use crate::places::line_end;
-use crate::places::past_feed;
 
-// A gate line, as the part of the sheet that holds it without its line feed, and where the next one begins; or none is left.
+// A gate line, as the part of the sheet that holds it without its line feed; or none is left.
 pub enum Turn {
-    Line {
-        start: usize,
-        count: usize,
-        next: usize,
-    },
+    Line { start: usize, count: usize },
     NoneLeft,
 }
 
@@ -34,17 +28,15 @@ pub fn line_at(s: &[u8], at: usize) -> &[u8]
 }
 
 // The turn in numbers.
-pub fn next_line(s: &[u8], at: usize) -> Turn
-    ensures { λ r. ⌜ Says (now (s .entry)) at (turnThen (lineAfter (now (s .entry)) at)) r ⌝ }
+pub fn turn_at(s: &[u8], at: usize) -> Turn
+    ensures { λ r. ⌜ Says (now (s .entry)) at turnNumbers r ⌝ }
 {
     if s.len() <= at {
         return Turn::NoneLeft;
     }
     let end = line_end(s, at);
-    let next = past_feed(s, end);
     Turn::Line {
         start: at,
         count: end - at,
-        next,
     }
 }

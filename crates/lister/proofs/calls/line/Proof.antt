@@ -17,14 +17,14 @@ enum-known-first c = search needs
 turns-on-requires : tie.Need-turns-on-requires
 turns-on-requires c κs = opened-at _ _ (c .before .before .before .open .ensures) _ (c .before .first .given .1) .2
 
-next-line-requires : tie.Need-next-line-requires
-next-line-requires c κs = search needs
+turn-at-requires : tie.Need-turn-at-requires
+turn-at-requires c κs = search needs
 
 returns : tie.Need-returns
 returns c = listed-refused _ _ (c .before .before .before .open .ensures) _ _ _ (c .before .number .given .1)
 
 returns-2 : tie.Need-returns-2
-returns-2 c = listed-given _ _ (c .before .before .before .before .before .open .ensures) _ _ _ _ _ (c .before .before .before .first .given .1) (c .before .turns-on .ensures) (c .next-line .ensures)
+returns-2 c = listed-given _ _ (c .before .before .before .before .before .open .ensures) _ _ _ _ (c .before .before .before .first .given .1) (c .before .turns-on .ensures) (c .turn-at .ensures)
 
 pub line-spec : {M : Type 1} → statement M
 line-spec =
@@ -34,6 +34,6 @@ line-spec =
     enum-known-number
     enum-known-first
     turns-on-requires
-    next-line-requires
+    turn-at-requires
     returns
     returns-2)
