@@ -4,10 +4,11 @@ ghost use Prim.Native.Nat.{_≤_, _<_};
 ghost use lib.ListN.{length};
 ghost use Rattle.rules.specs.Marks.{markIn, marksLength};
 ghost use Rattle.marks.specs.Stored.{held, put};
+use radix::limits::MOST_INPUTS;
 use radix::powers;
 
 // The length that the marks of the most inputs need.
-pub const MOST_MARKS: usize = 2048;
+pub const MOST_MARKS: usize = 1 << MOST_INPUTS;
 
 pub fn mark_at(marks: &[u8], g: usize) -> u8
     requires { ⌜ g < length (held (now marks)) ⌝ }

@@ -24,13 +24,13 @@ use Rattle.nets.specs.declared.forms.Header.{Header}
 use Rattle.nets.specs.declared.forms.Net.{Net}
 use Rattle.sheets.specs.Digits.{digitsAt, DigitsRead}
 use Rattle.sheets.specs.References.{namesOf, names-count, spare}
-use Rattle.nets.specs.Room.{mostDigits, gate-room}
+use Rattle.nets.specs.Room.{mostGates, mostDigits, gate-room}
 use Rattle.sheets.specs.declared.gates.GatesRead.{GatesRead}
 
 -- a net with room for the largest size
 pub record NetForm (net : Net) : Type 0 where
-  pub lefts : length (net .left) ≡ 10
-  pub rights : length (net .right) ≡ 10
+  pub lefts : length (net .left) ≡ mostGates
+  pub rights : length (net .right) ≡ mostGates
   pub digits : length (net .digits) ≡ mostDigits
 
 -- the net with one gate more
@@ -42,7 +42,7 @@ pub record Grown (net : Net) (gate : sheets.Gate) (r : Net) : Type 0 where
   pub gates : gatesOf r ≡ gatesOf net ++ (gate ∷ [])
 
 -- one gate more
-pub form-grown : (net : Net) (left right : ℕ) (v digits : List ℕ) → NetForm net → net .gates < 10
+pub form-grown : (net : Net) (left right : ℕ) (v digits : List ℕ) → NetForm net → net .gates < mostGates
     → (net .gates + 1) * (net .levels * net .levels) ≤ mostDigits → length v ≡ net .levels * net .levels
     → digits ≡ paste (net .digits) (net .gates * (net .levels * net .levels)) v (net .levels * net .levels)
     → Grown net (record { left = left; right = right; digits = v }) (grown net left right digits)
@@ -231,7 +231,7 @@ module _ (s : List ℕ) (at : ℕ) (h : Header) (net : Net) (nowhere : ℕ) (bey
 -- ---- room for one gate more
 
 pub record Room (net : Net) : Type 0 where
-  pub few : net .gates < 10
+  pub few : net .gates < mostGates
   pub digits : (net .gates + 1) * (net .levels * net .levels) ≤ mostDigits
   pub levels : net .levels ≤ 9
 

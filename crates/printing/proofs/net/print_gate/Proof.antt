@@ -7,6 +7,7 @@ use borrow.Author.Needs.{needs}
 use lib.ListN.{getD}
 use Rattle.rules.specs.Text.{space, newline, digitByte}
 use Rattle.rules.specs.Printed.{printedGate}
+use Rattle.nets.specs.Room.{mostGates}
 use Rattle.nets.specs.Forms.{gateOf}
 use Rattle.lines.specs.Put.{Put, Left, parts-left, put-left, room-for, room-byte, last-put}
 use Rattle.printing.specs.Gates.{referenceIn, gateLine}
@@ -50,7 +51,7 @@ after-table : (c : tie.After-print-gate-table) → Rest (c .before .before .befo
 after-table c = put-left (after-second (c .before .before .before .before)) (c .print-gate-table .ensures)
 
 -- the form has room for the gate
-place : (c : tie.Start) → c .args .k < 10
+place : (c : tie.Start) → c .args .k < mostGates
 place c = omega (arith, c .pre .1 .count, c .pre .2)
 
 array-read-wide : tie.Need-array-read-wide

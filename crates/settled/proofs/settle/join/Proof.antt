@@ -5,6 +5,7 @@ use native.Mathlib.Nat.{add-mul, one-mul}
 use native.Mathlib.Omega.{arith}
 use borrow.Author.Needs.{needs}
 use lib.ListN.{length}
+use Rattle.nets.specs.Room.{mostGates, mostDigits}
 use Rattle.rules.specs.Calls.{inkIn}
 use Rattle.settled.specs.Growth.{joined}
 use Rattle.settled.proofs.settle.join.Statement.{statement}
@@ -29,7 +30,7 @@ gate-digits-requires : tie.Need-gate-digits-requires
 gate-digits-requires c κs =
     let start = c .before .before .before .before .before in
     let a = start .args in
-    let room : length (a .net .digits) ≡ 162 = search needs in
+    let room : length (a .net .digits) ≡ mostDigits = search needs in
     (start .pre .0, start .pre .1, omega (arith, start .pre .4, add-mul (a .net .gates) 1 (a .m * a .m), one-mul (a .m * a .m)))
 
 add-t19 : tie.Need-add-t19
@@ -39,9 +40,9 @@ returns : tie.Need-returns
 returns c =
     let start = c .before .before .before .before .before .before .before in
     let a = start .args in
-    let lefts : length (a .net .left) ≡ 10 = search needs in
-    let rights : length (a .net .right) ≡ 10 = search needs in
-    let digits : length (a .net .digits) ≡ 162 = search needs in
+    let lefts : length (a .net .left) ≡ mostGates = search needs in
+    let rights : length (a .net .right) ≡ mostGates = search needs in
+    let digits : length (a .net .digits) ≡ mostDigits = search needs in
     joined (a .n) (inkIn (a .cells .now)) (a .last) (a .a) (a .b) (a .left) (a .right) (a .net) _ (omega (arith, start .pre .3)) (omega (arith, start .pre .3))
     (a .m) (start .pre .2) (omega (arith, start .pre .4)) (c .before .gate-digits .ensures)
 
