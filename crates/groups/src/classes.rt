@@ -18,7 +18,7 @@ pub fn class_firsts(cells: &[u8], xs: &[u16], ys: &[u16], m: usize, firsts: &mut
     let mut i: usize = 0;
     while i < xs.len() {
         let p = xs[i];
-        if alike::class_of(cells, ys, firsts, count, alike::wide(p)) < count {
+        if alike::class_of(cells, ys, firsts, count, p as usize) < count {
             i += 1;
         } else {
             if count == m {

@@ -14,3 +14,4 @@ pub mod Rows
 pub mod Same
 pub mod Sizes
 pub mod Tests
+pub mod Walks

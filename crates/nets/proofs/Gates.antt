@@ -117,15 +117,19 @@ module _ (net : Net) (vs : List ℕ) (ready : Ready net vs) where
         let size = net .levels * net .levels in
         rw (add-assoc, ← (getD-drop (k * size) (net .digits) (u * net .levels + v) 0), ← (getD-take size (drop (k * size) (net .digits)) (u * net .levels + v) 0 (digits-lt hu hv)), eu, ev)
 
-    -- The turn's reads: l and r are the references, u and v their values, and the gate's digits begin at `from`.
-    module _ (l u r v from : ℕ) (values : List ℕ)
-        (el : l ≡ getD (net .left) k 0) (eu : u ≡ getD values l 0) (er : r ≡ getD (net .right) k 0) (ev : v ≡ getD values r 0)
-        (ef : from ≡ k * (net .levels * net .levels)) (es : values ≡ after net vs k) where
+    -- The turn's reads: the gate's digits begin at `from`.
+    module _ (from : ℕ) (values : List ℕ) (ef : from ≡ k * (net .levels * net .levels)) (es : values ≡ after net vs k) where
+      abbrev u : ℕ
+      u = getD values (getD (net .left) k 0) 0
+
+      abbrev v : ℕ
+      v = getD values (getD (net .right) k 0) 0
+
       left-read : u ≡ getD (known net vs k) (getD (net .left) k 0) 0
-      left-read = rw (eu, es, el) (known-at k (getD (net .left) k 0) (refers .0))
+      left-read = rw es (known-at k (getD (net .left) k 0) (refers .0))
 
       right-read : v ≡ getD (known net vs k) (getD (net .right) k 0) 0
-      right-read = rw (ev, es, er) (known-at k (getD (net .right) k 0) (refers .1))
+      right-read = rw es (known-at k (getD (net .right) k 0) (refers .1))
 
       left-below : u < net .levels
       left-below = rw left-read (known-below k (omega arith) (getD (net .left) k 0))
@@ -134,19 +138,20 @@ module _ (net : Net) (vs : List ℕ) (ready : Ready net vs) where
       right-below = rw right-read (known-below k (omega arith) (getD (net .right) k 0))
 
       -- the digit read lies within the net's
-      pub digit-within : from + u * net .levels + v < length (net .digits)
+      pub digit-within : from + getD values (getD (net .left) k 0) 0 * net .levels + getD values (getD (net .right) k 0) 0 < length (net .digits)
       digit-within = omega (arith, digits-lt left-below right-below, table-within)
 
       -- with that digit stored, one gate more has its value
-      pub after-more : set values (net .inputs + k) (getD (net .digits) (from + u * net .levels + v) 0) ≡ after net vs (k + 1)
+      pub after-more : set values (net .inputs + k)
+          (getD (net .digits) (from + getD values (getD (net .left) k 0) 0 * net .levels + getD values (getD (net .right) k 0) 0) 0) ≡ after net vs (k + 1)
       after-more =
           let d = gateValue (net .levels) (known net vs k) (gateOf net k) in
           let room : net .inputs + k < length vs = omega (arith, ready .room) in
           let next : net .inputs + (k + 1) ≡ suc (net .inputs + k) = omega arith in
           rw (
-            es,
             ef,
             digit-read u v left-read right-read left-below right-below,
+            es,
             drop-cons vs (net .inputs + k) 0 room,
             set-at (known net vs k) (getD vs (net .inputs + k) 0) (drop (suc (net .inputs + k)) vs) d (net .inputs + k) (known-length k),
             next,

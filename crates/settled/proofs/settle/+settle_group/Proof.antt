@@ -15,7 +15,7 @@ use Rattle.rules.specs.Calls.{inkIn}
 use Rattle.marks.specs.Stored.{held-room}
 use Rattle.trees.specs.Members.{size-one}
 use Rattle.trees.specs.MarkTwo.{two-says}
-use Rattle.settled.specs.Sized.{gate-room}
+use Rattle.digits.specs.Sized.{gate-room}
 use Rattle.settled.specs.Wired.{Wired, split-in, wired-single, split-holds, split-parts, split-sizes, wired-several}
 use borrow.Fn.Kinds.{In}
 use borrow.Fn.PlainCycle.{Measures, is, falls, and}
@@ -23,8 +23,8 @@ use Rattle.settled.proofs.settle.settle_group.Reads as settle-group
 use Rattle.settled.proofs.settle.settle_group.Kinds as settle-group-kinds
 use Rattle.settled.proofs.settle.+settle_group.Lts-settle_group as settle-group-lts
 use Rattle.marks.proofs.split.split_of.Reads as split-of-reads
-use Rattle.settled.proofs.samples.first_input.Reads as first-input-reads
-use Rattle.settled.proofs.samples.single.Reads as single-reads
+use Rattle.digits.proofs.samples.first_input.Reads as first-input-reads
+use Rattle.digits.proofs.samples.single.Reads as single-reads
 use Rattle.settled.proofs.settle.join.Reads as join-reads
 use Rattle.settled.proofs.settle.+settle_group.{statement}
 use Rattle.settled.proofs.settle.+settle_group.Tie.{close}
