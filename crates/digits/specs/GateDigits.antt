@@ -10,13 +10,12 @@ use native.Mathlib.Decide.{decLt}
 use native.Mathlib.Omega.{arith}
 use borrow.Author.Tests.{lt-ltb, le-ltb}
 use lib.Dec.{ltb}
-use lib.ListN.{length, getD, length-map}
+use lib.ListN.{length, getD}
 use lib.Seq.{paste, ext-getD}
 use Rattle.rules.specs.Lists.{range, firstPlace}
 use Rattle.rules.specs.Groups.{part, others, points, alikeOver, classes}
 use Rattle.rules.specs.Settled.{Wiring, gate, groupOf, carried, classNumber, gateDigits}
-use Rattle.laws.specs.Ranges.{range-length, range-at}
-use Rattle.laws.specs.Places.{map-at}
+use Rattle.laws.specs.Ranges.{map-range-length, map-range-at}
 use Rattle.trees.specs.Trees.{EachOnce, EachGate, fill, treeValue}
 use Rattle.trees.specs.Digits.{digits-count, digits-have}
 use Rattle.trees.specs.Wirings.{Few, group-below, sufficiency}
@@ -76,13 +75,13 @@ no-left left right own u v h = rw (sampledDigit, le-ltb u (length left) h)
 module _ (m : ℕ) (left right : List ℕ) (own : ℕ → ℕ) where
   pub sampled-length : length (sampledDigits m left right own) ≡ m * m
   unfolding sampledDigits
-  sampled-length = length-map (range 0 (m * m)) _ ∙ range-length 0 (m * m)
+  sampled-length = map-range-length _ 0 (m * m)
 
   pub sampled-at : (k : ℕ) → k < m * m → getD (sampledDigits m left right own) k 0 ≡ sampledDigit left right own (k / m) (k % m)
   unfolding sampledDigits
   sampled-at k h =
-      map-at (λ i. sampledDigit left right own (i / m) (i % m)) (range 0 (m * m)) k 0 0 (rw range-length h)
-      ∙ ap (λ i. sampledDigit left right own (i / m) (i % m)) (range-at 0 (m * m) k 0 h ∙ zero-add k)
+      let digit : ℕ → ℕ = λ i. sampledDigit left right own (i / m) (i % m) in
+      map-range-at digit 0 (m * m) k 0 h ∙ ap digit (zero-add k)
 
 -- ---- the gate's digits
 
@@ -155,7 +154,7 @@ module _ (m n : ℕ) (pos : 0 < m) (f : ℕ → ℕ) (last : Bool) (a b : Wiring
 
 module _ (m n : ℕ) (pos : 0 < m) (f : ℕ → ℕ) (left right : Wiring) (a b : ℕ) (of-a : groupOf left ≡ a) (of-b : groupOf right ≡ b)
     (once : EachOnce n (gate left right)) (few : EachGate (Few m n f) (gate left right)) where
-  pub digits-given : (last : Bool) → sampledDigits m (samples m n f a) (samples m n f b) (givenBy m n f (a + b) last) ≡ gateDigits m n f last left right
+  digits-given : (last : Bool) → sampledDigits m (samples m n f a) (samples m n f b) (givenBy m n f (a + b) last) ≡ gateDigits m n f last left right
   unfolding given carried classNumber groupOf
   digits-given last =
       subst₂ (λ (x y : ℕ). sampledDigits m (samples m n f x) (samples m n f y) (givenBy m n f (x + y) last) ≡ gateDigits m n f last left right) of-a of-b

@@ -9,18 +9,18 @@ use native.Mathlib.Nat.{zero-mul, zero-add, mul-one, pow-zero, pow-suc, le-refl,
 use native.Mathlib.Decide.{decLt}
 use native.Mathlib.Omega.{arith}
 use borrow.Author.Tests.{eq-eqb, ne-eqb, eqb-true}
-use lib.ListN.{length, getD, take, length-map}
+use lib.ListN.{length, getD, take}
 use lib.Dec.{eqb}
 use Rattle.rules.specs.Lists.{range, concatMap}
 use Rattle.rules.specs.Sheets.{level}
 use Rattle.rules.specs.Groups.{member, points, part, size, classes, multiplicity}
 use Rattle.rules.specs.Settled.{Wiring, input, gate, groupOf, carried, classNumber, gatesIn, firstInput}
 use Rattle.laws.specs.Concat.{map-same}
-use Rattle.laws.specs.Ranges.{range-length, range-at}
+use Rattle.laws.specs.Ranges.{map-range-length, map-range-at}
 use Rattle.radix.specs.Fronts.{Front}
 use Rattle.groups.specs.Firsts.{Counted, capped-few}
 use Rattle.marks.specs.Parts.{without-first}
-use Rattle.laws.specs.Places.{mem-getD, map-at}
+use Rattle.laws.specs.Places.{mem-getD}
 use Rattle.trees.specs.Members.{member-single, size-single, size-one, first-member}
 use Rattle.trees.specs.Levels.{level-below, level-part-in}
 use Rattle.trees.specs.Points.{points-are-parts}
@@ -72,7 +72,7 @@ unfoldable pub samples : ℕ → ℕ → (ℕ → ℕ) → ℕ → List ℕ
 samples m n f g = elim (eqb (size n g) 1) [ true ↦ points m n g | false ↦ classes m n f g ]
 
 level-points-length : (m w : ℕ) → length (levelPoints m w) ≡ m
-level-points-length m w = length-map (range 0 m) (λ l. l * w) ∙ range-length 0 m
+level-points-length m w = map-range-length (λ l. l * w) 0 m
 
 -- an input's weight, times m, is within the cells
 pub weight-fits : (m n i : ℕ) → 0 < m → i < n → m * m ^ (n - 1 - i) ≤ m ^ n
@@ -142,7 +142,7 @@ module _ (m n : ℕ) (pos : 0 < m) (f : ℕ → ℕ) where
       let w = m ^ (n - 1 - i) in
       let count : length (points m n (2 ^ i)) ≡ m = ap length (points-single m n i h) ∙ level-points-length m w in
       let at : (u : ℕ) → u < m → getD (points m n (2 ^ i)) u 0 ≡ u * w =
-      λ u u<. rw (points-single m n i h, map-at (λ l. l * w) (range 0 m) u 0 0 (rw range-length u<), range-at 0 m u 0 u<, zero-add) in
+      λ u u<. rw (points-single m n i h, map-range-at (λ l. l * w) 0 m u 0 u<, zero-add) in
       record {
         all = λ p. rw count (level-below m n pos p i);
         carries = λ u p u< e.

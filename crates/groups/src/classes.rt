@@ -43,7 +43,7 @@ pub fn group_classes(
     ys: &mut [u16],
     firsts: &mut [u16],
 ) -> usize
-    requires { ⌜ (Room m n (now cells) (now xs) (now ys) (now firsts)) × (g < 2 ^ n) ⌝ }
+    requires { ⌜ (Room m n (now cells) (now xs) (now ys)) × (m ≤ length (now firsts)) × (g < 2 ^ n) ⌝ }
     ensures { λ r. ⌜ Counted m (classes m n (inkIn (now (cells .entry))) g) r (now (firsts .exit)) ⌝ }
 {
     let count = offsets::offsets(m, n, g, xs);

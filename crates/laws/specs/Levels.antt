@@ -4,7 +4,7 @@ use Prim.Native.Nat.{ℕ, zero, suc, _+_, _-_, _*_, _/_, _%_, _≤_, _<_}
 use mathlib.Core.Path.{_≡_, refl, sym, ap, _∙_}
 use mathlib.Core.Bool.{Bool, true, false, cond, _&&_, and-false}
 use mathlib.Core.List.{List, [], _∷_, _++_}
-use native.Mathlib.Nat.{pow-zero, pow-succ', div-one, div-div-eq-div-mul, div-add-mod', mod-lt, suc-mul, zero-div, zero-mod, zero-add}
+use native.Mathlib.Nat.{pow-zero, pow-succ', div-one, div-div-eq-div-mul, div-add-mod', mod-lt, suc-mul, zero-div, zero-mod}
 use native.Mathlib.Omega.{arith}
 use native.Mathlib.Decide.{decLe}
 use lib.ListN.{length, getD, take, replicate}
@@ -13,8 +13,7 @@ use lib.Arith.{digits-div, digits-mod}
 use borrow.Author.Tests.{le-leb, lt-leb}
 use Rattle.rules.specs.Lists.{range}
 use Rattle.rules.specs.Sheets.{level, levelsAt}
-use Rattle.laws.specs.Concat.{map-append}
-use Rattle.laws.specs.Ranges.{range-suc, map-range-length, map-range-at, map-range-same, map-range-all}
+use Rattle.laws.specs.Ranges.{map-range-suc, map-range-length, map-range-at, map-range-same, map-range-all}
 
 -- ---- the step of the count
 
@@ -81,7 +80,7 @@ levels-below m n p k pos h = rw (map-range-at (level m n p) 0 n k 0) (mod-lt _ p
 pub levels-suc : (m n p : ℕ) → levelsAt m (suc n) p ≡ levelsAt m n (p / m) ++ (p % m ∷ [])
 unfolding levelsAt
 levels-suc m n p =
-    rw (range-suc, map-append, zero-add, level-last)
+    rw (map-range-suc, level-last)
     (ap (λ (ls : List ℕ). ls ++ (p % m ∷ [])) (map-range-same (level m (suc n) p) (level m n (p / m)) 0 n (λ i _ h. level-front m n p i (omega arith))))
 
 -- the count starts at all zeros

@@ -5,15 +5,14 @@ use mathlib.Core.List.{List, [], _∷_, _++_, map}
 use native.Mathlib.Nat.{zero-add, add-zero, add-assoc, mul-pos, le-antisymm}
 use native.Mathlib.Omega.{arith}
 use native.Mathlib.Numerals.{add-one}
-use lib.ListN.{length, getD, take, drop, set, length-append, take-append-drop, length-take, length-drop, length-map, List·getD-append}
+use lib.ListN.{length, getD, take, drop, set, length-append, take-append-drop, length-take, length-drop, List·getD-append}
 use lib.Seq.{length-take-le, drop-cons, append-snoc, set-at, getD-take, getD-drop}
 use lib.Arith.{digits-lt}
 use Rattle.rules.specs.Lists.{range}
 use Rattle.rules.specs.Sheets.{Gate}
 use Rattle.rules.specs.Kept.{GateTable, Tables, RefersBack}
 use Rattle.rules.specs.Value.{gateValue, withGates}
-use Rattle.laws.specs.Concat.{map-append}
-use Rattle.laws.specs.Ranges.{range-length, range-suc}
+use Rattle.laws.specs.Ranges.{map-range-length, map-range-suc}
 use Rattle.nets.specs.declared.forms.Net.{Net}
 use Rattle.nets.specs.Forms.{gateOf, gatesOf}
 use Rattle.nets.specs.Sound.{levels-pos, gates-count}
@@ -71,7 +70,7 @@ module _ (net : Net) (vs : List ℕ) (ready : Ready net vs) where
   known-length : (k : ℕ) → length (known net vs k) ≡ net .inputs + k
   known-length k =
       with-length (net .levels) (take (net .inputs) vs) (map (gateOf net) (range 0 k))
-      ∙ ap₂ (λ (a b : ℕ). a + b) front-length (length-map (range 0 k) (gateOf net) ∙ range-length 0 k)
+      ∙ ap₂ (λ (a b : ℕ). a + b) front-length (map-range-length (gateOf net) 0 k)
 
   pub after-length : (k : ℕ) → k ≤ net .gates → length (after net vs k) ≡ length vs
   after-length k h =
@@ -106,7 +105,7 @@ module _ (net : Net) (vs : List ℕ) (ready : Ready net vs) where
     table-within = omega (arith, mul-pos pos pos, simp (length-take, length-drop) at digits-length)
 
     known-more : known net vs (k + 1) ≡ known net vs k ++ (gateValue (net .levels) (known net vs k) (gateOf net k) ∷ [])
-    known-more = rw (add-one, range-suc, map-append, with-snoc, zero-add)
+    known-more = rw (add-one, map-range-suc, with-snoc)
 
     -- the digit that the code reads is the gate's value
     digit-read : (u v : ℕ) → u ≡ getD (known net vs k) (getD (net .left) k 0) 0 → v ≡ getD (known net vs k) (getD (net .right) k 0) 0

@@ -2,15 +2,14 @@
 -- nothing.
 use Prim.Native.Nat.{ℕ, _+_, _-_, _*_, _≤_, _<_}
 use mathlib.Core.Path.{_≡_, refl, sym, ap, _∙_, subst}
-use mathlib.Core.List.{List, [], _∷_, _++_, map}
-use native.Mathlib.Nat.{zero-add, mul-le-mul-right, le-of-lt, lt-of-le-of-lt}
+use mathlib.Core.List.{List, [], _∷_, _++_}
+use native.Mathlib.Nat.{mul-le-mul-right, le-of-lt, lt-of-le-of-lt}
 use native.Mathlib.Numerals.{add-one}
 use native.Mathlib.Omega.{arith}
 use lib.ListN.{length, take, set, length-set}
 use lib.Seq.{take-suc-set}
 use Rattle.rules.specs.Lists.{range}
-use Rattle.laws.specs.Concat.{map-append}
-use Rattle.laws.specs.Ranges.{range-suc}
+use Rattle.laws.specs.Ranges.{map-range-suc}
 use Rattle.digits.specs.Samples.{levelPoints}
 use Rattle.digits.proofs.samples.level_points.Statement.{statement}
 use Rattle.digits.proofs.samples.level_points.Tie as tie
@@ -31,7 +30,7 @@ next-level w l out h e =
     rw add-one
     (take-suc-set out l (l * w) h
     ∙ ap (λ (r : List ℕ). r ++ (l * w ∷ [])) e
-    ∙ sym (ap (map (λ k. k * w)) (range-suc 0 l) ∙ map-append (λ k. k * w) (range 0 l) ((0 + l) ∷ []) ∙ ap {B = List ℕ} (λ (k : ℕ). levelPoints l w ++ (k * w ∷ [])) (zero-add l)))
+    ∙ sym (map-range-suc (λ k. k * w) l))
 
 loop-holds : tie.Need-loop-holds Inv-loop μ-loop
 unfolding range
