@@ -11,7 +11,7 @@ use lib.Seq.{take-suc-set, length-take-le, getD-set-same, getD-set-other}
 use Rattle.rules.specs.Lists.{firstPlace}
 use Rattle.rules.specs.Groups.{alikeOver, firsts, capped}
 use Rattle.groups.specs.Firsts.{classesOver, Counted, firsts-known, firsts-new, firsts-more, capped-few, capped-many}
-use Rattle.groups.specs.Walks.{rest}
+use Rattle.laws.specs.Walks.{rest}
 use Rattle.groups.specs.Within.{Within}
 
 module _ (f : ℕ → ℕ) (b : ℕ) (ys xs : List ℕ) (m : ℕ) where
@@ -27,69 +27,69 @@ module _ (f : ℕ → ℕ) (b : ℕ) (ys xs : List ℕ) (m : ℕ) where
   unfolding classesOver
   kept-none fs h = record { low = omega arith; few = omega arith; room = h; left = refl; inside = λ j k. absurd (omega arith) }
 
-  module _ (fs : List ℕ) (count i : ℕ) (kept : Kept fs count i) where
-    kept-length : length (take count fs) ≡ count
-    kept-length = length-take-le count fs (omega (arith, kept .few, kept .room))
+module _ {f : ℕ → ℕ} {b : ℕ} {ys xs : List ℕ} {m : ℕ} {fs : List ℕ} {count i : ℕ} (kept : Kept f b ys xs m fs count i) where
+  kept-length : length (take count fs) ≡ count
+  kept-length = length-take-le count fs (omega (arith, kept .few, kept .room))
 
-    -- all are looked at
-    pub kept-all : length xs ≤ i → Counted m (classesOver f ys xs) count fs
-    unfolding firsts
-    kept-all h =
-        let all : take count fs ≡ classesOver f ys xs = ap (firsts (alikeOver f ys) (take count fs)) (sym (drop-of-length-le xs h)) ∙ kept .left in
+  -- all are looked at
+  pub kept-all : length xs ≤ i → Counted m (classesOver f ys xs) count fs
+  unfolding firsts
+  kept-all h =
+      let all : take count fs ≡ classesOver f ys xs = ap (firsts (alikeOver f ys) (take count fs)) (sym (drop-of-length-le xs h)) ∙ kept .left in
+      record {
+        answer = sym (capped-few m count (kept .few)) ∙ ap (capped m) (sym kept-length ∙ ap length all);
+        found = λ _. all;
+      }
+
+  module _ (more : i < length xs) {k : ℕ} (place : k ≡ firstPlace (alikeOver f ys (getD xs i 0)) (take count fs)) where
+    -- one of a class that is kept
+    pub kept-known : k < count → Kept f b ys xs m fs count (i + 1)
+    kept-known h =
         record {
-          answer = sym (capped-few m count (kept .few)) ∙ ap (capped m) (sym kept-length ∙ ap length all);
-          found = λ _. all;
+          low = omega arith;
+          few = kept .few;
+          room = kept .room;
+          left = sym (firsts-known (alikeOver f ys) (take count fs) (getD xs i 0) (drop (i + 1) xs) (omega (arith, kept-length)))
+              ∙ ap (firsts (alikeOver f ys) (take count fs)) (sym (rest xs i more))
+              ∙ kept .left;
+          inside = kept .inside;
         }
 
-    module _ (more : i < length xs) (k : ℕ) (place : k ≡ firstPlace (alikeOver f ys (getD xs i 0)) (take count fs)) where
-      -- one of a class that is kept
-      pub kept-known : k < count → Kept fs count (i + 1)
-      kept-known h =
+    module _ (new : count ≤ k) where
+      -- the first of its class joins those that are kept
+      joins : firsts (alikeOver f ys) (take count fs ++ (getD xs i 0 ∷ [])) (drop (i + 1) xs) ≡ classesOver f ys xs
+      joins =
+          sym (firsts-new (alikeOver f ys) (take count fs) (getD xs i 0) (drop (i + 1) xs) (omega (arith, kept-length)))
+          ∙ ap (firsts (alikeOver f ys) (take count fs)) (sym (rest xs i more))
+          ∙ kept .left
+
+      pub kept-new : count < m → Within b ys (getD xs i 0) → Kept f b ys xs m (set fs count (getD xs i 0)) (count + 1) (i + 1)
+      kept-new h w =
           record {
             low = omega arith;
-            few = kept .few;
-            room = kept .room;
-            left = sym (firsts-known (alikeOver f ys) (take count fs) (getD xs i 0) (drop (i + 1) xs) (omega (arith, kept-length)))
-                ∙ ap (firsts (alikeOver f ys) (take count fs)) (sym (rest xs i more))
-                ∙ kept .left;
-            inside = kept .inside;
+            few = omega arith;
+            room = omega (arith, kept .room, length-set fs count (getD xs i 0));
+            left = ap (λ (l : List ℕ). firsts (alikeOver f ys) l (drop (i + 1) xs))
+                (ap (λ (j : ℕ). take j (set fs count (getD xs i 0))) (add-one count) ∙ take-suc-set fs count (getD xs i 0) (omega (arith, kept .room)))
+                ∙ joins;
+            inside = λ j l. at j l (ℕ-discrete j count);
           }
+        where
+          at : (j : ℕ) → j < count + 1 → Dec (j ≡ count) → Within b ys (getD (set fs count (getD xs i 0)) j 0)
+          at j l (yes e) =
+              subst⁻¹ (Within b ys)
+              (ap (λ (j : ℕ). getD (set fs count (getD xs i 0)) j 0) e ∙ getD-set-same fs count (getD xs i 0) 0 (omega (arith, kept .room))) w
+          at j l (no ne) = subst⁻¹ (Within b ys) (getD-set-other fs count j (getD xs i 0) 0 ne) (kept .inside j (omega arith))
 
-      module _ (new : count ≤ k) where
-        -- the first of its class joins those that are kept
-        joins : firsts (alikeOver f ys) (take count fs ++ (getD xs i 0 ∷ [])) (drop (i + 1) xs) ≡ classesOver f ys xs
-        joins =
-            sym (firsts-new (alikeOver f ys) (take count fs) (getD xs i 0) (drop (i + 1) xs) (omega (arith, kept-length)))
-            ∙ ap (firsts (alikeOver f ys) (take count fs)) (sym (rest xs i more))
-            ∙ kept .left
-
-        pub kept-new : count < m → Within b ys (getD xs i 0) → Kept (set fs count (getD xs i 0)) (count + 1) (i + 1)
-        kept-new h w =
-            record {
-              low = omega arith;
-              few = omega arith;
-              room = omega (arith, kept .room, length-set fs count (getD xs i 0));
-              left = ap (λ (l : List ℕ). firsts (alikeOver f ys) l (drop (i + 1) xs))
-                  (ap (λ (j : ℕ). take j (set fs count (getD xs i 0))) (add-one count) ∙ take-suc-set fs count (getD xs i 0) (omega (arith, kept .room)))
-                  ∙ joins;
-              inside = λ j l. at j l (ℕ-discrete j count);
-            }
-          where
-            at : (j : ℕ) → j < count + 1 → Dec (j ≡ count) → Within b ys (getD (set fs count (getD xs i 0)) j 0)
-            at j l (yes e) =
-                subst⁻¹ (Within b ys)
-                (ap (λ (j : ℕ). getD (set fs count (getD xs i 0)) j 0) e ∙ getD-set-same fs count (getD xs i 0) 0 (omega (arith, kept .room))) w
-            at j l (no ne) = subst⁻¹ (Within b ys) (getD-set-other fs count j (getD xs i 0) 0 ne) (kept .inside j (omega arith))
-
-        -- m are kept already, so there are more than m
-        pub kept-over : count ≡ m → Counted m (classesOver f ys xs) (m + 1) fs
-        kept-over e =
-            let over : m < length (classesOver f ys xs) =
-            omega (
-              arith,
-              subst (λ (l : List ℕ). length (take count fs ++ (getD xs i 0 ∷ [])) ≤ length l) joins
-                  (firsts-more (alikeOver f ys) (take count fs ++ (getD xs i 0 ∷ [])) (drop (i + 1) xs)),
-              length-append (take count fs) (getD xs i 0 ∷ []),
-              kept-length,
-            ) in
-            record { answer = sym (capped-many m (length (classesOver f ys xs)) over); found = λ h. absurd (omega arith) }
+      -- m are kept already, so there are more than m
+      pub kept-over : count ≡ m → Counted m (classesOver f ys xs) (m + 1) fs
+      kept-over e =
+          let over : m < length (classesOver f ys xs) =
+          omega (
+            arith,
+            subst (λ (l : List ℕ). length (take count fs ++ (getD xs i 0 ∷ [])) ≤ length l) joins
+                (firsts-more (alikeOver f ys) (take count fs ++ (getD xs i 0 ∷ [])) (drop (i + 1) xs)),
+            length-append (take count fs) (getD xs i 0 ∷ []),
+            kept-length,
+          ) in
+          record { answer = sym (capped-many m (length (classesOver f ys xs)) over); found = λ h. absurd (omega arith) }

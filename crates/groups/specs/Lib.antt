@@ -1,4 +1,3 @@
 pub mod Answers
 pub mod Firsts
-pub mod Walks
 pub mod Within

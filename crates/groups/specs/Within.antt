@@ -29,13 +29,12 @@ pub points-within : (m n : ℕ) → 0 < m → (g : ℕ) → g < 2 ^ n → (b : �
 points-within m n pos g g< b room i i< =
     part-within m n pos g g< b room _ (points-are-parts m n pos g _ (mem-getD (points m n g) i 0 i<) .0)
 
--- Room to count the classes of a group of m levels and n inputs: the cells, and work arrays for the group's assignments, those of
--- the other inputs, and the first of each class. Offsets are below 2 to the 16.
-pub record Room (m n : ℕ) (cells xs ys firsts : List ℕ) : Type 0 where
+-- Room to count the classes of a group of m levels and n inputs: the cells, and work arrays for the group's assignments and those of
+-- the other inputs. Offsets are below 2 to the 16.
+pub record Room (m n : ℕ) (cells xs ys : List ℕ) : Type 0 where
   pub some : 0 < m
   pub inputs : n ≤ 16
   pub small : m ^ n ≤ 32_768
   pub for-cells : m ^ n ≤ length cells
   pub for-xs : m ^ n ≤ length xs
   pub for-ys : m ^ n ≤ length ys
-  pub for-firsts : m ≤ length firsts

@@ -7,12 +7,6 @@ ghost use Rattle.rules.specs.Groups.{alikeOver};
 ghost use Rattle.rules.specs.Calls.{inkIn};
 ghost use Rattle.groups.specs.Within.{Within};
 
-pub fn wide(x: u16) -> usize
-    ensures { λ r. ⌜ r ≡ x ⌝ }
-{
-    x as usize
-}
-
 // Is the ink the same at p and at q for each assignment in ys of the other inputs?
 pub fn alike(cells: &[u8], ys: &[u16], p: usize, q: usize) -> bool
     requires { ⌜ (Within (length (now cells)) (now ys) p) × (Within (length (now cells)) (now ys) q) ⌝ }
@@ -20,7 +14,7 @@ pub fn alike(cells: &[u8], ys: &[u16], p: usize, q: usize) -> bool
 {
     let mut k: usize = 0;
     while k < ys.len() {
-        let y = wide(ys[k]);
+        let y = ys[k] as usize;
         if cells[p + y] != cells[q + y] {
             return false;
         }
@@ -37,7 +31,7 @@ pub fn class_of(cells: &[u8], ys: &[u16], firsts: &[u16], count: usize, p: usize
 {
     let mut j: usize = 0;
     while j < count {
-        if alike(cells, ys, p, wide(firsts[j])) {
+        if alike(cells, ys, p, firsts[j] as usize) {
             return j;
         }
         j += 1;

@@ -12,19 +12,13 @@ pub enum Bare {
     Refused { number: usize, place: usize },
 }
 
-pub fn wide(x: u8) -> usize
-    ensures { λ r. ⌜ r ≡ x ⌝ }
-{
-    x as usize
-}
-
 // The index of the first cell that is not below m, or the number of cells.
 fn first_over(m: usize, cells: &[u8]) -> usize
     ensures { λ r. ⌜ r ≡ firstPlace (λ c. not (ltb c m)) (now (cells .entry)) ⌝ }
 {
     let mut k: usize = 0;
     while k < cells.len() {
-        if m <= wide(cells[k]) {
+        if m <= cells[k] as usize {
             return k;
         }
         k += 1;

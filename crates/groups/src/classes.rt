@@ -18,7 +18,7 @@ pub fn class_firsts(cells: &[u8], xs: &[u16], ys: &[u16], m: usize, firsts: &mut
     let mut i: usize = 0;
     while i < xs.len() {
         let p = xs[i];
-        if alike::class_of(cells, ys, firsts, count, alike::wide(p)) < count {
+        if alike::class_of(cells, ys, firsts, count, p as usize) < count {
             i += 1;
         } else {
             if count == m {
@@ -43,7 +43,7 @@ pub fn group_classes(
     ys: &mut [u16],
     firsts: &mut [u16],
 ) -> usize
-    requires { ⌜ (Room m n (now cells) (now xs) (now ys) (now firsts)) × (g < 2 ^ n) ⌝ }
+    requires { ⌜ (Room m n (now cells) (now xs) (now ys)) × (m ≤ length (now firsts)) × (g < 2 ^ n) ⌝ }
     ensures { λ r. ⌜ Counted m (classes m n (inkIn (now (cells .entry))) g) r (now (firsts .exit)) ⌝ }
 {
     let count = offsets::offsets(m, n, g, xs);

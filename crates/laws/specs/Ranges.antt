@@ -3,7 +3,7 @@
 use Prim.Native.Nat.{ℕ, zero, suc, _+_, _-_, _≤_, _<_}
 use mathlib.Core.Path.{_≡_, refl, sym, ap, _∙_}
 use mathlib.Core.Logic.{_⊎_, inl, inr}
-use mathlib.Core.List.{List, [], _∷_, _++_, map, List·Memᴰ, List·Memᴰ·head, List·Memᴰ·tail, List·Memᴰ·cases-cons, List·Memᴰ·not-nil}
+use mathlib.Core.List.{List, [], _∷_, _++_, map, map-append, List·Memᴰ, List·Memᴰ·head, List·Memᴰ·tail, List·Memᴰ·cases-cons, List·Memᴰ·not-nil}
 use native.Mathlib.Nat.{add-zero, zero-add, add-suc, suc-add, eq-or-lt-of-le}
 use native.Mathlib.Numerals.{add-one}
 use native.Mathlib.Omega.{arith}
@@ -29,6 +29,9 @@ range-append from (suc j) k = rw (suc-add, range-append (suc from) j k, suc-add,
 pub range-suc : (from count : ℕ) → range from (suc count) ≡ range from count ++ ((from + count) ∷ [])
 unfolding range
 range-suc from count = ap (range from) (sym (add-one count)) ∙ range-append from count 1
+
+pub map-range-suc : {A : Type 0} (f : ℕ → A) (count : ℕ) → map f (range 0 (suc count)) ≡ map f (range 0 count) ++ (f count ∷ [])
+map-range-suc f count = rw (range-suc, map-append, zero-add)
 
 -- each number one more
 pub range-shift : (from count : ℕ) → range (suc from) count ≡ map suc (range from count)

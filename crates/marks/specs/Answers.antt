@@ -1,7 +1,7 @@
 -- What the marking call's answer and buffer stand for, and its outcomes.
 -- Assumes nothing.
 use Prim.Native.Nat.{ℕ, _≤_, _<_}
-use mathlib.Core.Path.{_≡_, _∙_}
+use mathlib.Core.Path.{_≡_}
 use mathlib.Core.Bool.{true, false}
 use mathlib.Core.List.{List}
 use lib.Dec.{ltb}
@@ -43,9 +43,9 @@ module _ (m n : ℕ) (cells buffer : List ℕ) where
     marks-short h =
         rw (← is-need, lt-ltb (length buffer) need h, markedInto) (λ i. record { answer = refused 14 (is-need i); marks = buffer })
 
-    pub marks-written : need ≤ length buffer → (value mark : ℕ) (after : List ℕ) → value ≡ mark → Marking m n (inkIn cells) buffer mark after
-        → record { answer = accepted value; marks = after } ≡ markedInto m n cells buffer
+    pub marks-written : need ≤ length buffer → (mark : ℕ) (after : List ℕ) → Marking m n (inkIn cells) buffer mark after
+        → record { answer = accepted mark; marks = after } ≡ markedInto m n cells buffer
     unfolding markedInto
-    marks-written h value mark after e did =
+    marks-written h mark after did =
         rw (← is-need, le-ltb (length buffer) need h, markedInto)
-        (λ i. record { answer = accepted ((e ∙ did .answer) i); marks = did .buffer i })
+        (λ i. record { answer = accepted (did .answer i); marks = did .buffer i })

@@ -17,7 +17,7 @@ use Rattle.trees.specs.Trees.{Apart}
 use Rattle.trees.specs.Members.{member-single, single-below, member-join, inside-member, member-inside, inside-le, member-rest, first-member}
 use Rattle.laws.specs.FirstPlaces.{first-passes}
 use Rattle.laws.specs.Ranges.{mem-range}
-use Rattle.laws.specs.Tests.{mem-any}
+use Rattle.laws.specs.Tests.{two-ways, mem-any}
 use Rattle.trees.specs.MarkRule.{search-parts}
 use Rattle.trees.specs.MarkTwo.{isA, some-A}
 use Rattle.groups.specs.Firsts.{any-place}
@@ -140,14 +140,9 @@ stop-at test b c h e =
     rw (count, e, firstPlace) (add-zero b)
 
 module _ (n : ℕ) (marks : List ℕ) (g : ℕ) (some : 0 < g) (g< : g < 2 ^ n) where
-  bool-same : (b c : Bool) → (b ≡ true → c ≡ true) → (c ≡ true → b ≡ true) → b ≡ c
-  bool-same true c f h = sym (f refl)
-  bool-same false true f h = h refl
-  bool-same false false f h = refl
-
   -- some split has mark 2 at both parts exactly when some A has
   some-split : any (partsAt n marks g) (range 1 (g - 1)) ≡ any (isA n marks g) (range 1 (g - 1))
-  some-split = bool-same _ _ (λ found. some-A n marks g g< (search-parts n marks g g< found)) back
+  some-split = two-ways _ _ (λ found. some-A n marks g g< (search-parts n marks g g< found)) back
     where
       back : any (isA n marks g) (range 1 (g - 1)) ≡ true → any (partsAt n marks g) (range 1 (g - 1)) ≡ true
       back found =

@@ -24,7 +24,7 @@ fn mark_into(m: usize, n: usize, cells: &[u8], marks: &mut [u8]) -> Answer
             place: need,
         };
     }
-    Answer::Accepted(bare::wide(marking::mark_all(m, n, cells, marks)))
+    Answer::Accepted(marking::mark_all(m, n, cells, marks) as usize)
 }
 
 // Writes every group's mark and answers the whole group's. Any arguments may come in.

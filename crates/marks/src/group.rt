@@ -2,6 +2,7 @@
 ghost use mathlib.Core.Path.{_≡_};
 ghost use Prim.Native.Nat.{ℕ, _^_, _≤_, _<_};
 ghost use lib.ListN.{length};
+ghost use Rattle.rules.specs.Limits.{mostLevels};
 ghost use Rattle.rules.specs.Marks.{markOf};
 ghost use Rattle.rules.specs.Calls.{inkIn};
 ghost use Rattle.groups.specs.Within.{Room};
@@ -10,6 +11,7 @@ ghost use Rattle.marks.specs.Stored.{held};
 use crate::parts;
 use crate::split;
 use groups::classes;
+use radix::limits;
 
 // The mark of a group that has at most m classes, from the marks of the groups below it.
 fn few_mark(marks: &[u8], g: usize) -> u8
@@ -25,7 +27,7 @@ fn few_mark(marks: &[u8], g: usize) -> u8
     1
 }
 
-// The mark of group g, from the marks of the groups below it. `xs`, `ys` and `firsts` are work arrays. A split is looked for only
+// The mark of group g, from the marks of the groups below it. `xs` and `ys` are work arrays. A split is looked for only
 // in a group that has at most m classes.
 pub fn mark_group(
     m: usize,
@@ -34,16 +36,16 @@ pub fn mark_group(
     g: usize,
     xs: &mut [u16],
     ys: &mut [u16],
-    firsts: &mut [u16],
     marks: &[u8],
 ) -> u8
-    requires { ⌜ (Room m n (now cells) (now xs) (now ys) (now firsts)) × (g < 2 ^ n) × (g ≤ length (held (now marks))) ⌝ }
+    requires { ⌜ (Room m n (now cells) (now xs) (now ys)) × (m ≤ mostLevels) × (g < 2 ^ n) × (g ≤ length (held (now marks))) ⌝ }
     ensures { λ r. ⌜ r ≡ markOf m n (inkIn (now (cells .entry))) (held (now (marks .entry))) g ⌝ }
 {
     if g == 0 {
         return 0;
     }
-    if m < classes::group_classes(m, n, cells, g, xs, ys, firsts) {
+    let mut firsts = [0u16; limits::MOST_LEVELS];
+    if m < classes::group_classes(m, n, cells, g, xs, ys, &mut firsts) {
         return 0;
     }
     few_mark(marks, g)

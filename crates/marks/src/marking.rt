@@ -19,11 +19,10 @@ pub fn mark_all(m: usize, n: usize, cells: &[u8], marks: &mut [u8]) -> u8
 {
     let mut xs = [0u16; limits::MOST_CELLS];
     let mut ys = [0u16; limits::MOST_CELLS];
-    let mut firsts = [0u16; limits::MOST_LEVELS];
     let end = powers::power(2, n);
     let mut g: usize = 0;
     while g < end {
-        let mark = group::mark_group(m, n, cells, g, &mut xs, &mut ys, &mut firsts, marks);
+        let mark = group::mark_group(m, n, cells, g, &mut xs, &mut ys, marks);
         stored::put_mark(marks, g, mark);
         g += 1;
     }

@@ -2,16 +2,14 @@
 use Prim.Native.Nat.{ℕ, suc, _+_, _^_, _≤_, _<_}
 use mathlib.Core.Path.{_≡_, sym, ap, ap₂, _∙_}
 use mathlib.Core.List.{List, _++_, map}
-use native.Mathlib.Nat.{zero-add}
 use native.Mathlib.Numerals.{add-one}
 use native.Mathlib.Omega.{arith}
-use lib.ListN.{length, getD, take, drop, set, length-append, length-drop, length-map}
+use lib.ListN.{length, getD, take, drop, set, length-append, length-drop}
 use lib.Seq.{drop-cons, append-snoc, set-at, take-at}
 use Rattle.rules.specs.Lists.{range}
 use Rattle.rules.specs.Value.{value, tableOf}
 use Rattle.rules.specs.Calls.{written}
-use Rattle.laws.specs.Concat.{map-append}
-use Rattle.laws.specs.Ranges.{range-length, range-suc}
+use Rattle.laws.specs.Ranges.{map-range-length, map-range-suc}
 use Rattle.nets.specs.declared.forms.Net.{Net}
 use Rattle.nets.specs.Forms.{gatesOf}
 use Rattle.nets.specs.Evaluating.{Tabled}
@@ -22,7 +20,7 @@ module _ (net : Net) (cells : List ℕ) where
   filled p = map (value (net .levels) (net .inputs) (gatesOf net)) (range 0 p) ++ drop p cells
 
   inks-length : (p : ℕ) → length (map (value (net .levels) (net .inputs) (gatesOf net)) (range 0 p)) ≡ p
-  inks-length p = length-map (range 0 p) (value (net .levels) (net .inputs) (gatesOf net)) ∙ range-length 0 p
+  inks-length p = map-range-length (value (net .levels) (net .inputs) (gatesOf net)) 0 p
 
   pub filled-length : (p : ℕ) → p ≤ length cells → length (filled p) ≡ length cells
   filled-length p h =
@@ -33,7 +31,7 @@ module _ (net : Net) (cells : List ℕ) where
       → set after p r ≡ filled (p + 1)
   filled-more p r after h so e =
       let inks = map (value (net .levels) (net .inputs) (gatesOf net)) (range 0 p) in
-      rw (so, add-one, range-suc, map-append, zero-add, drop-cons cells p 0 h, set-at inks (getD cells p 0) (drop (suc p) cells) r p (inks-length p), e)
+      rw (so, add-one, map-range-suc, drop-cons cells p 0 h, set-at inks (getD cells p 0) (drop (suc p) cells) r p (inks-length p), e)
       (sym (append-snoc inks _ (drop (suc p) cells)))
 
   pub filled-all : (count : ℕ) (after : List ℕ) → count ≡ net .levels ^ net .inputs → after ≡ filled count → Tabled net cells after count

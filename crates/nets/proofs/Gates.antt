@@ -5,15 +5,14 @@ use mathlib.Core.List.{List, [], _∷_, _++_, map}
 use native.Mathlib.Nat.{zero-add, add-zero, add-assoc, mul-pos, le-antisymm}
 use native.Mathlib.Omega.{arith}
 use native.Mathlib.Numerals.{add-one}
-use lib.ListN.{length, getD, take, drop, set, length-append, take-append-drop, length-take, length-drop, length-map, List·getD-append}
+use lib.ListN.{length, getD, take, drop, set, length-append, take-append-drop, length-take, length-drop, List·getD-append}
 use lib.Seq.{length-take-le, drop-cons, append-snoc, set-at, getD-take, getD-drop}
 use lib.Arith.{digits-lt}
 use Rattle.rules.specs.Lists.{range}
 use Rattle.rules.specs.Sheets.{Gate}
 use Rattle.rules.specs.Kept.{GateTable, Tables, RefersBack}
 use Rattle.rules.specs.Value.{gateValue, withGates}
-use Rattle.laws.specs.Concat.{map-append}
-use Rattle.laws.specs.Ranges.{range-length, range-suc}
+use Rattle.laws.specs.Ranges.{map-range-length, map-range-suc}
 use Rattle.nets.specs.declared.forms.Net.{Net}
 use Rattle.nets.specs.Forms.{gateOf, gatesOf}
 use Rattle.nets.specs.Sound.{levels-pos, gates-count}
@@ -71,7 +70,7 @@ module _ (net : Net) (vs : List ℕ) (ready : Ready net vs) where
   known-length : (k : ℕ) → length (known net vs k) ≡ net .inputs + k
   known-length k =
       with-length (net .levels) (take (net .inputs) vs) (map (gateOf net) (range 0 k))
-      ∙ ap₂ (λ (a b : ℕ). a + b) front-length (length-map (range 0 k) (gateOf net) ∙ range-length 0 k)
+      ∙ ap₂ (λ (a b : ℕ). a + b) front-length (map-range-length (gateOf net) 0 k)
 
   pub after-length : (k : ℕ) → k ≤ net .gates → length (after net vs k) ≡ length vs
   after-length k h =
@@ -106,7 +105,7 @@ module _ (net : Net) (vs : List ℕ) (ready : Ready net vs) where
     table-within = omega (arith, mul-pos pos pos, simp (length-take, length-drop) at digits-length)
 
     known-more : known net vs (k + 1) ≡ known net vs k ++ (gateValue (net .levels) (known net vs k) (gateOf net k) ∷ [])
-    known-more = rw (add-one, range-suc, map-append, with-snoc, zero-add)
+    known-more = rw (add-one, map-range-suc, with-snoc)
 
     -- the digit that the code reads is the gate's value
     digit-read : (u v : ℕ) → u ≡ getD (known net vs k) (getD (net .left) k 0) 0 → v ≡ getD (known net vs k) (getD (net .right) k 0) 0
@@ -117,15 +116,19 @@ module _ (net : Net) (vs : List ℕ) (ready : Ready net vs) where
         let size = net .levels * net .levels in
         rw (add-assoc, ← (getD-drop (k * size) (net .digits) (u * net .levels + v) 0), ← (getD-take size (drop (k * size) (net .digits)) (u * net .levels + v) 0 (digits-lt hu hv)), eu, ev)
 
-    -- The turn's reads: l and r are the references, u and v their values, and the gate's digits begin at `from`.
-    module _ (l u r v from : ℕ) (values : List ℕ)
-        (el : l ≡ getD (net .left) k 0) (eu : u ≡ getD values l 0) (er : r ≡ getD (net .right) k 0) (ev : v ≡ getD values r 0)
-        (ef : from ≡ k * (net .levels * net .levels)) (es : values ≡ after net vs k) where
+    -- The turn's reads: the gate's digits begin at `from`.
+    module _ (from : ℕ) (values : List ℕ) (ef : from ≡ k * (net .levels * net .levels)) (es : values ≡ after net vs k) where
+      abbrev u : ℕ
+      u = getD values (getD (net .left) k 0) 0
+
+      abbrev v : ℕ
+      v = getD values (getD (net .right) k 0) 0
+
       left-read : u ≡ getD (known net vs k) (getD (net .left) k 0) 0
-      left-read = rw (eu, es, el) (known-at k (getD (net .left) k 0) (refers .0))
+      left-read = rw es (known-at k (getD (net .left) k 0) (refers .0))
 
       right-read : v ≡ getD (known net vs k) (getD (net .right) k 0) 0
-      right-read = rw (ev, es, er) (known-at k (getD (net .right) k 0) (refers .1))
+      right-read = rw es (known-at k (getD (net .right) k 0) (refers .1))
 
       left-below : u < net .levels
       left-below = rw left-read (known-below k (omega arith) (getD (net .left) k 0))
@@ -134,19 +137,20 @@ module _ (net : Net) (vs : List ℕ) (ready : Ready net vs) where
       right-below = rw right-read (known-below k (omega arith) (getD (net .right) k 0))
 
       -- the digit read lies within the net's
-      pub digit-within : from + u * net .levels + v < length (net .digits)
+      pub digit-within : from + getD values (getD (net .left) k 0) 0 * net .levels + getD values (getD (net .right) k 0) 0 < length (net .digits)
       digit-within = omega (arith, digits-lt left-below right-below, table-within)
 
       -- with that digit stored, one gate more has its value
-      pub after-more : set values (net .inputs + k) (getD (net .digits) (from + u * net .levels + v) 0) ≡ after net vs (k + 1)
+      pub after-more : set values (net .inputs + k)
+          (getD (net .digits) (from + getD values (getD (net .left) k 0) 0 * net .levels + getD values (getD (net .right) k 0) 0) 0) ≡ after net vs (k + 1)
       after-more =
           let d = gateValue (net .levels) (known net vs k) (gateOf net k) in
           let room : net .inputs + k < length vs = omega (arith, ready .room) in
           let next : net .inputs + (k + 1) ≡ suc (net .inputs + k) = omega arith in
           rw (
-            es,
             ef,
             digit-read u v left-read right-read left-below right-below,
+            es,
             drop-cons vs (net .inputs + k) 0 room,
             set-at (known net vs k) (getD vs (net .inputs + k) 0) (drop (suc (net .inputs + k)) vs) d (net .inputs + k) (known-length k),
             next,

@@ -2,8 +2,8 @@
 -- Assumes nothing.
 use Prim.Native.Nat.{ℕ, _+_, _*_, _≤_, _<_}
 use mathlib.Core.Path.{_≡_, ap, ap₂, _∙_}
-use mathlib.Core.List.{List, [], _∷_, _++_, map, map-append}
-use native.Mathlib.Nat.{mul-le-mul-right, zero-add}
+use mathlib.Core.List.{List, [], _∷_, _++_, map}
+use native.Mathlib.Nat.{mul-le-mul-right}
 use native.Mathlib.Numerals.{add-one}
 use native.Mathlib.Omega.{arith}
 use lib.ListN.{length, take, drop, set}
@@ -11,7 +11,7 @@ use lib.Seq.{paste, getD-set-same, getD-set-other}
 use Rattle.rules.specs.Lists.{range}
 use Rattle.rules.specs.Sheets.{Gate}
 use Rattle.laws.specs.Pastes.{part-before, part-pasted}
-use Rattle.laws.specs.Ranges.{range-suc, map-range-same}
+use Rattle.laws.specs.Ranges.{map-range-suc, map-range-same}
 use Rattle.nets.specs.Forms.{gateOf, gatesOf}
 use Rattle.nets.specs.declared.forms.Net.{Net}
 
@@ -56,8 +56,8 @@ module _ (net : Net) (left right : ℕ) (v digits : List ℕ) (lefts : net .gate
   unfolding gatesOf
   gates-grown =
       let more = gateOf (grown net left right digits) in
-      ap (map more) (ap (range 0) (add-one (net .gates)) ∙ range-suc 0 (net .gates))
-      ∙ map-append more (range 0 (net .gates)) ((0 + net .gates) ∷ [])
+      ap (λ (k : ℕ). map more (range 0 k)) (add-one (net .gates))
+      ∙ map-range-suc more (net .gates)
       ∙ ap₂ (λ (xs : List Gate) (g : Gate). xs ++ (g ∷ []))
       (map-range-same more (gateOf net) 0 (net .gates) (λ k _ h. earlier k (omega arith)))
-      (ap more (zero-add (net .gates)) ∙ last)
+      last

@@ -4,11 +4,10 @@ use Prim.Native.Nat.{suc, _<_}
 use mathlib.Core.Path.{_≡_, sym, ap, _∙_}
 use mathlib.Core.Bool.{true}
 use native.Mathlib.Omega.{arith}
-use lib.ListN.{length, length-map}
-use Rattle.rules.specs.Lists.{range}
+use lib.ListN.{length}
 use Rattle.rules.specs.Limits.{sizeFits}
 use Rattle.rules.specs.Kept.{IsNet}
-use Rattle.laws.specs.Ranges.{range-length}
+use Rattle.laws.specs.Ranges.{map-range-length}
 use Rattle.laws.specs.Sizes.{Size, sized}
 use Rattle.nets.specs.declared.forms.Net.{Net}
 use Rattle.nets.specs.Forms.{gateOf, gatesOf}
@@ -20,7 +19,7 @@ pub record Sound (net : Net) : Type 0 where
 
 pub gates-length : (net : Net) → length (gatesOf net) ≡ net .gates
 unfolding gatesOf
-gates-length net = length-map (range 0 (net .gates)) (gateOf net) ∙ range-length 0 (net .gates)
+gates-length net = map-range-length (gateOf net) 0 (net .gates)
 
 module _ (net : Net) (sound : Sound net) where
   pub sound-size : Size (net .levels) (net .inputs)

@@ -5,12 +5,6 @@ ghost use Prim.Native.Nat.{_≤_};
 ghost use lib.ListN.{length, take, drop};
 ghost use Rattle.laws.specs.Levels.{nextLevels};
 
-pub fn wide(x: u8) -> usize
-    ensures { λ r. ⌜ r ≡ x ⌝ }
-{
-    x as usize
-}
-
 // Takes the first n levels to those of the next assignment, and the highest levels to all zeros.
 pub fn next_levels(m: usize, n: usize, levels: &mut [u8])
     requires { ⌜ (m ≤ 256) × (n ≤ length (now levels)) ⌝ }
@@ -20,7 +14,7 @@ pub fn next_levels(m: usize, n: usize, levels: &mut [u8])
     while 0 < i {
         i -= 1;
         let l = levels[i];
-        if wide(l) + 1 < m {
+        if l as usize + 1 < m {
             levels[i] = l + 1;
             return;
         }

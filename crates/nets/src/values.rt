@@ -5,7 +5,6 @@ ghost use Rattle.nets.specs.Sound.{Sound};
 ghost use Rattle.nets.specs.Evaluating.{netOf, Ready, Valued, Tabled};
 use crate::forms::Net;
 use crate::levels::next_levels;
-use crate::levels::wide;
 
 // The net's value at the assignment whose n levels stand at the front of `values`; each gate's value is put behind them. The
 // digits of gate k begin at `from`.
@@ -25,8 +24,8 @@ pub fn value(
     let mut from: usize = 0;
     let mut k: usize = 0;
     while k < gates {
-        let u = wide(values[wide(left[k])]);
-        let v = wide(values[wide(right[k])]);
+        let u = values[left[k] as usize] as usize;
+        let v = values[right[k] as usize] as usize;
         values[n + k] = digits[from + u * m + v];
         from += size;
         k += 1;

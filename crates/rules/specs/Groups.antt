@@ -45,7 +45,7 @@ unfoldable pub alike : ℕ → ℕ → (ℕ → ℕ) → ℕ → ℕ → ℕ →
 alike m n f g p q = alikeOver f (points m n (others n g)) p q
 
 -- The first of each class, "in the order in which they first appear".
-unfoldable pub firsts : (ℕ → ℕ → Bool) → List ℕ → List ℕ → List ℕ
+unfoldable pub firsts : {A : Type 0} → (A → A → Bool) → List A → List A → List A
 firsts same kept [] = kept
 firsts same kept (p ∷ ps) = elim (any (same p) kept) [ true ↦ firsts same kept ps | false ↦ firsts same (kept ++ (p ∷ [])) ps ]
 

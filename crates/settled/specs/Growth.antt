@@ -12,7 +12,7 @@ use Rattle.nets.specs.Growing.{grown, gates-grown}
 use Rattle.trees.specs.Trees.{EachOnce, EachGate}
 use Rattle.trees.specs.Wirings.{Few}
 use Rattle.trees.specs.Digits.{digits-count}
-use Rattle.settled.specs.GateDigits.{DigitsAt}
+use Rattle.digits.specs.GateDigits.{DigitsAt}
 
 -- the gate that joins groups a and b is added, for any wirings of the two groups
 pub record Joined (m n : ℕ) (f : ℕ → ℕ) (last : Bool) (a b left right : ℕ) (before after : Net) : Type 0 where

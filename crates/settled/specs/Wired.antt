@@ -22,7 +22,7 @@ use Rattle.trees.specs.Wirings.{Few}
 use Rattle.trees.specs.GateLists.{gates-in-size}
 use Rattle.trees.specs.MarkRule.{marked}
 use Rattle.trees.specs.MarkTwo.{two-says, split-two, wiring-of}
-use Rattle.settled.specs.Ready.{Parts}
+use Rattle.digits.specs.Ready.{Parts}
 use Rattle.settled.specs.Growth.{Joined}
 
 -- group g's gates are added, and `reference` refers to the last of them, or to g's only input

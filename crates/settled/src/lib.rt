@@ -1,4 +1,2 @@
 // The settled net of a table, from its cells and marks.
-pub mod digits;
-pub mod samples;
 pub mod settle;

@@ -8,13 +8,13 @@ ghost use Rattle.rules.specs.Groups.{size, wholeGroup};
 ghost use Rattle.rules.specs.Marks.{markIn, marksOf};
 ghost use Rattle.rules.specs.Calls.{inkIn};
 ghost use Rattle.nets.specs.Room.{mostGates, mostDigits};
-ghost use Rattle.settled.specs.Sized.{Sized};
-ghost use Rattle.settled.specs.Ready.{Parts};
+ghost use Rattle.digits.specs.Sized.{Sized};
+ghost use Rattle.digits.specs.Ready.{Parts};
 ghost use Rattle.settled.specs.Growth.{Joined};
 ghost use Rattle.settled.specs.Wired.{MarksIn, Wired};
 ghost use Rattle.settled.specs.SettledNet.{SettledNet};
-use crate::digits;
-use crate::samples;
+use digits::gate;
+use digits::samples;
 use marks::split;
 use nets::forms;
 use radix::powers;
@@ -40,7 +40,7 @@ fn join(
     let mut digits = net.digits;
     lefts[k] = left;
     rights[k] = right;
-    digits::gate_digits(m, n, cells, a, b, last, k * (m * m), &mut digits);
+    gate::gate_digits(m, n, cells, a, b, last, k * (m * m), &mut digits);
     forms::Net {
         levels: net.levels,
         inputs: net.inputs,

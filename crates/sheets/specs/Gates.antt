@@ -4,22 +4,21 @@ use Prim.Native.Nat.{ℕ, _+_, _*_, _≤_, _<_}
 use mathlib.Core.Path.{_≡_, refl, sym, ap, _∙_}
 use mathlib.Core.List.{List, [], _∷_, _++_}
 use native.Mathlib.Omega.{arith}
-use lib.ListN.{length, drop, length-set, length-map}
+use lib.ListN.{length, drop, length-set}
 use lib.Seq.{paste, length-paste}
-use Rattle.rules.specs.Lists.{range}
 use Rattle.rules.specs.Text.{space, newline}
 use Rattle.rules.specs.Fields.{read, Reader, then, _>>=_, give, field}
 use Rattle.rules.specs.Sheets as sheets
 use Rattle.rules.specs.Sheets.{referenceField, digitsField, usedBy, gateLine}
-use Rattle.laws.specs.Ranges.{range-length}
 use Rattle.fields.specs.Chained.{chained-back, chained-on, then-then, never-both}
 use Rattle.fields.specs.Header.{HeaderHeld}
 use Rattle.fields.specs.Steps.{stepAs, itself}
 use Rattle.laws.specs.Sizes.{sized}
 use Rattle.fields.specs.declared.steps.Step.{Step}
 use Rattle.fields.specs.declared.steps.Step.the-variants.{On, Back}
-use Rattle.nets.specs.Forms.{gateOf, gatesOf}
+use Rattle.nets.specs.Forms.{gatesOf}
 use Rattle.nets.specs.Growing.{grown, gates-grown}
+use Rattle.nets.specs.Sound.{gates-length}
 use Rattle.nets.specs.declared.forms.Header.{Header}
 use Rattle.nets.specs.declared.forms.Net.{Net}
 use Rattle.sheets.specs.Digits.{digitsAt, DigitsRead}
@@ -99,10 +98,6 @@ pub record GateRoom (s : List ℕ) (h : Header) (net : Net) : Type 0 where
   pub inputs : net .inputs ≡ h .inputs
   pub room : net .gates + 1 < h .inputs
 
-pub gates-count : (net : Net) → length (gatesOf net) ≡ net .gates
-unfolding gatesOf
-gates-count net = length-map (range 0 (net .gates)) (gateOf net) ∙ range-length 0 (net .gates)
-
 -- the sheet is turned back in the line
 module _ (s : List ℕ) (at : ℕ) (net : Net) {A : Type 0} (f : ℕ → A) (one : Reader A) (rest : A → Reader (List sheets.Gate)) (step : Step)
     (reads : stepAs f s step ≡ one (drop at s) at) where
@@ -154,7 +149,7 @@ module _ (s : List ℕ) (at : ℕ) (h : Header) (net : Net) (left : ℕ) (step :
 
   right-reads : stepAs itself s step ≡ right-field (drop at s) at
   unfolding right-field
-  right-reads = rw (gates-count net) reads
+  right-reads = rw (gates-length net) reads
 
   pub right-back : (number place : ℕ) → step ≡ Back number place
       → GateRest s at (fromRight (net .levels) (namesOf s h) (gatesOf net) left) net (record { step = Back number place; net = net })
@@ -207,7 +202,7 @@ module _ (s : List ℕ) (at : ℕ) (h : Header) (net : Net) (nowhere : ℕ) (bey
   left-reads : stepAs itself s step ≡ left-field (drop at s) at
   unfolding left-field
   left-reads =
-      rw (gates-count net)
+      rw (gates-length net)
       (reads ∙ ap (λ judge. field judge 32 (drop at s) at) (spare (namesOf s h) (net .gates) (usedBy (gatesOf net)) nowhere beyond))
 
   whole-line : (r : GatesRead) → GateRest s at (left-field >>= fromRight (net .levels) (namesOf s h) (gatesOf net)) net r

@@ -5,14 +5,14 @@ use Prim.Native.Nat.{ℕ, _<_}
 use mathlib.Core.Path.{_≡_, refl, sym}
 use mathlib.Core.Logic.{_⊎_, inl, inr, ⊎-map}
 use mathlib.Core.Bool.{Bool, true, false}
-use mathlib.Core.List.{List, [], _∷_, _++_, List·Memᴰ, List·Memᴰ·head, List·Memᴰ·tail, List·Memᴰ·not-nil, List·Memᴰ·cases-cons, List·Memᴰ·append-cases, List·Memᴰ·eq-of-singleton, Memᴰ·append-left, Memᴰ·append-right}
+use mathlib.Core.List.{List, [], _∷_, _++_, map, map-append, List·Memᴰ, List·Memᴰ·head, List·Memᴰ·tail, List·Memᴰ·not-nil, List·Memᴰ·cases-cons, List·Memᴰ·append-cases, List·Memᴰ·eq-of-singleton, Memᴰ·append-left, Memᴰ·append-right}
 use native.Mathlib.Nat.{le-of-suc-le-suc, eq-or-lt-of-le}
 use native.Mathlib.Omega.{arith}
 use lib.ListN.{length, getD, length-append, List·getD-append}
 use lib.Seq.{getD-at}
 use Rattle.rules.specs.Lists.{any}
 use Rattle.rules.specs.Groups.{firsts}
-use Rattle.laws.specs.Tests.{none-mem, mem-any}
+use Rattle.laws.specs.Tests.{none-mem, mem-any, any-map}
 use Rattle.laws.specs.Places.{mem-getD}
 use Rattle.laws.specs.FirstPlaces.{first-passing}
 
@@ -92,3 +92,17 @@ module _ (same : ℕ → ℕ → Bool) (own : (p : ℕ) → same p p ≡ true) w
           → Keeps same kept (p ∷ ps) (elim b as (λ _. List ℕ) [ true ↦ firsts same kept ps | false ↦ firsts same (kept ++ (p ∷ [])) ps ])
       go true e k _ = passed kept ps _ p e k
       go false e _ k = added kept ps _ p e k
+
+-- by what a function gives: the firsts' values are the values' firsts
+pub firsts-map : {A B : Type 0} (f : A → B) (same : B → B → Bool) (kept ps : List A)
+    → map f (firsts (λ p q. same (f p) (f q)) kept ps) ≡ firsts same (map f kept) (map f ps)
+unfolding firsts
+firsts-map f same kept [] = refl
+firsts-map f same kept (p ∷ ps) =
+    rw (any-map f (same (f p)) kept, firsts)
+    (go (any (λ q. same (f p) (f q)) kept) _ _ (firsts-map f same kept ps) (rw map-append at (firsts-map f same (kept ++ (p ∷ [])) ps)))
+  where
+    go : (b : Bool) (c d : List _) {k l : List _} → map f c ≡ k → map f d ≡ l
+        → map f (elim b [ true ↦ c | false ↦ d ]) ≡ elim b [ true ↦ k | false ↦ l ]
+    go true c d e _ = e
+    go false c d _ e = e

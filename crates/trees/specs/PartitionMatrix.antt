@@ -2,19 +2,19 @@
 -- its row multiplicity are document 01's multiplicities of the two groups.
 -- Assumes nothing.
 use Prim.Native.Nat.{ℕ, _+_, _^_, _<_}
-use mathlib.Core.Path.{_≡_, refl, ap, _∙_, fun-ext}
+use mathlib.Core.Path.{_≡_, refl, sym, ap, _∙_, fun-ext}
 use mathlib.Core.Bool.{Bool, true, false}
-use mathlib.Core.List.{List, [], _∷_, _++_, map, map-append}
+use mathlib.Core.List.{List, [], _∷_, map}
 use native.Mathlib.Nat.{add-comm}
 use native.Mathlib.Omega.{arith}
 use lib.ListN.{length, length-map}
 use lib.Dec.{eqb}
-use Rattle.rules.specs.Lists.{all, any, same}
+use Rattle.rules.specs.Lists.{all, same}
 use Rattle.rules.specs.Groups.{size, others, wholeGroup, points, alikeOver, firsts, classes, multiplicity}
 use Rattle.rules.specs.Calls.{inkIn}
 use Rattle.rules.specs.Cases.{digits, byRule, figureRows, figure}
 use Rattle.rules.specs.Evaluation.{computing}
-use Rattle.laws.specs.Tests.{any-same, any-map}
+use Rattle.trees.specs.Firsts.{firsts-map}
 use Rattle.trees.specs.Points.{points-length}
 
 -- "the Y|X partition matrix has m^|X| columns and m^|Y| rows labeled by all possible assignments of values to X and Y,
@@ -26,17 +26,12 @@ columns m n f x = map (λ p. map (λ y. f (p + y)) (points m n (others n x))) (p
 unfoldable pub rows : ℕ → ℕ → (ℕ → ℕ) → ℕ → List (List ℕ)
 rows m n f x = map (λ y. map (λ p. f (p + y)) (points m n x)) (points m n (others n x))
 
--- the lists `kept`, and of the rest each that equals none before it
-unfoldable pub distinct : List (List ℕ) → List (List ℕ) → List (List ℕ)
-distinct kept [] = kept
-distinct kept (c ∷ cs) = elim (any (same c) kept) [ true ↦ distinct kept cs | false ↦ distinct (kept ++ (c ∷ [])) cs ]
-
 -- "The column (row) multiplicity ν (μ) is the number of distinct columns (rows) in the matrix."
 unfoldable pub columnMultiplicity : ℕ → ℕ → (ℕ → ℕ) → ℕ → ℕ
-columnMultiplicity m n f x = length (distinct [] (columns m n f x))
+columnMultiplicity m n f x = length (firsts same [] (columns m n f x))
 
 unfoldable pub rowMultiplicity : ℕ → ℕ → (ℕ → ℕ) → ℕ → ℕ
-rowMultiplicity m n f x = length (distinct [] (rows m n f x))
+rowMultiplicity m n f x = length (firsts same [] (rows m n f x))
 
 -- ---- their laws
 
@@ -60,36 +55,15 @@ pub others-others : (n x : ℕ) → x < 2 ^ n → others n (others n x) ≡ x
 unfolding others wholeGroup
 others-others n x x< = omega arith
 
-module _ (f : ℕ → ℕ) (ys : List ℕ) where
-  -- the column of p, over the rows ys
-  column : ℕ → List ℕ
-  column p = map (λ y. f (p + y)) ys
-
-  -- a column is among some exactly where its assignment is alike with one of theirs
-  any-column : (p : ℕ) (kept : List ℕ) → any (same (column p)) (map column kept) ≡ any (alikeOver f ys p) kept
-  unfolding column
-  any-column p kept =
-      any-map column (same (column p)) kept ∙ any-same (λ q. same (column p) (column q)) (alikeOver f ys p) kept (λ q i. same-column f ys p q)
-
-  -- so the distinct columns are those of the classes' first assignments
-  distinct-firsts : (kept ps : List ℕ) → distinct (map column kept) (map column ps) ≡ map column (firsts (alikeOver f ys) kept ps)
-  unfolding distinct firsts
-  distinct-firsts kept [] = refl
-  distinct-firsts kept (p ∷ ps) =
-      rw (any-column p kept, distinct)
-      (go (any (alikeOver f ys p) kept) _ _ (distinct-firsts kept ps) (rw map-append at (distinct-firsts (kept ++ (p ∷ [])) ps)))
-    where
-      go : (b : Bool) (c d : List ℕ) {k l : List (List ℕ)} → k ≡ map column c → l ≡ map column d
-          → _≡_ {A = List (List ℕ)} (elim b [ true ↦ k | false ↦ l ]) (map column (elim b [ true ↦ c | false ↦ d ]))
-      go true c d e _ = e
-      go false c d _ e = e
-
 -- "The column multiplicity" is document 01's multiplicity of the group X.
 pub column-multiplicity : (m n : ℕ) (f : ℕ → ℕ) (x : ℕ) → columnMultiplicity m n f x ≡ multiplicity m n f x
-unfolding columnMultiplicity columns multiplicity classes column
+unfolding columnMultiplicity columns multiplicity classes
 column-multiplicity m n f x =
     let ys = points m n (others n x) in
-    ap length (distinct-firsts f ys [] (points m n x)) ∙ length-map (firsts (alikeOver f ys) [] (points m n x)) (column f ys)
+    let column : ℕ → List ℕ = λ p. map (λ y. f (p + y)) ys in
+    sym (ap length (firsts-map column same [] (points m n x)))
+    ∙ length-map (firsts (λ p q. same (column p) (column q)) [] (points m n x)) column
+    ∙ ap (λ (alike : ℕ → ℕ → Bool). length (firsts alike [] (points m n x))) (fun-ext (λ p. fun-ext (same-column f ys p)))
 
 -- the rows are the columns for the other group
 rows-are-columns : (m n : ℕ) (f : ℕ → ℕ) (x : ℕ) → x < 2 ^ n → rows m n f x ≡ columns m n f (others n x)
@@ -106,5 +80,5 @@ row-multiplicity m n f x x< = rw (rows-are-columns m n f x x<) (column-multiplic
 
 -- Figure 1, the z3 z4 | z1 z2 partition matrix: "For this example, ν = μ = 3."
 pub figure-multiplicities : (columnMultiplicity 3 4 (inkIn (figure .inks)) 3 ≡ 3) × (rowMultiplicity 3 4 (inkIn (figure .inks)) 3 ≡ 3)
-unfolding computing digits byRule figureRows figure columnMultiplicity rowMultiplicity columns rows distinct
+unfolding computing digits byRule figureRows figure columnMultiplicity rowMultiplicity columns rows
 figure-multiplicities = (refl, refl)

@@ -1,7 +1,7 @@
 -- `groups::alike::class_of` meets its contract. The loop's invariant: what is left of the first `count` decides.
 -- Assumes nothing.
-use Prim.Native.Nat.{_+_, _-_, _≤_}
-use mathlib.Core.Path.{_≡_, sym, subst⁻¹, ap, _∙_}
+use Prim.Native.Nat.{_+_, _-_, _≤_, _<_}
+use mathlib.Core.Path.{_≡_, sym, ap, _∙_}
 use mathlib.Core.Bool.{Bool, true, false}
 use native.Mathlib.Nat.{zero-add}
 use native.Mathlib.Omega.{arith}
@@ -10,8 +10,7 @@ use lib.Seq.{length-take-le, getD-take}
 use Rattle.rules.specs.Lists.{firstPlace}
 use Rattle.rules.specs.Calls.{inkIn}
 use Rattle.rules.specs.Groups.{alikeOver}
-use Rattle.groups.specs.Walks.{place-next, place-stop, place-end}
-use Rattle.groups.specs.Within.{Within}
+use Rattle.laws.specs.Walks.{place-next, place-stop, place-end}
 use Rattle.groups.proofs.alike.class_of.Statement.{statement}
 use Rattle.groups.proofs.alike.class_of.Tie as tie
 
@@ -25,44 +24,38 @@ abbrev μ-loop : tie.MeasureT-loop
 loop-holds : tie.Need-loop-holds Inv-loop μ-loop
 loop-holds c = (omega arith, zero-add _)
 
-mul-wide : tie.Need-mul-wide Inv-loop μ-loop
-mul-wide c = omega arith
+mul-alike : tie.Need-mul-alike Inv-loop μ-loop
+mul-alike c = omega arith
 
-shared-slice-read-wide : tie.Need-shared-slice-read-wide Inv-loop μ-loop
-shared-slice-read-wide c = omega arith
+shared-slice-read-alike : tie.Need-shared-slice-read-alike Inv-loop μ-loop
+shared-slice-read-alike c = omega arith
 
-wide-requires : tie.Need-wide-requires Inv-loop μ-loop
-wide-requires c κs = tt
+cast-alike : tie.Need-cast-alike Inv-loop μ-loop
+cast-alike c = omega (arith, c .shared-slice-known4 .given (c .before .before .loop .j))
 
 alike-requires : tie.Need-alike-requires Inv-loop μ-loop
-alike-requires c κs =
-    let start = c .before .before .before .before .before .before .before in
-    let a = start .args in
-    let l = c .before .before .before .loop in (
-      start .pre .1,
-      subst⁻¹ (Within (length (a .cells .now)) (a .ys .now)) (c .wide .ensures) (start .pre .2 (l .j) (c .before .before .loop-test .taken)),
-    )
+alike-requires c κs = let pre = c .before .before .before .before .before .before .pre in (pre .1, pre .2 (c .before .before .loop .j) (c .before .loop-test .taken))
 
--- what the code's test says of the front's entry j
-says : (c : tie.After-alike Inv-loop μ-loop) →
-    let a = c .before .before .before .before .before .before .before .before .args in
-    (t : Bool) → c .alike .result ≡ t
-    → alikeOver (inkIn (a .cells .now)) (a .ys .now) (a .p) (getD (take (a .count) (a .firsts .now)) (c .before .before .before .before .loop .j) 0) ≡ t
-says c t e =
-    let a = c .before .before .before .before .before .before .before .before .args in
-    let j = c .before .before .before .before .loop .j in
-    ap (alikeOver (inkIn (a .cells .now)) (a .ys .now) (a .p))
-    (getD-take (a .count) (a .firsts .now) j 0 (c .before .before .before .loop-test .taken) ∙ sym (c .before .wide .ensures))
-    ∙ sym (c .alike .ensures)
-    ∙ e
+-- what the code's test says of the front's entry j, which is there
+module _ (c : tie.After-alike Inv-loop μ-loop) where
+  abbrev start : tie.Start Inv-loop μ-loop
+  start = c .before .before .before .before .before .before .before
+
+  says : (t : Bool) → c .alike .result ≡ t
+      → alikeOver (inkIn (start .args .cells .now)) (start .args .ys .now) (start .args .p) (getD (take (start .args .count) (start .args .firsts .now)) (c .before .before .before .loop .j) 0) ≡ t
+  says t e =
+      ap (alikeOver (inkIn (start .args .cells .now)) (start .args .ys .now) (start .args .p))
+      (getD-take (start .args .count) (start .args .firsts .now) (c .before .before .before .loop .j) 0 (c .before .before .loop-test .taken))
+      ∙ sym (c .alike .ensures)
+      ∙ e
+
+  there : c .before .before .before .loop .j < length (take (start .args .count) (start .args .firsts .now))
+  there = omega (arith, length-take-le (start .args .count) (start .args .firsts .now) (start .pre .0), c .before .before .loop-test .taken)
 
 returns : tie.Need-returns Inv-loop μ-loop
 returns c =
-    let start = c .before .before .before .before .before .before .before .before .before in
-    let l = c .before .before .before .before .before .loop in
-    sym (place-stop _ (take (start .args .count) (start .args .firsts .now)) (l .j) (omega (arith, length-take-le (start .args .count) (start .args .firsts .now) (start .pre .0)))
-    (says (c .before) true (c .if1 .taken)))
-    ∙ l .inv .1
+    let a = c .before .before .before .before .before .before .before .before .args in
+    sym (place-stop _ (take (a .count) (a .firsts .now)) (c .before .before .before .before .loop .j) (there (c .before)) (says (c .before) true (c .if1 .taken))) ∙ c .before .before .before .before .loop .inv .1
 
 add-j : tie.Need-add-j Inv-loop μ-loop
 add-j c = omega arith
@@ -72,21 +65,17 @@ loop-less c = omega arith
 
 loop-again : tie.Need-loop-again Inv-loop μ-loop
 loop-again c =
-    let start = c .before .before .before .before .before .before .before .before .before in
-    let l = c .before .before .before .before .before .loop in (
-      omega arith,
-      place-next _ (take (start .args .count) (start .args .firsts .now)) (l .j) (omega (arith, length-take-le (start .args .count) (start .args .firsts .now) (start .pre .0)))
-          (says (c .before) false (c .if1 .left))
-          ∙ l .inv .1,
-    )
+    let a = c .before .before .before .before .before .before .before .before .args in
+    (omega arith, place-next _ (take (a .count) (a .firsts .now)) (c .before .before .before .before .loop .j) (there (c .before)) (says (c .before) false (c .if1 .left)) ∙ c .before .before .before .before .loop .inv .1)
 
 returns-2 : tie.Need-returns-2 Inv-loop μ-loop
 returns-2 c =
     let start = c .before .before .before .before .before in
+    let a = start .args in
     let l = c .before .loop in
-    let all : start .args .count ≡ l .j = omega arith in
+    let all : a .count ≡ l .j = omega arith in
     all
-    ∙ sym (place-end _ (take (start .args .count) (start .args .firsts .now)) (l .j) (omega (arith, length-take-le (start .args .count) (start .args .firsts .now) (start .pre .0))))
+    ∙ sym (place-end _ (take (a .count) (a .firsts .now)) (l .j) (omega (arith, length-take-le (a .count) (a .firsts .now) (start .pre .0))))
     ∙ l .inv .1
 
 pub class-of-spec : {M : Type 1} → statement M
@@ -96,9 +85,9 @@ class-of-spec =
     Inv-loop
     μ-loop
     loop-holds
-    mul-wide
-    shared-slice-read-wide
-    wide-requires
+    mul-alike
+    shared-slice-read-alike
+    cast-alike
     alike-requires
     returns
     add-j

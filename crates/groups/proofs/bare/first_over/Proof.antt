@@ -8,7 +8,7 @@ use lib.Dec.{ltb}
 use lib.ListN.{length, drop}
 use borrow.Author.Tests.{lt-ltb, le-ltb}
 use Rattle.rules.specs.Lists.{firstPlace}
-use Rattle.groups.specs.Walks.{place-next, place-stop, place-end}
+use Rattle.laws.specs.Walks.{place-next, place-stop, place-end}
 use Rattle.groups.proofs.bare.first_over.Statement.{statement}
 use Rattle.groups.proofs.bare.first_over.Tie as tie
 
@@ -22,19 +22,16 @@ abbrev μ-loop : tie.MeasureT-loop
 loop-holds : tie.Need-loop-holds Inv-loop μ-loop
 loop-holds c = (omega arith, zero-add _)
 
-shared-slice-read-wide : tie.Need-shared-slice-read-wide Inv-loop μ-loop
-shared-slice-read-wide c = omega arith
+shared-slice-read-if1 : tie.Need-shared-slice-read-if1 Inv-loop μ-loop
+shared-slice-read-if1 c = omega arith
 
-wide-requires : tie.Need-wide-requires Inv-loop μ-loop
-wide-requires c κs = tt
+cast-if1 : tie.Need-cast-if1 Inv-loop μ-loop
+cast-if1 c = omega (arith, c .shared-slice-known .given (c .before .before .loop .k))
 
 returns : tie.Need-returns Inv-loop μ-loop
 returns c =
-    let a = c .before .before .before .before .before .before .args in
-    let l = c .before .before .before .before .loop in
-    sym (place-stop (λ x. not (ltb x (a .m))) (a .cells .now) (l .k) (c .before .before .before .loop-test .taken)
-    (ap not (le-ltb _ (a .m) (omega (arith, c .before .wide .ensures)))))
-    ∙ l .inv .1
+    let a = c .before .before .before .before .args in
+    sym (place-stop (λ x. not (ltb x (a .m))) (a .cells .now) (c .before .before .before .loop .k) (c .before .before .loop-test .taken) (ap not (le-ltb _ (a .m) (c .if1 .taken)))) ∙ c .before .before .before .loop .inv .1
 
 add-k : tie.Need-add-k Inv-loop μ-loop
 add-k c = omega arith
@@ -44,19 +41,15 @@ loop-less c = omega arith
 
 loop-again : tie.Need-loop-again Inv-loop μ-loop
 loop-again c =
-    let a = c .before .before .before .before .before .before .args in
-    let l = c .before .before .before .before .loop in (
+    let a = c .before .before .before .before .args in (
       omega arith,
-      place-next (λ x. not (ltb x (a .m))) (a .cells .now) (l .k) (c .before .before .before .loop-test .taken)
-          (ap not (lt-ltb _ (a .m) (omega (arith, c .before .wide .ensures))))
-          ∙ l .inv .1,
+      place-next (λ x. not (ltb x (a .m))) (a .cells .now) (c .before .before .before .loop .k) (c .before .before .loop-test .taken) (ap not (lt-ltb _ (a .m) (c .if1 .left))) ∙ c .before .before .before .loop .inv .1,
     )
 
 returns-2 : tie.Need-returns-2 Inv-loop μ-loop
 returns-2 c =
-    let a = c .before .before .before .args in
-    let l = c .before .loop in
-    sym (place-end (λ x. not (ltb x (a .m))) (a .cells .now) (l .k) (c .loop-test .left)) ∙ l .inv .1
+    let a = c .before .before .args in
+    sym (place-end (λ x. not (ltb x (a .m))) (a .cells .now) (c .before .loop .k) (c .loop-test .left)) ∙ c .before .loop .inv .1
 
 pub first-over-spec : {M : Type 1} → statement M
 first-over-spec =
@@ -65,8 +58,8 @@ first-over-spec =
     Inv-loop
     μ-loop
     loop-holds
-    shared-slice-read-wide
-    wide-requires
+    shared-slice-read-if1
+    cast-if1
     returns
     add-k
     loop-less

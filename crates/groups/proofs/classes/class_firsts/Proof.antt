@@ -1,14 +1,11 @@
 -- `groups::classes::class_firsts` meets its contract. The loop's invariant: what is kept, and the assignments that are left, give
 -- the classes of all.
 -- Assumes nothing.
-use Prim.Native.Nat.{ℕ, _-_}
-use mathlib.Core.Path.{_≡_, refl, ap, subst⁻¹, _∙_}
+use Prim.Native.Nat.{_-_}
+use mathlib.Core.Path.{_≡_, refl, _∙_}
 use native.Mathlib.Omega.{arith}
-use lib.ListN.{length, getD, take, length-set}
-use Rattle.rules.specs.Lists.{firstPlace}
-use Rattle.rules.specs.Groups.{alikeOver}
+use lib.ListN.{length, length-set}
 use Rattle.rules.specs.Calls.{inkIn}
-use Rattle.groups.specs.Within.{Within}
 use Rattle.groups.proofs.Counting.{Kept, kept-none, kept-all, kept-known, kept-new, kept-over}
 use Rattle.groups.proofs.classes.class_firsts.Statement.{statement}
 use Rattle.groups.proofs.classes.class_firsts.Tie as tie
@@ -21,9 +18,8 @@ abbrev μ-loop : tie.MeasureT-loop
 
 loop-holds : tie.Need-loop-holds Inv-loop μ-loop
 loop-holds c =
-    let start = c .before .before .before .before in
-    let a = start .args in
-    (refl, kept-none (inkIn (a .cells .now)) (length (a .cells .now)) (a .ys .now) (a .xs .now) (a .m) (a .firsts .now) (start .pre .0))
+    let a = c .before .before .before .before .args in
+    (refl, kept-none (inkIn (a .cells .now)) (length (a .cells .now)) (a .ys .now) (a .xs .now) (a .m) (a .firsts .now) (c .before .before .before .before .pre .0))
 
 mul-p : tie.Need-mul-p Inv-loop μ-loop
 mul-p c = omega arith
@@ -31,28 +27,13 @@ mul-p c = omega arith
 shared-slice-read-p : tie.Need-shared-slice-read-p Inv-loop μ-loop
 shared-slice-read-p c = omega arith
 
-wide-requires : tie.Need-wide-requires Inv-loop μ-loop
-wide-requires c κs = tt
+cast-class-of : tie.Need-cast-class-of Inv-loop μ-loop
+cast-class-of c = omega (arith, c .before .shared-slice-known4 .given (c .before .before .before .loop .i))
 
 class-of-requires : tie.Need-class-of-requires Inv-loop μ-loop
 class-of-requires c κs =
-    let start = c .before .before .before .before .before .before .before .before .before in
-    let a = start .args in
-    let l = c .before .before .before .before .loop in (
-      omega (arith, l .inv .1 .few, l .inv .1 .room),
-      subst⁻¹ (Within (length (a .cells .now)) (a .ys .now)) (c .wide .ensures) (start .pre .1 (l .i) (c .before .before .before .loop-test .taken)),
-      l .inv .1 .inside,
-    )
-
--- what the code's search says of assignment i
-place : (c : tie.After-class-of Inv-loop μ-loop) →
-    let a = c .before .before .before .before .before .before .before .before .before .before .args in
-    let l = c .before .before .before .before .before .loop in
-    c .class-of .result ≡ firstPlace (alikeOver (inkIn (a .cells .now)) (a .ys .now) (getD (a .xs .now) (l .i) 0)) (take (l .count) (l .firsts))
-place c =
-    let a = c .before .before .before .before .before .before .before .before .before .before .args in
-    let l = c .before .before .before .before .before .loop in
-    c .class-of .ensures ∙ ap (λ (p : ℕ). firstPlace (alikeOver (inkIn (a .cells .now)) (a .ys .now) p) (take (l .count) (l .firsts))) (c .before .wide .ensures)
+    let l = c .before .before .before .loop in
+    (omega (arith, l .inv .1 .few, l .inv .1 .room), c .before .before .before .before .before .before .before .before .pre .1 (l .i) (c .before .before .loop-test .taken), l .inv .1 .inside)
 
 add-i : tie.Need-add-i Inv-loop μ-loop
 add-i c = omega arith
@@ -62,25 +43,17 @@ loop-less c = omega arith
 
 loop-again : tie.Need-loop-again Inv-loop μ-loop
 loop-again c =
-    let a = c .before .before .before .before .before .before .before .before .before .before .before .args in
-    let l = c .before .before .before .before .before .before .loop in (
-      l .inv .0,
-      kept-known (inkIn (a .cells .now)) (length (a .cells .now)) (a .ys .now) (a .xs .now) (a .m) (l .firsts) (l .count) (l .i) (l .inv .1)
-          (c .before .before .before .before .before .loop-test .taken) (c .before .class-of .result) (place (c .before)) (c .if1 .taken),
-    )
+    let inv = c .before .before .before .before .before .loop .inv in
+    (inv .0, kept-known (inv .1) (c .before .before .before .before .loop-test .taken) (c .before .class-of .ensures) (c .if1 .taken))
 
 add-result : tie.Need-add-result Inv-loop μ-loop
 add-result c = omega arith
 
 same-length : tie.Need-same-length Inv-loop μ-loop
-same-length c = c .before .before .before .before .before .before .before .loop .inv .0
+same-length c = c .before .before .before .before .before .before .loop .inv .0
 
 returns : tie.Need-returns Inv-loop μ-loop
-returns c =
-    let a = c .before .before .before .before .before .before .before .before .before .before .before .before .args in
-    let l = c .before .before .before .before .before .before .before .loop in
-    kept-over (inkIn (a .cells .now)) (length (a .cells .now)) (a .ys .now) (a .xs .now) (a .m) (l .firsts) (l .count) (l .i) (l .inv .1)
-    (c .before .before .before .before .before .before .loop-test .taken) (c .before .before .class-of .result) (place (c .before .before)) (c .before .if1 .left) (c .if2 .taken)
+returns c = kept-over (c .before .before .before .before .before .before .loop .inv .1) (c .before .before .before .before .before .loop-test .taken) (c .before .before .class-of .ensures) (c .before .if1 .left) (c .if2 .taken)
 
 mul-firsts : tie.Need-mul-firsts Inv-loop μ-loop
 mul-firsts c = omega arith
@@ -99,24 +72,17 @@ loop-less-2 c = omega arith
 
 loop-again-2 : tie.Need-loop-again-2 Inv-loop μ-loop
 loop-again-2 c =
-    let start = c .before .before .before .before .before .before .before .before .before .before .before .before in
-    let a = start .args in
-    let l = c .before .before .before .before .before .before .before .loop in
-    let more = c .before .before .before .before .before .before .loop-test .taken in (
+    let l = c .before .before .before .before .before .before .loop in
+    let more = c .before .before .before .before .before .loop-test .taken in (
       length-set (l .firsts) (l .count) _ ∙ l .inv .0,
-      kept-new (inkIn (a .cells .now)) (length (a .cells .now)) (a .ys .now) (a .xs .now) (a .m) (l .firsts) (l .count) (l .i) (l .inv .1)
-          more (c .before .before .class-of .result) (place (c .before .before)) (c .before .if1 .left)
-          (omega (arith, l .inv .1 .few, c .if2 .left)) (start .pre .1 (l .i) more),
+      kept-new (l .inv .1) more (c .before .before .class-of .ensures) (c .before .if1 .left) (omega (arith, l .inv .1 .few, c .if2 .left)) (c .before .before .before .before .before .before .before .before .before .before .before .pre .1 (l .i) more),
     )
 
 same-length-2 : tie.Need-same-length-2 Inv-loop μ-loop
 same-length-2 c = c .before .loop .inv .0
 
 returns-2 : tie.Need-returns-2 Inv-loop μ-loop
-returns-2 c =
-    let a = c .before .before .before .before .before .before .args in
-    let l = c .before .loop in
-    kept-all (inkIn (a .cells .now)) (length (a .cells .now)) (a .ys .now) (a .xs .now) (a .m) (l .firsts) (l .count) (l .i) (l .inv .1) (c .loop-test .left)
+returns-2 c = kept-all (c .before .loop .inv .1) (c .loop-test .left)
 
 pub class-firsts-spec : {M : Type 1} → statement M
 class-firsts-spec =
@@ -127,7 +93,7 @@ class-firsts-spec =
     loop-holds
     mul-p
     shared-slice-read-p
-    wide-requires
+    cast-class-of
     class-of-requires
     add-i
     loop-less

@@ -48,10 +48,10 @@ class-firsts-requires c κs =
     let start = c .before .before .before .before .before .before .before .before .before .before .before .before .before .before .before .before .before in
     let a = start .args in
     let room = start .pre .0 in (
-      room .for-firsts,
+      start .pre .1,
       subst₂ (λ (us vs : List ℕ). (i : ℕ) → i < length us → Within (length (a .cells .now)) vs (getD us i 0))
           (sym (part-is (c .before .before .before .before .before .before .before .before .before .before .before .offsets .ensures))) (sym (part-is (c .before .before .before .before .before .before .before .other-offsets .ensures)))
-          (points-within (a .m) (a .n) (room .some) (a .g) (start .pre .1) (length (a .cells .now)) (room .for-cells)),
+          (points-within (a .m) (a .n) (room .some) (a .g) (start .pre .2) (length (a .cells .now)) (room .for-cells)),
     )
 
 same-length : tie.Need-same-length

@@ -17,21 +17,20 @@ returns c = marks-short _ _ _ _ (c .before .marks-length .result) (c .before .ma
 mark-all-requires : tie.Need-mark-all-requires
 mark-all-requires c κs = search needs
 
-wide-requires : tie.Need-wide-requires
-wide-requires c κs = search needs
+cast-t6 : tie.Need-cast-t6
+cast-t6 c = search needs
 
 same-length : tie.Need-same-length
 same-length c = search needs
 
 returns-2 : tie.Need-returns-2
 returns-2 c =
-    let a = c .before .before .before .before .before .before .before .before .before .args in
-    let need = c .before .before .before .before .before .before .marks-length in
-    let did = c .before .before .before .mark-all in
-    marks-written (a .m) (a .n) (a .cells .now) (a .marks .now) (need .result) (need .ensures) (c .before .before .before .before .before .if1 .left) (c .wide .result) (did .result) (did .last .1 .1 .1 .0)
-    (c .wide .ensures) (did .ensures)
+    let a = c .before .before .before .before .before .before .before .before .args in
+    let need = c .before .before .before .before .before .marks-length in
+    let did = c .before .before .mark-all in
+    marks-written (a .m) (a .n) (a .cells .now) (a .marks .now) (need .result) (need .ensures) (c .before .before .before .before .if1 .left) (did .result) (did .last .1 .1 .1 .0) (did .ensures)
 
 pub mark-into-spec : {M : Type 1} → statement M
 mark-into-spec =
     tie.close
-    (tie.spec marks-length-requires returns mark-all-requires wide-requires same-length returns-2)
+    (tie.spec marks-length-requires returns mark-all-requires cast-t6 same-length returns-2)

@@ -1,7 +1,7 @@
 -- `marks::marking::mark_all` meets its contract. The loop's invariant: the groups below `g` are marked, and the work arrays are as
 -- long as they were.
 -- Assumes nothing.
-use Prim.Native.Nat.{ℕ, _+_, _-_, _^_, _<_}
+use Prim.Native.Nat.{ℕ, _+_, _-_, _^_, _≤_, _<_}
 use mathlib.Core.Path.{_≡_, refl, sym, ap, _∙_, subst⁻¹}
 use native.Mathlib.Omega.{arith}
 use borrow.Author.Count.{falls}
@@ -16,21 +16,19 @@ use Rattle.marks.proofs.marking.mark_all.Statement.{statement}
 use Rattle.marks.proofs.marking.mark_all.Tie as tie
 
 abbrev Inv-loop : tie.InvT-loop
-Inv-loop m n cells marks₀ xs₀ ys₀ firsts₀ end g₀ marks xs ys firsts g =
-    (end ≡ 2 ^ n) × (length xs ≡ length xs₀) × (length ys ≡ length ys₀) × (length firsts ≡ length firsts₀) × Below m n (inkIn cells) marks₀ g marks
+Inv-loop m n cells marks₀ xs₀ ys₀ end g₀ marks xs ys g =
+    (end ≡ 2 ^ n) × (length xs ≡ length xs₀) × (length ys ≡ length ys₀) × Below m n (inkIn cells) marks₀ g marks
 
 abbrev μ-loop : tie.MeasureT-loop
-μ-loop m n cells marks₀ xs₀ ys₀ firsts₀ end g₀ marks xs ys firsts g = end - g
+μ-loop m n cells marks₀ xs₀ ys₀ end g₀ marks xs ys g = end - g
 
 power-requires : tie.Need-power-requires Inv-loop μ-loop
-power-requires c κs =
-    let start = c .before .before in
-    omega (arith, sized (start .args .m) (start .args .n) (start .pre .0) .inputs-most)
+power-requires c κs = omega (arith, sized (c .before .before .args .m) (c .before .before .args .n) (c .before .before .pre .0) .inputs-most)
 
 loop-holds : tie.Need-loop-holds Inv-loop μ-loop
 loop-holds c =
     let a = c .before .before .before .args in
-    (c .power .ensures, refl, refl, refl, below-none (a .m) (a .n) (inkIn (a .cells .now)) (a .marks .now))
+    (c .power .ensures, refl, refl, below-none (a .m) (a .n) (inkIn (a .cells .now)) (a .marks .now))
 
 slice-aggregate-mark-group : tie.Need-slice-aggregate-mark-group Inv-loop μ-loop
 slice-aggregate-mark-group c = sym (c .before .before .loop .inv .1)
@@ -38,68 +36,60 @@ slice-aggregate-mark-group c = sym (c .before .before .loop .inv .1)
 slice-aggregate-mark-group-2 : tie.Need-slice-aggregate-mark-group-2 Inv-loop μ-loop
 slice-aggregate-mark-group-2 c = sym (c .before .before .before .loop .inv .2)
 
-slice-aggregate-mark-group-3 : tie.Need-slice-aggregate-mark-group-3 Inv-loop μ-loop
-slice-aggregate-mark-group-3 c = sym (c .before .before .before .before .loop .inv .3)
+-- the buffer has room for every group's mark
+room : (c : tie.At-loop Inv-loop μ-loop) → 2 ^ c .before .before .before .before .args .n ≤ length (held (c .loop .marks))
+room c =
+    let a = c .before .before .before .before .args in
+    has-room (a .m) (a .n) (inkIn (a .cells .now)) (a .marks .now) (c .before .before .before .before .pre .2) (c .loop .g) (c .loop .marks) (c .loop .inv .3)
 
 mark-group-requires : tie.Need-mark-group-requires Inv-loop μ-loop
 mark-group-requires c κs =
-    let start = c .before .before .before .before .before .before .before .before .before in
-    let a = start .args in
-    let l = c .before .before .before .before .before .loop in
-    let fit = sized (a .m) (a .n) (start .pre .0) in
-    let room = has-room (a .m) (a .n) (inkIn (a .cells .now)) (a .marks .now) (start .pre .2) (l .g) (l .marks) (l .inv .4) in
-    omega (arith, fit .levels-least, fit .levels-most, fit .inputs-most, fit .cells-most, start .pre .1, l .inv .0, l .inv .1, l .inv .2, l .inv .3, c .before .before .before .before .loop-test .taken, room)
+    let start = c .before .before .before .before .before .before .before .before in
+    let l = c .before .before .before .before .loop in
+    let fit = sized (start .args .m) (start .args .n) (start .pre .0) in
+    omega (arith, fit .levels-least, fit .levels-most, fit .inputs-most, fit .cells-most, start .pre .1, l .inv .0, l .inv .1, l .inv .2, c .before .before .before .loop-test .taken, room (c .before .before .before .before))
 
 put-mark-requires : tie.Need-put-mark-requires Inv-loop μ-loop
-put-mark-requires c κs =
-    let start = c .before .before .before .before .before .before .before .before .before .before .before .before .before .before in
-    let a = start .args in
-    let l = c .before .before .before .before .before .before .before .before .before .before .loop in
-    omega (arith, has-room (a .m) (a .n) (inkIn (a .cells .now)) (a .marks .now) (start .pre .2) (l .g) (l .marks) (l .inv .4), l .inv .0, c .before .before .before .before .before .before .before .before .before .loop-test .taken)
+put-mark-requires c κs = omega (arith, room (c .before .before .before .before .before .before .before .before), c .before .before .before .before .before .before .before .before .loop .inv .0, c .before .before .before .before .before .before .before .loop-test .taken)
 
 add-g : tie.Need-add-g Inv-loop μ-loop
-add-g c = omega (arith, c .before .before .before .before .before .before .before .before .before .before .before .before .loop-test .taken, c .before .before .before .before .before .before .before .before .before .before .before .before .before .before .power .ok)
+add-g c = omega (arith, c .before .before .before .before .before .before .before .before .before .before .loop-test .taken, c .before .before .before .before .before .before .before .before .before .before .before .before .power .ok)
 
 loop-less : tie.Need-loop-less Inv-loop μ-loop
-loop-less c = falls (c .before .before .before .before .before .before .before .before .before .before .before .before .before .before .power .result) (c .before .before .before .before .before .before .before .before .before .before .before .before .before .loop .g) (c .before .before .before .before .before .before .before .before .before .before .before .before .loop-test .taken)
+loop-less c = falls (c .before .before .before .before .before .before .before .before .before .before .before .before .power .result) (c .before .before .before .before .before .before .before .before .before .before .before .loop .g) (c .before .before .before .before .before .before .before .before .before .before .loop-test .taken)
 
 loop-again : tie.Need-loop-again Inv-loop μ-loop
 loop-again c =
-    let start = c .before .before .before .before .before .before .before .before .before .before .before .before .before .before .before .before .before in
+    let start = c .before .before .before .before .before .before .before .before .before .before .before .before .before .before .before in
     let a = start .args in
-    let l = c .before .before .before .before .before .before .before .before .before .before .before .before .before .loop in
-    let called = c .before .before .before .before .before .before .before .mark-group in
-    let put = c .before .before .put-mark in (
+    let l = c .before .before .before .before .before .before .before .before .before .before .before .loop in
+    let called = c .before .before .before .before .before .before .mark-group in (
       l .inv .0,
       called .kept .1 .1 .1 .1 .0 ∙ l .inv .1,
       called .kept .1 .1 .1 .1 .1 .0 ∙ l .inv .2,
-      called .kept .1 .1 .1 .1 .1 .1 .0 ∙ l .inv .3,
-      subst⁻¹ (Below (a .m) (a .n) (inkIn (a .cells .now)) (a .marks .now) (l .g + 1)) (put .ensures)
-          (below-next (a .m) (a .n) (inkIn (a .cells .now)) (a .marks .now) (start .pre .2) (l .g) (l .marks) (l .inv .4) (omega (arith, l .inv .0, c .before .before .before .before .before .before .before .before .before .before .before .before .loop-test .taken)) (called .result) (called .ensures)),
+      subst⁻¹ (Below (a .m) (a .n) (inkIn (a .cells .now)) (a .marks .now) (l .g + 1)) (c .before .before .put-mark .ensures)
+          (below-next (a .m) (a .n) (inkIn (a .cells .now)) (a .marks .now) (start .pre .2) (l .g) (l .marks) (l .inv .3) (omega (arith, l .inv .0, c .before .before .before .before .before .before .before .before .before .before .loop-test .taken))
+          (called .result) (called .ensures)),
     )
 
 sub-mark-at : tie.Need-sub-mark-at Inv-loop μ-loop
 sub-mark-at c = omega (arith, c .before .before .loop .inv .0, pow-pos (c .before .before .before .before .before .before .args .n))
 
 mark-at-requires : tie.Need-mark-at-requires Inv-loop μ-loop
-mark-at-requires c κs =
-    let start = c .before .before .before .before .before .before in
-    let a = start .args in
-    let l = c .before .before .loop in
-    omega (arith, has-room (a .m) (a .n) (inkIn (a .cells .now)) (a .marks .now) (start .pre .2) (l .g) (l .marks) (l .inv .4), l .inv .0, pow-pos (a .n))
+mark-at-requires c κs = omega (arith, room (c .before .before), c .before .before .loop .inv .0, pow-pos (c .before .before .before .before .before .before .args .n))
 
 same-length : tie.Need-same-length Inv-loop μ-loop
-same-length c = c .before .before .before .loop .inv .4 .same
+same-length c = c .before .before .before .loop .inv .3 .same
 
 returns : tie.Need-returns Inv-loop μ-loop
 returns c =
     let start = c .before .before .before .before .before .before .before in
     let a = start .args in
     let l = c .before .before .before .loop in
-    let all : l .g ≡ 2 ^ a .n = omega (arith, l .inv .0, l .inv .4 .low, c .before .before .loop-test .left) in
+    let all : l .g ≡ 2 ^ a .n = omega (arith, l .inv .0, l .inv .3 .low, c .before .before .loop-test .left) in
     let end : l .g ≡ c .before .before .before .before .power .result = omega (arith, l .inv .0) in
     let some : 0 < a .m = omega (arith, sized (a .m) (a .n) (start .pre .0) .levels-least) in
-    below-all (a .m) (a .n) (inkIn (a .cells .now)) (a .marks .now) (start .pre .2) (l .g) (l .marks) (l .inv .4) some all
+    below-all (a .m) (a .n) (inkIn (a .cells .now)) (a .marks .now) (start .pre .2) (l .g) (l .marks) (l .inv .3) some all
     (c .mark-at .result) (c .mark-at .ensures ∙ ap (λ (k : ℕ). markIn (held (l .marks)) (k - 1)) (sym end))
 
 pub mark-all-spec : {M : Type 1} → statement M
@@ -112,7 +102,6 @@ mark-all-spec =
     loop-holds
     slice-aggregate-mark-group
     slice-aggregate-mark-group-2
-    slice-aggregate-mark-group-3
     mark-group-requires
     put-mark-requires
     add-g

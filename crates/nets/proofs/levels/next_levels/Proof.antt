@@ -3,7 +3,6 @@
 use Prim.Native.Nat.{_-_, _≤_}
 use mathlib.Core.Path.{_≡_, refl, sym, _∙_}
 use native.Mathlib.Omega.{arith}
-use borrow.Author.Needs.{needs}
 use lib.ListN.{length, length-set}
 use Rattle.nets.proofs.Stepping.{stepped, step-none, step-up, step-turn}
 use Rattle.nets.proofs.levels.next_levels.Statement.{statement}
@@ -16,7 +15,7 @@ abbrev μ-loop : tie.MeasureT-loop
 μ-loop m n levels₀ i₀ levels i = i
 
 loop-holds : tie.Need-loop-holds Inv-loop μ-loop
-loop-holds c = (c .before .pre .1, refl, refl)
+loop-holds c = (c .pre .1, refl, refl)
 
 sub-i : tie.Need-sub-i Inv-loop μ-loop
 sub-i c = omega arith
@@ -24,24 +23,24 @@ sub-i c = omega arith
 slice-read-l : tie.Need-slice-read-l Inv-loop μ-loop
 slice-read-l c = omega arith
 
-wide-requires : tie.Need-wide-requires Inv-loop μ-loop
-wide-requires c κs = search needs
+cast-if1 : tie.Need-cast-if1 Inv-loop μ-loop
+cast-if1 c = omega (arith, c .slice-known .given (c .before .before .loop .i - 1))
 
 add-if1 : tie.Need-add-if1 Inv-loop μ-loop
-add-if1 c = omega (arith, c .before .slice-known2 .given (c .before .before .before .loop .i - 1))
+add-if1 c = omega (arith, c .slice-known .given (c .before .before .loop .i - 1))
 
 add-levels : tie.Need-add-levels Inv-loop μ-loop
-add-levels c = omega (arith, c .before .before .before .before .before .before .pre)
+add-levels c = omega (arith, c .before .before .before .before .pre)
 
 slice-write-levels : tie.Need-slice-write-levels Inv-loop μ-loop
 slice-write-levels c = omega arith
 
 same-length : tie.Need-same-length Inv-loop μ-loop
-same-length c = simp length-set (c .before .before .before .before .loop .inv .1)
+same-length c = simp length-set (c .before .before .before .loop .inv .1)
 
 returns : tie.Need-returns Inv-loop μ-loop
 returns c =
-    let head = c .before .before .before .before in
+    let head = c .before .before .before in
     step-up _ (head .loop .i) (head .loop .levels) (omega arith) (omega arith) (omega arith) ∙ head .loop .inv .2
 
 slice-write-levels-2 : tie.Need-slice-write-levels-2 Inv-loop μ-loop
@@ -52,7 +51,7 @@ loop-less c = omega arith
 
 loop-again : tie.Need-loop-again Inv-loop μ-loop
 loop-again c =
-    let head = c .before .before .before .before in (
+    let head = c .before .before .before in (
       simp length-set (omega arith),
       simp length-set (head .loop .inv .1),
       step-turn _ (head .loop .i) (head .loop .levels) (omega arith) (omega arith) (omega arith) ∙ head .loop .inv .2,
@@ -73,7 +72,7 @@ next-levels-spec =
     loop-holds
     sub-i
     slice-read-l
-    wide-requires
+    cast-if1
     add-if1
     add-levels
     slice-write-levels

@@ -5,8 +5,7 @@ use mathlib.Core.Path.{_≡_, sym, ap, _∙_}
 use native.Mathlib.Nat.{zero-mul, suc-mul}
 use native.Mathlib.Numerals.{add-one}
 use native.Mathlib.Omega.{arith}
-use borrow.Author.Needs.{needs}
-use lib.ListN.{length}
+use lib.ListN.{length, getD}
 use Rattle.nets.specs.Sound.{gates-pos}
 use Rattle.nets.specs.Evaluating.{netOf}
 use Rattle.nets.proofs.Gates.{after, after-none, after-length, refers, table-within, digit-within, after-more, after-all}
@@ -21,85 +20,74 @@ abbrev μ-loop : tie.MeasureT-loop
 μ-loop m n gates left right digits values₀ size from₀ k₀ values from k = gates - k
 
 -- `values` keeps its length
-kept : (c : tie.At-loop Inv-loop μ-loop) → length (c .loop .values) ≡ length (c .before .before .before .before .before .args .values .now)
-kept c = ap length (c .loop .inv .2) ∙ after-length _ _ (c .before .before .before .before .before .pre) (c .loop .k) (c .loop .inv .0)
+kept : (c : tie.At-loop Inv-loop μ-loop) → length (c .loop .values) ≡ length (c .before .args .values .now)
+kept c = ap length (c .loop .inv .2) ∙ after-length _ _ (c .before .pre) (c .loop .k) (c .loop .inv .0)
 
 mul-size : tie.Need-mul-size Inv-loop μ-loop
-mul-size c =
-    let start = c .before .before .before .before in
-    omega (arith, table-within _ _ (start .pre) 0 (gates-pos _ (start .pre .sound)), start .good)
+mul-size c = omega (arith, table-within _ _ (c .pre) 0 (gates-pos _ (c .pre .sound)), c .good)
 
 loop-holds : tie.Need-loop-holds Inv-loop μ-loop
-loop-holds c = (omega arith, sym (zero-mul _), sym (after-none _ _ (c .before .before .before .before .pre)))
+loop-holds c = (omega arith, sym (zero-mul _), sym (after-none _ _ (c .pre)))
 
-shared-slice-read-wide : tie.Need-shared-slice-read-wide Inv-loop μ-loop
-shared-slice-read-wide c = omega (arith, c .before .before .before .before .before .before .before .pre .left)
+shared-slice-read-u : tie.Need-shared-slice-read-u Inv-loop μ-loop
+shared-slice-read-u c = omega (arith, c .before .before .before .pre .left)
 
-wide-requires : tie.Need-wide-requires Inv-loop μ-loop
-wide-requires c κs = search needs
+cast-u : tie.Need-cast-u Inv-loop μ-loop
+cast-u c = omega (arith, c .shared-slice-known .given (c .before .before .loop .k))
 
-slice-read-wide : tie.Need-slice-read-wide Inv-loop μ-loop
-slice-read-wide c =
-    let head = c .before .before .before .before in
-    let start = head .before .before .before .before .before in
-    omega (arith, kept head, refers _ _ (start .pre) (head .loop .k) (c .before .before .before .loop-test .taken), c .before .wide .ensures, start .pre .room)
+-- a turn's reads
+module _ (c : tie.In-loop Inv-loop μ-loop) where
+  -- the two references lie within `values`
+  left-there : getD (c .before .before .args .left .now) (c .before .loop .k) 0 < length (c .before .loop .values)
+  left-there = omega (arith, kept (c .before), refers _ _ (c .before .before .pre) (c .before .loop .k) (c .loop-test .taken) .0, c .before .before .pre .room, c .loop-test .taken)
 
-wide-requires-2 : tie.Need-wide-requires-2 Inv-loop μ-loop
-wide-requires-2 c κs = search needs
+  right-there : getD (c .before .before .args .right .now) (c .before .loop .k) 0 < length (c .before .loop .values)
+  right-there = omega (arith, kept (c .before), refers _ _ (c .before .before .pre) (c .before .loop .k) (c .loop-test .taken) .1, c .before .before .pre .room, c .loop-test .taken)
 
-shared-slice-read-wide-2 : tie.Need-shared-slice-read-wide-2 Inv-loop μ-loop
-shared-slice-read-wide-2 c = omega (arith, c .before .before .before .before .before .before .before .before .before .before .before .pre .right)
+  -- and the digit read within the net's
+  within : c .before .loop .from + getD (c .before .loop .values) (getD (c .before .before .args .left .now) (c .before .loop .k) 0) 0 * c .before .before .args .m
+      + getD (c .before .loop .values) (getD (c .before .before .args .right .now) (c .before .loop .k) 0) 0
+      < length (c .before .before .args .digits .now)
+  within = digit-within _ _ (c .before .before .pre) (c .before .loop .k) (c .loop-test .taken) (c .before .loop .from) (c .before .loop .values) (c .before .loop .inv .1) (c .before .loop .inv .2)
 
-wide-requires-3 : tie.Need-wide-requires-3 Inv-loop μ-loop
-wide-requires-3 c κs = search needs
+slice-read-u : tie.Need-slice-read-u Inv-loop μ-loop
+slice-read-u c = left-there (c .before .before)
 
-slice-read-wide-2 : tie.Need-slice-read-wide-2 Inv-loop μ-loop
-slice-read-wide-2 c =
-    let head = c .before .before .before .before .before .before .before .before in
-    let start = head .before .before .before .before .before in
-    omega (arith, kept head, refers _ _ (start .pre) (head .loop .k) (c .before .before .before .before .before .before .before .loop-test .taken), c .before .wide3 .ensures, start .pre .room)
+cast-u-2 : tie.Need-cast-u-2 Inv-loop μ-loop
+cast-u-2 c = omega (arith, c .slice-known .given (getD (c .before .before .before .before .args .left .now) (c .before .before .before .loop .k) 0))
 
-wide-requires-4 : tie.Need-wide-requires-4 Inv-loop μ-loop
-wide-requires-4 c κs = search needs
+shared-slice-read-v : tie.Need-shared-slice-read-v Inv-loop μ-loop
+shared-slice-read-v c = omega (arith, c .before .before .before .before .before .pre .right, c .before .before .before .loop-test .taken)
 
--- the turn, the loop's head and the function's entry, seen from where the four reads are done
-abbrev turn : tie.After-wide4 Inv-loop μ-loop → tie.In-loop Inv-loop μ-loop
-turn c = c .before .before .before .before .before .before .before .before
+cast-v : tie.Need-cast-v Inv-loop μ-loop
+cast-v c = omega (arith, c .shared-slice-known2 .given (c .before .before .before .before .loop .k))
 
-abbrev head : tie.After-wide4 Inv-loop μ-loop → tie.At-loop Inv-loop μ-loop
-head c = turn c .before
+slice-read-v : tie.Need-slice-read-v Inv-loop μ-loop
+slice-read-v c = right-there (c .before .before .before .before)
 
-abbrev start : tie.After-wide4 Inv-loop μ-loop → tie.Start Inv-loop μ-loop
-start c = head c .before .before .before .before .before
-
--- the digit read lies within the net's
-within : (c : tie.After-wide4 Inv-loop μ-loop)
-    → head c .loop .from + c .before .before .before .before .wide2 .result * start c .args .m + c .wide4 .result < length (start c .args .digits .now)
-within c =
-    digit-within _ _ (start c .pre) (head c .loop .k) (turn c .loop-test .taken) _ _ _ _ (head c .loop .from) (head c .loop .values)
-    (c .before .before .before .before .before .before .wide .ensures) (c .before .before .before .before .wide2 .ensures)
-    (c .before .before .wide3 .ensures) (c .wide4 .ensures) (head c .loop .inv .1) (head c .loop .inv .2)
+cast-v-2 : tie.Need-cast-v-2 Inv-loop μ-loop
+cast-v-2 c = omega (arith, c .slice-known2 .given (getD (c .before .before .before .before .before .before .args .right .now) (c .before .before .before .before .before .loop .k) 0))
 
 mul-values : tie.Need-mul-values Inv-loop μ-loop
-mul-values c = omega (arith, within c, (start c) .good)
+mul-values c = omega (arith, within (c .before .before .before .before), c .before .before .before .before .before .before .good)
 
 add-values : tie.Need-add-values Inv-loop μ-loop
-add-values c = omega (arith, within c, (start c) .good)
+add-values c = omega (arith, within (c .before .before .before .before), c .before .before .before .before .before .before .good)
 
 add-values-2 : tie.Need-add-values-2 Inv-loop μ-loop
-add-values-2 c = omega (arith, within c, (start c) .good)
+add-values-2 c = omega (arith, within (c .before .before .before .before), c .before .before .before .before .before .before .good)
 
 shared-slice-read-values : tie.Need-shared-slice-read-values Inv-loop μ-loop
-shared-slice-read-values c = within (c .before)
+shared-slice-read-values c = within (c .before .before .before .before .before)
 
 add-values-3 : tie.Need-add-values-3 Inv-loop μ-loop
-add-values-3 c = omega (arith, (start (c .before)) .pre .room, (start (c .before)) .good)
+add-values-3 c = omega (arith, c .before .before .before .before .before .before .before .pre .room, c .before .before .before .before .before .before .before .good, c .before .before .before .before .before .loop-test .taken)
 
 slice-write-values : tie.Need-slice-write-values Inv-loop μ-loop
-slice-write-values c = omega (arith, (start (c .before)) .pre .room, kept (head (c .before)))
+slice-write-values c = omega (arith, c .before .before .before .before .before .before .before .pre .room, kept (c .before .before .before .before .before .before), c .before .before .before .before .before .loop-test .taken)
 
 add-from : tie.Need-add-from Inv-loop μ-loop
-add-from c = omega (arith, (start (c .before)) .good, table-within _ _ ((start (c .before)) .pre) (head (c .before) .loop .k) (turn (c .before) .loop-test .taken))
+add-from c = omega (arith, c .before .before .before .before .before .before .before .good, table-within _ _ (c .before .before .before .before .before .before .before .pre) (c .before .before .before .before .before .before .loop .k) (c .before .before .before .before .before .loop-test .taken), c .before .before .before .before .before .before .loop .inv .1)
 
 add-k : tie.Need-add-k Inv-loop μ-loop
 add-k c = omega arith
@@ -109,30 +97,26 @@ loop-less c = omega arith
 
 loop-again : tie.Need-loop-again Inv-loop μ-loop
 loop-again c =
-    let r = c .before in (
+    let l = c .before .before .before .before .before .before .loop in (
       omega arith,
-      rw (head r .loop .inv .1, add-one, suc-mul),
-      after-more _ _ (start r .pre) (head r .loop .k) (turn r .loop-test .taken) _ _ _ _ (head r .loop .from) (head r .loop .values)
-          (r .before .before .before .before .before .before .wide .ensures) (r .before .before .before .before .wide2 .ensures)
-          (r .before .before .wide3 .ensures) (r .wide4 .ensures) (head r .loop .inv .1) (head r .loop .inv .2),
+      rw (l .inv .1, add-one, suc-mul),
+      after-more _ _ (c .before .before .before .before .before .before .before .pre) (l .k) (c .before .before .before .before .before .loop-test .taken) (l .from) (l .values) (l .inv .1) (l .inv .2),
     )
 
 add-result : tie.Need-add-result Inv-loop μ-loop
-add-result c = omega (arith, c .before .before .before .before .before .before .good, c .before .before .before .before .before .before .pre .room)
+add-result c = omega (arith, c .before .before .good, c .before .before .pre .room)
 
 sub-result : tie.Need-sub-result Inv-loop μ-loop
-sub-result c = omega (arith, gates-pos _ (c .before .before .before .before .before .before .pre .sound))
+sub-result c = omega (arith, gates-pos _ (c .before .before .pre .sound))
 
 slice-read-result : tie.Need-slice-read-result Inv-loop μ-loop
-slice-read-result c = omega (arith, kept (c .before .before), c .before .before .before .before .before .before .before .pre .room, gates-pos _ (c .before .before .before .before .before .before .before .pre .sound))
+slice-read-result c = omega (arith, kept (c .before .before), c .before .before .before .pre .room, gates-pos _ (c .before .before .before .pre .sound))
 
 same-length : tie.Need-same-length Inv-loop μ-loop
 same-length c = kept (c .before .before)
 
 returns : tie.Need-returns Inv-loop μ-loop
-returns c =
-    let head = c .before .before in
-    after-all _ _ (head .before .before .before .before .before .pre) (head .loop .k) (head .loop .values) (head .loop .inv .0) (c .before .loop-test .left) (head .loop .inv .2)
+returns c = let l = c .before .before .loop in after-all _ _ (c .before .before .before .pre) (l .k) (l .values) (l .inv .0) (c .before .loop-test .left) (l .inv .2)
 
 pub value-spec : {M : Type 1} → statement M
 value-spec =
@@ -142,14 +126,14 @@ value-spec =
     μ-loop
     mul-size
     loop-holds
-    shared-slice-read-wide
-    wide-requires
-    slice-read-wide
-    wide-requires-2
-    shared-slice-read-wide-2
-    wide-requires-3
-    slice-read-wide-2
-    wide-requires-4
+    shared-slice-read-u
+    cast-u
+    slice-read-u
+    cast-u-2
+    shared-slice-read-v
+    cast-v
+    slice-read-v
+    cast-v-2
     mul-values
     add-values
     add-values-2

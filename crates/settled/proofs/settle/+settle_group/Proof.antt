@@ -15,7 +15,7 @@ use Rattle.rules.specs.Calls.{inkIn}
 use Rattle.marks.specs.Stored.{held-room}
 use Rattle.trees.specs.Members.{size-one}
 use Rattle.trees.specs.MarkTwo.{two-says}
-use Rattle.settled.specs.Sized.{gate-room}
+use Rattle.nets.specs.Room.{gate-room}
 use Rattle.settled.specs.Wired.{Wired, split-in, wired-single, split-holds, split-parts, split-sizes, wired-several}
 use borrow.Fn.Kinds.{In}
 use borrow.Fn.PlainCycle.{Measures, is, falls, and}
@@ -23,8 +23,8 @@ use Rattle.settled.proofs.settle.settle_group.Reads as settle-group
 use Rattle.settled.proofs.settle.settle_group.Kinds as settle-group-kinds
 use Rattle.settled.proofs.settle.+settle_group.Lts-settle_group as settle-group-lts
 use Rattle.marks.proofs.split.split_of.Reads as split-of-reads
-use Rattle.settled.proofs.samples.first_input.Reads as first-input-reads
-use Rattle.settled.proofs.samples.single.Reads as single-reads
+use Rattle.digits.proofs.samples.first_input.Reads as first-input-reads
+use Rattle.digits.proofs.samples.single.Reads as single-reads
 use Rattle.settled.proofs.settle.join.Reads as join-reads
 use Rattle.settled.proofs.settle.+settle_group.{statement}
 use Rattle.settled.proofs.settle.+settle_group.Tie.{close}
@@ -166,12 +166,12 @@ settle-group-join-requires : (t : ℕ) → settle-group-lts.Need-join-requires (
 settle-group-join-requires t c κs =
     let s = c .before .before .before .before .before in
     let pre = start t s .pre .1 in
-    let room = gate-room (m t s) (n t s) (start t s .args .cells .now) (pre .0) (c .before .before .settle-group2 .result .net .gates) (two-more t (c .before .before)) in (
+    let more = two-more t (c .before .before) in (
       pre .0,
       split-parts (m t s) (n t s) (pre .0 .some) (f t s) (g t s) (pre .2) (pre .3) (several t s) (part t s) (split-is t s),
       c .before .before .settle-group2 .ensures .levels ∙ c .before .before .before .before .settle-group .ensures .levels ∙ pre .4,
-      room .0,
-      room .1,
+      omega (arith, more, pre .0 .inputs),
+      gate-room (m t s) (n t s) (pre .0 .fits) (c .before .before .settle-group2 .result .net .gates) (omega (arith, more)),
     )
 
 settle-group-returns-2 : (t : ℕ) → settle-group-lts.Need-returns-2 (called t) (settle-group-at t) settle-group.Post

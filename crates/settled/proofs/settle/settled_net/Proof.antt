@@ -8,7 +8,7 @@ use Rattle.rules.specs.Marks.{markIn, marksOf}
 use Rattle.rules.specs.Calls.{inkIn}
 use Rattle.trees.specs.Members.{whole-below, size-le}
 use Rattle.nets.specs.Forms.{noGates}
-use Rattle.settled.specs.Sized.{Sized, sized}
+use Rattle.digits.specs.Sized.{Sized, sized}
 use Rattle.settled.specs.SettledNet.{settled-whole}
 use Rattle.settled.proofs.settle.settled_net.Statement.{statement}
 use Rattle.settled.proofs.settle.settled_net.Tie as tie

@@ -1,0 +1,94 @@
+-- `digits::gate::gate_digits` meets its contract: the two lists are the samples of the two groups. Assumes nothing.
+use native.Mathlib.Nat.{lt-of-lt-of-le}
+use native.Mathlib.Omega.{arith}
+use borrow.Author.Needs.{needs}
+use lib.Pow.{pow-mono}
+use Rattle.rules.specs.Calls.{inkIn}
+use Rattle.radix.specs.Fronts.{fits-in, part-is}
+use Rattle.trees.specs.Members.{join-below}
+use Rattle.digits.specs.GateDigits.{written-digits}
+use Rattle.digits.specs.Ready.{samples-sum}
+use Rattle.digits.proofs.gate.gate_digits.Statement.{statement}
+use Rattle.digits.proofs.gate.gate_digits.Tie as tie
+
+slice-aggregate-samples : tie.Need-slice-aggregate-samples
+slice-aggregate-samples c = search needs
+
+samples-requires : tie.Need-samples-requires
+samples-requires c κs = search needs
+
+slice-aggregate-samples-2 : tie.Need-slice-aggregate-samples-2
+slice-aggregate-samples-2 c = search needs
+
+samples-requires-2 : tie.Need-samples-requires-2
+samples-requires-2 c κs = search needs
+
+add-group-digits : tie.Need-add-group-digits
+add-group-digits c =
+    let start = c .before .before .before .before .before .before .before .before in
+    let a = start .args in
+    let parts = start .pre .1 in
+    record {
+      fits = lt-of-lt-of-le (join-below (a .n) (a .a) (a .b) (parts .a-below) (parts .b-below) (parts .apart))
+          (pow-mono {i = a .n} {j = 64} (omega (arith, start .pre .0 .inputs)));
+    }
+
+sub-group-digits : tie.Need-sub-group-digits
+sub-group-digits c = search needs
+
+part-group-digits-start : tie.Need-part-group-digits-start
+part-group-digits-start c = search needs
+
+part-group-digits-end : tie.Need-part-group-digits-end
+part-group-digits-end c = fits-in (c .before .before .before .before .before .samples .ensures)
+
+sub-group-digits-2 : tie.Need-sub-group-digits-2
+sub-group-digits-2 c = search needs
+
+part-group-digits-start-2 : tie.Need-part-group-digits-start-2
+part-group-digits-start-2 c = search needs
+
+part-group-digits-end-2 : tie.Need-part-group-digits-end-2
+part-group-digits-end-2 c = fits-in (c .before .before .before .before .samples2 .ensures)
+
+group-digits-requires : tie.Need-group-digits-requires
+group-digits-requires c κs =
+    let start = c .before .before .before .before .before .before .before .before .before .before .before .before .before in
+    let a = start .args in
+    let sized = start .pre .0 in
+    let parts = start .pre .1 in (
+      sized,
+      join-below (a .n) (a .a) (a .b) (parts .a-below) (parts .b-below) (parts .apart),
+      parts .few,
+      samples-sum (a .m) (a .n) (inkIn (a .cells .now)) (a .a) (a .b) (sized .some) parts _ _ (part-is (c .before .before .before .before .before .before .before .before .before .samples .ensures)) (part-is (c .before .before .before .before .before .before .samples2 .ensures)),
+      start .pre .2,
+    )
+
+same-length : tie.Need-same-length
+same-length c = search needs
+
+returns : tie.Need-returns
+returns c =
+    let start = c .before .before .before .before .before .before .before .before .before .before .before .before .before .before .before .before in
+    let a = start .args in
+    written-digits (a .m) (a .n) (inkIn (a .cells .now)) (a .last) (a .at) (a .digits .now) _ (start .pre .0 .some) (a .a) (a .b) _ _
+    (part-is (c .before .before .before .before .before .before .before .before .before .before .before .before .samples .ensures)) (part-is (c .before .before .before .before .before .before .before .before .before .samples2 .ensures)) (c .before .before .group-digits .ensures)
+
+pub gate-digits-spec : {M : Type 1} → statement M
+gate-digits-spec =
+    tie.close
+    (tie.spec
+    slice-aggregate-samples
+    samples-requires
+    slice-aggregate-samples-2
+    samples-requires-2
+    add-group-digits
+    sub-group-digits
+    part-group-digits-start
+    part-group-digits-end
+    sub-group-digits-2
+    part-group-digits-start-2
+    part-group-digits-end-2
+    group-digits-requires
+    same-length
+    returns)

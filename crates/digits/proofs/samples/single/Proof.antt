@@ -1,0 +1,14 @@
+-- `digits::samples::single` meets its contract: a group of one member is nothing without its first-listed. Assumes nothing.
+use borrow.Author.Needs.{needs}
+use Rattle.digits.specs.Samples.{single-test}
+use Rattle.digits.proofs.samples.single.Statement.{statement}
+use Rattle.digits.proofs.samples.single.Tie as tie
+
+without-first-requires : tie.Need-without-first-requires
+without-first-requires c κs = search needs
+
+returns : tie.Need-returns
+returns c n g< = single-test n (c .before .args .g) (c .before .pre) g< (c .without-first .result) (c .without-first .ensures n g<)
+
+pub single-spec : {M : Type 1} → statement M
+single-spec = tie.close (tie.spec without-first-requires returns)

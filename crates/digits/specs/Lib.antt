@@ -1,0 +1,5 @@
+pub mod GateDigits
+pub mod Ready
+pub mod Samples
+pub mod Sized
+pub mod Sums

@@ -1,0 +1,65 @@
+-- What stands inside the cells, and what is asked of the two parts that a gate joins.
+-- Assumes nothing.
+use Prim.Native.Nat.{ℕ, _+_, _^_, _≤_, _<_}
+use mathlib.Core.Path.{_≡_, sym, subst, subst₂}
+use mathlib.Core.List.{List}
+use native.Mathlib.Nat.{lt-of-lt-of-le}
+use native.Mathlib.Omega.{arith}
+use lib.ListN.{length, getD}
+use Rattle.rules.specs.Groups.{part, points, others, classes, multiplicity}
+use Rattle.groups.specs.Within.{Within, part-within}
+use Rattle.trees.specs.Trees.{Apart}
+use Rattle.trees.specs.Levels.{part-below}
+use Rattle.trees.specs.Points.{points-are-parts}
+use Rattle.trees.specs.Classes.{classes-are-points}
+use Rattle.trees.specs.Wirings.{Few}
+use Rattle.digits.specs.Samples.{samples, samples-own}
+use Rattle.digits.specs.Sums.{sum-own}
+use Rattle.digits.specs.Sized.{Sized}
+
+-- two groups that share no input, each and both together with at most m classes
+pub record Parts (m n : ℕ) (f : ℕ → ℕ) (a b : ℕ) : Type 0 where
+  pub some-a : 0 < a
+  pub some-b : 0 < b
+  pub a-below : a < 2 ^ n
+  pub b-below : b < 2 ^ n
+  pub apart : Apart n a b
+  pub few-a : Few m n f a
+  pub few-b : Few m n f b
+  pub few : Few m n f (a + b)
+
+-- the sum of one of the left list and one of the right is an assignment of group g
+abbrev pub Sums : ℕ → ℕ → ℕ → List ℕ → List ℕ → Type 0
+Sums m n g left right =
+    (u v : ℕ) → u < length left → v < length right → part m n g (getD left u 0 + getD right v 0) ≡ getD left u 0 + getD right v 0
+
+pub samples-sum : (m n : ℕ) (f : ℕ → ℕ) (a b : ℕ) → 0 < m → Parts m n f a b → (left right : List ℕ) → left ≡ samples m n f a → right ≡ samples m n f b
+    → Sums m n (a + b) left right
+samples-sum m n f a b pos parts left right of-a of-b =
+    subst₂ (Sums m n (a + b)) (sym of-a) (sym of-b)
+    (λ u v u< v<. sum-own m n pos a b (parts .a-below) (parts .b-below) (parts .apart) _ _
+    (samples-own m n f a (parts .a-below) pos u u<) (samples-own m n f b (parts .b-below) pos v v<))
+
+-- a gate's digits are made of what stands inside the cells
+pub record Ready (cells ys firsts left right : List ℕ) : Type 0 where
+  pub few : length firsts ≤ 255
+  pub kept : (j : ℕ) → j < length firsts → Within (length cells) ys (getD firsts j 0)
+  pub inside : (u v : ℕ) → u < length left → v < length right → getD left u 0 + getD right v 0 < length cells
+  pub within : (u v : ℕ) → u < length left → v < length right → Within (length cells) ys (getD left u 0 + getD right v 0)
+
+module _ (m n : ℕ) (cells : List ℕ) (f : ℕ → ℕ) (g : ℕ) (left right : List ℕ) (sized : Sized m n cells) (g< : g < 2 ^ n) (few : Few m n f g)
+    (sums : Sums m n g left right) where
+  group-ready : Ready cells (points m n (others n g)) (classes m n f g) left right
+  unfolding multiplicity
+  group-ready =
+      let pos = sized .some in
+      record {
+        few = omega (arith, sized .levels);
+        kept = λ j j<.
+            part-within m n pos g g< (length cells) (sized .count) _ (points-are-parts m n pos g _ (classes-are-points m n pos f g g< j j<) .0);
+        inside = λ u v u< v<. lt-of-lt-of-le (subst (λ (p : ℕ). p < m ^ n) (sums u v u< v<) (part-below m n pos g _)) (sized .count);
+        within = λ u v u< v<. part-within m n pos g g< (length cells) (sized .count) _ (sums u v u< v<);
+      }
+
+  pub ready : (ys firsts : List ℕ) → ys ≡ points m n (others n g) → firsts ≡ classes m n f g → Ready cells ys firsts left right
+  ready ys firsts of-ys of-firsts = subst₂ (λ (us vs : List ℕ). Ready cells us vs left right) (sym of-ys) (sym of-firsts) group-ready

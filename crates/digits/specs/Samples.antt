@@ -1,0 +1,175 @@
+-- One assignment for each value that a wire below the last carries, in the order of the values: an input's levels, or the first of
+-- each class.
+-- Assumes nothing.
+use Prim.Native.Nat.{ℕ, zero, suc, _+_, _-_, _*_, _/_, _%_, _^_, _≤_, _<_}
+use mathlib.Core.Path.{_≡_, refl, sym, ap, _∙_, subst⁻¹}
+use mathlib.Core.Bool.{Bool, true, false}
+use mathlib.Core.List.{List, [], _∷_, map, map-map, append-nil}
+use native.Mathlib.Nat.{zero-mul, zero-add, mul-one, pow-zero, pow-suc, le-refl, le-step, mul-assoc, mul-div-cancel, mul-comm, mod-eq-of-lt, one-le-pow, pow-le-pow-right}
+use native.Mathlib.Decide.{decLt}
+use native.Mathlib.Omega.{arith}
+use borrow.Author.Tests.{eq-eqb, ne-eqb, eqb-true}
+use lib.ListN.{length, getD, take}
+use lib.Dec.{eqb}
+use Rattle.rules.specs.Lists.{range, concatMap}
+use Rattle.rules.specs.Sheets.{level}
+use Rattle.rules.specs.Groups.{member, points, part, size, classes, multiplicity}
+use Rattle.rules.specs.Settled.{Wiring, input, gate, groupOf, carried, classNumber, gatesIn, firstInput}
+use Rattle.laws.specs.Concat.{map-same}
+use Rattle.laws.specs.Ranges.{map-range-length, map-range-at}
+use Rattle.radix.specs.Fronts.{Front}
+use Rattle.groups.specs.Firsts.{Counted, capped-few}
+use Rattle.marks.specs.Parts.{without-first}
+use Rattle.laws.specs.Places.{mem-getD}
+use Rattle.trees.specs.Members.{member-single, size-single, size-one, first-member}
+use Rattle.trees.specs.Levels.{level-below, level-part-in}
+use Rattle.trees.specs.Points.{points-are-parts}
+use Rattle.trees.specs.Classes.{classes-are-points, class-below, class-part, class-listed, listed-once}
+use Rattle.trees.specs.Trees.{EachOnce}
+use Rattle.trees.specs.Wirings.{group-below}
+use Rattle.trees.specs.GateLists.{gates-in-size}
+
+-- ---- the assignments of a group of one input
+
+-- no member among the inputs
+points-none : (m n g : ℕ) → ((i : ℕ) → i < n → member i g ≡ false) → points m n g ≡ 0 ∷ []
+unfolding points concatMap
+points-none m zero g none = refl
+points-none m (suc n) g none = rw (points-none m n g (λ i h. none i (le-step h)), none n (le-refl (suc n)), zero-mul)
+
+concat-single : (f : ℕ → ℕ) (xs : List ℕ) → concatMap (λ x. f x ∷ []) xs ≡ map f xs
+unfolding concatMap
+concat-single f [] = refl
+concat-single f (x ∷ xs) = ap {B = List ℕ} (λ r. f x ∷ r) (concat-single f xs)
+
+level-alone : (m l : ℕ) → 0 * m + l ≡ l * m ^ 0
+level-alone m l = rw (zero-mul, zero-add, pow-zero, mul-one)
+
+-- one for each level: the level times the input's weight
+abbrev pub levelPoints : ℕ → ℕ → List ℕ
+levelPoints m w = map (λ l. l * w) (range 0 m)
+
+points-single : (m n i : ℕ) → i < n → points m n (2 ^ i) ≡ levelPoints m (m ^ (n - 1 - i))
+unfolding points concatMap
+points-single m zero i h = absurd (omega arith)
+points-single m (suc n) i h = go (decLt i n) (points-single m n i)
+  where
+    go : Dec (i < n) → (i < n → points m n (2 ^ i) ≡ levelPoints m (m ^ (n - 1 - i))) → points m (suc n) (2 ^ i) ≡ levelPoints m (m ^ (suc n - 1 - i))
+    go (yes less) before =
+        let next : suc n - 1 - i ≡ suc (n - 1 - i) = omega arith in
+        rw (member-single n i, ne-eqb n i (λ e. omega arith), concat-single (λ p. p * m), before less, next, pow-suc)
+        (map-map (λ p. p * m) (λ l. l * m ^ (n - 1 - i)) (range 0 m) ∙ map-same _ _ (λ l. mul-assoc l (m ^ (n - 1 - i)) m) (range 0 m))
+    go (no last) before =
+        let same : i ≡ n = omega arith in
+        let none : suc n - 1 - i ≡ 0 = omega arith in
+        let empty = points-none m n (2 ^ i) (λ j h. member-single j i ∙ ne-eqb j i (λ e. omega arith)) in
+        rw (member-single n i, eq-eqb n i (sym same), empty, none)
+        (append-nil (map (λ l. 0 * m + l) (range 0 m)) ∙ map-same _ _ (level-alone m) (range 0 m))
+
+-- ---- the samples
+
+unfoldable pub samples : ℕ → ℕ → (ℕ → ℕ) → ℕ → List ℕ
+samples m n f g = elim (eqb (size n g) 1) [ true ↦ points m n g | false ↦ classes m n f g ]
+
+level-points-length : (m w : ℕ) → length (levelPoints m w) ≡ m
+level-points-length m w = map-range-length (λ l. l * w) 0 m
+
+-- an input's weight, times m, is within the cells
+pub weight-fits : (m n i : ℕ) → 0 < m → i < n → m * m ^ (n - 1 - i) ≤ m ^ n
+weight-fits m n i pos h =
+    subst⁻¹ (λ (k : ℕ). k ≤ m ^ n) (mul-comm m (m ^ (n - 1 - i)) ∙ sym (pow-suc m (n - 1 - i))) (pow-le-pow-right pos (omega arith))
+
+-- a count of classes that did not stop
+pub counted-all : (m : ℕ) (list : List ℕ) (count : ℕ) (out : List ℕ) → length list ≤ m → Counted m list count out → Front list count out
+counted-all m list count out few found =
+    let e : count ≡ length list = found .answer ∙ capped-few m (length list) few in
+    record { count = e; is = found .found (omega arith) }
+
+-- one member: the first-listed is all
+pub single-test : (n g : ℕ) → 0 < g → g < 2 ^ n → (r : ℕ) → r ≡ g - 2 ^ firstInput n g → eqb r 0 ≡ eqb (size n g) 1
+single-test n g some g< r e = go (decLt 0 r)
+  where
+    go : Dec (0 < r) → eqb r 0 ≡ eqb (size n g) 1
+    go (yes more) =
+        ne-eqb r 0 (λ none. omega arith)
+        ∙ sym (ne-eqb (size n g) 1 (λ one. omega (arith, size-one n g g< one .1)))
+    go (no none) =
+        let first = first-member n g g< some .0 in
+        let all : g ≡ 2 ^ firstInput n g = omega (arith, without-first n g some g< .0) in
+        eq-eqb r 0 (omega arith) ∙ sym (eq-eqb (size n g) 1 (ap (size n) all ∙ size-single (firstInput n g) n first))
+
+module _ (m n : ℕ) (f : ℕ → ℕ) (g : ℕ) (g< : g < 2 ^ n) where
+  -- a group of one member
+  samples-single : eqb (size n g) 1 ≡ true → samples m n f g ≡ levelPoints m (m ^ (n - 1 - firstInput n g))
+  unfolding samples
+  samples-single one =
+      let first = size-one n g g< (eqb-true (size n g) 1 one) in
+      rw (samples, one) (ap (points m n) (first .1) ∙ points-single m n (firstInput n g) (first .0))
+
+  pub single-front : (out : List ℕ) (i w : ℕ) → eqb (size n g) 1 ≡ true → i ≡ firstInput n g → w ≡ m ^ (n - 1 - i) → take m out ≡ levelPoints m w
+      → Front (samples m n f g) m out
+  single-front out i w one first weight is =
+      let same : samples m n f g ≡ levelPoints m w = samples-single one ∙ ap (levelPoints m) (sym (weight ∙ ap (λ (j : ℕ). m ^ (n - 1 - j)) first)) in
+      record { count = sym (ap length same ∙ level-points-length m w); is = is ∙ sym same }
+
+  -- of several
+  pub several-front : (r : ℕ) (out : List ℕ) → eqb (size n g) 1 ≡ false → Front (classes m n f g) r out → Front (samples m n f g) r out
+  unfolding samples
+  several-front r out several front = rw (samples, several) front
+
+  -- each is an assignment of the group
+  pub samples-own : 0 < m → (u : ℕ) → u < length (samples m n f g) → part m n g (getD (samples m n f g) u 0) ≡ getD (samples m n f g) u 0
+  unfolding samples multiplicity
+  samples-own pos u = go (eqb (size n g) 1)
+    where
+      go : (one : Bool) →
+          let xs : List ℕ = elim one as (λ _. List ℕ) [ true ↦ points m n g | false ↦ classes m n f g ] in
+          u < length xs → part m n g (getD xs u 0) ≡ getD xs u 0
+      go true u< = points-are-parts m n pos g _ (mem-getD (points m n g) u 0 u<) .0
+      go false u< = points-are-parts m n pos g _ (classes-are-points m n pos f g g< u u<) .0
+
+-- what they are for a wire: all that it carries is below their number, and where what an index gives the wire's group is sample u,
+-- the wire carries u
+pub record Sampled (m n : ℕ) (f : ℕ → ℕ) (w : Wiring) (xs : List ℕ) : Type 0 where
+  pub all : (p : ℕ) → carried m n f false w p < length xs
+  pub carries : (u p : ℕ) → u < length xs → part m n (groupOf w) p ≡ getD xs u 0 → carried m n f false w p ≡ u
+
+module _ (m n : ℕ) (pos : 0 < m) (f : ℕ → ℕ) where
+  -- an input's
+  sampled-input : (i : ℕ) → i < n → Sampled m n f (input i) (points m n (2 ^ i))
+  unfolding carried groupOf level
+  sampled-input i h =
+      let w = m ^ (n - 1 - i) in
+      let count : length (points m n (2 ^ i)) ≡ m = ap length (points-single m n i h) ∙ level-points-length m w in
+      let at : (u : ℕ) → u < m → getD (points m n (2 ^ i)) u 0 ≡ u * w =
+      λ u u<. rw (points-single m n i h, map-range-at (λ l. l * w) 0 m u 0 u<, zero-add) in
+      record {
+        all = λ p. rw count (level-below m n pos p i);
+        carries = λ u p u< e.
+            sym (level-part-in m n pos (2 ^ i) p i h (member-single i i ∙ eq-eqb i i refl))
+            ∙ ap (λ (q : ℕ). q / w % m) (e ∙ at u (rw count at u<))
+            ∙ ap (λ (q : ℕ). q % m) (mul-div-cancel u (one-le-pow (n - 1 - i) m pos))
+            ∙ mod-eq-of-lt (rw count at u<);
+      }
+
+  -- a gate's
+  sampled-gate : (a b : Wiring) → EachOnce n (gate a b) → Sampled m n f (gate a b) (classes m n f (groupOf (gate a b)))
+  unfolding carried multiplicity
+  sampled-gate a b once =
+      let g = groupOf (gate a b) in
+      let g< = group-below n (gate a b) once in
+      record {
+        all = class-below m n pos f g g<;
+        carries = λ u p u< e.
+            sym (class-part m n pos f g g< p)
+            ∙ ap (classNumber m n f g) e
+            ∙ sym (listed-once m n pos f g g< u _ u< (class-below m n pos f g g< _) (class-listed m n pos f g g< (getD (classes m n f g) u 0)));
+      }
+
+  -- a wire's samples are such a list
+  pub sampled : (w : Wiring) → EachOnce n w → Sampled m n f w (samples m n f (groupOf w))
+  unfolding samples groupOf gatesIn
+  sampled (input i) once = rw (samples, eq-eqb (size n (2 ^ i)) 1 (size-single i n once)) (sampled-input i once)
+  sampled (gate a b) once =
+      rw (samples, ne-eqb (size n (groupOf (gate a b))) 1 (λ e. omega (arith, gates-in-size m n f (gate a b) once)))
+      (sampled-gate a b once)
