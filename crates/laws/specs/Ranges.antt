@@ -30,17 +30,20 @@ pub range-suc : (from count : ℕ) → range from (suc count) ≡ range from cou
 unfolding range
 range-suc from count = ap (range from) (sym (add-one count)) ∙ range-append from count 1
 
--- the numbers from i up to n, the first of them taken off
-pub range-next : (i n : ℕ) → i < n → range i (n - i) ≡ i ∷ range (i + 1) (n - (i + 1))
-unfolding range
-range-next i n h =
-    let e : n - i ≡ suc (n - (i + 1)) = omega arith in
-    rw (e, ← add-one i)
-
 pub range-shift : (from count : ℕ) → range (suc from) count ≡ map suc (range from count)
 unfolding range
 range-shift from zero = refl
 range-shift from (suc count) = ap {B = List ℕ} (λ r. suc from ∷ r) (range-shift (suc from) count)
+
+-- a range by its ends: its first number and the rest, ..
+pub range-next : (i end : ℕ) → i < end → range i (end - i) ≡ i ∷ range (i + 1) (end - (i + 1))
+unfolding range
+range-next i end h = let counted : end - i ≡ suc (end - (i + 1)) = omega arith in rw (counted, add-one)
+
+-- .. or nothing
+pub range-none : (i end : ℕ) → end ≤ i → range i (end - i) ≡ []
+unfolding range
+range-none i end h = let none-left : end - i ≡ 0 = omega arith in rw none-left
 
 -- numbers moved up
 pub map-range : (a from count : ℕ) → map (λ l. a + l) (range from count) ≡ range (a + from) count
