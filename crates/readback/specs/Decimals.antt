@@ -11,7 +11,7 @@ use borrow.Author.Tests.{ne-eqb}
 use Rattle.rules.specs.Lists.{all}
 use Rattle.rules.specs.Text.{space, newline, digitByte, isDigit, decimal}
 use Rattle.rules.specs.Fields.{isSeparator}
-use Rattle.laws.specs.Decimals.{by-digits, decimal-length}
+use Rattle.laws.specs.Decimals.{by-digits}
 use Rattle.laws.specs.Tests.{both-leb, all-iff, all-append, all-weaker}
 use Rattle.readback.specs.Fields.{plain, isWord}
 
@@ -76,7 +76,3 @@ decimal-value n = by-digits (λ n w. valueOf 0 w ≡ n) (λ n h. omega arith) (�
 -- different numbers have different decimal values
 pub decimal-injective : (m n : ℕ) → decimal m ≡ decimal n → m ≡ n
 decimal-injective m n e = sym (decimal-value m) ∙ ap (valueOf 0) e ∙ decimal-value n
-
--- below 100 there are at most two digits
-pub decimal-short : (n : ℕ) → n < 100 → length (decimal n) ≤ 2
-decimal-short n h = decimal-length 1 n h

@@ -17,7 +17,7 @@ use Rattle.rules.specs.Printed.{line, firstLines, printedGate, printedNet}
 use Rattle.rules.specs.Kept.{GoodNames, GateTable, RefersBack, Tables, KeptNet}
 use Rattle.laws.specs.Tests.{all-mem}
 use Rattle.laws.specs.Ranges.{mem-range}
-use Rattle.readback.specs.Decimals.{decimal-short}
+use Rattle.laws.specs.Decimals.{decimal-length}
 use Rattle.readback.specs.Judges.{name-parts}
 use Rattle.readback.specs.Names.{good-name}
 use Rattle.readback.specs.References.{Refers, toInput, toGate, refers}
@@ -43,7 +43,7 @@ reference-length names g r h = go (refers names r)
   where
     go : Refers names r → length (referenceText names r) ≤ 8
     go (toInput l e) = rw e (name-parts (getD names r []) (good-name names g r l) .0)
-    go (toGate l e) = rw e (le-trans (decimal-short (r + 1 - length names) (omega arith)) (omega arith))
+    go (toGate l e) = rw e (le-trans (decimal-length 1 (r + 1 - length names) (omega arith)) (omega arith))
 
 -- a gate line: two references, the digits and three separators
 gate-length : (names : List (List ℕ)) → GoodNames names → (m : ℕ) (g : Gate) → g .left < length names + 99 → g .right < length names + 99
@@ -76,8 +76,8 @@ unfolding printedNet firstLines line bound text
 sheet-length net k =
     let h = net .header in
     let z = kept-size h (k .header) in
-    let a = decimal-short (h .levels) (omega arith) in
-    let b = decimal-short (h .inputs) (omega arith) in
+    let a = decimal-length 1 (h .levels) (omega arith) in
+    let b = decimal-length 1 (h .inputs) (omega arith) in
     let c = names-length (h .names) (k .header .names) (omega arith) in
     let d = gates-length (h .names) (k .header .names) (h .levels) (h .inputs) (net .gates)
     (k .gates .rules .back) (omega arith) (k .gates .rules .tables) in
