@@ -69,7 +69,7 @@ sitgurp_answer sitgurp_marking(size_t m, size_t n, const uint8_t *cells, size_t 
 /*
  * Settles a net sheet: writes its table into cells, one byte a cell, every group's mark into marks, and the settled net sheet into
  * output, and answers that sheet's length. Needs m to the power n bytes, 2 to the power n bytes, and the settled sheet's length.
- * Refusals: 1 to 8 (the sheet), 13 (cells too short), 14 (marks too short), 15 (output too short); the value of 13 to 15 is the
+ * Refusals: 1 to 4 and 6 to 8 (the sheet), 13 (cells too short), 14 (marks too short), 15 (output too short); the value of 13 to 15 is the
  * length needed. 15 leaves cells and marks written and output as it was; every other refusal changes no byte.
  */
 sitgurp_answer sitgurp_settle(const uint8_t *sheet, size_t sheet_length, uint8_t *cells, size_t cells_length, uint8_t *marks,
@@ -87,7 +87,7 @@ sitgurp_answer sitgurp_make(const uint8_t *sheet, size_t sheet_length, uint8_t *
 /*
  * Checks a net sheet against a table sheet, and writes the table sheet's inks into cells, whether they agree or not. Needs m to the
  * power n bytes.
- * Refusals: 1 to 8 (the net sheet), 1 to 6 (the table sheet), 12 (the sheets differ in m, n or names; value 0), 13 (cells too short;
+ * Refusals: 1 to 4 and 6 to 8 (the net sheet), 1 to 6 (the table sheet), 12 (the sheets differ in m, n or names; value 0), 13 (cells too short;
  * value is the length needed). A refusal changes no byte. 12 and 13 name neither sheet.
  */
 sitgurp_verdict sitgurp_check(const uint8_t *net_sheet, size_t net_sheet_length, const uint8_t *table_sheet,
@@ -95,14 +95,14 @@ sitgurp_verdict sitgurp_check(const uint8_t *net_sheet, size_t net_sheet_length,
 
 /*
  * Writes the table sheet of a net sheet into output, and answers its length, which is what it needs.
- * Refusals: 1 to 8 (the sheet), 15 (output too short; value is the length needed). A refusal changes no byte.
+ * Refusals: 1 to 4 and 6 to 8 (the sheet), 15 (output too short; value is the length needed). A refusal changes no byte.
  */
 sitgurp_answer sitgurp_write_table(const uint8_t *sheet, size_t sheet_length, uint8_t *output, size_t output_length);
 
 /*
  * Turn k of the gate lister, from 0: the gate line of gate k + 1 of a net sheet, and after the last line that none is left.
  * Writes nothing.
- * Refusals: 1 to 8 (the sheet), the same at every turn.
+ * Refusals: 1 to 4 and 6 to 8 (the sheet), the same at every turn.
  */
 sitgurp_turn sitgurp_gate_line(const uint8_t *sheet, size_t sheet_length, size_t k);
 

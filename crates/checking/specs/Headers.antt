@@ -7,9 +7,9 @@ use mathlib.Core.List.{List, map}
 use borrow.Author.Tests.{eq-eqb, ne-eqb}
 use Rattle.rules.specs.Lists.{range, same}
 use Rattle.rules.specs.Calls.{sameNames, sameHeader}
+use Rattle.laws.specs.Ranges.{range-next, range-none}
 use Rattle.nets.specs.declared.forms.Header.{Header}
 use Rattle.nets.specs.Forms.{nameIn, headerOf}
-use Rattle.fields.specs.Ranges.{range-first, range-none}
 
 -- the names that f and g give from input i on, up to `end`
 abbrev pub sameFrom : (ℕ → List ℕ) → (ℕ → List ℕ) → ℕ → ℕ → Bool
@@ -18,11 +18,11 @@ sameFrom f g i end = sameNames (map f (range i (end - i))) (map g (range i (end 
 module _ (f g : ℕ → List ℕ) (i end : ℕ) where
   pub names-next : i < end → same (f i) (g i) ≡ true → sameFrom f g i end ≡ sameFrom f g (i + 1) end
   unfolding sameNames
-  names-next h e = rw (range-first i end h, e)
+  names-next h e = rw (range-next i end h, e)
 
   pub names-differ : i < end → same (f i) (g i) ≡ false → sameFrom f g i end ≡ false
   unfolding sameNames
-  names-differ h e = rw (range-first i end h, e)
+  names-differ h e = rw (range-next i end h, e)
 
   pub names-end : end ≤ i → sameFrom f g i end ≡ true
   unfolding sameNames

@@ -1,25 +1,16 @@
 // Two sheets' headers compared. Their names stay in the sheets.
 ghost use mathlib.Core.Path.{_≡_};
 ghost use mathlib.Core.List.{map};
-ghost use Prim.Native.Nat.{_≤_, _<_};
-ghost use Rattle.rules.specs.Lists.{range, same};
+ghost use Prim.Native.Nat.{_≤_};
+ghost use Rattle.rules.specs.Lists.{range};
 ghost use Rattle.rules.specs.Limits.{mostInputs};
 ghost use Rattle.rules.specs.Calls.{sameNames, sameHeader};
 ghost use Rattle.nets.specs.Forms.{nameIn, headerOf};
-ghost use Rattle.fields.specs.Names.{NameHeld, NamesHeld};
+ghost use Rattle.fields.specs.Names.{NamesHeld};
 ghost use Rattle.fields.specs.Header.{HeaderHeld};
-use fields::names::same_name;
+use fields::names::name_of;
+use fields::same::same_bytes;
 use nets::forms::Header;
-
-// Have both sheets the same name for input i?
-fn same_input(s: &[u8], h: Header, t: &[u8], k: Header, i: usize) -> bool
-    requires { ⌜ (i < mostInputs) × NameHeld (now s) h i × NameHeld (now t) k i ⌝ }
-    ensures { λ r. ⌜ r ≡ same (nameIn (now (s .entry)) h i) (nameIn (now (t .entry)) k i) ⌝ }
-{
-    let start = h.starts[i] as usize;
-    let end = start + h.lens[i] as usize;
-    same_name(t, k, i, &s[start..end])
-}
 
 // Have both the same first n names?
 fn same_names(s: &[u8], h: Header, t: &[u8], k: Header, n: usize) -> bool
@@ -28,7 +19,7 @@ fn same_names(s: &[u8], h: Header, t: &[u8], k: Header, n: usize) -> bool
 {
     let mut i: usize = 0;
     while i < n {
-        if !same_input(s, h, t, k, i) {
+        if !same_bytes(name_of(s, h, i), name_of(t, k, i)) {
             return false;
         }
         i += 1;

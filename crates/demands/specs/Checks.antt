@@ -2,28 +2,29 @@
 -- assignment"; the table sheet written from a net sheet is accepted, and checks against it.
 -- Assumes nothing.
 use Prim.Native.Nat.{ℕ, _^_, _≤_, _<_}
-use mathlib.Core.Path.{_≡_, refl, sym, ap, _∙_, subst, subst⁻¹}
+use mathlib.Core.Path.{_≡_, refl, sym, ap, _∙_, ap₂, subst, subst⁻¹}
 use mathlib.Core.Logic.{_↔_}
-use mathlib.Core.Bool.{Bool, true, false, not}
+use mathlib.Core.Bool.{Bool, true, false, not, _&&_, and-eq-true-iff, false≢true}
 use mathlib.Core.List.{List, [], _∷_}
-use native.Mathlib.Nat.{zero-add}
-use native.Mathlib.Decide.{decLt}
+use native.Mathlib.Nat.{zero-add, lt-of-not-le}
+use native.Mathlib.Decide.{decLe, decLt}
 use native.Mathlib.Omega.{arith}
-use lib.ListN.{length, getD}
+use lib.ListN.{length, getD, take}
 use lib.Dec.{eqb}
 use borrow.Author.Tests.{lt-ltb, le-ltb, eq-eqb, eqb-true, eqb-false, not-false, not-true}
 use Rattle.rules.specs.Lists.{range, firstPlace, same}
 use Rattle.rules.specs.Sheets.{Header, Net, Table}
 use Rattle.rules.specs.Printed.{printedTable}
 use Rattle.rules.specs.Value.{value}
-use Rattle.rules.specs.Calls.{accepted, Verdict, agree, differ, Checked, inkIn, written, readNet, readTable, tableOfNet, sameNames, sameHeader, compared, checkCall}
+use Rattle.rules.specs.Calls.{Answer, accepted, refused, Verdict, agree, differ, Named, netNamed, tableNamed, neither, turnedDown, Checked, inkIn, written, readNet, readTable, tableOfNet, sameNames, sameHeader, compared, checkedInto, checkCall, Written, writeTableCall}
 use Rattle.laws.specs.FirstPlaces.{before-first, at-first}
-use Rattle.laws.specs.Outcomes.{check-accepted, check-compared}
+use Rattle.laws.specs.Outcomes.{check-net-refused, check-table-refused, check-accepted, check-12, check-13, check-compared, table-15, table-written}
 use Rattle.laws.specs.Ranges.{range-length, range-at}
-use Rattle.laws.specs.Same.{same-refl}
+use Rattle.laws.specs.Same.{same-refl, same-true}
+use Rattle.laws.specs.Tests.{both-eqb}
 use Rattle.readback.specs.ReadBack.{net-accepted, table-accepted, table-read-back}
 use Rattle.trees.specs.Uniqueness.{table-at, table-length}
-use Rattle.demands.specs.Settles.{kept-table}
+use Rattle.demands.specs.Settles.{kept-table, written-front}
 
 -- ---- two lists of inks compared
 
@@ -87,6 +88,23 @@ same-header : (h k : Header) → h ≡ k → sameHeader h k ≡ true
 unfolding sameHeader
 same-header h k e = subst (λ (l : Header). sameHeader h l ≡ true) e (rw (eq-eqb (h .levels) (h .levels) refl, eq-eqb (h .inputs) (h .inputs) refl, same-names (h .names)))
 
+names-same : (vs ws : List (List ℕ)) → sameNames vs ws ≡ true → vs ≡ ws
+unfolding sameNames
+names-same [] [] e = refl
+names-same [] (w ∷ ws) e = absurd (false≢true e)
+names-same (v ∷ vs) [] e = absurd (false≢true e)
+names-same (v ∷ vs) (w ∷ ws) e =
+    let (first, others) = and-eq-true-iff (same v w) (sameNames vs ws) .0 e in
+    ap₂ _∷_ (same-true v w first) (names-same vs ws others)
+
+header-same : (h k : Header) → sameHeader h k ≡ true → h ≡ k
+unfolding sameHeader
+header-same h k e =
+    let (sizes, names) = and-eq-true-iff (eqb (h .levels) (k .levels) && eqb (h .inputs) (k .inputs)) (sameNames (h .names) (k .names)) .0 e in
+    let (levels, inputs) = both-eqb (h .levels) (k .levels) (h .inputs) (k .inputs) .0 sizes in
+    let same-names = names-same (h .names) (k .names) names in
+    λ i. record { levels = levels i; inputs = inputs i; names = same-names i }
+
 module _ (s r : List ℕ) (net : Net) (t : Table) (reads-net : readNet s ≡ accepted net) (reads-table : readTable r ≡ accepted t) (header : net .header ≡ t .header)
     (cells : List ℕ) (long : t .header .levels ^ t .header .inputs ≤ length cells) where
   -- the inks are compared, and stand in the cells buffer whether they agree or not
@@ -146,16 +164,96 @@ module _ (s r : List ℕ) (net : Net) (t : Table) (reads-net : readNet s ≡ acc
             λ p b. let c : p < j = omega arith in value-at p (omega arith) ∙ earlier p c,
           )
 
+-- What a yes of the check says: two accepted sheets with the same levels, inputs and names, a cells buffer of their length, and
+-- agreement on every assignment.
+pub record Agreeing (s r cells : List ℕ) : Type 0 where
+  pub net : Net
+  pub table : Table
+  pub reads-net : readNet s ≡ accepted net
+  pub reads-table : readTable r ≡ accepted table
+  pub header : net .header ≡ table .header
+  pub long : table .header .levels ^ table .header .inputs ≤ length cells
+  pub agrees : (p : ℕ) → p < table .header .levels ^ table .header .inputs → value (net .header .levels) (net .header .inputs) (net .gates) p ≡ inkIn (table .inks) p
+
+-- The check says yes exactly then, whatever the bytes of the two sheets and of the buffer.
+module _ (s r cells : List ℕ) where
+  not-agree : (named : Named) (number place : ℕ) (made : Checked) → checkCall s r cells ≡ made → made .answer ≡ turnedDown named number place
+      → checkCall s r cells .answer ≡ agree → ⊥
+  not-agree named number place made e d answer =
+      let a : _≡_ {A = Verdict} agree (turnedDown named number place) = sym answer ∙ ap (λ (c : Checked). c .answer) e ∙ d in
+      let z : _≡_ {A = ℕ} 0 1 = cc in
+      omega arith
+
+  pub check-yes : (checkCall s r cells .answer ≡ agree) ↔ Agreeing s r cells
+  check-yes = (
+    λ answer. go answer (readNet s) refl (readTable r) refl,
+    λ a. check-agrees s r (a .net) (a .table) (a .reads-net) (a .reads-table) (a .header) cells (a .long) .1 (a .agrees),
+  )
+    where
+      go : checkCall s r cells .answer ≡ agree → (a : Answer Net) → readNet s ≡ a → (b : Answer Table) → readTable r ≡ b → Agreeing s r cells
+      go answer (refused number place) d b e = absurd (not-agree netNamed number place _ (check-net-refused s r cells number place d) refl answer)
+      go answer (accepted net) d (refused number place) e = absurd (not-agree tableNamed number place _ (check-table-refused s r cells net d number place e) refl answer)
+      go answer (accepted net) d (accepted t) e = judged (sameHeader (net .header) (t .header)) refl (decLe (length (t .inks)) (length cells))
+        where
+          both : checkCall s r cells ≡ checkedInto net t cells
+          both = check-accepted s r cells net d t e
+
+          judged : (same : Bool) → sameHeader (net .header) (t .header) ≡ same → Dec (length (t .inks) ≤ length cells) → Agreeing s r cells
+          judged false h fits = absurd (not-agree neither 12 0 _ (both ∙ check-12 net t cells h) refl answer)
+          judged true h (no short) = absurd (not-agree neither 13 _ _ (both ∙ check-13 net t cells h (lt-of-not-le short)) refl answer)
+          judged true h (yes fits) =
+              let header = header-same (net .header) (t .header) h in
+              let long = subst (λ (k : ℕ). k ≤ length cells) (table-accepted r t e .1 .count) fits in
+              record {
+                net = net;
+                table = t;
+                reads-net = d;
+                reads-table = e;
+                header = header;
+                long = long;
+                agrees = check-agrees s r net t d e header cells long .0 answer;
+              }
+
 -- ---- table writing
 
--- the table sheet written from a net sheet is accepted, with the net's table
-pub written-accepted : (s : List ℕ) (net : Net) → readNet s ≡ accepted net → readTable (printedTable (tableOfNet net)) ≡ accepted (tableOfNet net)
-written-accepted s net reads = table-read-back (tableOfNet net) (kept-table net (net-accepted s net reads .1))
+-- the table sheet that a call wrote: as many bytes from the front of the output as it answers
+unfoldable pub tableSheetOf : Written → Answer (List ℕ)
+tableSheetOf made = elim (made .answer) [ accepted count ↦ accepted (take count (made .output)) | refused number place ↦ refused number place ]
 
--- and checks against it
-pub written-checks : (s : List ℕ) (net : Net) → readNet s ≡ accepted net → (cells : List ℕ) → net .header .levels ^ net .header .inputs ≤ length cells
-    → checkCall s (printedTable (tableOfNet net)) cells .answer ≡ agree
-unfolding tableOfNet
-written-checks s net reads cells long =
-    check-agrees s (printedTable (tableOfNet net)) net (tableOfNet net) reads (written-accepted s net reads) refl cells long .1
-    (λ p h. sym (table-at (net .header .levels) (net .header .inputs) (net .gates) p h))
+module _ (s : List ℕ) (net : Net) (reads : readNet s ≡ accepted net) where
+  -- the table sheet of an accepted net sheet is accepted, with the net's table, ..
+  printed-accepted : readTable (printedTable (tableOfNet net)) ≡ accepted (tableOfNet net)
+  printed-accepted = table-read-back (tableOfNet net) (kept-table net (net-accepted s net reads .1))
+
+  -- .. and checks against it
+  printed-checks : (cells : List ℕ) → net .header .levels ^ net .header .inputs ≤ length cells → checkCall s (printedTable (tableOfNet net)) cells .answer ≡ agree
+  unfolding tableOfNet
+  printed-checks cells long =
+      check-agrees s (printedTable (tableOfNet net)) net (tableOfNet net) reads printed-accepted refl cells long .1
+      (λ p h. sym (table-at (net .header .levels) (net .header .inputs) (net .gates) p h))
+
+  -- it is what table writing writes, where the output is long enough, ..
+  pub writes-table : (output : List ℕ) → length (printedTable (tableOfNet net)) ≤ length output
+      → tableSheetOf (writeTableCall s output) ≡ accepted (printedTable (tableOfNet net))
+  unfolding tableSheetOf
+  writes-table output long = ap tableSheetOf (table-written s output net reads long) ∙ ap accepted (written-front output (printedTable (tableOfNet net)))
+
+  -- .. and it writes nothing else
+  writes-only : (output sheet : List ℕ) → tableSheetOf (writeTableCall s output) ≡ accepted sheet → printedTable (tableOfNet net) ≡ sheet
+  unfolding tableSheetOf
+  writes-only output sheet e = go (decLe (length (printedTable (tableOfNet net))) (length output))
+    where
+      go : Dec (length (printedTable (tableOfNet net)) ≤ length output) → printedTable (tableOfNet net) ≡ sheet
+      go (yes long) = let d = sym (writes-table output long) ∙ e in cc
+      go (no short) =
+          let d = sym (ap tableSheetOf (table-15 s output net reads (lt-of-not-le short))) ∙ e in
+          absurd (let z : _≡_ {A = ℕ} 0 1 = cc in omega arith)
+
+  -- Whatever the output's length, a sheet that table writing leaves is accepted, with the net's table, ..
+  pub written-accepted : (output sheet : List ℕ) → tableSheetOf (writeTableCall s output) ≡ accepted sheet → readTable sheet ≡ accepted (tableOfNet net)
+  written-accepted output sheet e = subst (λ (r : List ℕ). readTable r ≡ accepted (tableOfNet net)) (writes-only output sheet e) printed-accepted
+
+  -- .. and checks against the net sheet.
+  pub written-checks : (output sheet : List ℕ) → tableSheetOf (writeTableCall s output) ≡ accepted sheet
+      → (cells : List ℕ) → net .header .levels ^ net .header .inputs ≤ length cells → checkCall s sheet cells .answer ≡ agree
+  written-checks output sheet e cells long = subst (λ (r : List ℕ). checkCall s r cells .answer ≡ agree) (writes-only output sheet e) (printed-checks cells long)

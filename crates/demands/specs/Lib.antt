@@ -5,5 +5,7 @@ pub mod Lines
 pub mod FirstLines
 pub mod Listing
 pub mod Settles
+pub mod Refusals
 pub mod Makes
 pub mod Checks
+pub mod Programs

@@ -5,7 +5,7 @@
 use Prim.Native.Nat.{ℕ, zero, suc, _+_, _-_, _≤_, _<_}
 use mathlib.Core.Path.{_≡_, refl, sym, ap, ap₂, _∙_, subst⁻¹}
 use mathlib.Core.Bool.{true}
-use mathlib.Core.List.{List, [], _∷_, _++_, map, append-assoc, append-nil}
+use mathlib.Core.List.{List, [], _∷_, _++_, append-assoc, append-nil}
 use native.Mathlib.Nat.{zero-add, add-zero, add-suc, suc-add}
 use native.Mathlib.Omega.{arith}
 use lib.ListN.{length, getD, take, drop, length-append, length-map}
@@ -20,6 +20,7 @@ use Rattle.rules.specs.Kept.{KeptNet}
 use Rattle.rules.specs.Calls.{Answer, accepted, refused, readNet, onward}
 use Rattle.rules.specs.Lister.{Part, lineLength, afterLines, Turn, gateAt, noneLeft, turnOf, listing}
 use Rattle.laws.specs.Concat.{concat-append}
+use Rattle.laws.specs.Places.{map-at}
 use Rattle.laws.specs.Tests.{all-iff}
 use Rattle.readback.specs.ReadBack.{net-accepted}
 use Rattle.demands.specs.Bounds.{inputs-several}
@@ -138,11 +139,6 @@ places f h d from (x ∷ xs) e =
     ap₂ _++_ (ap f (sym (add-zero from)) ∙ e zero (omega arith))
     (places f h d (suc from) xs (λ k l. ap f (suc-add from k ∙ sym (add-suc from k)) ∙ e (suc k) (omega arith)))
 
-map-at : {A B : Type 0} (f : A → B) (xs : List A) (k : ℕ) (e : B) (d : A) → k < length xs → getD (map f xs) k e ≡ f (getD xs k d)
-map-at f [] k e d h = absurd (omega arith)
-map-at f (x ∷ xs) zero e d h = refl
-map-at f (x ∷ xs) (suc k) e d h = map-at f xs k e d (omega arith)
-
 four-more : (k : ℕ) → 4 + k ≡ suc (suc (suc (suc k)))
 four-more k = omega arith
 
@@ -163,7 +159,7 @@ module _ (s : List ℕ) (net : Net) (reads : readNet s ≡ accepted net) where
 
   net-at : (k : ℕ) (d : Gate) → k < length (net .gates) → getD (netLines net) (4 + k) [] ≡ gateBody names (getD (net .gates) k d)
   unfolding netLines fourLines headLines
-  net-at k d h = rw (four-more k) (map-at (gateBody (net .header .names)) (net .gates) k [] d h)
+  net-at k d h = rw (four-more k) (map-at (gateBody (net .header .names)) (net .gates) k d [] h)
 
   -- "n − 1 gate lines"
   pub gate-count : length (net .gates) ≡ net .header .inputs - 1

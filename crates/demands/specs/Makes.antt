@@ -4,21 +4,28 @@
 -- same order."
 -- Assumes nothing.
 use Prim.Native.Nat.{ℕ, _^_, _≤_, _<_}
-use mathlib.Core.Path.{_≡_, sym, ap, _∙_, subst, subst⁻¹}
+use mathlib.Core.Path.{_≡_, refl, sym, ap, _∙_, subst, subst⁻¹}
 use mathlib.Core.Logic.{_↔_}
-use mathlib.Core.List.{List}
+use mathlib.Core.List.{List, [], _∷_}
+use native.Mathlib.Decide.{ℕ-discrete}
+use native.Mathlib.Omega.{arith}
 use lib.ListN.{length}
+use lib.Dec.{ltb}
+use Rattle.rules.specs.Lists.{any}
+use Rattle.rules.specs.Limits.{mostSettled}
 use Rattle.rules.specs.Sheets.{Net, Table}
 use Rattle.rules.specs.Printed.{printedNet}
 use Rattle.rules.specs.Marks.{marksLength, storedMarks, noTreePlace}
 use Rattle.rules.specs.Kept.{KeptNet, KeptTable}
-use Rattle.rules.specs.Calls.{accepted, refused, Made, inkIn, written, readNet, readTable, tableOfNet, settledNet, settleCall, makeCall}
+use Rattle.rules.specs.Calls.{Answer, accepted, refused, Made, inkIn, written, readNet, readTable, tableOfNet, settledNet, writtenSheet, afterMarks, settledInto, settleCall, makeCall}
 use Rattle.laws.specs.Outcomes.{WholeTwo, marksOfTable, make-accepted, into-marked, marked-16, marked-tree}
 use Rattle.trees.specs.Existence.{TreeExists, tree-exists, settled-net}
 use Rattle.trees.specs.Uniqueness.{table-is, table-at}
 use Rattle.demands.specs.Bounds.{levels-pos, inputs-several}
+use Rattle.readback.specs.Length.{net-length}
 use Rattle.readback.specs.ReadBack.{net-read-back, net-accepted, table-accepted}
-use Rattle.demands.specs.Settles.{sheetOf, Long, settled-written, settles, table-path, not-16}
+use Rattle.demands.specs.Settles.{sheetOf, Long, written-front, settled-written, settles, table-path}
+use Rattle.demands.specs.Refusals.{not-given, sheet-numbers, by-test}
 
 -- some gate list, whatever its wiring and digits, is a net of the table's levels and inputs and computes its inks
 abbrev pub HasTree : Table → Type 0
@@ -60,6 +67,14 @@ module _ (t : Table) (kept : KeptTable t) where
       let net = settled-net (t .header .levels) (t .header .inputs) pos several (inkIn (t .inks)) inks-below two in
       λ i. record { header = t .header; inks = table-is (t .header .levels) (t .header .inputs) (settledNet t .gates) (t .inks) (kept .count) (net .1) i }
 
+  -- and keeps every rule of a net
+  pub made-kept : WholeTwo t → KeptNet (settledNet t)
+  unfolding settledNet
+  made-kept two = record {
+    header = kept .header;
+    gates = settled-net (t .header .levels) (t .header .inputs) pos several (inkIn (t .inks)) inks-below two .0;
+  }
+
 pub sheet-tree : (t : Table) → HasSheet t → HasTree t
 unfolding tableOfNet
 sheet-tree t has =
@@ -70,6 +85,37 @@ sheet-tree t has =
       λ p h. sym (table-at (net .header .levels) (net .header .inputs) (net .gates) p h),
     )
 
+-- ---- what was written
+
+-- a call that refuses leaves no sheet
+no-sheet : (number place : ℕ) (sheet : List ℕ) → _≡_ {A = Answer (List ℕ)} (refused number place) (accepted sheet) → ⊥
+no-sheet number place sheet e = let z : _≡_ {A = ℕ} 0 1 = cc in omega arith
+
+same-sheet : (a b : List ℕ) → accepted a ≡ accepted b → a ≡ b
+same-sheet a b e = cc
+
+-- whatever the buffers, a sheet that is written is the settled net's, and the whole group has mark 2
+into-accepted : (t : Table) (cells marks output sheet : List ℕ) → sheetOf (settledInto t cells marks output) ≡ accepted sheet
+    → WholeTwo t × (printedNet (settledNet t) ≡ sheet)
+unfolding settledInto sheetOf writtenSheet
+into-accepted t cells marks output sheet =
+    by-test Wrote (ltb (length cells) (t .header .levels ^ t .header .inputs)) _ _ (λ e. absurd (no-sheet 13 _ sheet e))
+    (by-test Wrote (ltb (length marks) (marksLength (t .header .inputs))) _ _ (λ e. absurd (no-sheet 14 _ sheet e)) (marked (ℕ-discrete _ 2)))
+  where
+    Wrote : Made → Type 0
+    Wrote made = sheetOf made ≡ accepted sheet → WholeTwo t × (printedNet (settledNet t) ≡ sheet)
+
+    marked : Dec (WholeTwo t) → Wrote (afterMarks t cells marks output)
+    marked (no other) = subst⁻¹ Wrote (marked-16 t cells marks output other) (λ e. absurd (no-sheet 16 _ sheet e))
+    marked (yes two) = subst⁻¹ Wrote (marked-tree t cells marks output two)
+        (by-test Wrote (ltb (length output) (length (printedNet (settledNet t)))) _ _ (λ e. absurd (no-sheet 15 _ sheet e))
+        (λ e. (two, sym (written-front output (printedNet (settledNet t))) ∙ same-sheet _ sheet e)))
+
+-- the two ways in which making ends on an accepted table sheet with long buffers
+pub data Making (t : Table) (made : Made) : Type 0 where
+  no-tree : (HasTree t → ⊥) → made .answer ≡ refused 16 (noTreePlace (t .header .inputs) (marksOfTable t)) → Making t made
+  some-tree : HasTree t → sheetOf made ≡ accepted (printedNet (settledNet t)) → Making t made
+
 -- ---- the demand
 
 module _ (s : List ℕ) (t : Table) (reads : readTable s ≡ accepted t) where
@@ -79,9 +125,10 @@ module _ (s : List ℕ) (t : Table) (reads : readTable s ≡ accepted t) where
   -- Making refuses the table with 16 exactly when no gate list, whatever its wiring and its tables, is a net that computes it, ..
   pub make-refuses : (cells marks output : List ℕ) → t .header .levels ^ t .header .inputs ≤ length cells → marksLength (t .header .inputs) ≤ length marks
       → ((place : ℕ) × (makeCall s cells marks output .answer ≡ refused 16 place)) ↔ (HasTree t → ⊥)
+  unfolding any
   make-refuses cells marks output cells-fit marks-fit =
       let marked = make-accepted s cells marks output t reads ∙ into-marked t cells marks output cells-fit marks-fit in (
-        λ r tree. not-16 (printedNet (settledNet t)) (written cells (t .inks)) (written marks (storedMarks (marksOfTable t))) output (r .0)
+        λ r tree. not-given (15 ∷ []) _ (sheet-numbers (15 ∷ []) refl (printedNet (settledNet t)) (written cells (t .inks)) (written marks (storedMarks (marksOfTable t))) output) 16 (r .0) refl
             (sym (ap (λ (made : Made). made .answer) (marked ∙ marked-tree t cells marks output (two-tree t kept .0 tree))) ∙ r .1),
         λ none. (noTreePlace (t .header .inputs) (marksOfTable t), ap (λ (made : Made). made .answer) (marked ∙ marked-16 t cells marks output (λ two. none (two-tree t kept .1 two)))),
       )
@@ -99,6 +146,13 @@ module _ (s : List ℕ) (t : Table) (reads : readTable s ≡ accepted t) where
   makes cells marks output tree long =
       ap sheetOf (make-accepted s cells marks output t reads) ∙ settled-written t cells marks output (two-tree t kept .0 tree) long
 
+  -- .. which is accepted as that net, and is never over 512 bytes long, ..
+  pub made-accepted : HasTree t → readNet (printedNet (settledNet t)) ≡ accepted (settledNet t)
+  made-accepted tree = net-read-back (settledNet t) (made-kept t kept (two-tree t kept .0 tree))
+
+  pub made-short : HasTree t → length (printedNet (settledNet t)) ≤ mostSettled
+  made-short tree = net-length (settledNet t) (made-kept t kept (two-tree t kept .0 tree))
+
   -- .. the very sheet that settling writes from every accepted net sheet with that table and that header.
   pub make-as-settle : (r : List ℕ) (net : Net) → readNet r ≡ accepted net → net .header ≡ t .header → tableOfNet net .inks ≡ t .inks
       → (cells marks output cells' marks' output' : List ℕ) → Long t cells marks output → Long (tableOfNet net) cells' marks' output'
@@ -109,3 +163,23 @@ module _ (s : List ℕ) (t : Table) (reads : readTable s ≡ accepted t) where
       makes cells marks output (sheet-tree t (r, net, reads-net, same)) long
       ∙ ap (λ (u : Table). accepted (printedNet (settledNet u))) (sym same)
       ∙ sym (settles r net reads-net cells' marks' output' long')
+
+  -- So making comes to one of the two, where the output has room for the settled sheet if there is one.
+  pub make-either : (cells marks output : List ℕ) → t .header .levels ^ t .header .inputs ≤ length cells → marksLength (t .header .inputs) ≤ length marks
+      → (HasTree t → length (printedNet (settledNet t)) ≤ length output) → Making t (makeCall s cells marks output)
+  make-either cells marks output cells-fit marks-fit output-fits = go (ℕ-discrete _ 2)
+    where
+      go : Dec (WholeTwo t) → Making t (makeCall s cells marks output)
+      go (no other) =
+          no-tree (λ tree. other (two-tree t kept .0 tree))
+          (ap (λ (made : Made). made .answer) (make-accepted s cells marks output t reads ∙ into-marked t cells marks output cells-fit marks-fit ∙ marked-16 t cells marks output other))
+      go (yes two) =
+          let tree = two-tree t kept .1 two in
+          some-tree tree (makes cells marks output tree (record { cells-fit = cells-fit; marks-fit = marks-fit; output-fits = output-fits tree }))
+
+  -- The sheet that making leaves in the output, whatever the buffers, is a net that has exactly that table.
+  pub made-sheet : (cells marks output sheet : List ℕ) → sheetOf (makeCall s cells marks output) ≡ accepted sheet
+      → (readNet sheet ≡ accepted (settledNet t)) × (tableOfNet (settledNet t) ≡ t)
+  made-sheet cells marks output sheet e =
+      let (two, same) = into-accepted t cells marks output sheet (sym (ap sheetOf (make-accepted s cells marks output t reads)) ∙ e) in
+      (ap readNet (sym same) ∙ made-accepted (two-tree t kept .1 two), made-table t kept two)

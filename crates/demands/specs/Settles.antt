@@ -7,9 +7,6 @@ use Prim.Native.Nat.{ℕ, _^_, _≤_, _<_}
 use mathlib.Core.Path.{_≡_, refl, sym, ap, _∙_, subst}
 use mathlib.Core.Logic.{_↔_}
 use mathlib.Core.List.{List}
-use native.Mathlib.Nat.{lt-of-not-le}
-use native.Mathlib.Decide.{decLe}
-use native.Mathlib.Omega.{arith}
 use lib.ListN.{length, take, drop}
 use lib.Seq.{take-at}
 use Rattle.rules.specs.Limits.{mostSettled}
@@ -17,13 +14,12 @@ use Rattle.rules.specs.Sheets.{Net, Table}
 use Rattle.rules.specs.Printed.{printedNet}
 use Rattle.rules.specs.Marks.{marksLength, storedMarks}
 use Rattle.rules.specs.Kept.{KeptNet, KeptTable}
-use Rattle.rules.specs.Calls.{Answer, accepted, refused, Made, written, readNet, tableOfNet, settledNet, writtenSheet, settledInto, settleCall}
-use Rattle.laws.specs.Outcomes.{WholeTwo, marksOfTable, settle-refused, settle-accepted, into-13, into-14, into-marked, marked-tree, sheet-15, sheet-written}
+use Rattle.rules.specs.Calls.{Answer, accepted, refused, Made, written, readNet, tableOfNet, settledNet, settledInto, settleCall}
+use Rattle.laws.specs.Outcomes.{WholeTwo, marksOfTable, settle-accepted, into-marked, marked-tree, sheet-written}
 use Rattle.trees.specs.Uniqueness.{settledOf, table-length, net-inks, net-two, settled-is-net, settled-table}
 use Rattle.demands.specs.Bounds.{levels-pos, inputs-several}
 use Rattle.demands.specs.FirstLines.{threeLines, three-lines, same-lines}
 use Rattle.readback.specs.ReadBack.{net-read-back, net-accepted}
-use Rattle.readback.specs.Numbers.{net-refusal}
 use Rattle.readback.specs.Length.{net-length}
 
 -- the sheet that a call wrote: as many bytes from the front of the output as it answers
@@ -139,50 +135,3 @@ module _ (s r : List ℕ) (net other : Net) (reads : readNet s ≡ accepted net)
             ∙ settled-own-table r other reads-other),
         λ e. first ∙ ap (λ (t : Table). accepted (printedNet (settledNet t))) (table-path (tableOfNet net) (tableOfNet other) (same-lines s r net other reads reads-other .0 lines) e) ∙ sym second,
       )
-
--- ---- settling never gives 16
-
--- a call that comes to write a sheet does not give 16
-pub not-16 : (sheet cells marks output : List ℕ) (place : ℕ) → writtenSheet sheet cells marks output .answer ≡ refused 16 place → ⊥
-not-16 sheet cells marks output place e = go (decLe (length sheet) (length output))
-  where
-    go : Dec (length sheet ≤ length output) → ⊥
-    go (yes h) =
-        let a : _≡_ {A = Answer ℕ} (accepted (length sheet)) (refused 16 place) = sym (ap (λ (made : Made). made .answer) (sheet-written sheet cells marks output h)) ∙ e in
-        let z : _≡_ {A = ℕ} 0 1 = cc in
-        omega arith
-    go (no h) =
-        let a : _≡_ {A = Answer ℕ} (refused 15 (length sheet)) (refused 16 place) = sym (ap (λ (made : Made). made .answer) (sheet-15 sheet cells marks output (lt-of-not-le h))) ∙ e in
-        let z : _≡_ {A = ℕ} 15 16 = cc in
-        omega arith
-
--- a record's answer is not 16 where its number is another
-other-number : (number at place : ℕ) → (number ≡ 16 → ⊥) → _≡_ {A = Answer ℕ} (refused number at) (refused 16 place) → ⊥
-other-number number at place h e = h (let z : number ≡ 16 = cc in z)
-
--- a table whose whole group has mark 2 is not refused with 16, whatever the buffers
-into-not-16 : (t : Table) → WholeTwo t → (cells marks output : List ℕ) (place : ℕ) → settledInto t cells marks output .answer ≡ refused 16 place → ⊥
-into-not-16 t two cells marks output place e =
-    go (decLe (t .header .levels ^ t .header .inputs) (length cells)) (decLe (marksLength (t .header .inputs)) (length marks))
-  where
-    answer-of : Made → Answer ℕ
-    answer-of made = made .answer
-
-    go : Dec (t .header .levels ^ t .header .inputs ≤ length cells) → Dec (marksLength (t .header .inputs) ≤ length marks) → ⊥
-    go (no h) d = other-number 13 _ place (λ q. omega arith) (sym (ap answer-of (into-13 t cells marks output (lt-of-not-le h))) ∙ e)
-    go (yes h) (no k) = other-number 14 _ place (λ q. omega arith) (sym (ap answer-of (into-14 t cells marks output h (lt-of-not-le k))) ∙ e)
-    go (yes h) (yes k) =
-        not-16 (printedNet (settledNet t)) (written cells (t .inks)) (written marks (storedMarks (marksOfTable t))) output place
-        (sym (ap answer-of (into-marked t cells marks output h k ∙ marked-tree t cells marks output two)) ∙ e)
-
--- "Settling never gives 16."
-pub settle-never-16 : (s cells marks output : List ℕ) (place : ℕ) → settleCall s cells marks output .answer ≡ refused 16 place → ⊥
-settle-never-16 s cells marks output place e = go (readNet s) refl
-  where
-    go : (a : Answer Net) → readNet s ≡ a → ⊥
-    go (refused number at) d =
-        other-number number at place (λ q. omega (arith, net-refusal s number at d))
-        (sym (ap (λ (made : Made). made .answer) (settle-refused s cells marks output number at d)) ∙ e)
-    go (accepted net) d =
-        into-not-16 (tableOfNet net) (net-whole-two net (net-accepted s net d .1)) cells marks output place
-        (sym (ap (λ (made : Made). made .answer) (settle-accepted s cells marks output net d)) ∙ e)

@@ -5,11 +5,10 @@ use mathlib.Core.Path.{_≡_, refl, ap}
 use mathlib.Core.Bool.{Bool, true, false}
 use mathlib.Core.List.{List, [], _∷_}
 use native.Mathlib.Numerals.{add-one}
-use native.Mathlib.Omega.{arith}
 use lib.ListN.{length, drop, getD, drop-of-length-le}
 use lib.Seq.{drop-cons}
 use lib.Dec.{eqb}
-use borrow.Author.Tests.{eq-eqb, ne-eqb, eqb-true}
+use borrow.Author.Tests.{eq-eqb, ne-eqb}
 use Rattle.rules.specs.Lists.{same}
 
 pub same-length : (a b : List ℕ) → (length a ≡ length b → ⊥) → same a b ≡ false
@@ -31,17 +30,3 @@ module _ (a b : List ℕ) (i : ℕ) (ha : i < length a) (hb : i < length b) wher
 pub same-end : (a b : List ℕ) (i : ℕ) → length a ≤ i → length b ≤ i → same (drop i a) (drop i b) ≡ true
 unfolding same
 same-end a b i ha hb = rw (drop-of-length-le a ha, drop-of-length-le b hb)
-
-differ : _≡_ {A = Bool} false true → ⊥
-differ e = let z : _≡_ {A = ℕ} 0 1 = cc in omega arith
-
-pub same-true : (a b : List ℕ) → same a b ≡ true → a ≡ b
-unfolding same
-same-true [] [] e = refl
-same-true [] (y ∷ b) e = absurd (differ e)
-same-true (x ∷ a) [] e = absurd (differ e)
-same-true (x ∷ a) (y ∷ b) e = go (eqb x y) refl e (same-true a b)
-  where
-    go : (t : Bool) → eqb x y ≡ t → elim t as (λ _. Bool) [ true ↦ same a b | false ↦ false ] ≡ true → (same a b ≡ true → a ≡ b) → x ∷ a ≡ y ∷ b
-    go true q h rest = λ i. eqb-true x y q i ∷ rest h i
-    go false q h rest = absurd (differ h)

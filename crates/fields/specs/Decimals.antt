@@ -16,12 +16,12 @@ one-digit : (fuel n : ℕ) → n < 10 → decimalF (suc fuel) n ≡ (48 + n) ∷
 unfolding decimalF digitByte
 one-digit fuel n h = rw (lt-ltb n 10 h, decimalF)
 
-pub decimal-one : (n : ℕ) → n < 10 → decimal n ≡ (48 + n) ∷ []
+decimal-one : (n : ℕ) → n < 10 → decimal n ≡ (48 + n) ∷ []
 unfolding decimal decimalF digitByte
 decimal-one zero h = refl
 decimal-one (suc n) h = one-digit n (suc n) h
 
-pub decimal-two : (n : ℕ) → 10 ≤ n → n < 100 → decimal n ≡ (48 + n / 10) ∷ (48 + n % 10) ∷ []
+decimal-two : (n : ℕ) → 10 ≤ n → n < 100 → decimal n ≡ (48 + n / 10) ∷ (48 + n % 10) ∷ []
 unfolding decimal decimalF digitByte
 decimal-two zero h k = absurd (omega arith)
 decimal-two (suc zero) h k = absurd (omega arith)

@@ -1,33 +1,26 @@
 -- The first three lines, field by field.
 -- Assumes nothing.
 use Prim.Native.Nat.{ℕ, _≤_}
-use Prim.Native.String.{String}
 use mathlib.Core.Path.{_≡_, refl, _∙_}
 use mathlib.Core.Bool.{true}
 use mathlib.Core.List.{List, []}
-use native.Mathlib.Omega.{arith}
 use borrow.Author.Tests.{le-leb}
 use lib.ListN.{drop}
 use Rattle.rules.specs.Text.{space, newline, text}
 use Rattle.rules.specs.Limits.{levelsFit, inputsFit, cellsFit, sizeFits, fewestInputs, mostInputs}
-use Rattle.rules.specs.Fields.{Reader, then, _>>=_, give, field, theWord}
+use Rattle.rules.specs.Fields.{Reader, _>>=_, give, field, theWord}
 use Rattle.rules.specs.Sheets as sheets
 use Rattle.rules.specs.Sheets.{levelsField, inputsField, nameFields, headerLines}
 use Rattle.nets.specs.Forms.{headerOf}
 use Rattle.nets.specs.declared.forms.Header.{Header}
 use Rattle.fields.specs.Chained.{chained-back, chained-on, then-then, never-both}
 use Rattle.fields.specs.Names.{NamesHeld}
-use Rattle.fields.specs.Taken.{word-on}
 use Rattle.fields.specs.Lines.{NamesRead}
-use Rattle.fields.specs.Steps.{stepAs, nothing, spelled}
+use Rattle.fields.specs.Steps.{stepAs, spelled}
+use Rattle.fields.specs.Words.{twoWords}
 use Rattle.fields.specs.declared.steps.Step.{Step}
 use Rattle.fields.specs.declared.steps.Step.the-variants.{On, Back}
 use Rattle.fields.specs.declared.lines.HeaderRead.{HeaderRead}
-
--- Line 1 ends at 14.
-pub record FirstLine (s : List ℕ) (r : Step) : Type 0 where
-  pub reads : stepAs nothing s r ≡ then (field (theWord "levels") space s 0) (λ _. field (theWord "inputs") newline)
-  pub ends : (value next : ℕ) → r ≡ On value next → next ≡ 14
 
 -- what a header that was read keeps
 pub record HeaderHeld (s : List ℕ) (h : Header) : Type 0 where
@@ -81,34 +74,8 @@ from-names s at m n last r names ml n2 n11 cells =
           };
     }
 
--- a fixed word, by its text
-pub spelled-word : (due : ℕ) (t : List ℕ) (at : ℕ) (word : String) → field (spelled (text word)) due t at ≡ field (theWord word) due t at
-unfolding spelled theWord
-spelled-word due t at word = refl
-
-module _ (s : List ℕ) (first : Step) (reads : stepAs nothing s first ≡ field (theWord "levels") space s 0) where
-  pub first-back : (number place : ℕ) → first ≡ Back number place → FirstLine s (Back number place)
-  first-back number place e =
-      record {
-        reads =
-            chained-back nothing (field (theWord "levels") space) (λ _. field (theWord "inputs") newline) s 0 first reads nothing
-            (Back number place) number place e refl;
-        ends = λ value next q. absurd (never-both (Back number place) number place value next refl q);
-      }
-
-  pub first-on : (value next : ℕ) (step : Step) → first ≡ On value next
-      → stepAs nothing s step ≡ field (theWord "inputs") newline (drop next s) next → FirstLine s step
-  unfolding text theWord spelled
-  first-on value next step e onward =
-      record {
-        reads =
-            chained-on nothing (field (theWord "levels") space) (λ _. field (theWord "inputs") newline) s 0 first reads nothing step
-            value next e onward;
-        ends = λ v last q.
-            omega (arith, word-on s first 0 value next e (text "levels") space reads, word-on s step next v last q (text "inputs") newline onward);
-      }
-
+-- line 1, then the rest
 pub from-first : (s : List ℕ) (last : ℕ) (r : HeaderRead)
-    → HeaderRest s 0 ((field (theWord "levels") space >>= λ _. field (theWord "inputs") newline) >>= λ _. fromLevels last) r → HeaderRest s 0 (headerLines last) r
-unfolding headerLines fromLevels fromInputs
+    → HeaderRest s 0 (twoWords (text "levels") (text "inputs") >>= λ _. fromLevels last) r → HeaderRest s 0 (headerLines last) r
+unfolding headerLines fromLevels fromInputs twoWords spelled theWord space newline
 from-first s last r rest = record { reads = rest .reads ∙ then-then (field (theWord "levels") space s 0) _ _; held = rest .held }

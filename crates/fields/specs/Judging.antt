@@ -1,71 +1,96 @@
--- A judged field, by place: what each function that reads one field comes to.
+-- A field that was judged, with the byte after it.
 -- Assumes nothing.
-use Prim.Native.Nat.{ℕ, suc, _+_, _-_, _<_}
+use Prim.Native.Nat.{ℕ, suc, _+_, _≤_, _<_}
 use mathlib.Core.Path.{_≡_, refl, sym, ap, _∙_}
 use mathlib.Core.List.{List, [], _∷_}
 use mathlib.Core.Bool.{Bool, true, false}
-use native.Mathlib.Nat.{sub-self}
+use native.Mathlib.Numerals.{add-one}
 use native.Mathlib.Omega.{arith}
-use lib.ListN.{length, take, drop, length-drop}
-use lib.Seq.{length-take-le}
+use lib.ListN.{length, drop, getD, drop-of-length-le}
+use lib.Seq.{drop-cons, drop-drop}
 use lib.Dec.{eqb}
-use Rattle.rules.specs.Fields.{Read, read, turnedBack, Judge, separator, afterField, fieldOf, field}
-use Rattle.fields.specs.Runs.{FieldEnd}
-use Rattle.fields.specs.Steps.{judgedAs, stepAs, itself}
+use borrow.Author.Tests.{eq-eqb, ne-eqb}
+use Rattle.rules.specs.Fields.{Read, read, turnedBack, Judge, separator, afterField, fieldOf, field, run, past}
+use Rattle.laws.specs.Runs.{run-rest}
+use Rattle.fields.specs.Steps.{judgedAs, judgedField, stepAs, itself}
 use Rattle.fields.specs.declared.steps.Step.{Step}
 use Rattle.fields.specs.declared.steps.Verdict.{Verdict}
 use Rattle.fields.specs.declared.steps.Verdict.the-variants.{Good, Bad}
 
-mapped : {A : Type 0} → (ℕ → A) → Read ℕ → Read A
-mapped f (read a rest place) = read (f a) rest place
-mapped f (turnedBack number place) = turnedBack number place
+-- ---- the byte after the field w at `at`, of the verdict v
 
-step-mapped : {A : Type 0} (f : ℕ → A) (s : List ℕ) (r : Step) → stepAs f s r ≡ mapped f (stepAs itself s r)
-unfolding mapped
-step-mapped f s (Step.On value next) = refl
-step-mapped f s (Step.Back number place) = refl
+module _ (s : List ℕ) (at : ℕ) (w : List ℕ) (v : Verdict) (due : ℕ) (is : w ≡ run (drop at s)) where
+  pub after-empty : length w ≡ 0 → turnedBack 1 at ≡ judgedField v due s at
+  unfolding judgedField field fieldOf
+  after-empty e = rw (← is) (go w e)
+    where
+      go : (w : List ℕ) → length w ≡ 0 → turnedBack 1 at ≡ fieldOf (λ _. judgedAs itself v) due w (past (drop at s)) at
+      go [] e = refl
+      go (b ∷ w) e = absurd (omega arith)
 
-separator-mapped : {A : Type 0} (f : ℕ → A) (a due : ℕ) (rest : List ℕ) (place : ℕ)
-    → separator (f a) due rest place ≡ mapped f (separator a due rest place)
-unfolding mapped separator
-separator-mapped f a due [] place = refl
-separator-mapped {A} f a due (b ∷ rest) place = go (eqb b due)
-  where
-    go : (t : Bool)
-        → _≡_ {A = Read A} (elim t [ true ↦ read (f a) rest (suc place) | false ↦ turnedBack 1 place ])
-        (mapped f (elim t [ true ↦ read a rest (suc place) | false ↦ turnedBack 1 place ]))
-    go true = refl
-    go false = refl
+  module _ (some : length w ≡ 0 → ⊥) where
+    full : afterField (judgedAs itself v) due (drop (at + length w) s) at (at + length w) ≡ judgedField v due s at
+    unfolding judgedField field fieldOf
+    full = rw (← is) (ap (λ t. afterField (judgedAs itself v) due t at (at + length w)) rest ∙ go w some)
+      where
+        rest : drop (at + length w) s ≡ past (drop at s)
+        rest = sym (drop-drop (length w) at s) ∙ (ap (λ u. drop (length u) (drop at s)) is ∙ run-rest (drop at s))
 
-after-mapped : {A : Type 0} (f : ℕ → A) (v : Verdict) (due : ℕ) (rest : List ℕ) (at end : ℕ)
-    → afterField (judgedAs f v) due rest at end ≡ mapped f (afterField (judgedAs itself v) due rest at end)
-unfolding mapped afterField
-after-mapped f (Good value) due rest at end = separator-mapped f value due rest end
-after-mapped f (Bad number) due rest at end = refl
+        go : (w : List ℕ) → (length w ≡ 0 → ⊥)
+            → afterField (judgedAs itself v) due (past (drop at s)) at (at + length w) ≡ fieldOf (λ _. judgedAs itself v) due w (past (drop at s)) at
+        go [] h = absurd (h refl)
+        go (b ∷ w) h = refl
 
-field-of : {A : Type 0} (judge : Judge A) (due : ℕ) (w rest : List ℕ) (at : ℕ) → 0 < length w
-    → fieldOf judge due w rest at ≡ afterField (judge w) due rest at (at + length w)
-unfolding fieldOf
-field-of judge due [] rest at h = absurd (omega arith)
-field-of judge due (b ∷ w) rest at h = refl
+    pub after-bad : (number : ℕ) → v ≡ Bad number → turnedBack number at ≡ judgedField v due s at
+    unfolding afterField
+    after-bad number e = rw (← full, e) refl
 
-module _ {A : Type 0} (judge : Judge A) (due : ℕ) (s : List ℕ) (at end : ℕ) (found : FieldEnd s at end) where
-  pub field-empty : end ≡ at → turnedBack 1 at ≡ field judge due (drop at s) at
-  unfolding field fieldOf
-  field-empty e = rw (found .word, e, sub-self at) refl
+    module _ (value : ℕ) (good : v ≡ Good value) (end : ℕ) (ends : end ≡ at + length w) where
+      pub after-due : end < length s → getD s end 0 ≡ due → read value (drop (end + 1) s) (end + 1) ≡ judgedField v due s at
+      unfolding afterField separator
+      after-due h e = rw (← full, good, ← ends, add-one, drop-cons s end 0, eq-eqb _ _ e, separator)
 
-  full : (end ≡ at → ⊥) → field judge due (drop at s) at ≡ afterField (judge (take (end - at) (drop at s))) due (drop end s) at end
-  unfolding field
-  full h =
-      let sized : length (take (end - at) (drop at s)) ≡ end - at =
-      length-take-le (end - at) (drop at s) (rw length-drop (omega (arith, found .within (omega (arith, found .from))))) in
-      rw (found .word, found .rest)
-      (field-of judge due (take (end - at) (drop at s)) (drop end s) at (omega (arith, found .from))
-      ∙ ap (λ k. afterField (judge (take (end - at) (drop at s))) due (drop end s) at k) (ap (λ k. at + k) sized ∙ omega (arith, found .from)))
+      pub after-other : end < length s → (getD s end 0 ≡ due → ⊥) → turnedBack 1 end ≡ judgedField v due s at
+      unfolding afterField separator
+      after-other h e = rw (← full, good, ← ends, drop-cons s end 0, ne-eqb _ _ e, separator)
 
-  pub field-judged : (f : ℕ → A) (v : Verdict) (r : Step) → (end ≡ at → ⊥)
-      → judgedAs f v ≡ judge (take (end - at) (drop at s))
-      → stepAs itself s r ≡ afterField (judgedAs itself v) due (drop end s) at end
-      → stepAs f s r ≡ field judge due (drop at s) at
-  field-judged f v r h judges after =
-      step-mapped f s r ∙ (ap (mapped f) after ∙ (sym (after-mapped f v due (drop end s) at end) ∙ (ap (λ j. afterField j due (drop end s) at end) judges ∙ sym (full h))))
+      pub after-missing : length s ≤ end → turnedBack 1 end ≡ judgedField v due s at
+      unfolding afterField separator
+      after-missing h = rw (← full, good, ← ends, drop-of-length-le s h)
+
+-- ---- what a judge says of the field's bytes
+
+module _ {A : Type 0} (f : ℕ → A) where
+  mapped : Read ℕ → Read A
+  mapped (read a rest place) = read (f a) rest place
+  mapped (turnedBack number place) = turnedBack number place
+
+  step-mapped : (s : List ℕ) (r : Step) → stepAs f s r ≡ mapped (stepAs itself s r)
+  unfolding mapped
+  step-mapped s (Step.On value next) = refl
+  step-mapped s (Step.Back number place) = refl
+
+  separator-mapped : (a due : ℕ) (rest : List ℕ) (place : ℕ) → mapped (separator a due rest place) ≡ separator (f a) due rest place
+  unfolding mapped separator
+  separator-mapped a due [] place = refl
+  separator-mapped a due (b ∷ rest) place = go (eqb b due)
+    where
+      go : (t : Bool)
+          → mapped (elim t [ true ↦ read a rest (suc place) | false ↦ turnedBack 1 place ])
+          ≡ elim t [ true ↦ read (f a) rest (suc place) | false ↦ turnedBack 1 place ]
+      go true = refl
+      go false = refl
+
+  field-mapped : (judge : Judge A) (v : Verdict) (due : ℕ) (w rest : List ℕ) (at : ℕ) → judgedAs f v ≡ judge w
+      → mapped (fieldOf (λ _. judgedAs itself v) due w rest at) ≡ fieldOf judge due w rest at
+  unfolding mapped fieldOf afterField
+  field-mapped judge v due [] rest at e = refl
+  field-mapped judge (Good value) due (b ∷ w) rest at e =
+      separator-mapped value due rest (at + suc (length w)) ∙ ap (λ j. afterField j due rest at (at + suc (length w))) e
+  field-mapped judge (Bad number) due (b ∷ w) rest at e = ap (λ j. afterField j due rest at (at + suc (length w))) e
+
+  pub field-judged : (judge : Judge A) (due : ℕ) (s : List ℕ) (at : ℕ) (w : List ℕ) (v : Verdict) (r : Step) → w ≡ run (drop at s)
+      → judgedAs f v ≡ judge w → stepAs itself s r ≡ judgedField v due s at → stepAs f s r ≡ field judge due (drop at s) at
+  unfolding judgedField field
+  field-judged judge due s at w v r is judges after =
+      step-mapped s r ∙ (ap mapped after ∙ field-mapped judge v due (run (drop at s)) (past (drop at s)) at (judges ∙ ap judge is))

@@ -1,16 +1,13 @@
-pub mod Both
 pub mod Chained
 pub mod Compared
 pub mod Decimals
-pub mod Ends
-pub mod Finding
 pub mod Header
 pub mod Judging
 pub mod Lines
 pub mod Names
-pub mod Passing
 pub mod Ranges
 pub mod Runs
 pub mod Steps
 pub mod Taken
 pub mod Values
+pub mod Words

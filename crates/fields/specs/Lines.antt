@@ -7,26 +7,25 @@ use mathlib.Core.List.{List, [], _∷_, _++_, map}
 use native.Mathlib.Omega.{arith}
 use native.Mathlib.Nat.{zero-add, sub-zero}
 use native.Mathlib.Numerals.{add-one}
-use lib.ListN.{length, take, drop, getD, set, length-set, length-drop}
-use lib.Seq.{length-take-le, getD-set-same, getD-set-other}
+use lib.ListN.{length, take, drop, getD, set, length-set}
+use lib.Seq.{getD-set-same, getD-set-other}
 use lib.Dec.{eqb}
 use borrow.Author.Tests.{eqb-true, eqb-false}
 use Rattle.laws.specs.Concat.{map-append}
-use Rattle.laws.specs.Ranges.{range-suc}
+use Rattle.laws.specs.Ranges.{range-suc, map-range-same}
+use Rattle.laws.specs.Runs.{run-front}
 use Rattle.rules.specs.Lists.{range}
 use Rattle.rules.specs.Text.{space}
-use Rattle.rules.specs.Fields.{turnedBack, then, give, afterField, field}
+use Rattle.rules.specs.Fields.{good, bad, then, give, field, run}
 use Rattle.rules.specs.Sheets.{nameField, nameFields}
 use Rattle.rules.specs.Limits.{mostInputs}
 use Rattle.nets.specs.Forms.{noNames, nameIn, headerOf}
 use Rattle.nets.specs.declared.forms.Header.{Header}
 use Rattle.fields.specs.Chained.{never-both}
-use Rattle.fields.specs.Ends.{after-bad, after-on}
-use Rattle.fields.specs.Judging.{field-empty, field-judged}
+use Rattle.fields.specs.Judging.{field-judged}
 use Rattle.fields.specs.Names.{isNew, new-short, NamesHeld}
-use Rattle.fields.specs.Ranges.{map-range}
-use Rattle.fields.specs.Runs.{FieldEnd}
-use Rattle.fields.specs.Steps.{judgedAs, stepAs, itself}
+use Rattle.fields.specs.Steps.{judgedField, stepAs, itself}
+use Rattle.fields.specs.Taken.{field-on}
 use Rattle.fields.specs.declared.steps.Step.{Step}
 use Rattle.fields.specs.declared.steps.Step.the-variants.{On, Back}
 use Rattle.fields.specs.declared.steps.Verdict.the-variants.{Good, Bad}
@@ -66,34 +65,32 @@ pub record NamesRead (s : List ℕ) (at m n last : ℕ) (r : HeaderRead) : Type 
 
 -- ---- a name
 
-turned : (s : List ℕ) (at due number place : ℕ) (earlier : List (List ℕ))
-    → turnedBack number place ≡ field (nameField earlier) due (drop at s) at → NameRead s at due earlier (Back number place)
-turned s at due number place earlier e =
-    record { reads = e; held = λ len next q. absurd (never-both (Back number place) number place len next refl q) }
+module _ (s : List ℕ) (at due : ℕ) (earlier : List (List ℕ)) (w : List ℕ) (is : w ≡ run (drop at s)) (r : Step) where
+  pub name-refused : isNew earlier w ≡ false → stepAs itself s r ≡ judgedField (Bad 4) due s at → NameRead s at due earlier r
+  unfolding judgedField nameField
+  name-refused e after =
+      record {
+        reads = field-judged (λ len. take len (drop at s)) (nameField earlier) due s at w (Bad 4) r is (rw e refl) after;
+        held = λ len next q.
+            let told = field-on s r at len next q itself (λ _. bad 4) due after .judged in
+            let z : _≡_ {A = ℕ} 0 1 = cc in
+            absurd (omega arith);
+      }
 
-module _ (s : List ℕ) (at end due : ℕ) (earlier : List (List ℕ)) (found : FieldEnd s at end) where
-  pub name-missing : end ≡ at → NameRead s at due earlier (Back 1 at)
-  name-missing e = turned s at due 1 at earlier (field-empty (nameField earlier) due s at end found e)
-
-  module _ (some : end ≡ at → ⊥) where
-    pub name-refused : isNew earlier (take (end - at) (drop at s)) ≡ false → NameRead s at due earlier (Back 4 at)
-    unfolding nameField
-    name-refused e =
-        turned s at due 4 at earlier
-        (field-judged (nameField earlier) due s at end found (λ len. take len (drop at s)) (Bad 4) (Back 4 at) some (rw e refl)
-        (after-bad (Bad 4) 4 due (drop end s) at end refl))
-
-    pub name-taken : (r : Step) → isNew earlier (take (end - at) (drop at s)) ≡ true
-        → stepAs itself s r ≡ afterField (judgedAs itself (Good (end - at))) due (drop end s) at end → NameRead s at due earlier r
-    unfolding nameField
-    name-taken r e after =
-        record {
-          reads = field-judged (nameField earlier) due s at end found (λ len. take len (drop at s)) (Good (end - at)) r some (rw e refl) after;
-          held = λ len next q.
-              let told = after-on s r (end - at) due at end len next after q in
-              let long = rw (length-take-le (end - at) (drop at s) (rw length-drop (omega (arith, found .within (omega (arith, found .from)))))) at (new-short earlier (take (end - at) (drop at s)) e) in
-              (omega (arith, told .0), omega (arith, told .0, told .1, found .from), omega (arith, told .1, told .2));
-        }
+  pub name-taken : isNew earlier w ≡ true → stepAs itself s r ≡ judgedField (Good (length w)) due s at → NameRead s at due earlier r
+  unfolding judgedField nameField
+  name-taken e after =
+      record {
+        reads = field-judged (λ len. take len (drop at s)) (nameField earlier) due s at w (Good (length w)) r is (rw (e, front) refl) after;
+        held = λ len next q.
+            let told = field-on s r at len next q itself (λ _. good (length w)) due after in
+            let judged = told .judged in
+            let long : length w ≡ len = cc in
+            (omega (arith, new-short earlier w e), omega (arith, told .ends, ap length is), told .within);
+      }
+    where
+      front : take (length w) (drop at s) ≡ w
+      front = rw is (run-front (drop at s))
 
 -- ---- one name more
 
@@ -108,7 +105,7 @@ counted : (i n : ℕ) → i < n → n - i ≡ suc (n - (i + 1))
 counted i n h = omega arith
 
 -- the names that were read, in a sheet's header
-abbrev pub namesTo : List ℕ → Header → ℕ → List (List ℕ)
+abbrev namesTo : List ℕ → Header → ℕ → List (List ℕ)
 namesTo s h i = map (nameIn s h) (range 0 i)
 
 -- the loop's state: i names are read, and the names from here are the names from the start
@@ -152,7 +149,7 @@ names-stay s h i start len hs hl =
     ∙ (λ j. earlier-names j ++ (last-name j ∷ []))))
   where
     earlier-names : namesTo s (named h i start len) i ≡ namesTo s h i
-    earlier-names = map-range (nameIn s (named h i start len)) (nameIn s h) 0 i
+    earlier-names = map-range-same (nameIn s (named h i start len)) (nameIn s h) 0 i
         (λ k _ below. λ j. take (getD-set-other (h .lens) i k len 0 (λ q. omega (arith, q)) j) (drop (getD-set-other (h .starts) i k start 0 (λ q. omega (arith, q)) j) s))
 
     last-name : nameIn s (named h i start len) (0 + i) ≡ take len (drop start s)

@@ -1,17 +1,16 @@
 -- A name's bytes; the names that were read before.
 -- Assumes nothing.
 use Prim.Native.Nat.{ℕ, _+_, _≤_, _<_}
-use mathlib.Core.Path.{_≡_, refl}
-use mathlib.Core.Bool.{Bool, true, false, not, _&&_, _||_}
+use mathlib.Core.Path.{_≡_, refl, _∙_}
+use mathlib.Core.Bool.{Bool, true, false, not, _&&_, _||_, and-eq-true-iff, false≢true}
 use mathlib.Core.List.{List, [], _∷_}
 use native.Mathlib.Omega.{arith}
 use lib.ListN.{length, getD}
 use lib.Dec.{leb, ltb}
-use borrow.Author.Tests.{le-leb, lt-leb, leb-true}
+use borrow.Author.Tests.{le-leb, lt-leb}
 use Rattle.rules.specs.Lists.{all, any, same}
 use Rattle.rules.specs.Text.{isDigit, text}
 use Rattle.rules.specs.Sheets.{isLetter, letterFirst, isName}
-use Rattle.fields.specs.Both.{and-left}
 use Rattle.nets.specs.declared.forms.Header.{Header}
 
 abbrev pub isNameByte : ℕ → Bool
@@ -72,9 +71,7 @@ module _ (w : List ℕ) (short : length w ≤ 8) (some : length w ≡ 0 → ⊥)
   unfolding isName
   name-good e q = simp (le-leb (length w) 8 short, first-letter w some, e, q)
 
-pub name-short : (w : List ℕ) → isName w ≡ true → length w ≤ 8
-unfolding isName
-name-short w e = leb-true (length w) 8 (and-left _ (letterFirst w) (and-left _ (all isNameByte w) (and-left _ (not (same w (text "ink"))) e)))
-
 pub new-short : (earlier : List (List ℕ)) (w : List ℕ) → isNew earlier w ≡ true → length w ≤ 8
-new-short earlier w e = name-short w (and-left _ (not (any (same w) earlier)) e)
+new-short earlier w e =
+    let short : 8 < length w → ⊥ = λ long. false≢true (name-long w long ∙ and-eq-true-iff (isName w) (not (any (same w) earlier)) .0 e .0) in
+    omega arith

@@ -5,7 +5,7 @@ use mathlib.Core.List.{List}
 use mathlib.Core.Option.{Option, none, some}
 use lib.ListN.{drop}
 use Rattle.rules.specs.Lists.{same}
-use Rattle.rules.specs.Fields.{Read, read, turnedBack, Judge, Judged, good, bad, judged}
+use Rattle.rules.specs.Fields.{Read, read, turnedBack, Judge, Judged, good, bad, judged, field}
 use Rattle.fields.specs.declared.steps.Found.{Found}
 use Rattle.fields.specs.declared.steps.Found.the-variants.{At, Nowhere}
 use Rattle.rules.specs.Calls.{Answer, accepted, refused}
@@ -27,6 +27,10 @@ nothing value = tt
 abbrev pub judgedAs : {A : Type 0} → (ℕ → A) → Verdict → Judged A
 judgedAs f (Good value) = good (f value)
 judgedAs f (Bad number) = bad number
+
+-- the field at `at` in the sheet s, of the verdict v
+unfoldable pub judgedField : Verdict → ℕ → List ℕ → ℕ → Read ℕ
+judgedField v due s at = field (λ _. judgedAs itself v) due (drop at s) at
 
 -- a step in the sheet s
 abbrev pub stepAs : {A : Type 0} → (ℕ → A) → List ℕ → Step → Read A

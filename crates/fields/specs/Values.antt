@@ -12,7 +12,7 @@ use Rattle.rules.specs.Text.{isDigit}
 use Rattle.rules.specs.Limits.{levelsFit, fewestInputs, mostInputs, cellsFit, mostCells}
 use Rattle.rules.specs.Fields.{good, bad}
 use Rattle.rules.specs.Sheets.{levelsField, inputsOf, inputsField}
-use Rattle.fields.specs.Finding.{found-in}
+use Rattle.laws.specs.Finds.{found-is, first-in-range}
 use Rattle.fields.specs.Steps.{optionOf}
 use Rattle.fields.specs.declared.steps.Found.{Found}
 use Rattle.fields.specs.declared.steps.Found.the-variants.{At, Nowhere}
@@ -51,9 +51,9 @@ module _ (w : List ℕ) (b : ℕ) (e : length w ≡ 1) (q : b ≡ getD w 0 0) wh
   pub levels-good : 50 ≤ b → b ≤ 57 → good (b - 48) ≡ levelsField w
   levels-good h k = rw (by-byte w e, ← q) (right b h k)
 
-pub inputs-range : (w : List ℕ) (n : ℕ) → inputsOf w ≡ some n → (fewestInputs ≤ n) × (n ≤ mostInputs)
+inputs-range : (w : List ℕ) (n : ℕ) → inputsOf w ≡ some n → (fewestInputs ≤ n) × (n ≤ mostInputs)
 unfolding inputsOf
-inputs-range w n e = let f = found-in _ 2 10 n e in (f .0, omega (arith, f .1))
+inputs-range w n e = let f = found-is (first-in-range _ 2 10) n e in (f .0, omega (arith, f .1))
 
 pub inputs-none : (w : List ℕ) (m : ℕ) (r : Found) → optionOf r ≡ inputsOf w → r ≡ Nowhere → bad 3 ≡ inputsField m w
 unfolding inputsField

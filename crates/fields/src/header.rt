@@ -4,16 +4,14 @@ ghost use mathlib.Core.Bool.{true};
 ghost use Prim.Native.Nat.{_≤_};
 ghost use Rattle.rules.specs.Limits.{levelsFit};
 ghost use Rattle.rules.specs.Sheets.{headerLines};
-ghost use Rattle.fields.specs.Header.{FirstLine, HeaderRest, fromInputs, fromLevels};
+ghost use Rattle.fields.specs.Header.{HeaderRest, fromInputs, fromLevels};
 ghost use Rattle.fields.specs.declared.steps.Step.the-variants.{Back};
 use crate::lines::HeaderRead;
 use crate::lines::name_fields;
-use crate::runs::NEWLINE;
-use crate::runs::SPACE;
 use crate::steps::Step;
 use crate::values::inputs_field;
 use crate::values::levels_field;
-use crate::words::word_field;
+use crate::words::two_words;
 use nets::forms::no_names;
 
 // The sheet is turned back: no header.
@@ -23,16 +21,6 @@ pub fn turned(number: usize, place: usize) -> HeaderRead
     HeaderRead {
         step: Step::Back { number, place },
         header: no_names(0, 0),
-    }
-}
-
-// Line 1.
-pub fn first_line(s: &[u8]) -> Step
-    ensures { λ r. ⌜ FirstLine (now (s .entry)) r ⌝ }
-{
-    match word_field(s, 0, b"levels", SPACE) {
-        Step::Back { number, place } => Step::Back { number, place },
-        Step::On { value: _, next } => word_field(s, next, b"inputs", NEWLINE),
     }
 }
 
@@ -62,7 +50,7 @@ pub fn from_levels(s: &[u8], at: usize, last: u8) -> HeaderRead
 pub fn header_lines(s: &[u8], last: u8) -> HeaderRead
     ensures { λ r. ⌜ HeaderRest (now (s .entry)) 0 (headerLines last) r ⌝ }
 {
-    match first_line(s) {
+    match two_words(s, 0, b"levels", b"inputs") {
         Step::Back { number, place } => turned(number, place),
         Step::On { value: _, next } => from_levels(s, next, last),
     }

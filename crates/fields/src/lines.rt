@@ -10,7 +10,7 @@ ghost use Rattle.fields.specs.Lines.{NameRead, dueBefore, NamesRead};
 use crate::ends::after_field;
 use crate::names::is_new_name;
 use crate::runs::SPACE;
-use crate::runs::field_end;
+use crate::runs::field_at;
 use crate::steps::Step;
 use crate::steps::Verdict;
 use nets::forms::Header;
@@ -27,20 +27,11 @@ pub fn name_field(s: &[u8], at: usize, header: Header, count: usize, due: u8) ->
     requires { ⌜ (count ≤ mostInputs) × NamesHeld (now s) header count ⌝ }
     ensures { λ r. ⌜ NameRead (now (s .entry)) at due (map (nameIn (now (s .entry)) header) (range 0 count)) r ⌝ }
 {
-    let end = field_end(s, at);
-    if end == at {
-        return Step::Back {
-            number: 1,
-            place: at,
-        };
+    let w = field_at(s, at);
+    if is_new_name(s, header, count, w) {
+        return after_field(s, at, w, Verdict::Good(w.len()), due);
     }
-    if !is_new_name(s, header, count, &s[at..end]) {
-        return Step::Back {
-            number: 4,
-            place: at,
-        };
-    }
-    after_field(s, Verdict::Good(end - at), due, at, end)
+    after_field(s, at, w, Verdict::Bad(4), due)
 }
 
 // The separator that is due after name i of n.

@@ -64,14 +64,14 @@ pub fn is_name(w: &[u8]) -> bool
     !same_bytes(w, b"ink")
 }
 
-// Is w the name of input i?
-pub fn same_name(s: &[u8], header: Header, i: usize, w: &[u8]) -> bool
+// The name of input i, as a part of the sheet.
+pub fn name_of(s: &[u8], header: Header, i: usize) -> &[u8]
     requires { ⌜ (i < mostInputs) × NameHeld (now s) header i ⌝ }
-    ensures { λ r. ⌜ r ≡ same (now (w .entry)) (nameIn (now (s .entry)) header i) ⌝ }
+    ensures { λ r. ⌜ now r ≡ nameIn (now (s .entry)) header i ⌝ }
 {
     let start = header.starts[i] as usize;
     let end = start + header.lens[i] as usize;
-    same_bytes(w, &s[start..end])
+    &s[start..end]
 }
 
 // Is w the name of one of the first `count` inputs?
@@ -81,7 +81,7 @@ pub fn is_repeated(s: &[u8], header: Header, count: usize, w: &[u8]) -> bool
 {
     let mut i: usize = 0;
     while i < count {
-        if same_name(s, header, i, w) {
+        if same_bytes(w, name_of(s, header, i)) {
             return true;
         }
         i += 1;

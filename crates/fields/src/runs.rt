@@ -1,5 +1,8 @@
 // A field is a longest run of bytes other than space and line feed.
-ghost use Rattle.fields.specs.Runs.{FieldEnd};
+ghost use mathlib.Core.Path.{_≡_};
+ghost use lib.ListN.{drop};
+ghost use Rattle.rules.specs.Fields.{run};
+ghost use Rattle.fields.specs.Runs.{fieldEnd};
 
 pub const SPACE: u8 = 32;
 
@@ -7,7 +10,7 @@ pub const NEWLINE: u8 = 10;
 
 // Where the field that starts at `at` ends.
 pub fn field_end(s: &[u8], at: usize) -> usize
-    ensures { λ r. ⌜ FieldEnd (now (s .entry)) at r ⌝ }
+    ensures { λ r. ⌜ r ≡ fieldEnd (now (s .entry)) at ⌝ }
 {
     let mut end = at;
     while end < s.len() {
@@ -21,4 +24,15 @@ pub fn field_end(s: &[u8], at: usize) -> usize
         end += 1;
     }
     end
+}
+
+// The field that starts at `at`: an empty one where the sheet ends before it.
+pub fn field_at(s: &[u8], at: usize) -> &[u8]
+    ensures { λ r. ⌜ now r ≡ run (drop at (now (s .entry))) ⌝ }
+{
+    if s.len() < at {
+        return &s[..0];
+    }
+    let end = field_end(s, at);
+    &s[at..end]
 }

@@ -11,7 +11,7 @@ use crate::numbers::is_decimal;
 use crate::numbers::wide;
 use crate::runs::NEWLINE;
 use crate::runs::SPACE;
-use crate::runs::field_end;
+use crate::runs::field_at;
 use crate::steps::Found;
 use crate::steps::Step;
 use crate::steps::Verdict;
@@ -37,15 +37,9 @@ pub fn judge_levels(w: &[u8]) -> Verdict
 pub fn levels_field(s: &[u8], at: usize) -> Step
     ensures { λ r. ⌜ stepAs itself (now (s .entry)) r ≡ field levelsField 32 (drop at (now (s .entry))) at ⌝ }
 {
-    let end = field_end(s, at);
-    if end == at {
-        return Step::Back {
-            number: 1,
-            place: at,
-        };
-    }
-    let verdict = judge_levels(&s[at..end]);
-    after_field(s, verdict, SPACE, at, end)
+    let w = field_at(s, at);
+    let verdict = judge_levels(w);
+    after_field(s, at, w, verdict, SPACE)
 }
 
 // The number of inputs of which w is the decimal value.
@@ -81,13 +75,7 @@ pub fn inputs_field(s: &[u8], at: usize, m: usize) -> Step
     requires { ⌜ m ≤ mostLevels ⌝ }
     ensures { λ r. ⌜ stepAs itself (now (s .entry)) r ≡ field (inputsField m) 10 (drop at (now (s .entry))) at ⌝ }
 {
-    let end = field_end(s, at);
-    if end == at {
-        return Step::Back {
-            number: 1,
-            place: at,
-        };
-    }
-    let verdict = judge_inputs(&s[at..end], m);
-    after_field(s, verdict, NEWLINE, at, end)
+    let w = field_at(s, at);
+    let verdict = judge_inputs(w, m);
+    after_field(s, at, w, verdict, NEWLINE)
 }

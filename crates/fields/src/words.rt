@@ -1,10 +1,13 @@
-// A field that is a fixed word.
+// Fields that are fixed words.
 ghost use mathlib.Core.Path.{_≡_};
 ghost use lib.ListN.{drop};
 ghost use Rattle.rules.specs.Fields.{field};
 ghost use Rattle.fields.specs.Steps.{judgedAs, stepAs, nothing, spelled};
+ghost use Rattle.fields.specs.Words.{WordsRead};
 use crate::ends::after_field;
-use crate::runs::field_end;
+use crate::runs::NEWLINE;
+use crate::runs::SPACE;
+use crate::runs::field_at;
 use crate::same::same_bytes;
 use crate::steps::Step;
 use crate::steps::Verdict;
@@ -21,13 +24,17 @@ pub fn judge_word(w: &[u8], word: &[u8]) -> Verdict
 pub fn word_field(s: &[u8], at: usize, word: &[u8], due: u8) -> Step
     ensures { λ r. ⌜ stepAs nothing (now (s .entry)) r ≡ field (spelled (now (word .entry))) due (drop at (now (s .entry))) at ⌝ }
 {
-    let end = field_end(s, at);
-    if end == at {
-        return Step::Back {
-            number: 1,
-            place: at,
-        };
+    let w = field_at(s, at);
+    let verdict = judge_word(w, word);
+    after_field(s, at, w, verdict, due)
+}
+
+// Two words, to the end of their line.
+pub fn two_words(s: &[u8], at: usize, first: &[u8], second: &[u8]) -> Step
+    ensures { λ r. ⌜ WordsRead (now (s .entry)) at (now (first .entry)) (now (second .entry)) r ⌝ }
+{
+    match word_field(s, at, first, SPACE) {
+        Step::Back { number, place } => Step::Back { number, place },
+        Step::On { value: _, next } => word_field(s, next, second, NEWLINE),
     }
-    let verdict = judge_word(&s[at..end], word);
-    after_field(s, verdict, due, at, end)
 }

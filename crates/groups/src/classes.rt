@@ -7,7 +7,6 @@ ghost use Rattle.groups.specs.Firsts.{classesOver, Counted};
 ghost use Rattle.groups.specs.Within.{Within, Room};
 use crate::alike;
 use radix::offsets;
-use radix::powers;
 
 // Goes through the assignments xs and puts the first of each class to the front of `firsts`, m of them at most. Answers how
 // many classes there are, or m + 1 where they are more than m.
@@ -47,8 +46,7 @@ pub fn group_classes(
     requires { ⌜ (Room m n (now cells) (now xs) (now ys) (now firsts)) × (g < 2 ^ n) ⌝ }
     ensures { λ r. ⌜ Counted m (classes m n (inkIn (now (cells .entry))) g) r (now (firsts .exit)) ⌝ }
 {
-    let rest = powers::power(2, n) - 1 - g;
     let count = offsets::offsets(m, n, g, xs);
-    let other = offsets::offsets(m, n, rest, ys);
+    let other = offsets::other_offsets(m, n, g, ys);
     class_firsts(cells, &xs[0..count], &ys[0..other], m, firsts)
 }

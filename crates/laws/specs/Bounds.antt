@@ -3,7 +3,7 @@
 use Prim.Native.Nat.{ℕ, zero, suc, _≤_, _<_}
 use mathlib.Core.List.{List, [], _∷_, _++_, map}
 use native.Mathlib.Omega.{arith}
-use lib.ListN.{length, getD, take}
+use lib.ListN.{length, getD}
 
 abbrev pub Below : ℕ → List ℕ → Type 0
 Below b [] = Unit {0}
@@ -25,11 +25,6 @@ below-append b (x ∷ xs) ys h k = (h .0, below-append b xs ys (h .1) k)
 pub below-map : (b c : ℕ) (f : ℕ → ℕ) → ((x : ℕ) → x < b → f x < c) → (xs : List ℕ) → Below b xs → Below c (map f xs)
 below-map b c f e [] h = tt
 below-map b c f e (x ∷ xs) h = (e x (h .0), below-map b c f e xs (h .1))
-
-pub below-take : (b k : ℕ) (xs : List ℕ) → Below b xs → Below b (take k xs)
-below-take b zero xs h = tt
-below-take b (suc k) [] h = tt
-below-take b (suc k) (x ∷ xs) h = (h .0, below-take b k xs (h .1))
 
 pub below-more : (b c : ℕ) → b ≤ c → (xs : List ℕ) → Below b xs → Below c xs
 below-more b c e [] h = tt

@@ -15,7 +15,7 @@ pub first-cons : {A : Type 0} (test : A → Bool) (x : A) (xs : List A) → firs
 unfolding firstPlace
 first-cons test x xs = elim (test x) as (λ t. elim t [ true ↦ zero | false ↦ suc (firstPlace test xs) ] ≡ cond t zero (suc (firstPlace test xs))) [ true ↦ refl | false ↦ refl ]
 
-pub first-none : {A : Type 0} (test : A → Bool) → firstPlace test [] ≡ 0
+first-none : {A : Type 0} (test : A → Bool) → firstPlace test [] ≡ 0
 unfolding firstPlace
 first-none test = refl
 
@@ -50,11 +50,6 @@ module _ {A : Type 0} (test : A → Bool) (d : A) where
           → test (getD (x ∷ xs) (cond t zero (suc (firstPlace test xs))) d) ≡ true
       go true e h rest = e
       go false e h rest = rest (omega arith)
-
-  -- where all fail, the place is past the end
-  pub none-first : (xs : List A) → ((k : ℕ) → k < length xs → test (getD xs k d) ≡ false) → firstPlace test xs ≡ length xs
-  none-first [] h = first-none test
-  none-first (x ∷ xs) h = first-cons test x xs ∙ rw (h 0 (omega arith)) (ap suc (none-first xs (λ k l. h (suc k) (omega arith))))
 
   -- where one passes, the place is before the end
   first-below : (xs : List A) → any test xs ≡ true → firstPlace test xs < length xs

@@ -80,14 +80,14 @@ unfolding levelsAt level
 levels-below m n p k pos h = rw (map-range-at (level m n p) 0 n k 0) (mod-lt _ pos)
 
 -- so the levels are those of the index over m, and the lowest digit
-pub levels-suc : (m n p : ℕ) → levelsAt m (suc n) p ≡ levelsAt m n (p / m) ++ (p % m ∷ [])
+levels-suc : (m n p : ℕ) → levelsAt m (suc n) p ≡ levelsAt m n (p / m) ++ (p % m ∷ [])
 unfolding levelsAt
 levels-suc m n p =
     rw (range-suc, map-append, zero-add, level-last)
     (ap (λ (ls : List ℕ). ls ++ (p % m ∷ [])) (map-range-same (level m (suc n) p) (level m n (p / m)) 0 n (λ i _ h. level-front m n p i (omega arith))))
 
 -- the count starts at all zeros
-pub levels-first : (m n : ℕ) → levelsAt m n 0 ≡ replicate n 0
+levels-first : (m n : ℕ) → levelsAt m n 0 ≡ replicate n 0
 unfolding levelsAt level
 levels-first m n = map-range-same (level m n 0) (λ _. 0) 0 n (λ i _ _. simp (zero-div, zero-mod)) ∙ map-range-all 0 0 n
 

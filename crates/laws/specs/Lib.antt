@@ -7,10 +7,13 @@ pub mod Finds
 pub mod FirstPlaces
 pub mod Levels
 pub mod Outcomes
+pub mod Pastes
 pub mod Pigeonhole
 pub mod Places
 pub mod Ranges
 pub mod Rows
+pub mod Runs
 pub mod Same
 pub mod Sizes
 pub mod Tests
+pub mod Walks

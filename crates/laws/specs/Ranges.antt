@@ -30,6 +30,7 @@ pub range-suc : (from count : ℕ) → range from (suc count) ≡ range from cou
 unfolding range
 range-suc from count = ap (range from) (sym (add-one count)) ∙ range-append from count 1
 
+-- each number one more
 pub range-shift : (from count : ℕ) → range (suc from) count ≡ map suc (range from count)
 unfolding range
 range-shift from zero = refl

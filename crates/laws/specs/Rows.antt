@@ -12,7 +12,7 @@ use Rattle.laws.specs.Concat.{concat-length}
 use Rattle.laws.specs.Ranges.{range-length, range-at, map-range-length, map-range-at}
 
 -- the entry of row u and column v, where each row has m entries
-pub rows-at : {A B : Type 0} (row : A → List B) (m : ℕ) → ((x : A) → length (row x) ≡ m)
+rows-at : {A B : Type 0} (row : A → List B) (m : ℕ) → ((x : A) → length (row x) ≡ m)
     → (xs : List A) (u v : ℕ) (d : A) (e : B) → u < length xs → v < m → getD (concatMap row xs) (u * m + v) e ≡ getD (row (getD xs u d)) v e
 unfolding concatMap
 rows-at row m even [] u v d e u< v< = absurd (omega arith)

@@ -1,14 +1,17 @@
 -- The bounds of levels, inputs and cells as orders of numbers.
 -- Assumes nothing.
-use Prim.Native.Nat.{ℕ, _^_, _≤_}
+use Prim.Native.Nat.{ℕ, _+_, _-_, _^_, _≤_}
 use mathlib.Core.Path.{_≡_}
 use mathlib.Core.Logic.{_↔_}
-use mathlib.Core.Bool.{true, _&&_, and-eq-true-iff}
+use mathlib.Core.Bool.{Bool, true, _&&_, and-eq-true-iff}
+use native.Mathlib.Omega.{arith}
 use borrow.Author.Tests.{leb-true}
+use Rattle.rules.specs.Lists.{range, all}
 use Rattle.rules.specs.Limits.{fewestLevels, mostLevels, fewestInputs, mostInputs, mostCells, levelsFit, inputsFit, cellsFit, sizeFits}
 use Rattle.rules.specs.Sheets.{Header}
 use Rattle.rules.specs.Kept.{KeptHeader}
-use Rattle.laws.specs.Tests.{both-leb}
+use Rattle.laws.specs.Ranges.{mem-range}
+use Rattle.laws.specs.Tests.{all-mem, both-leb}
 
 pub record Size (m n : ℕ) : Type 0 where
   pub levels-least : fewestLevels ≤ m
@@ -49,3 +52,16 @@ kept-fits h kept =
 
 pub kept-size : (h : Header) → KeptHeader h → Size (h .levels) (h .inputs)
 kept-size h kept = sized (h .levels) (h .inputs) (kept-fits h kept)
+
+-- ---- one test over all sizes within the bounds of levels and inputs
+
+unfoldable pub everySize : (ℕ → ℕ → Bool) → Bool
+everySize test = all (λ m. all (test m) (range fewestInputs (mostInputs + 1 - fewestInputs))) (range fewestLevels (mostLevels + 1 - fewestLevels))
+
+-- what it finds holds at each
+pub at-size : (test : ℕ → ℕ → Bool) → everySize test ≡ true → (m n : ℕ) → Size m n → test m n ≡ true
+unfolding everySize
+at-size test every m n size =
+    let row = all-mem (λ k. all (test k) (range fewestInputs (mostInputs + 1 - fewestInputs)))
+    (mem-range fewestLevels (mostLevels + 1 - fewestLevels) m (size .levels-least) (omega (arith, size .levels-most))) every in
+    all-mem (test m) (mem-range fewestInputs (mostInputs + 1 - fewestInputs) n (size .inputs-least) (omega (arith, size .inputs-most))) row

@@ -91,7 +91,7 @@ module _ {A : Type 0} (test : A → Bool) where
   none-iff x xs = rw any-cons (or-false-iff (test x) (any test xs))
 
   -- any of two lists joined
-  pub any-append : (xs ys : List A) → any test (xs ++ ys) ≡ (any test xs || any test ys)
+  any-append : (xs ys : List A) → any test (xs ++ ys) ≡ (any test xs || any test ys)
   unfolding any
   any-append [] ys = refl
   any-append (x ∷ xs) ys = rw (any-cons x (xs ++ ys), any-cons x xs, any-append xs ys) (sym (or-assoc (test x) (any test xs) (any test ys)))

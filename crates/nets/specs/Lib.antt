@@ -1,4 +1,5 @@
 pub mod Forms
+pub mod Growing
 pub mod Room
 pub mod Sound
 pub mod Evaluating

@@ -1,18 +1,15 @@
 -- Laws of a gate list's values and its table.
 -- Assumes nothing.
-use Prim.Native.Nat.{ℕ, zero, suc, _+_, _-_, _*_, _^_, _≤_, _<_}
+use Prim.Native.Nat.{ℕ, zero, suc, _+_, _*_, _≤_, _<_}
 use mathlib.Core.Path.{_≡_, refl, sym, ap, _∙_}
 use mathlib.Core.List.{List, [], _∷_, _++_}
 use native.Mathlib.Nat.{add-zero, le-refl}
 use native.Mathlib.Omega.{arith}
-use lib.ListN.{length, getD, take, length-append, length-map}
+use lib.ListN.{length, getD, take, length-append}
 use lib.Seq.{take-all, take-take, take-append-seam}
-use Rattle.rules.specs.Lists.{range}
-use Rattle.rules.specs.Sheets.{Gate, levelsAt}
+use Rattle.rules.specs.Sheets.{Gate}
 use Rattle.rules.specs.Kept.{GateTable, Tables}
-use Rattle.rules.specs.Value.{gateValue, withGates, value, tableOf}
-use Rattle.laws.specs.Ranges.{range-length, map-range-at}
-use Rattle.laws.specs.Levels.{levels-length, levels-below}
+use Rattle.rules.specs.Value.{gateValue, withGates}
 
 -- ---- the values of all references
 
@@ -64,22 +61,3 @@ module _ (m : ℕ) (pos : 0 < m) where
   with-below vs [] t b = b
   with-below vs (g ∷ gates) t b =
       with-below (vs ++ (gateValue m vs g ∷ [])) gates (t .1) (below-snoc vs (gateValue m vs g) b (gate-below vs g (t .0)))
-
-  pub value-below : (n : ℕ) (gates : List Gate) (p : ℕ) → Tables m gates → value m n gates p < m
-  unfolding value
-  value-below n gates p t =
-      with-below (levelsAt m n p) gates t
-      (below-all (levelsAt m n p) (λ k h. levels-below m n p k pos (rw levels-length at h))) (n + length gates - 1)
-
--- ---- the table
-
-pub table-length : (m n : ℕ) (gates : List Gate) → length (tableOf m n gates) ≡ m ^ n
-unfolding tableOf
-table-length m n gates = length-map (range 0 (m ^ n)) (value m n gates) ∙ range-length 0 (m ^ n)
-
--- a table's inks are levels
-pub table-below : (m n : ℕ) (gates : List Gate) → 0 < m → Tables m gates → AreLevels m (tableOf m n gates)
-unfolding tableOf
-table-below m n gates pos t =
-    below-all m pos (tableOf m n gates)
-    (λ k h. rw (map-range-at (value m n gates) 0 (m ^ n) k 0 (rw table-length at h)) (value-below m pos n gates (0 + k) t))

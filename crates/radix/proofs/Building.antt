@@ -10,6 +10,7 @@ use lib.ListN.{length, getD, take, set}
 use lib.Seq.{getD-take}
 use Rattle.rules.specs.Groups.{member, points}
 use Rattle.laws.specs.Bounds.{below-at}
+use Rattle.radix.specs.Fronts.{Front}
 use Rattle.radix.specs.Offsets.{widened, widened-length, tail, tail-member, tail-other, tail-below, tail-length, points-tail}
 
 module _ (m n g : ℕ) where
@@ -35,11 +36,10 @@ module _ (m n g : ℕ) where
       none = omega arith
 
   -- all is built
-  pub built-all : (out : List ℕ) (len w i : ℕ) → i ≤ 0 → Built out len w i
-      → (len ≡ length (points m n g)) × (take len out ≡ points m n g)
+  pub built-all : (out : List ℕ) (len w i : ℕ) → i ≤ 0 → Built out len w i → Front (points m n g) len out
   built-all out len w i h b =
       let e : tail m g i (n - i) ≡ points m n g = ap₂ (tail m g) at-zero all ∙ sym (points-tail m n g) in
-      (b .count ∙ ap length e, b .front ∙ e)
+      record { count = b .count ∙ ap length e; is = b .front ∙ e }
     where
       at-zero : i ≡ 0
       at-zero = omega arith

@@ -8,13 +8,21 @@ use native.Mathlib.Omega.{arith}
 use lib.ListN.{length, take, length-take}
 use Rattle.rules.specs.Groups.{wholeGroup, others}
 
+-- xs is the front r of out
+pub record Front (xs : List ℕ) (r : ℕ) (out : List ℕ) : Type 0 where
+  pub count : r ≡ length xs
+  pub is : take r out ≡ xs
+
 -- it is no longer
-pub fits-in : (r : ℕ) (out xs : List ℕ) → r ≡ length xs → take r out ≡ xs → r ≤ length out
-fits-in r out xs l e = omega (arith, length-take r out, ap length e)
+pub fits-in : {xs : List ℕ} {r : ℕ} {out : List ℕ} → Front xs r out → r ≤ length out
+fits-in {xs} {r} {out} at = omega (arith, length-take r out, ap length (at .is), at .count)
 
 -- as a part from 0 on
 pub front : (r : ℕ) (out xs : List ℕ) → take r out ≡ xs → take (r - 0) out ≡ xs
 front r out xs e = ap (λ (k : ℕ). take k out) (sub-zero r) ∙ e
+
+pub part-is : {xs : List ℕ} {r : ℕ} {out : List ℕ} → Front xs r out → take (r - 0) out ≡ xs
+part-is {xs} {r} {out} at = front r out xs (at .is)
 
 pub rest-others : (n g all : ℕ) → all ≡ 2 ^ n → all - 1 - g ≡ others n g
 unfolding others wholeGroup

@@ -13,6 +13,7 @@ use Rattle.rules.specs.Lists.{range, concatMap}
 use Rattle.rules.specs.Groups.{member, points}
 use Rattle.laws.specs.Bounds.{Below, below-append, below-map, below-more}
 use Rattle.laws.specs.Concat.{concat-append, concat-concat, concat-map, map-concat, concat-same, map-same}
+use Rattle.laws.specs.Places.{map-at}
 use Rattle.laws.specs.Ranges.{range-suc, range-shift}
 
 -- the offsets xs for each level of an input of weight w
@@ -137,11 +138,6 @@ widened-front (suc m) w xs h =
     ∙ map-same _ _ (λ x. ap (λ (k : ℕ). k + x) (zero-mul w) ∙ zero-add x) xs
     ∙ map-id xs
 
-map-at : (f : ℕ → ℕ) (xs : List ℕ) (j : ℕ) → j < length xs → getD (map f xs) j 0 ≡ f (getD xs j 0)
-map-at f [] j h = absurd (omega arith)
-map-at f (x ∷ xs) zero h = refl
-map-at f (x ∷ xs) (suc j) h = map-at f xs j (omega arith)
-
 blocks-last : (w : ℕ) (xs : List ℕ) (m : ℕ) → blocks w xs 0 (suc m) ≡ blocks w xs 0 m ++ concatMap (λ l. map (λ x. l * w + x) xs) (m ∷ [])
 unfolding blocks
 blocks-last w xs m =
@@ -162,7 +158,7 @@ widened-step (suc m) w xs j h =
     ap (λ (k : ℕ). getD (first ++ blocks w xs 1 m) (k + j) 0) (sym (length-map xs (λ x. 0 * w + x)))
     ∙ getD-append-add first (blocks w xs 1 m) j 0
     ∙ ap (λ (l : List ℕ). getD l j 0) (blocks-shift w xs 0 m)
-    ∙ map-at (λ y. y + w) (blocks w xs 0 m) j inside
+    ∙ map-at (λ y. y + w) (blocks w xs 0 m) j 0 0 inside
     ∙ ap (λ (k : ℕ). k + w)
     (sym (List·getD-append (blocks w xs 0 m) (concatMap (λ l. map (λ x. l * w + x) xs) (m ∷ [])) 0 j inside)
     ∙ ap (λ (l : List ℕ). getD l j 0) (sym (blocks-last w xs m)))

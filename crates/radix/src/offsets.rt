@@ -2,8 +2,10 @@
 ghost use mathlib.Core.Path.{_≡_};
 ghost use Prim.Native.Nat.{ℕ, _*_, _^_, _≤_, _<_};
 ghost use lib.ListN.{length, take, getD};
-ghost use Rattle.rules.specs.Groups.{member, points};
+ghost use Rattle.rules.specs.Groups.{member, points, others};
+ghost use Rattle.radix.specs.Fronts.{Front};
 ghost use Rattle.radix.specs.Offsets.{widened};
+use crate::powers;
 
 // Is input i a member of group g?
 pub fn member_of(g: usize, i: usize) -> bool
@@ -31,7 +33,7 @@ fn widen(out: &mut [u16], len: usize, w: u16, m: usize) -> usize
 // Writes the assignments of group g to the front of `out`, and answers how many there are.
 pub fn offsets(m: usize, n: usize, g: usize, out: &mut [u16]) -> usize
     requires { ⌜ (0 < m) × (n ≤ 16) × (m ^ n ≤ 32768) × (m ^ n ≤ length (now out)) ⌝ }
-    ensures { λ r. ⌜ (r ≡ length (points m n g)) × (take r (now (out .exit)) ≡ points m n g) ⌝ }
+    ensures { λ r. ⌜ Front (points m n g) r (now (out .exit)) ⌝ }
 {
     let mut len: usize = 1;
     let mut w: usize = 1;
@@ -48,4 +50,12 @@ pub fn offsets(m: usize, n: usize, g: usize, out: &mut [u16]) -> usize
         }
     }
     len
+}
+
+// The same for the inputs that are no members.
+pub fn other_offsets(m: usize, n: usize, g: usize, out: &mut [u16]) -> usize
+    requires { ⌜ (0 < m) × (n ≤ 16) × (m ^ n ≤ 32768) × (m ^ n ≤ length (now out)) × (g < 2 ^ n) ⌝ }
+    ensures { λ r. ⌜ Front (points m n (others n g)) r (now (out .exit)) ⌝ }
+{
+    offsets(m, n, powers::power(2, n) - 1 - g, out)
 }

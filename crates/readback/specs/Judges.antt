@@ -12,7 +12,7 @@ use lib.Dec.{eqb, leb}
 use borrow.Author.Tests.{leb-true, eqb-true, eq-eqb, not-true}
 use Rattle.rules.specs.Lists.{range, all, any, same, find}
 use Rattle.rules.specs.Text.{text, digitByte, isDigit, decimal}
-use Rattle.rules.specs.Limits.{levelsFit, inputsFit, cellsFit}
+use Rattle.rules.specs.Limits.{levelsFit, inputsFit, cellsFit, fewestInputs, mostInputs}
 use Rattle.rules.specs.Fields.{Judged, good, bad, Judge, judged}
 use Rattle.rules.specs.Sheets.{levelsField, inputsOf, inputsField, isLetter, letterFirst, isName, nameField, digitsField, levelField, inkField}
 use Rattle.rules.specs.Kept.{GateTable}
@@ -92,7 +92,7 @@ module _ (print : ℕ → List ℕ) (from count : ℕ) (test : ℕ → Bool) (u 
           let (h, k, i) = found-is (first-in-range (λ n. same w (print n)) from count) m d in
           rw q (h, k, t, same-true w (print m) i)
 
--- the inputs field: the decimal values from 2 to 11 that leave the cells within their bound
+-- the inputs field: the decimal values within the bounds that leave the cells within theirs
 pub judges-inputs : (m : ℕ) → Judges (inputsField m) ((n : ℕ) × (inputsFit n ≡ true) × (cellsFit m n ≡ true)) (λ x. x .0) (λ x. decimal (x .0))
 unfolding inputsField inputsOf looking verdict
 judges-inputs m = record { passes = λ x. passes (x .0) (x .1) (x .2); word = λ x. decimal-word (x .0); only = only }
@@ -100,12 +100,12 @@ judges-inputs m = record { passes = λ x. passes (x .0) (x .1) (x .2); word = λ
     passes : (n : ℕ) → inputsFit n ≡ true → cellsFit m n ≡ true → inputsField m (decimal n) ≡ good n
     passes n h k =
         let (i, j) = inputs-fit n .0 h in
-        looking-passes decimal 2 10 (cellsFit m) 3 3 decimal-injective n i (omega arith) k
+        looking-passes decimal fewestInputs (mostInputs + 1 - fewestInputs) (cellsFit m) 3 3 decimal-injective n i (omega arith) k
 
     only : (w : List ℕ) (a : ℕ) → inputsField m w ≡ good a
         → (x : (n : ℕ) × (inputsFit n ≡ true) × (cellsFit m n ≡ true)) × (a ≡ x .0) × (w ≡ decimal (x .0))
     only w a e =
-        let (h, k, t, q) = looking-only decimal 2 10 (cellsFit m) 3 3 w a e in
+        let (h, k, t, q) = looking-only decimal fewestInputs (mostInputs + 1 - fewestInputs) (cellsFit m) 3 3 w a e in
         ((a, inputs-fit a .1 (omega arith), t), refl, q)
 
 -- ---- names

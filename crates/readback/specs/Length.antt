@@ -11,17 +11,15 @@ use lib.Dec.{leb}
 use borrow.Author.Tests.{leb-true}
 use Rattle.rules.specs.Lists.{range, all, concatMap}
 use Rattle.rules.specs.Text.{text}
-use Rattle.rules.specs.Limits.{fewestLevels, mostLevels, fewestInputs, mostInputs, cellsFit, mostSettled}
+use Rattle.rules.specs.Limits.{cellsFit, mostSettled}
 use Rattle.rules.specs.Sheets.{Gate, Net, referenceText}
 use Rattle.rules.specs.Printed.{line, firstLines, printedGate, printedNet}
 use Rattle.rules.specs.Kept.{GoodNames, GateTable, RefersBack, Tables, KeptNet}
-use Rattle.laws.specs.Tests.{all-mem}
-use Rattle.laws.specs.Ranges.{mem-range}
 use Rattle.laws.specs.Decimals.{decimal-length}
 use Rattle.readback.specs.Judges.{name-parts}
 use Rattle.readback.specs.Names.{good-name}
 use Rattle.readback.specs.References.{Refers, toInput, toGate, refers}
-use Rattle.laws.specs.Sizes.{Size, kept-size}
+use Rattle.laws.specs.Sizes.{Size, kept-size, everySize, at-size}
 
 -- ---- the parts of a sheet
 
@@ -88,19 +86,14 @@ sheet-length net k =
 boundTest : ℕ → ℕ → Bool
 boundTest m n = not (cellsFit m n) || leb (bound m n) mostSettled
 
--- it is so for all levels and inputs within their bounds
-boundTests : all (λ m. all (boundTest m) (range fewestInputs (mostInputs + 1 - fewestInputs))) (range fewestLevels (mostLevels + 1 - fewestLevels)) ≡ true
-unfolding all range boundTest bound cellsFit
-boundTests = refl
+bound-tested : everySize boundTest ≡ true
+unfolding everySize all range boundTest bound cellsFit
+bound-tested = refl
 
 -- so the bound is small for all sizes that a sheet may have
 size-bound : (m n : ℕ) → Size m n → cellsFit m n ≡ true → bound m n ≤ mostSettled
 unfolding boundTest
-size-bound m n z e =
-    let row = all-mem (λ m. all (boundTest m) (range fewestInputs (mostInputs + 1 - fewestInputs)))
-    (mem-range fewestLevels (mostLevels + 1 - fewestLevels) m (z .levels-least) (omega (arith, z .levels-most))) boundTests in
-    let t = all-mem (boundTest m) (mem-range fewestInputs (mostInputs + 1 - fewestInputs) n (z .inputs-least) (omega (arith, z .inputs-most))) row in
-    leb-true (bound m n) mostSettled (rw e at t)
+size-bound m n size fits = leb-true (bound m n) mostSettled (rw fits at (at-size boundTest bound-tested m n size))
 
 -- no net sheet is longer than 512 bytes
 pub net-length : (net : Net) → KeptNet net → length (printedNet net) ≤ mostSettled

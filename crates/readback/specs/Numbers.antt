@@ -1,203 +1,214 @@
--- A sheet that is turned back is turned back with one of the numbers 1 to 8.
+-- The numbers with which a sheet is turned back: a net sheet with 1, 2, 3, 4, 6, 7 or 8, a table sheet with 1 to 6.
 -- Assumes nothing.
-use Prim.Native.Nat.{ℕ, zero, suc, _-_, _*_, _^_, _≤_}
-use mathlib.Core.Path.{_≡_, refl, sym}
+use Prim.Native.Nat.{ℕ, zero, suc, _-_, _*_, _^_}
+use mathlib.Core.Path.{_≡_, refl, sym, subst}
 use mathlib.Core.Bool.{Bool, true, false, not, _&&_}
 use mathlib.Core.Option.{Option, none, some}
 use mathlib.Core.List.{List, [], _∷_, _++_, map}
 use Prim.Native.String.{String}
 use native.Mathlib.Omega.{arith}
 use lib.ListN.{length}
-use lib.Dec.{eqb, lit≤}
+use lib.Dec.{eqb}
 use Rattle.rules.specs.Lists.{all, any, same}
 use Rattle.rules.specs.Text.{space, newline, text, digitByte, isDigit}
 use Rattle.rules.specs.Limits.{levelsFit, cellsFit}
 use Rattle.rules.specs.Fields.{Read, read, turnedBack, Reader, then, _>>=_, give, Judged, good, bad, Judge, judged, run, past, separator, afterField, fieldOf, field, theWord, closed}
 use Rattle.rules.specs.Sheets.{Gate, levelsField, inputsOf, inputsField, isName, nameField, nameFields, headerLines, referenceOf, referenceField, digitsField, usedBy, gateLine, gateLines, netSheet, levelsAt, levelField, inkField, levelFields, rowLines, tableSheet}
 use Rattle.rules.specs.Calls.{Answer, refused, answered, readNet, readTable}
+use Rattle.laws.specs.Distinct.{In}
 use Rattle.readback.specs.Spells.{not-read}
 use Rattle.readback.specs.Fields.{not-good}
 
--- every number with which a judge, or a reader, turns back is 1 to 8
-abbrev SmallJudge : {A : Type 0} → Judge A → Type 0
-SmallJudge judge = (w : List ℕ) (k : ℕ) → judge w ≡ bad k → k ≤ 8
+abbrev pub netNumbers : List ℕ
+netNumbers = 1 ∷ 2 ∷ 3 ∷ 4 ∷ 6 ∷ 7 ∷ 8 ∷ []
 
-abbrev Small : {A : Type 0} → Reader A → Type 0
-Small r = (s : List ℕ) (at k place : ℕ) → r s at ≡ turnedBack k place → k ≤ 8
+abbrev pub tableNumbers : List ℕ
+tableNumbers = 1 ∷ 2 ∷ 3 ∷ 4 ∷ 5 ∷ 6 ∷ []
 
--- a number that is named
-named-bad : {A : Type 0} (number k : ℕ) → number ≤ 8 → _≡_ {A = Judged A} (bad number) (bad k) → k ≤ 8
-named-bad number k h e = let z : number ≡ k = cc in omega arith
+-- The numbers that both kinds of sheet have are the section's; 7 and 8 are a net sheet's, and 5 a table sheet's.
+module _ (numbers : List ℕ) (one : In 1 numbers) (two : In 2 numbers) (three : In 3 numbers) (four : In 4 numbers) (six : In 6 numbers) where
+  -- every number with which a judge, or a reader, turns back is one of `numbers`
+  abbrev AmongJudge : {A : Type 0} → Judge A → Type 0
+  AmongJudge judge = (w : List ℕ) (k : ℕ) → judge w ≡ bad k → In k numbers
 
-named-turned : {A : Type 0} (number at k place : ℕ) → number ≤ 8 → _≡_ {A = Read A} (turnedBack number at) (turnedBack k place) → k ≤ 8
-named-turned number at k place h e = let z : number ≡ k = cc in omega arith
+  abbrev Among : {A : Type 0} → Reader A → Type 0
+  Among r = (s : List ℕ) (at k place : ℕ) → r s at ≡ turnedBack k place → In k numbers
 
-test-bad : {A : Type 0} (t : Bool) (a : A) (number k : ℕ) → number ≤ 8 → judged t a number ≡ bad k → k ≤ 8
-test-bad true a number k h e = absurd (not-good k a (sym e))
-test-bad false a number k h e = named-bad number k h e
+  -- a number that is named
+  named-bad : {A : Type 0} (number k : ℕ) → In number numbers → _≡_ {A = Judged A} (bad number) (bad k) → In k numbers
+  named-bad number k h e = subst (λ (k : ℕ). In k numbers) (let z : number ≡ k = cc in z) h
 
--- ---- readers put together
+  named-turned : {A : Type 0} (number at k place : ℕ) → In number numbers → _≡_ {A = Read A} (turnedBack number at) (turnedBack k place) → In k numbers
+  named-turned number at k place h e = subst (λ (k : ℕ). In k numbers) (let z : number ≡ k = cc in z) h
 
-small-give : {A : Type 0} (a : A) → Small (give a)
-small-give a s at k place e = absurd (not-read k place a s at (sym e))
+  test-bad : {A : Type 0} (t : Bool) (a : A) (number k : ℕ) → In number numbers → judged t a number ≡ bad k → In k numbers
+  test-bad true a number k h e = absurd (not-good k a (sym e))
+  test-bad false a number k h e = named-bad number k h e
 
-small-then : {A B : Type 0} (r : Reader A) (next : A → Reader B) → Small r → ((a : A) → Small (next a)) → Small (r >>= next)
-unfolding then
-small-then {A} r next h i s at k place e = go (r s at) refl e
-  where
-    go : (u : Read A) → r s at ≡ u → then u next ≡ turnedBack k place → k ≤ 8
-    go (read a rest p) d e = i a rest p k place e
-    go (turnedBack number p) d e = named-turned number p k place (h s at number p d) e
+  -- ---- readers put together
 
-small-separator : {A : Type 0} (a : A) (due : ℕ) (s : List ℕ) (at k place : ℕ) → separator a due s at ≡ turnedBack k place → k ≤ 8
-unfolding separator
-small-separator a due [] at k place e = named-turned 1 at k place (lit≤ tt) e
-small-separator {A} a due (b ∷ s) at k place e = go (eqb b due) e
-  where
-    go : (t : Bool) → _≡_ {A = Read A} (elim t [ true ↦ read a s (suc at) | false ↦ turnedBack 1 at ]) (turnedBack k place) → k ≤ 8
-    go true e = absurd (not-read k place a s (suc at) (sym e))
-    go false e = named-turned 1 at k place (lit≤ tt) e
+  among-give : {A : Type 0} (a : A) → Among (give a)
+  among-give a s at k place e = absurd (not-read k place a s at (sym e))
 
-small-field : {A : Type 0} (judge : Judge A) (due : ℕ) → SmallJudge judge → Small (field judge due)
-unfolding field fieldOf afterField
-small-field {A} judge due h s at k place e = go (run s) e
-  where
-    judged-field : (w : List ℕ) (u : Judged A) → judge w ≡ u → (end : ℕ) → afterField u due (past s) at end ≡ turnedBack k place → k ≤ 8
-    judged-field w (good a) d end e = small-separator a due (past s) end k place e
-    judged-field w (bad number) d end e = named-turned number at k place (h w number d) e
+  among-then : {A B : Type 0} (r : Reader A) (next : A → Reader B) → Among r → ((a : A) → Among (next a)) → Among (r >>= next)
+  unfolding then
+  among-then {A} r next h i s at k place e = go (r s at) refl e
+    where
+      go : (u : Read A) → r s at ≡ u → then u next ≡ turnedBack k place → In k numbers
+      go (read a rest p) d e = i a rest p k place e
+      go (turnedBack number p) d e = named-turned number p k place (h s at number p d) e
 
-    go : (w : List ℕ) → fieldOf judge due w (past s) at ≡ turnedBack k place → k ≤ 8
-    go [] e = named-turned 1 at k place (lit≤ tt) e
-    go (b ∷ w) e = judged-field (b ∷ w) (judge (b ∷ w)) refl _ e
+  among-separator : {A : Type 0} (a : A) (due : ℕ) (s : List ℕ) (at k place : ℕ) → separator a due s at ≡ turnedBack k place → In k numbers
+  unfolding separator
+  among-separator a due [] at k place e = named-turned 1 at k place one e
+  among-separator {A} a due (b ∷ s) at k place e = go (eqb b due) e
+    where
+      go : (t : Bool) → _≡_ {A = Read A} (elim t [ true ↦ read a s (suc at) | false ↦ turnedBack 1 at ]) (turnedBack k place) → In k numbers
+      go true e = absurd (not-read k place a s (suc at) (sym e))
+      go false e = named-turned 1 at k place one e
 
--- ---- the judges
+  among-field : {A : Type 0} (judge : Judge A) (due : ℕ) → AmongJudge judge → Among (field judge due)
+  unfolding field fieldOf afterField
+  among-field {A} judge due h s at k place e = go (run s) e
+    where
+      judged-field : (w : List ℕ) (u : Judged A) → judge w ≡ u → (end : ℕ) → afterField u due (past s) at end ≡ turnedBack k place → In k numbers
+      judged-field w (good a) d end e = among-separator a due (past s) end k place e
+      judged-field w (bad number) d end e = named-turned number at k place (h w number d) e
 
-small-word : (word : String) → SmallJudge (theWord word)
-unfolding theWord
-small-word word w k e = test-bad (same w (text word)) tt 1 k (lit≤ tt) e
+      go : (w : List ℕ) → fieldOf judge due w (past s) at ≡ turnedBack k place → In k numbers
+      go [] e = named-turned 1 at k place one e
+      go (b ∷ w) e = judged-field (b ∷ w) (judge (b ∷ w)) refl _ e
 
-small-levels : SmallJudge levelsField
-unfolding levelsField
-small-levels [] k e = named-bad 2 k (lit≤ tt) e
-small-levels (b ∷ []) k e = test-bad (isDigit 10 b && levelsFit (b - 48)) (b - 48) 2 k (lit≤ tt) e
-small-levels (b ∷ c ∷ w) k e = named-bad 2 k (lit≤ tt) e
+  -- ---- the judges
 
-small-inputs : (m : ℕ) → SmallJudge (inputsField m)
-unfolding inputsField
-small-inputs m w k e = go (inputsOf w) e
-  where
-    go : (o : Option ℕ) → _≡_ {A = Judged ℕ} (elim o [ none ↦ bad 3 | some n ↦ judged (cellsFit m n) n 3 ]) (bad k) → k ≤ 8
-    go none e = named-bad 3 k (lit≤ tt) e
-    go (some n) e = test-bad (cellsFit m n) n 3 k (lit≤ tt) e
+  among-word : (word : String) → AmongJudge (theWord word)
+  unfolding theWord
+  among-word word w k e = test-bad (same w (text word)) tt 1 k one e
 
-small-name : (earlier : List (List ℕ)) → SmallJudge (nameField earlier)
-unfolding nameField
-small-name earlier w k e = test-bad (isName w && not (any (same w) earlier)) w 4 k (lit≤ tt) e
+  among-levels : AmongJudge levelsField
+  unfolding levelsField
+  among-levels [] k e = named-bad 2 k two e
+  among-levels (b ∷ []) k e = test-bad (isDigit 10 b && levelsFit (b - 48)) (b - 48) 2 k two e
+  among-levels (b ∷ c ∷ w) k e = named-bad 2 k two e
 
-small-reference : (names : List (List ℕ)) (earlier : ℕ) (used : List ℕ) → SmallJudge (referenceField names earlier used)
-unfolding referenceField
-small-reference names earlier used w k e = go (referenceOf names earlier w) e
-  where
-    go : (o : Option ℕ) → _≡_ {A = Judged ℕ} (elim o [ none ↦ bad 7 | some r ↦ judged (not (any (eqb r) used)) r 8 ]) (bad k) → k ≤ 8
-    go none e = named-bad 7 k (lit≤ tt) e
-    go (some r) e = test-bad (not (any (eqb r) used)) r 8 k (lit≤ tt) e
+  among-inputs : (m : ℕ) → AmongJudge (inputsField m)
+  unfolding inputsField
+  among-inputs m w k e = go (inputsOf w) e
+    where
+      go : (o : Option ℕ) → _≡_ {A = Judged ℕ} (elim o [ none ↦ bad 3 | some n ↦ judged (cellsFit m n) n 3 ]) (bad k) → In k numbers
+      go none e = named-bad 3 k three e
+      go (some n) e = test-bad (cellsFit m n) n 3 k three e
 
-small-digits : (m : ℕ) → SmallJudge (digitsField m)
-unfolding digitsField
-small-digits m w k e = test-bad (eqb (length w) (m * m) && all (isDigit m) w) (map (λ b. b - 48) w) 6 k (lit≤ tt) e
+  among-name : (earlier : List (List ℕ)) → AmongJudge (nameField earlier)
+  unfolding nameField
+  among-name earlier w k e = test-bad (isName w && not (any (same w) earlier)) w 4 k four e
 
-small-level : (due : ℕ) → SmallJudge (levelField due)
-unfolding levelField
-small-level due w k e = test-bad (same w (digitByte due ∷ [])) tt 5 k (lit≤ tt) e
+  among-reference : In 7 numbers → In 8 numbers → (names : List (List ℕ)) (earlier : ℕ) (used : List ℕ) → AmongJudge (referenceField names earlier used)
+  unfolding referenceField
+  among-reference seven eight names earlier used w k e = go (referenceOf names earlier w) e
+    where
+      go : (o : Option ℕ) → _≡_ {A = Judged ℕ} (elim o [ none ↦ bad 7 | some r ↦ judged (not (any (eqb r) used)) r 8 ]) (bad k) → In k numbers
+      go none e = named-bad 7 k seven e
+      go (some r) e = test-bad (not (any (eqb r) used)) r 8 k eight e
 
-small-ink : (m : ℕ) → SmallJudge (inkField m)
-unfolding inkField
-small-ink m [] k e = named-bad 6 k (lit≤ tt) e
-small-ink m (b ∷ []) k e = test-bad (isDigit m b) (b - 48) 6 k (lit≤ tt) e
-small-ink m (b ∷ c ∷ w) k e = named-bad 6 k (lit≤ tt) e
+  among-digits : (m : ℕ) → AmongJudge (digitsField m)
+  unfolding digitsField
+  among-digits m w k e = test-bad (eqb (length w) (m * m) && all (isDigit m) w) (map (λ b. b - 48) w) 6 k six e
 
--- ---- the sheets
+  among-level : In 5 numbers → (due : ℕ) → AmongJudge (levelField due)
+  unfolding levelField
+  among-level five due w k e = test-bad (same w (digitByte due ∷ [])) tt 5 k five e
 
-small-closed : Small closed
-unfolding closed
-small-closed [] at k place e = absurd (not-read k place tt [] at (sym e))
-small-closed (b ∷ s) at k place e = named-turned 1 at k place (lit≤ tt) e
+  among-ink : (m : ℕ) → AmongJudge (inkField m)
+  unfolding inkField
+  among-ink m [] k e = named-bad 6 k six e
+  among-ink m (b ∷ []) k e = test-bad (isDigit m b) (b - 48) 6 k six e
+  among-ink m (b ∷ c ∷ w) k e = named-bad 6 k six e
 
-small-names : (last count : ℕ) (earlier : List (List ℕ)) → Small (nameFields last count earlier)
-unfolding nameFields
-small-names last zero earlier = small-give earlier
-small-names last (suc zero) earlier = small-then _ _ (small-field (nameField earlier) last (small-name earlier)) (λ w. small-give (earlier ++ (w ∷ [])))
-small-names last (suc (suc count)) earlier =
-    small-then _ _ (small-field (nameField earlier) space (small-name earlier)) (λ w. small-names last (suc count) (earlier ++ (w ∷ [])))
+  -- ---- the sheets
 
-small-header : (last : ℕ) → Small (headerLines last)
-unfolding headerLines
-small-header last =
-    small-then _ _ (small-field (theWord "levels") space (small-word "levels")) (λ _.
-    small-then _ _ (small-field (theWord "inputs") newline (small-word "inputs")) (λ _.
-    small-then _ _ (small-field levelsField space small-levels) (λ m.
-    small-then _ _ (small-field (inputsField m) newline (small-inputs m)) (λ n.
-    small-then _ _ (small-names last n []) (λ names. small-give _)))))
+  among-closed : Among closed
+  unfolding closed
+  among-closed [] at k place e = absurd (not-read k place tt [] at (sym e))
+  among-closed (b ∷ s) at k place e = named-turned 1 at k place one e
 
-small-gate : (m : ℕ) (names : List (List ℕ)) (earlier : List Gate) → Small (gateLine m names earlier)
-unfolding gateLine
-small-gate m names earlier =
-    small-then _ _ (small-field _ space (small-reference names (length earlier) (usedBy earlier))) (λ left.
-    small-then _ _ (small-field _ space (small-reference names (length earlier) (left ∷ usedBy earlier))) (λ right.
-    small-then _ _ (small-field (digitsField m) newline (small-digits m)) (λ digits. small-give _)))
+  among-names : (last count : ℕ) (earlier : List (List ℕ)) → Among (nameFields last count earlier)
+  unfolding nameFields
+  among-names last zero earlier = among-give earlier
+  among-names last (suc zero) earlier = among-then _ _ (among-field (nameField earlier) last (among-name earlier)) (λ w. among-give (earlier ++ (w ∷ [])))
+  among-names last (suc (suc count)) earlier =
+      among-then _ _ (among-field (nameField earlier) space (among-name earlier)) (λ w. among-names last (suc count) (earlier ++ (w ∷ [])))
 
-small-gates : (m : ℕ) (names : List (List ℕ)) (count : ℕ) (earlier : List Gate) → Small (gateLines m names count earlier)
-unfolding gateLines
-small-gates m names zero earlier = small-give earlier
-small-gates m names (suc count) earlier = small-then _ _ (small-gate m names earlier) (λ g. small-gates m names count (earlier ++ (g ∷ [])))
+  among-header : (last : ℕ) → Among (headerLines last)
+  unfolding headerLines
+  among-header last =
+      among-then _ _ (among-field (theWord "levels") space (among-word "levels")) (λ _.
+      among-then _ _ (among-field (theWord "inputs") newline (among-word "inputs")) (λ _.
+      among-then _ _ (among-field levelsField space among-levels) (λ m.
+      among-then _ _ (among-field (inputsField m) newline (among-inputs m)) (λ n.
+      among-then _ _ (among-names last n []) (λ names. among-give _)))))
 
-small-net : Small netSheet
-unfolding netSheet
-small-net =
-    small-then _ _ (small-header newline) (λ h.
-    small-then _ _ (small-field (theWord "left") space (small-word "left")) (λ _.
-    small-then _ _ (small-field (theWord "right") space (small-word "right")) (λ _.
-    small-then _ _ (small-field (theWord "table") newline (small-word "table")) (λ _.
-    small-then _ _ (small-gates (h .levels) (h .names) (h .inputs - 1) []) (λ gates.
-    small-then _ _ small-closed (λ _. small-give _))))))
+  among-gate : In 7 numbers → In 8 numbers → (m : ℕ) (names : List (List ℕ)) (earlier : List Gate) → Among (gateLine m names earlier)
+  unfolding gateLine
+  among-gate seven eight m names earlier =
+      among-then _ _ (among-field _ space (among-reference seven eight names (length earlier) (usedBy earlier))) (λ left.
+      among-then _ _ (among-field _ space (among-reference seven eight names (length earlier) (left ∷ usedBy earlier))) (λ right.
+      among-then _ _ (among-field (digitsField m) newline (among-digits m)) (λ digits. among-give _)))
 
-small-row : (levels : List ℕ) → Small (levelFields levels)
-unfolding levelFields
-small-row [] = small-give tt
-small-row (l ∷ ls) = small-then _ _ (small-field (levelField l) space (small-level l)) (λ _. small-row ls)
+  among-gates : In 7 numbers → In 8 numbers → (m : ℕ) (names : List (List ℕ)) (count : ℕ) (earlier : List Gate) → Among (gateLines m names count earlier)
+  unfolding gateLines
+  among-gates seven eight m names zero earlier = among-give earlier
+  among-gates seven eight m names (suc count) earlier = among-then _ _ (among-gate seven eight m names earlier) (λ g. among-gates seven eight m names count (earlier ++ (g ∷ [])))
 
-small-rows : (m n p count : ℕ) (inks : List ℕ) → Small (rowLines m n p count inks)
-unfolding rowLines
-small-rows m n p zero inks = small-give inks
-small-rows m n p (suc count) inks =
-    small-then _ _ (small-row (levelsAt m n p)) (λ _.
-    small-then _ _ (small-field (inkField m) newline (small-ink m)) (λ ink. small-rows m n (suc p) count (inks ++ (ink ∷ []))))
+  among-net : In 7 numbers → In 8 numbers → Among netSheet
+  unfolding netSheet
+  among-net seven eight =
+      among-then _ _ (among-header newline) (λ h.
+      among-then _ _ (among-field (theWord "left") space (among-word "left")) (λ _.
+      among-then _ _ (among-field (theWord "right") space (among-word "right")) (λ _.
+      among-then _ _ (among-field (theWord "table") newline (among-word "table")) (λ _.
+      among-then _ _ (among-gates seven eight (h .levels) (h .names) (h .inputs - 1) []) (λ gates.
+      among-then _ _ among-closed (λ _. among-give _))))))
 
-small-table : Small tableSheet
-unfolding tableSheet
-small-table =
-    small-then _ _ (small-header space) (λ h.
-    small-then _ _ (small-field (theWord "ink") newline (small-word "ink")) (λ _.
-    small-then _ _ (small-rows (h .levels) (h .inputs) 0 (h .levels ^ h .inputs) []) (λ inks.
-    small-then _ _ small-closed (λ _. small-give _))))
+  among-row : In 5 numbers → (levels : List ℕ) → Among (levelFields levels)
+  unfolding levelFields
+  among-row five [] = among-give tt
+  among-row five (l ∷ ls) = among-then _ _ (among-field (levelField l) space (among-level five l)) (λ _. among-row five ls)
+
+  among-rows : In 5 numbers → (m n p count : ℕ) (inks : List ℕ) → Among (rowLines m n p count inks)
+  unfolding rowLines
+  among-rows five m n p zero inks = among-give inks
+  among-rows five m n p (suc count) inks =
+      among-then _ _ (among-row five (levelsAt m n p)) (λ _.
+      among-then _ _ (among-field (inkField m) newline (among-ink m)) (λ ink. among-rows five m n (suc p) count (inks ++ (ink ∷ []))))
+
+  among-table : In 5 numbers → Among tableSheet
+  unfolding tableSheet
+  among-table five =
+      among-then _ _ (among-header space) (λ h.
+      among-then _ _ (among-field (theWord "ink") newline (among-word "ink")) (λ _.
+      among-then _ _ (among-rows five (h .levels) (h .inputs) 0 (h .levels ^ h .inputs) []) (λ inks.
+      among-then _ _ among-closed (λ _. among-give _))))
 
 -- ---- what an answer's refusal is
 
-abbrev Refuses : {A : Type 0} → (List ℕ → Answer A) → Type 0
-Refuses call = (s : List ℕ) (number place : ℕ) → call s ≡ refused number place → number ≤ 8
+-- every number with which a call refuses is one of `numbers`
+abbrev pub Refuses : List ℕ → {A : Type 0} → (List ℕ → Answer A) → Type 0
+Refuses numbers call = (s : List ℕ) (number place : ℕ) → call s ≡ refused number place → In number numbers
 
-small-answer : {A : Type 0} (r : Reader A) → Small r → Refuses (λ s. answered (r s 0))
+among-answer : {A : Type 0} (numbers : List ℕ) (r : Reader A) → ((s : List ℕ) (at k place : ℕ) → r s at ≡ turnedBack k place → In k numbers)
+    → Refuses numbers (λ s. answered (r s 0))
 unfolding answered
-small-answer {A} r h s number place e = go (r s 0) refl e
+among-answer {A} numbers r h s number place e = go (r s 0) refl e
   where
-    go : (u : Read A) → r s 0 ≡ u → answered u ≡ refused number place → number ≤ 8
+    go : (u : Read A) → r s 0 ≡ u → answered u ≡ refused number place → In number numbers
     go (read a rest p) d e = absurd (let z : _≡_ {A = ℕ} 0 1 = cc in omega arith)
-    go (turnedBack k p) d e = let same : k ≡ number = cc in omega (arith, h s 0 k p d)
+    go (turnedBack k p) d e = subst (λ (k : ℕ). In k numbers) (let same : k ≡ number = cc in same) (h s 0 k p d)
 
-pub net-refusal : Refuses readNet
-unfolding readNet
-net-refusal = small-answer netSheet small-net
+pub net-refusal : Refuses netNumbers readNet
+unfolding readNet any
+net-refusal = among-answer netNumbers netSheet (among-net netNumbers refl refl refl refl refl refl refl)
 
-pub table-refusal : Refuses readTable
-unfolding readTable
-table-refusal = small-answer tableSheet small-table
+pub table-refusal : Refuses tableNumbers readTable
+unfolding readTable any
+table-refusal = among-answer tableNumbers tableSheet (among-table tableNumbers refl refl refl refl refl refl)

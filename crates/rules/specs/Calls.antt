@@ -38,6 +38,7 @@ written buffer bytes = bytes ++ drop (length bytes) buffer
 
 -- ---- reading
 
+-- the answer of a reader
 unfoldable pub answered : {A : Type 0} → Read A → Answer A
 answered (read a rest place) = accepted a
 answered (turnedBack number place) = refused number place
@@ -46,6 +47,7 @@ answered (turnedBack number place) = refused number place
 unfoldable pub readNet : List ℕ → Answer Net
 readNet s = answered (netSheet s 0)
 
+-- the same of a table sheet
 unfoldable pub readTable : List ℕ → Answer Table
 readTable s = answered (tableSheet s 0)
 
@@ -71,6 +73,7 @@ multiplicityCall m n cells g =
     onward (bareCells m n cells)
     (λ _. elim (eqb g 0 || leb (2 ^ n) g) [ true ↦ refused 11 0 | false ↦ accepted (capped m (multiplicity m n (inkIn cells) g)) ])
 
+-- what marking answers, and what its buffer holds afterwards
 pub record Marked : Type 0 where
   pub answer : Answer ℕ
   pub marks : List ℕ
@@ -170,6 +173,7 @@ pub data Verdict : Type 0 where
   differ : ℕ → Verdict
   turnedDown : Named → ℕ → ℕ → Verdict
 
+-- what checking answers, and what its buffer holds afterwards
 pub record Checked : Type 0 where
   pub answer : Verdict
   pub cells : List ℕ
@@ -181,6 +185,7 @@ sameNames [] (w ∷ ws) = false
 sameNames (v ∷ vs) [] = false
 sameNames (v ∷ vs) (w ∷ ws) = same v w && sameNames vs ws
 
+-- the same m, n and names
 unfoldable pub sameHeader : Header → Header → Bool
 sameHeader h k = eqb (h .levels) (k .levels) && eqb (h .inputs) (k .inputs) && sameNames (h .names) (k .names)
 
@@ -215,6 +220,7 @@ checkCall net-sheet table-sheet cells =
 
 -- ---- table writing
 
+-- what table writing answers, and what its output holds afterwards
 pub record Written : Type 0 where
   pub answer : Answer ℕ
   pub output : List ℕ
@@ -251,6 +257,7 @@ unfoldable pub settleProgram : List ℕ → List ℕ
 settleProgram input =
     programOutput (settleCall (take mostRead input) (zeros mostCells) (zeros (marksLength mostInputs)) (zeros mostSettled))
 
+-- .. and one makes
 unfoldable pub makeProgram : List ℕ → List ℕ
 makeProgram input =
     programOutput (makeCall (take mostRead input) (zeros mostCells) (zeros (marksLength mostInputs)) (zeros mostSettled))

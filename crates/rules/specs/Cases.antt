@@ -1,7 +1,7 @@
 -- Document 01, section 'Proofs on squared paper': the starred cases 1 to 8 as one theorem, `starred-hold`, and the other two,
 -- `unstarred-hold`. Sheets are written as in the document, with `/` for the line feed.
 -- Assumes nothing.
-use Prim.Native.Nat.{ℕ, _+_, _*_, _%_, _^_, max}
+use Prim.Native.Nat.{ℕ, _+_, _-_, _*_, _^_, max}
 use Prim.Native.String.{String}
 use mathlib.Core.Path.{_≡_, refl}
 use mathlib.Core.Bool.{Bool, true, false, cond, not, _&&_, _||_}
@@ -29,8 +29,9 @@ paper s = lineEnds (text s)
 -- a run of digits, spaces passed over
 unfoldable pub digits : List ℕ → List ℕ
 digits [] = []
-digits (b ∷ s) = elim (isDigit 10 b) [ true ↦ b % 48 ∷ digits s | false ↦ digits s ]
+digits (b ∷ s) = elim (isDigit 10 b) [ true ↦ (b - 48) ∷ digits s | false ↦ digits s ]
 
+-- one-letter names
 unfoldable pub named : String → List (List ℕ)
 named names = map (λ b. b ∷ []) (text names)
 
@@ -39,12 +40,15 @@ unfoldable pub byRule : ℕ → ℕ → List (List ℕ) → (List ℕ → ℕ) �
 byRule m n names rule =
     record { header = record { levels = m; inputs = n; names = names }; inks = map (λ p. rule (levelsAt m n p)) (range 0 (m ^ n)) }
 
+-- .. of three inputs a, b, c
 unfoldable pub abc : ℕ → (ℕ → ℕ → ℕ → ℕ) → Table
 abc m rule = byRule m 3 (named "abc") (λ ls. rule (getD ls 0 0) (getD ls 1 0) (getD ls 2 0))
 
+-- .. of four, a to d
 unfoldable pub abcd : ℕ → (ℕ → ℕ → ℕ → ℕ → ℕ) → Table
 abcd m rule = byRule m 4 (named "abcd") (λ ls. rule (getD ls 0 0) (getD ls 1 0) (getD ls 2 0) (getD ls 3 0))
 
+-- 1 where it holds, 0 where not
 unfoldable pub oneIf : Bool → ℕ
 oneIf b = cond b 1 0
 
@@ -85,6 +89,7 @@ figureRows =
     ∷ digits (text "1 0 1 0 0 1 0 1 0")
     ∷ []
 
+-- Figure 1's table
 unfoldable pub figure : Table
 figure =
     byRule 3 4 (text "z1" ∷ text "z2" ∷ text "z3" ∷ text "z4" ∷ [])
@@ -92,6 +97,7 @@ figure =
 
 -- ---- the cases
 
+-- what a case may say
 pub data Case : Type 0 where
   settles : String → String → Case
   makes : Table → String → Case
@@ -102,9 +108,11 @@ pub data Case : Type 0 where
   refuses : String → ℕ → ℕ → Case
   accepts : String → ℕ → Case
 
+-- a table's marks
 unfoldable pub marksOfTable : Table → List ℕ
 marksOfTable t = marksOf (t .header .levels) (t .header .inputs) (inkIn (t .inks))
 
+-- how many gates an accepted net has
 unfoldable pub gateCount : Answer Net → Answer ℕ
 gateCount answer = onward answer (λ net. accepted (length (net .gates)))
 
@@ -124,6 +132,7 @@ Holds (multiplicity t g due) = multiplicityCall (t .header .levels) (t .header .
 Holds (refuses sheet number place) = gateCount (readNet (paper sheet)) ≡ refused number place
 Holds (accepts sheet gates) = gateCount (readNet (paper sheet)) ≡ accepted gates
 
+-- every case of a list
 abbrev pub AllHold : List Case → Type 0
 AllHold [] = Unit {0}
 AllHold (c ∷ cases) = Holds c × AllHold cases

@@ -11,21 +11,26 @@ use lib.Dec.{eqb}
 use Rattle.rules.specs.Lists.{same}
 use Rattle.rules.specs.Text.{space, newline, text}
 
+-- what a reader comes to
 pub data Read (A : Type 0) : Type 0 where
   read : A → List ℕ → ℕ → Read A
   turnedBack : ℕ → ℕ → Read A
 
+-- takes the bytes that are left, and their place
 abbrev pub Reader : Type 0 → Type 0
 Reader A = List ℕ → ℕ → Read A
 
+-- one reader after another: the first fault decides
 unfoldable pub then : {A B : Type 0} → Read A → (A → Reader B) → Read B
 then (read a rest place) next = next a rest place
 then (turnedBack number place) next = turnedBack number place
 
+-- the same of readers
 infixl 20 _>>=_
 abbrev pub _>>=_ : {A B : Type 0} → Reader A → (A → Reader B) → Reader B
 (reader >>= next) s at = then (reader s at) next
 
+-- reads nothing
 abbrev pub give : {A : Type 0} → A → Reader A
 give a s at = read a s at
 
@@ -34,6 +39,7 @@ pub data Judged (A : Type 0) : Type 0 where
   good : A → Judged A
   bad : ℕ → Judged A
 
+-- takes a field's bytes
 abbrev pub Judge : Type 0 → Type 0
 Judge A = List ℕ → Judged A
 
@@ -45,6 +51,7 @@ judged test a number = cond test (good a) (bad number)
 unfoldable pub isSeparator : ℕ → Bool
 isSeparator b = eqb b space || eqb b newline
 
+-- that run at the front
 unfoldable pub run : List ℕ → List ℕ
 run [] = []
 run (b ∷ s) = elim (isSeparator b) [ true ↦ [] | false ↦ b ∷ run s ]
@@ -70,6 +77,7 @@ unfoldable pub fieldOf : {A : Type 0} → Judge A → ℕ → List ℕ → List 
 fieldOf judge due [] rest at = turnedBack 1 at
 fieldOf judge due (b ∷ w) rest at = afterField (judge (b ∷ w)) due rest at (at + suc (length w))
 
+-- the field at the front, with the separator that is due after it
 unfoldable pub field : {A : Type 0} → Judge A → ℕ → Reader A
 field judge due s at = fieldOf judge due (run s) (past s) at
 

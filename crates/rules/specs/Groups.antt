@@ -16,6 +16,7 @@ member i g = eqb (g / 2 ^ i % 2) 1
 unfoldable pub size : ℕ → ℕ → ℕ
 size n g = length (those (λ i. member i g) (range 0 n))
 
+-- the group of all inputs
 unfoldable pub wholeGroup : ℕ → ℕ
 wholeGroup n = 2 ^ n - 1
 
@@ -39,6 +40,7 @@ part m (suc n) g p = part m n g (p / m) * m + cond (member n g) (p % m) 0
 unfoldable pub alikeOver : (ℕ → ℕ) → List ℕ → ℕ → ℕ → Bool
 alikeOver f ys p q = all (λ y. eqb (f (p + y)) (f (q + y))) ys
 
+-- .. over all of them
 unfoldable pub alike : ℕ → ℕ → (ℕ → ℕ) → ℕ → ℕ → ℕ → Bool
 alike m n f g p q = alikeOver f (points m n (others n g)) p q
 
@@ -47,6 +49,7 @@ unfoldable pub firsts : (ℕ → ℕ → Bool) → List ℕ → List ℕ → Lis
 firsts same kept [] = kept
 firsts same kept (p ∷ ps) = elim (any (same p) kept) [ true ↦ firsts same kept ps | false ↦ firsts same (kept ++ (p ∷ [])) ps ]
 
+-- a group's classes, each by its first assignment
 unfoldable pub classes : ℕ → ℕ → (ℕ → ℕ) → ℕ → List ℕ
 classes m n f g = let ys = points m n (others n g) in firsts (alikeOver f ys) [] (points m n g)
 

@@ -29,6 +29,7 @@ pub record GateTable (m : ℕ) (digits : List ℕ) : Type 0 where
   pub count : length digits ≡ m * m
   pub below : (k : ℕ) → k < length digits → getD digits k 0 < m
 
+-- of every gate
 abbrev pub Tables : ℕ → List Gate → Type 0
 Tables m [] = Unit {0}
 Tables m (g ∷ gates) = GateTable m (g .digits) × Tables m gates
@@ -58,11 +59,12 @@ pub record IsNet (m n : ℕ) (gates : List Gate) : Type 0 where
   pub count : suc (length gates) ≡ n
   pub rules : GateRules m n gates
 
+-- a net sheet keeps every rule
 pub record KeptNet (net : Net) : Type 0 where
   pub header : KeptHeader (net .header)
   pub gates : IsNet (net .header .levels) (net .header .inputs) (net .gates)
 
--- one ink below m for each cell
+-- a table sheet keeps every rule: one ink below m for each cell
 pub record KeptTable (t : Table) : Type 0 where
   pub header : KeptHeader (t .header)
   pub count : length (t .inks) ≡ t .header .levels ^ t .header .inputs

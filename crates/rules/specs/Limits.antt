@@ -1,4 +1,4 @@
--- The limits of document 01, section 'Sheets', each in this one place.
+-- The limits of document 01, each in this one place: of a sheet, of a settled sheet's length, of what a program reads.
 -- Assumes nothing.
 use Prim.Native.Nat.{ℕ, _^_}
 use mathlib.Core.Bool.{Bool, _&&_}
@@ -8,6 +8,7 @@ use lib.Dec.{leb}
 abbrev pub fewestLevels : ℕ
 fewestLevels = 2
 
+-- .. "to 9"
 abbrev pub mostLevels : ℕ
 mostLevels = 9
 
@@ -15,6 +16,7 @@ mostLevels = 9
 abbrev pub fewestInputs : ℕ
 fewestInputs = 2
 
+-- .. "to 11"
 abbrev pub mostInputs : ℕ
 mostInputs = 11
 
@@ -22,6 +24,11 @@ mostInputs = 11
 abbrev pub mostCells : ℕ
 mostCells = 2_187
 
+-- "A name has 1 to 8 bytes"
+abbrev pub mostNameBytes : ℕ
+mostNameBytes = 8
+
+-- levels, inputs and the number of cells, each within its bounds
 unfoldable pub levelsFit : ℕ → Bool
 levelsFit m = leb fewestLevels m && leb m mostLevels
 
@@ -31,7 +38,7 @@ inputsFit n = leb fewestInputs n && leb n mostInputs
 unfoldable pub cellsFit : ℕ → ℕ → Bool
 cellsFit m n = leb (m ^ n) mostCells
 
--- m, n and the cell count are within a sheet's bounds
+-- all three
 unfoldable pub sizeFits : ℕ → ℕ → Bool
 sizeFits m n = levelsFit m && inputsFit n && cellsFit m n
 

@@ -37,5 +37,6 @@ turnOf s net k =
     let at = afterLines s (4 + k) in
     elim (ltb k (length (net .gates))) [ true ↦ gateAt (record { start = at; count = lineLength (drop at s) }) | false ↦ noneLeft ]
 
+-- a turn on any sheet
 unfoldable pub listing : List ℕ → ℕ → Answer Turn
 listing s k = onward (readNet s) (λ net. accepted (turnOf s net k))

@@ -12,10 +12,12 @@ unfoldable pub range : ℕ → ℕ → List ℕ
 range from zero = []
 range from (suc count) = from ∷ range (suc from) count
 
+-- every element passes
 unfoldable pub all : {A : Type 0} → (A → Bool) → List A → Bool
 all test [] = true
 all test (x ∷ xs) = elim (test x) [ true ↦ all test xs | false ↦ false ]
 
+-- some element passes
 unfoldable pub any : {A : Type 0} → (A → Bool) → List A → Bool
 any test [] = false
 any test (x ∷ xs) = elim (test x) [ true ↦ true | false ↦ any test xs ]

@@ -43,6 +43,7 @@ marksOf m n f = marksBelow m n f (2 ^ n)
 unfoldable pub marksLength : ℕ → ℕ
 marksLength n = 2 ^ n
 
+-- one byte is the mark itself
 unfoldable pub storedMarks : List ℕ → List ℕ
 storedMarks marks = marks
 

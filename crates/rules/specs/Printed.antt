@@ -17,9 +17,11 @@ unfoldable pub firstLines : Header → List (List ℕ) → List ℕ
 firstLines h third =
     line (text "levels" ∷ text "inputs" ∷ []) ++ line (decimal (h .levels) ∷ decimal (h .inputs) ∷ []) ++ line third
 
+-- a gate line
 unfoldable pub printedGate : List (List ℕ) → Gate → List ℕ
 printedGate names g = line (referenceText names (g .left) ∷ referenceText names (g .right) ∷ map digitByte (g .digits) ∷ [])
 
+-- "Line 3 has the n input names. Line 4 is `left right table`. Then n − 1 gate lines"
 unfoldable pub printedNet : Net → List ℕ
 printedNet net =
     firstLines (net .header) (net .header .names)
@@ -35,6 +37,7 @@ unfoldable pub printedRows : ℕ → ℕ → ℕ → List ℕ → List ℕ
 printedRows m n p [] = []
 printedRows m n p (ink ∷ inks) = printedRow m n p ink ++ printedRows m n (suc p) inks
 
+-- "Line 3 has the n input names and then `ink`. Then one line for each cell"
 unfoldable pub printedTable : Table → List ℕ
 printedTable t =
     firstLines (t .header) (t .header .names ++ (text "ink" ∷ []))

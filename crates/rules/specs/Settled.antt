@@ -41,6 +41,7 @@ wiringBy n marks (suc fuel) g =
       | false ↦ let a = splitOf n marks g in gate (wiringBy n marks fuel a) (wiringBy n marks fuel (g - a))
     ]
 
+-- the settled net's wiring, from the marks
 unfoldable pub settledWiring : ℕ → List ℕ → Wiring
 settledWiring n marks = wiringBy n marks n (wholeGroup n)
 
@@ -71,6 +72,7 @@ pub record Reached : Type 0 where
 unfoldable pub digitAt : List Reached → ℕ → ℕ → ℕ
 digitAt reached u v = elim (find (λ r. eqb (r .left) u && eqb (r .right) v) reached) [ none ↦ 0 | some r ↦ r .gives ]
 
+-- a gate's table, "left's level slowest"
 unfoldable pub gateDigits : ℕ → ℕ → (ℕ → ℕ) → Bool → Wiring → Wiring → List ℕ
 gateDigits m n f last a b =
     let left = carried m n f false a in
@@ -81,6 +83,7 @@ gateDigits m n f last a b =
 
 -- ---- the gate lines
 
+-- how many gates a wiring has
 unfoldable pub gatesIn : Wiring → ℕ
 gatesIn (input i) = 0
 gatesIn (gate a b) = gatesIn a + gatesIn b + 1

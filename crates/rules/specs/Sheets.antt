@@ -8,11 +8,12 @@ use lib.ListN.{length, getD}
 use lib.Dec.{eqb, leb, ltb}
 use Rattle.rules.specs.Lists.{range, all, any, find, same}
 use Rattle.rules.specs.Text.{space, newline, text, digitByte, isDigit, decimal}
-use Rattle.rules.specs.Limits.{levelsFit, cellsFit, fewestInputs, mostInputs}
+use Rattle.rules.specs.Limits.{levelsFit, cellsFit, fewestInputs, mostInputs, mostNameBytes}
 use Rattle.rules.specs.Fields.{Reader, _>>=_, give, bad, Judge, judged, field, theWord, closed}
 
 -- ---- the two header lines and the names
 
+-- levels m, inputs n, and the names in their order
 pub record Header : Type 0 where
   pub levels : ℕ
   pub inputs : ℕ
@@ -33,16 +34,18 @@ inputsOf w = find (λ n. same w (decimal n)) (range fewestInputs (mostInputs + 1
 unfoldable pub inputsField : ℕ → Judge ℕ
 inputsField m w = elim (inputsOf w) [ none ↦ bad 3 | some n ↦ judged (cellsFit m n) n 3 ]
 
+-- "lowercase letters"
 unfoldable pub isLetter : ℕ → Bool
 isLetter b = leb 97 b && leb b 122
 
+-- "letter first"
 unfoldable pub letterFirst : List ℕ → Bool
 letterFirst [] = false
 letterFirst (b ∷ w) = isLetter b
 
 -- "A name has 1 to 8 bytes, lowercase letters and digits, letter first. It isn't `ink`"
 unfoldable pub isName : List ℕ → Bool
-isName w = leb (length w) 8 && letterFirst w && all (λ b. isLetter b || isDigit 10 b) w && not (same w (text "ink"))
+isName w = leb (length w) mostNameBytes && letterFirst w && all (λ b. isLetter b || isDigit 10 b) w && not (same w (text "ink"))
 
 -- "no two inputs share one." 4: name malformed, `ink`, or repeated
 unfoldable pub nameField : List (List ℕ) → Judge (List ℕ)
@@ -95,6 +98,7 @@ unfoldable pub usedBy : List Gate → List ℕ
 usedBy [] = []
 usedBy (g ∷ gates) = g .left ∷ g .right ∷ usedBy gates
 
+-- a gate line: left, right, table
 unfoldable pub gateLine : ℕ → List (List ℕ) → List Gate → Reader Gate
 gateLine m names earlier = do
   left ← field (referenceField names (length earlier) (usedBy earlier)) space
@@ -108,6 +112,7 @@ gateLines m names zero earlier = give earlier
 gateLines m names (suc count) earlier =
     gateLine m names earlier >>= λ g. gateLines m names count (earlier ++ (g ∷ []))
 
+-- what a net sheet is read as
 pub record Net : Type 0 where
   pub header : Header
   pub gates : List Gate
@@ -130,6 +135,7 @@ netSheet = do
 unfoldable pub level : ℕ → ℕ → ℕ → ℕ → ℕ
 level m n p i = p / m ^ (n - 1 - i) % m
 
+-- all levels at index p
 unfoldable pub levelsAt : ℕ → ℕ → ℕ → List ℕ
 levelsAt m n p = map (level m n p) (range 0 n)
 
@@ -143,6 +149,7 @@ inkField m [] = bad 6
 inkField m (b ∷ []) = judged (isDigit m b) (b - 48) 6
 inkField m (b ∷ c ∷ w) = bad 6
 
+-- a row's input levels, each with a space after it
 unfoldable pub levelFields : List ℕ → Reader (Unit {0})
 levelFields [] = give tt
 levelFields (l ∷ ls) = field (levelField l) space >>= λ _. levelFields ls
@@ -153,6 +160,7 @@ rowLines m n p zero inks = give inks
 rowLines m n p (suc count) inks =
     levelFields (levelsAt m n p) >>= λ _. field (inkField m) newline >>= λ ink. rowLines m n (suc p) count (inks ++ (ink ∷ []))
 
+-- "A table sheet's table lists its inks in the order of its lines."
 pub record Table : Type 0 where
   pub header : Header
   pub inks : List ℕ

@@ -7,9 +7,11 @@ use mathlib.Core.Bool.{Bool, true, false, _&&_}
 use mathlib.Core.List.{List, [], _∷_, _++_}
 use lib.Dec.{leb, ltb}
 
+-- "space (32)"
 unfoldable pub space : ℕ
 space = 32
 
+-- "line feed (byte 10)"
 unfoldable pub newline : ℕ
 newline = 10
 
@@ -32,5 +34,6 @@ decimalF zero n = digitByte (n % 10) ∷ []
 decimalF (suc fuel) n =
     elim (ltb n 10) [ true ↦ digitByte n ∷ [] | false ↦ decimalF fuel (n / 10) ++ (digitByte (n % 10) ∷ []) ]
 
+-- a number as a decimal value: n has no more digits than n + 1
 unfoldable pub decimal : ℕ → List ℕ
 decimal n = decimalF n n

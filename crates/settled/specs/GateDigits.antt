@@ -11,7 +11,7 @@ use native.Mathlib.Omega.{arith}
 use borrow.Author.Tests.{lt-ltb, le-ltb}
 use lib.Dec.{ltb}
 use lib.ListN.{length, getD, length-map}
-use lib.Seq.{ext-getD}
+use lib.Seq.{paste, ext-getD}
 use Rattle.rules.specs.Lists.{range, firstPlace}
 use Rattle.rules.specs.Groups.{part, others, points, alikeOver, classes}
 use Rattle.rules.specs.Settled.{Wiring, gate, groupOf, carried, classNumber, gateDigits}
@@ -30,6 +30,10 @@ use Rattle.settled.specs.Samples.{samples, samples-own, Sampled, sampled
 unfoldable pub given : (ℕ → ℕ) → List ℕ → List ℕ → Bool → ℕ → ℕ
 given f ys firsts true p = f p
 given f ys firsts false p = firstPlace (alikeOver f ys p) firsts
+
+-- the same for group g
+abbrev pub givenBy : ℕ → ℕ → (ℕ → ℕ) → ℕ → Bool → ℕ → ℕ
+givenBy m n f g last = given f (points m n (others n g)) (classes m n f g) last
 
 unfoldable pub sampledDigit : List ℕ → List ℕ → (ℕ → ℕ) → ℕ → ℕ → ℕ
 sampledDigit left right own u v = cond (ltb u (length left)) (cond (ltb v (length right)) (own (getD left u 0 + getD right v 0)) 0) 0
@@ -151,23 +155,37 @@ module _ (m n : ℕ) (pos : 0 < m) (f : ℕ → ℕ) (last : Bool) (a b : Wiring
 
 module _ (m n : ℕ) (pos : 0 < m) (f : ℕ → ℕ) (left right : Wiring) (a b : ℕ) (of-a : groupOf left ≡ a) (of-b : groupOf right ≡ b)
     (once : EachOnce n (gate left right)) (few : EachGate (Few m n f) (gate left right)) where
-  -- the last gate gives the ink
-  pub last-digits : (ys firsts : List ℕ)
-      → sampledDigits m (samples m n f a) (samples m n f b) (given f ys firsts true) ≡ gateDigits m n f true left right
-  unfolding given carried
-  last-digits ys firsts =
-      subst₂ (λ (x y : ℕ). sampledDigits m (samples m n f x) (samples m n f y) (given f ys firsts true) ≡ gateDigits m n f true left right)
-      of-a of-b
-      (digits-sampled m n pos f true left right once few (given f ys firsts true) (λ p own. sym (ap f own)))
-
-  -- a gate below the last gives its group's classes
-  pub class-digits : sampledDigits m (samples m n f a) (samples m n f b) (given f (points m n (others n (a + b))) (classes m n f (a + b)) false)
-      ≡ gateDigits m n f false left right
+  pub digits-given : (last : Bool) → sampledDigits m (samples m n f a) (samples m n f b) (givenBy m n f (a + b) last) ≡ gateDigits m n f last left right
   unfolding given carried classNumber groupOf
-  class-digits =
-      subst₂ (λ (x y : ℕ). sampledDigits m (samples m n f x) (samples m n f y) (given f (points m n (others n (x + y))) (classes m n f (x + y)) false)
-      ≡ gateDigits m n f false left right)
-      of-a of-b
-      (digits-sampled m n pos f false left right once few
-      (given f (points m n (others n (groupOf left + groupOf right))) (classes m n f (groupOf left + groupOf right)) false)
-      (λ p own. ap (λ (q : ℕ). firstPlace (alikeOver f (points m n (others n (groupOf left + groupOf right))) q) (classes m n f (groupOf left + groupOf right))) (sym own)))
+  digits-given last =
+      subst₂ (λ (x y : ℕ). sampledDigits m (samples m n f x) (samples m n f y) (givenBy m n f (x + y) last) ≡ gateDigits m n f last left right) of-a of-b
+      (digits-sampled m n pos f last left right once few (givenBy m n f (groupOf (gate left right)) last) (given-carried last))
+    where
+      -- the last gate gives the ink, one below its group's classes
+      given-carried : (last : Bool) (p : ℕ) → part m n (groupOf (gate left right)) p ≡ p
+          → givenBy m n f (groupOf (gate left right)) last p ≡ carried m n f last (gate left right) p
+      given-carried true p own = sym (ap f own)
+      given-carried false p own =
+          ap (λ (q : ℕ). firstPlace (alikeOver f (points m n (others n (groupOf (gate left right)))) q) (classes m n f (groupOf (gate left right)))) (sym own)
+
+-- ---- the digits written
+
+-- the digits of the gate that joins groups a and b stand from `at` on, for any wirings of the two groups
+abbrev pub DigitsAt : ℕ → ℕ → (ℕ → ℕ) → Bool → ℕ → ℕ → ℕ → List ℕ → List ℕ → Type 0
+DigitsAt m n f last a b at before after =
+    (left right : Wiring) → groupOf left ≡ a → groupOf right ≡ b → EachOnce n (gate left right) → EachGate (Few m n f) (gate left right)
+    → after ≡ paste before at (gateDigits m n f last left right) (m * m)
+
+module _ (m n : ℕ) (f : ℕ → ℕ) (last : Bool) (at : ℕ) (before after : List ℕ) where
+  -- from the lists that the code passes
+  pub written-given : (g : ℕ) (left right ys firsts : List ℕ) → ys ≡ points m n (others n g) → firsts ≡ classes m n f g
+      → after ≡ paste before at (sampledDigits m left right (given f ys firsts last)) (m * m)
+      → after ≡ paste before at (sampledDigits m left right (givenBy m n f g last)) (m * m)
+  written-given g left right ys firsts of-ys of-firsts =
+      subst₂ (λ (us vs : List ℕ). after ≡ paste before at (sampledDigits m left right (given f us vs last)) (m * m)) of-ys of-firsts
+
+  pub written-digits : 0 < m → (a b : ℕ) (xs ys : List ℕ) → xs ≡ samples m n f a → ys ≡ samples m n f b
+      → after ≡ paste before at (sampledDigits m xs ys (givenBy m n f (a + b) last)) (m * m) → DigitsAt m n f last a b at before after
+  written-digits pos a b xs ys of-xs of-ys e left right of-a of-b once few =
+      subst₂ (λ (us vs : List ℕ). after ≡ paste before at (sampledDigits m us vs (givenBy m n f (a + b) last)) (m * m)) of-xs of-ys e
+      ∙ ap (λ (ds : List ℕ). paste before at ds (m * m)) (digits-given m n pos f left right a b of-a of-b once few last)

@@ -17,6 +17,7 @@ use Rattle.rules.specs.Groups.{member, points, part, size, classes, multiplicit
 use Rattle.rules.specs.Settled.{Wiring, input, gate, groupOf, carried, classNumber, gatesIn, firstInput}
 use Rattle.laws.specs.Concat.{map-same}
 use Rattle.laws.specs.Ranges.{range-length, range-at}
+use Rattle.radix.specs.Fronts.{Front}
 use Rattle.groups.specs.Firsts.{Counted, capped-few}
 use Rattle.marks.specs.Parts.{without-first}
 use Rattle.laws.specs.Places.{mem-getD, map-at}
@@ -48,7 +49,7 @@ level-alone m l = rw (zero-mul, zero-add, pow-zero, mul-one)
 abbrev pub levelPoints : ℕ → ℕ → List ℕ
 levelPoints m w = map (λ l. l * w) (range 0 m)
 
-pub points-single : (m n i : ℕ) → i < n → points m n (2 ^ i) ≡ levelPoints m (m ^ (n - 1 - i))
+points-single : (m n i : ℕ) → i < n → points m n (2 ^ i) ≡ levelPoints m (m ^ (n - 1 - i))
 unfolding points concatMap
 points-single m zero i h = absurd (omega arith)
 points-single m (suc n) i h = go (decLt i n) (points-single m n i)
@@ -70,7 +71,7 @@ points-single m (suc n) i h = go (decLt i n) (points-single m n i)
 unfoldable pub samples : ℕ → ℕ → (ℕ → ℕ) → ℕ → List ℕ
 samples m n f g = elim (eqb (size n g) 1) [ true ↦ points m n g | false ↦ classes m n f g ]
 
-pub level-points-length : (m w : ℕ) → length (levelPoints m w) ≡ m
+level-points-length : (m w : ℕ) → length (levelPoints m w) ≡ m
 level-points-length m w = length-map (range 0 m) (λ l. l * w) ∙ range-length 0 m
 
 -- an input's weight, times m, is within the cells
@@ -79,11 +80,10 @@ weight-fits m n i pos h =
     subst⁻¹ (λ (k : ℕ). k ≤ m ^ n) (mul-comm m (m ^ (n - 1 - i)) ∙ sym (pow-suc m (n - 1 - i))) (pow-le-pow-right pos (omega arith))
 
 -- a count of classes that did not stop
-pub counted-all : (m : ℕ) (list : List ℕ) (count : ℕ) (out : List ℕ) → length list ≤ m → Counted m list count out
-    → (length list ≡ count) × (take count out ≡ list)
+pub counted-all : (m : ℕ) (list : List ℕ) (count : ℕ) (out : List ℕ) → length list ≤ m → Counted m list count out → Front list count out
 counted-all m list count out few found =
-    let e : length list ≡ count = sym (found .answer ∙ capped-few m (length list) few) in
-    (e, found .found (omega arith))
+    let e : count ≡ length list = found .answer ∙ capped-few m (length list) few in
+    record { count = e; is = found .found (omega arith) }
 
 -- one member: the first-listed is all
 pub single-test : (n g : ℕ) → 0 < g → g < 2 ^ n → (r : ℕ) → r ≡ g - 2 ^ firstInput n g → eqb r 0 ≡ eqb (size n g) 1
@@ -100,16 +100,22 @@ single-test n g some g< r e = go (decLt 0 r)
 
 module _ (m n : ℕ) (f : ℕ → ℕ) (g : ℕ) (g< : g < 2 ^ n) where
   -- a group of one member
-  pub samples-single : eqb (size n g) 1 ≡ true → samples m n f g ≡ levelPoints m (m ^ (n - 1 - firstInput n g))
+  samples-single : eqb (size n g) 1 ≡ true → samples m n f g ≡ levelPoints m (m ^ (n - 1 - firstInput n g))
   unfolding samples
   samples-single one =
       let first = size-one n g g< (eqb-true (size n g) 1 one) in
       rw (samples, one) (ap (points m n) (first .1) ∙ points-single m n (firstInput n g) (first .0))
 
+  pub single-front : (out : List ℕ) (i w : ℕ) → eqb (size n g) 1 ≡ true → i ≡ firstInput n g → w ≡ m ^ (n - 1 - i) → take m out ≡ levelPoints m w
+      → Front (samples m n f g) m out
+  single-front out i w one first weight is =
+      let same : samples m n f g ≡ levelPoints m w = samples-single one ∙ ap (levelPoints m) (sym (weight ∙ ap (λ (j : ℕ). m ^ (n - 1 - j)) first)) in
+      record { count = sym (ap length same ∙ level-points-length m w); is = is ∙ sym same }
+
   -- of several
-  pub samples-several : eqb (size n g) 1 ≡ false → samples m n f g ≡ classes m n f g
+  pub several-front : (r : ℕ) (out : List ℕ) → eqb (size n g) 1 ≡ false → Front (classes m n f g) r out → Front (samples m n f g) r out
   unfolding samples
-  samples-several several = rw (samples, several)
+  several-front r out several front = rw (samples, several) front
 
   -- each is an assignment of the group
   pub samples-own : 0 < m → (u : ℕ) → u < length (samples m n f g) → part m n g (getD (samples m n f g) u 0) ≡ getD (samples m n f g) u 0

@@ -10,7 +10,6 @@ use lib.ListN.{length}
 use Rattle.rules.specs.Limits.{mostLevels, mostInputs, mostCells, sizeFits}
 use Rattle.laws.specs.Sizes.{sized as sizes}
 use Rattle.nets.specs.Room.{mostGates, mostDigits, digits-room}
-use Rattle.groups.specs.Within.{Room}
 
 -- the cells of a table within a sheet's bounds
 pub record Sized (m n : ℕ) (cells : List ℕ) : Type 0 where
@@ -37,17 +36,3 @@ sized m n cells fit count =
 -- a gate with k before it has room in a net
 pub gate-room : (m n : ℕ) (cells : List ℕ) → Sized m n cells → (k : ℕ) → k + 2 ≤ n → (k < mostGates) × ((k + 1) * (m * m) ≤ mostDigits)
 gate-room m n cells sized k h = (omega (arith, sized .inputs), le-trans (mul-le-mul-right (m * m) (omega arith)) (sized .digits))
-
--- the work arrays that counting classes takes
-pub room : (m n : ℕ) (cells xs ys firsts : List ℕ) → Sized m n cells → m ^ n ≤ length xs → m ^ n ≤ length ys → m ≤ length firsts
-    → Room m n cells xs ys firsts
-room m n cells xs ys firsts sized for-xs for-ys for-firsts =
-    record {
-      some = sized .some;
-      inputs = omega (arith, sized .inputs);
-      small = omega (arith, sized .small);
-      for-cells = sized .count;
-      for-xs = for-xs;
-      for-ys = for-ys;
-      for-firsts = for-firsts;
-    }

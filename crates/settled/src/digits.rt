@@ -2,22 +2,18 @@
 // tells all: m·m assignments are looked at, and not all of the group's.
 ghost use mathlib.Core.Path.{_≡_};
 ghost use Prim.Native.Nat.{ℕ, _+_, _*_, _^_, _≤_, _<_};
-ghost use mathlib.Core.Bool.{false};
 ghost use lib.ListN.{length, getD};
 ghost use lib.Seq.{paste};
 ghost use Rattle.rules.specs.Calls.{inkIn};
-ghost use Rattle.rules.specs.Groups.{others, points, classes};
 ghost use Rattle.groups.specs.Within.{Within};
 ghost use Rattle.trees.specs.Wirings.{Few};
-ghost use Rattle.settled.specs.GateDigits.{given, sampledDigit, sampledDigits};
+ghost use Rattle.settled.specs.GateDigits.{given, givenBy, sampledDigit, sampledDigits, DigitsAt};
 ghost use Rattle.settled.specs.Sized.{Sized};
-ghost use Rattle.settled.specs.Ready.{Parts, Sums, Ready, DigitsAt};
+ghost use Rattle.settled.specs.Ready.{Parts, Sums, Ready};
 use crate::samples;
 use groups::alike;
-use groups::classes;
 use radix::limits;
 use radix::offsets;
-use radix::powers;
 
 // What a gate gives at its group's assignment p: the ink at the last, and else its class's number. `ys` are the assignments of the
 // other inputs, `firsts` the first of each class.
@@ -88,35 +84,32 @@ fn write_digits(
     }
 }
 
-// The same for a gate below the last, of group g. `xs` and `ys` are work arrays.
-fn class_digits(
+// The same for the gate of group g, from the samples of its two sides.
+fn group_digits(
     m: usize,
     n: usize,
     cells: &[u8],
     g: usize,
+    last: bool,
     left: &[u16],
     right: &[u16],
-    xs: &mut [u16],
-    ys: &mut [u16],
     at: usize,
     digits: &mut [u8],
 )
-    requires { ⌜ (Sized m n (now cells)) × (m ^ n ≤ length (now xs)) × (m ^ n ≤ length (now ys)) × (g < 2 ^ n) × (Few m n (inkIn (now cells)) g)
-        × (Sums m n g (now left) (now right)) × (at + m * m ≤ length (now digits)) ⌝ }
+    requires { ⌜ (Sized m n (now cells)) × (g < 2 ^ n) × (Few m n (inkIn (now cells)) g) × (Sums m n g (now left) (now right)) × (at + m * m ≤ length (now digits)) ⌝ }
     ensures { λ _. ⌜ now (digits .exit) ≡ paste (now (digits .entry)) at
-        (sampledDigits m (now (left .entry)) (now (right .entry))
-        (given (inkIn (now (cells .entry))) (points m n (others n g)) (classes m n (inkIn (now (cells .entry))) g) false)) (m * m) ⌝ }
+        (sampledDigits m (now (left .entry)) (now (right .entry)) (givenBy m n (inkIn (now (cells .entry))) g last)) (m * m) ⌝ }
 {
+    let mut ys = [0u16; limits::MOST_CELLS];
     let mut firsts = [0u16; limits::MOST_LEVELS];
-    let rest = powers::power(2, n) - 1 - g;
-    let count = classes::group_classes(m, n, cells, g, xs, ys, &mut firsts);
-    let other = offsets::offsets(m, n, rest, ys);
+    let other = offsets::other_offsets(m, n, g, &mut ys);
+    let count = samples::class_list(m, n, cells, g, &mut firsts);
     write_digits(
         m,
         cells,
         &ys[0..other],
         &firsts[0..count],
-        false,
+        last,
         left,
         right,
         at,
@@ -138,36 +131,19 @@ pub fn gate_digits(
     requires { ⌜ (Sized m n (now cells)) × (Parts m n (inkIn (now cells)) a b) × (at + m * m ≤ length (now digits)) ⌝ }
     ensures { λ _. ⌜ DigitsAt m n (inkIn (now (cells .entry))) last a b at (now (digits .entry)) (now (digits .exit)) ⌝ }
 {
-    let mut xs = [0u16; limits::MOST_CELLS];
-    let mut ys = [0u16; limits::MOST_CELLS];
     let mut left = [0u16; limits::MOST_LEVELS];
     let mut right = [0u16; limits::MOST_LEVELS];
-    let lefts = samples::samples(m, n, cells, a, &mut xs, &mut ys, &mut left);
-    let rights = samples::samples(m, n, cells, b, &mut xs, &mut ys, &mut right);
-    if last {
-        write_digits(
-            m,
-            cells,
-            &ys[0..0],
-            &xs[0..0],
-            true,
-            &left[0..lefts],
-            &right[0..rights],
-            at,
-            digits,
-        );
-    } else {
-        class_digits(
-            m,
-            n,
-            cells,
-            a + b,
-            &left[0..lefts],
-            &right[0..rights],
-            &mut xs,
-            &mut ys,
-            at,
-            digits,
-        );
-    }
+    let lefts = samples::samples(m, n, cells, a, &mut left);
+    let rights = samples::samples(m, n, cells, b, &mut right);
+    group_digits(
+        m,
+        n,
+        cells,
+        a + b,
+        last,
+        &left[0..lefts],
+        &right[0..rights],
+        at,
+        digits,
+    );
 }

@@ -3,14 +3,16 @@ ghost use mathlib.Core.Path.{_≡_};
 ghost use Prim.Native.Nat.{ℕ, _*_, _^_, _≤_, _<_};
 ghost use lib.Dec.{eqb};
 ghost use lib.ListN.{length, take};
-ghost use Rattle.rules.specs.Groups.{size};
+ghost use Rattle.rules.specs.Groups.{size, classes};
 ghost use Rattle.rules.specs.Calls.{inkIn};
 ghost use Rattle.rules.specs.Settled.{firstInput};
-ghost use Rattle.groups.specs.Within.{Room};
+ghost use Rattle.radix.specs.Fronts.{Front};
 ghost use Rattle.trees.specs.Wirings.{Few};
 ghost use Rattle.settled.specs.Samples.{levelPoints, samples};
+ghost use Rattle.settled.specs.Sized.{Sized};
 use groups::classes;
 use marks::parts;
+use radix::limits;
 use radix::offsets;
 use radix::powers;
 
@@ -49,25 +51,27 @@ fn level_points(m: usize, w: usize, out: &mut [u16])
     }
 }
 
+// Writes the first of each class of group g, which has at most m, to the front of `out`, and answers how many there are.
+pub fn class_list(m: usize, n: usize, cells: &[u8], g: usize, out: &mut [u16]) -> usize
+    requires { ⌜ (Sized m n (now cells)) × (m ≤ length (now out)) × (g < 2 ^ n) × (Few m n (inkIn (now cells)) g) ⌝ }
+    ensures { λ r. ⌜ Front (classes m n (inkIn (now (cells .entry))) g) r (now (out .exit)) ⌝ }
+{
+    let mut xs = [0u16; limits::MOST_CELLS];
+    let mut ys = [0u16; limits::MOST_CELLS];
+    classes::group_classes(m, n, cells, g, &mut xs, &mut ys, out)
+}
+
 // Writes the samples of group g to the front of `out`, and answers how many there are: an input's levels, or the first of each
-// class. `xs` and `ys` are work arrays.
-pub fn samples(
-    m: usize,
-    n: usize,
-    cells: &[u8],
-    g: usize,
-    xs: &mut [u16],
-    ys: &mut [u16],
-    out: &mut [u16],
-) -> usize
-    requires { ⌜ (Room m n (now cells) (now xs) (now ys) (now out)) × (m ≤ 9) × (0 < g) × (g < 2 ^ n) × (Few m n (inkIn (now cells)) g) ⌝ }
-    ensures { λ r. ⌜ (length (samples m n (inkIn (now (cells .entry))) g) ≡ r) × (take r (now (out .exit)) ≡ samples m n (inkIn (now (cells .entry))) g) ⌝ }
+// class.
+pub fn samples(m: usize, n: usize, cells: &[u8], g: usize, out: &mut [u16]) -> usize
+    requires { ⌜ (Sized m n (now cells)) × (m ≤ length (now out)) × (0 < g) × (g < 2 ^ n) × (Few m n (inkIn (now cells)) g) ⌝ }
+    ensures { λ r. ⌜ Front (samples m n (inkIn (now (cells .entry))) g) r (now (out .exit)) ⌝ }
 {
     if single(g) {
         let i = first_input(n, g);
         level_points(m, powers::power(m, n - 1 - i), out);
         m
     } else {
-        classes::group_classes(m, n, cells, g, xs, ys, out)
+        class_list(m, n, cells, g, out)
     }
 }

@@ -5,7 +5,7 @@ use mathlib.Core.Path.{_≡_, ap, _∙_}
 use mathlib.Core.List.{List, []}
 use native.Mathlib.Omega.{arith}
 use lib.ListN.{length, drop}
-use Rattle.rules.specs.Text.{space, newline}
+use Rattle.rules.specs.Text.{space, newline, text}
 use Rattle.rules.specs.Fields.{Reader, then, _>>=_, give, field, theWord, closed}
 use Rattle.rules.specs.Sheets as sheets
 use Rattle.rules.specs.Sheets.{headerLines, gateLines, netSheet}
@@ -15,7 +15,8 @@ use Rattle.nets.specs.declared.forms.Header.{Header}
 use Rattle.nets.specs.declared.forms.Net.{Net}
 use Rattle.fields.specs.Chained.{chained-back, chained-on, answered-back, answered-on, closed-over, closed-here, then-then}
 use Rattle.fields.specs.Header.{HeaderHeld, HeaderRest}
-use Rattle.fields.specs.Steps.{stepAs, nothing, outcomeAs}
+use Rattle.fields.specs.Steps.{stepAs, nothing, outcomeAs, spelled}
+use Rattle.fields.specs.Words.{twoWords}
 use Rattle.fields.specs.declared.lines.HeaderRead.{HeaderRead}
 use Rattle.fields.specs.declared.steps.Outcome.the-variants.{Accepted, Refused}
 use Rattle.fields.specs.declared.steps.Step.{Step}
@@ -54,32 +55,18 @@ fromGates h =
 unfoldable pub fromHeading : sheets.Header → Reader sheets.Net
 fromHeading h = headingLine >>= λ _. fromGates h
 
--- ---- line 4, word by word
+-- ---- line 4: a word, then two more
 
-unfoldable pub afterLeft : Reader (Unit {0})
-afterLeft = field (theWord "right") space >>= λ _. field (theWord "table") newline
+module _ (s : List ℕ) (at : ℕ) (step : Step) (reads : stepAs nothing s step ≡ field (spelled (text "left")) 32 (drop at s) at) (r : Step) where
+  pub left-back : (number place : ℕ) → step ≡ Back number place → r ≡ Back number place → stepAs nothing s r ≡ headingLine (drop at s) at
+  unfolding headingLine spelled theWord space
+  left-back number place e q = chained-back nothing (field (theWord "left") 32) _ s at step reads nothing r number place e q
 
-module _ (s : List ℕ) (at : ℕ) (step : Step) where
-  module _ (reads : stepAs nothing s step ≡ field (theWord "left") space (drop at s) at) (r : Step) where
-    pub left-back : (number place : ℕ) → step ≡ Back number place → r ≡ Back number place → stepAs nothing s r ≡ headingLine (drop at s) at
-    unfolding headingLine
-    left-back number place e q = chained-back nothing (field (theWord "left") space) _ s at step reads nothing r number place e q
-
-    pub left-on : (value next : ℕ) → step ≡ On value next → stepAs nothing s r ≡ afterLeft (drop next s) next
-        → stepAs nothing s r ≡ headingLine (drop at s) at
-    unfolding headingLine afterLeft
-    left-on value next e onward = chained-on nothing (field (theWord "left") space) (λ _. afterLeft) s at step reads nothing r value next e onward
-
-  module _ (reads : stepAs nothing s step ≡ field (theWord "right") space (drop at s) at) (r : Step) where
-    pub right-back : (number place : ℕ) → step ≡ Back number place → r ≡ Back number place → stepAs nothing s r ≡ afterLeft (drop at s) at
-    unfolding afterLeft
-    right-back number place e q = chained-back nothing (field (theWord "right") space) _ s at step reads nothing r number place e q
-
-    pub right-on : (value next : ℕ) → step ≡ On value next → stepAs nothing s r ≡ field (theWord "table") newline (drop next s) next
-        → stepAs nothing s r ≡ afterLeft (drop at s) at
-    unfolding afterLeft
-    right-on value next e onward =
-        chained-on nothing (field (theWord "right") space) (λ _. field (theWord "table") newline) s at step reads nothing r value next e onward
+  pub left-on : (value next : ℕ) → step ≡ On value next → stepAs nothing s r ≡ twoWords (text "right") (text "table") (drop next s) next
+      → stepAs nothing s r ≡ headingLine (drop at s) at
+  unfolding headingLine twoWords spelled theWord space newline
+  left-on value next e onward =
+      chained-on nothing (field (theWord "left") 32) (λ _. field (theWord "right") 32 >>= λ _. field (theWord "table") 10) s at step reads nothing r value next e onward
 
 -- ---- from the gate lines back to the whole sheet
 

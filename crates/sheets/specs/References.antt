@@ -13,11 +13,10 @@ use lib.Dec.{eqb}
 use Rattle.rules.specs.Lists.{range, any, same}
 use Rattle.rules.specs.Text.{decimal}
 use Rattle.rules.specs.Fields.{Judged, good, bad, judged, field, run}
-use Rattle.laws.specs.Ranges.{range-length}
-use Rattle.fields.specs.Ranges.{range-first, range-none, map-range-at}
-use Rattle.fields.specs.Finding.{found-in}
+use Rattle.laws.specs.Finds.{found-is, first-in-range}
+use Rattle.laws.specs.Ranges.{range-length, range-next, range-none, map-range-at}
 use Rattle.fields.specs.Steps.{stepAs, itself, optionOf}
-use Rattle.fields.specs.Taken.{field-read, judged-good}
+use Rattle.fields.specs.Taken.{field-on, judged-good}
 use Rattle.fields.specs.declared.steps.Step.{Step}
 use Rattle.fields.specs.declared.steps.Step.the-variants.{On}
 use Rattle.fields.specs.declared.steps.Found.{Found}
@@ -43,7 +42,7 @@ module _ (s : List ℕ) (h : Header) (w : List ℕ) (r : ℕ) where
       sym
       (ap (same w)
       (rw (names-count s h, lt-ltb r (h .inputs) below, referenceText)
-      (map-range-at (nameIn s h) [] 0 (h .inputs) r below ∙ ap (nameIn s h) (zero-add r))))
+      (map-range-at (nameIn s h) 0 (h .inputs) r [] below ∙ ap (nameIn s h) (zero-add r))))
 
   pub refers-gate : h .inputs ≤ r → same w (decimal (r + 1 - h .inputs)) ≡ same w (referenceText (namesOf s h) r)
   unfolding referenceText
@@ -59,7 +58,7 @@ module _ (net : Net) (r k : ℕ) where
   module _ (more : k < net .gates) where
     first-used : usedFrom ≡ getD (net .left) k 0 ∷ getD (net .right) k 0 ∷ usedBy (map (gateOf net) (range (k + 1) (net .gates - (k + 1))))
     unfolding usedFrom usedBy gateOf
-    first-used = rw (range-first k (net .gates) more) refl
+    first-used = rw (range-next k (net .gates) more) refl
 
     pub used-left : getD (net .left) k 0 ≡ r → any (eqb r) (usedBy (map (gateOf net) (range k (net .gates - k)))) ≡ true
     unfolding usedFrom any
@@ -114,7 +113,7 @@ module _ (names : List (List ℕ)) (earlier : ℕ) (used w : List ℕ) where
   unfolding referenceOf
   told value none e q = let z : _≡_ {A = ℕ} 0 1 = cc in absurd (omega arith)
   told value (some r) e q =
-      let found = found-in (λ k. same w (referenceText names k)) 0 (length names + earlier) r e in
+      let found = found-is (first-in-range (λ k. same w (referenceText names k)) 0 (length names + earlier)) r e in
       omega (arith, found .1, judged-good (not (any (eqb r) used)) r value 8 q .1)
 
   reference-told : (value : ℕ) → referenceField names earlier used w ≡ good value → value < length names + earlier
@@ -128,7 +127,7 @@ module _ (names : List (List ℕ)) (earlier : ℕ) (used w : List ℕ) where
     unfolding referenceOf any
     not-there none e = refl
     not-there (some r) e =
-        let found = found-in (λ k. same w (referenceText names k)) 0 (length names + earlier) r e in
+        let found = found-is (first-in-range (λ k. same w (referenceText names k)) 0 (length names + earlier)) r e in
         rw (ne-eqb r nowhere (λ p. omega (arith, found .1, p)), any) refl
 
     spare-at : referenceField names earlier (nowhere ∷ used) w ≡ referenceField names earlier used w
@@ -144,4 +143,4 @@ pub reference-below : (s : List ℕ) (step : Step) (at : ℕ) (names : List (Lis
     → stepAs itself s step ≡ field (referenceField names earlier used) due (drop at s) at → step ≡ On value next → value < length names + earlier
 reference-below s step at names earlier used due value next reads e =
     reference-told names earlier used (run (drop at s)) value
-    (field-read (referenceField names earlier used) value due (drop at s) (drop next s) at next (sym reads ∙ ap (stepAs itself s) e) .0)
+    (field-on s step at value next e itself (referenceField names earlier used) due reads .judged)

@@ -4,23 +4,24 @@ ghost use Prim.Native.Nat.{_+_, _*_, _≤_};
 ghost use lib.ListN.{length};
 ghost use Rattle.nets.specs.Room.{mostDigits};
 ghost use lib.Seq.{paste};
-ghost use Rattle.rules.specs.Lists.{all};
 ghost use Rattle.rules.specs.Limits.{mostLevels};
-ghost use Rattle.rules.specs.Text.{isDigit};
-ghost use Rattle.sheets.specs.Digits.{DigitsRead, areDigits, digitsAt};
+ghost use Rattle.sheets.specs.Digits.{DigitsRead, isTable, areDigits, digitsAt};
 use fields::ends::after_field;
 use fields::numbers::wide;
 use fields::runs::NEWLINE;
-use fields::runs::field_end;
+use fields::runs::field_at;
 use fields::steps::Step;
 use fields::steps::Verdict;
 use radix::limits::MOST_DIGITS;
 
-// Is every byte of w a digit below m?
-pub fn are_digits(w: &[u8], m: usize) -> bool
+// Is w m·m digits below m?
+pub fn is_table(w: &[u8], m: usize) -> bool
     requires { ⌜ m ≤ mostLevels ⌝ }
-    ensures { λ r. ⌜ r ≡ all (isDigit m) (now (w .entry)) ⌝ }
+    ensures { λ r. ⌜ r ≡ isTable m (now (w .entry)) ⌝ }
 {
+    if w.len() != m * m {
+        return false;
+    }
     let mut i: usize = 0;
     while i < w.len() {
         let b = wide(w[i]);
@@ -40,26 +41,11 @@ pub fn digits_field(s: &[u8], at: usize, m: usize) -> Step
     requires { ⌜ m ≤ mostLevels ⌝ }
     ensures { λ r. ⌜ DigitsRead (now (s .entry)) at m r ⌝ }
 {
-    let end = field_end(s, at);
-    if end == at {
-        return Step::Back {
-            number: 1,
-            place: at,
-        };
+    let w = field_at(s, at);
+    if is_table(w, m) {
+        return after_field(s, at, w, Verdict::Good(w.len()), NEWLINE);
     }
-    if end - at != m * m {
-        return Step::Back {
-            number: 6,
-            place: at,
-        };
-    }
-    if !are_digits(&s[at..end], m) {
-        return Step::Back {
-            number: 6,
-            place: at,
-        };
-    }
-    after_field(s, Verdict::Good(end - at), NEWLINE, at, end)
+    after_field(s, at, w, Verdict::Bad(6), NEWLINE)
 }
 
 // Copies the `count` digits that stand in the sheet from `at` on.

@@ -11,6 +11,7 @@ use fields::runs::NEWLINE;
 use fields::runs::SPACE;
 use fields::steps::Outcome;
 use fields::steps::Step;
+use fields::words::two_words;
 use fields::words::word_field;
 use nets::forms::Header;
 use nets::forms::Net;
@@ -29,10 +30,7 @@ pub fn heading_line(s: &[u8], at: usize) -> Step
 {
     match word_field(s, at, b"left", SPACE) {
         Step::Back { number, place } => Step::Back { number, place },
-        Step::On { value: _, next } => match word_field(s, next, b"right", SPACE) {
-            Step::Back { number, place } => Step::Back { number, place },
-            Step::On { value: _, next } => word_field(s, next, b"table", NEWLINE),
-        },
+        Step::On { value: _, next } => two_words(s, next, b"right", b"table"),
     }
 }
 

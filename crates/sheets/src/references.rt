@@ -13,11 +13,12 @@ ghost use Rattle.fields.specs.Header.{HeaderHeld};
 ghost use Rattle.fields.specs.Steps.{judgedAs, stepAs, itself, optionOf};
 ghost use Rattle.sheets.specs.References.{namesOf};
 use fields::ends::after_field;
-use fields::names::same_name;
+use fields::names::name_of;
 use fields::numbers::is_decimal;
 use fields::numbers::wide;
 use fields::runs::SPACE;
-use fields::runs::field_end;
+use fields::runs::field_at;
+use fields::same::same_bytes;
 use fields::steps::Found;
 use fields::steps::Step;
 use fields::steps::Verdict;
@@ -31,7 +32,7 @@ pub fn refers(s: &[u8], header: Header, w: &[u8], r: usize) -> bool
 {
     let inputs = header.inputs;
     if r < inputs {
-        return same_name(s, header, r, w);
+        return same_bytes(w, name_of(s, header, r));
     }
     is_decimal(w, r + 1 - inputs)
 }
@@ -94,13 +95,7 @@ pub fn reference_field(s: &[u8], at: usize, header: Header, net: Net, taken: usi
     requires { ⌜ HeaderHeld (now s) header × (net .gates ≤ mostGates) ⌝ }
     ensures { λ r. ⌜ stepAs itself (now (s .entry)) r ≡ field (referenceField (namesOf (now (s .entry)) header) (net .gates) (taken ∷ usedBy (gatesOf net))) 32 (drop at (now (s .entry))) at ⌝ }
 {
-    let end = field_end(s, at);
-    if end == at {
-        return Step::Back {
-            number: 1,
-            place: at,
-        };
-    }
-    let verdict = judge_reference(s, header, net, taken, &s[at..end]);
-    after_field(s, verdict, SPACE, at, end)
+    let w = field_at(s, at);
+    let verdict = judge_reference(s, header, net, taken, w);
+    after_field(s, at, w, verdict, SPACE)
 }

@@ -2,7 +2,7 @@
 -- Assumes nothing.
 use Prim.Native.Nat.{ℕ, _+_, _-_, _≤_, _<_}
 use mathlib.Core.Path.{_≡_, refl}
-use mathlib.Core.Bool.{and-false}
+use mathlib.Core.Bool.{and-false, and-eq-true-iff}
 use mathlib.Core.List.{List, [], _∷_}
 use native.Mathlib.Omega.{arith}
 use lib.ListN.{length, getD}
@@ -11,7 +11,6 @@ use borrow.Author.Tests.{le-leb, lt-leb, lt-ltb, le-ltb, leb-true, ltb-true}
 use Rattle.rules.specs.Text.{isDigit}
 use Rattle.rules.specs.Fields.{read, good, bad, field, run}
 use Rattle.rules.specs.Sheets.{inkField}
-use Rattle.fields.specs.Both.{and-left, and-right}
 use Rattle.fields.specs.Taken.{field-read, judged-good}
 
 pub ink-long : (m : ℕ) (w : List ℕ) → (length w ≡ 1 → ⊥) → bad 6 ≡ inkField m w
@@ -44,9 +43,8 @@ unfolding inkField isDigit
 ink-told m [] ink e = let z : _≡_ {A = ℕ} 0 1 = cc in absurd (omega arith)
 ink-told m (b ∷ []) ink e =
     let told = judged-good (isDigit m b) (b - 48) ink 6 e in
-    let low : 48 ≤ b = leb-true 48 b (and-left (leb 48 b) (ltb b (48 + m)) (told .0)) in
-    let high : b < 48 + m = ltb-true b (48 + m) (and-right (leb 48 b) (ltb b (48 + m)) (told .0)) in
-    omega (arith, told .1)
+    let (low, high) = and-eq-true-iff (leb 48 b) (ltb b (48 + m)) .0 (told .0) in
+    omega (arith, leb-true 48 b low, ltb-true b (48 + m) high, told .1)
 ink-told m (b ∷ d ∷ w) ink e = let z : _≡_ {A = ℕ} 0 1 = cc in absurd (omega arith)
 
 pub ink-read : (m due : ℕ) (t rest : List ℕ) (at ink next : ℕ) → field (inkField m) due t at ≡ read ink rest next → ink < m

@@ -5,14 +5,14 @@ use mathlib.Core.Path.{_≡_}
 use mathlib.Core.List.{List}
 use native.Mathlib.Omega.{arith}
 use lib.ListN.{length, drop}
-use Rattle.rules.specs.Text.{space, newline}
+use Rattle.rules.specs.Text.{space, newline, text}
 use Rattle.rules.specs.Fields.{field, theWord}
 use Rattle.rules.specs.Sheets.{headerLines, tableSheet}
 use Rattle.rules.specs.Calls.{refused, readTable}
 use Rattle.nets.specs.Forms.{headerOf}
 use Rattle.nets.specs.declared.forms.Header.{Header}
 use Rattle.fields.specs.Header.{HeaderRest}
-use Rattle.fields.specs.Steps.{stepAs, nothing}
+use Rattle.fields.specs.Steps.{stepAs, nothing, spelled}
 use Rattle.fields.specs.declared.steps.Step.{Step}
 use Rattle.fields.specs.declared.steps.Step.the-variants.{On, Back}
 use Rattle.fields.specs.declared.lines.HeaderRead.{HeaderRead}
@@ -53,15 +53,15 @@ module _ (s : List ℕ) (at : ℕ) (h : Header) (cells : List ℕ) (step : Step)
 -- ---- the word
 
 module _ (s : List ℕ) (at : ℕ) (h : Header) (cells : List ℕ) (step : Step)
-    (word : stepAs nothing s step ≡ field (theWord "ink") newline (drop at s) at) where
+    (word : stepAs nothing s step ≡ field (spelled (text "ink")) 10 (drop at s) at) where
   pub ink-refused : (number place : ℕ) → step ≡ Back number place → TableRest s at (fromInk (headerOf s h)) h cells (Refused number place)
-  unfolding fromInk
+  unfolding fromInk spelled theWord newline
   ink-refused number place e =
       record { answer = answered-back nothing (field (theWord "ink") newline) (λ _. fromRows (headerOf s h)) s at step word number place e; held = never number place }
 
   pub ink-on : (value next : ℕ) (r : Outcome) → step ≡ On value next → TableRest s next (fromRows (headerOf s h)) h cells r
       → TableRest s at (fromInk (headerOf s h)) h cells r
-  unfolding fromInk
+  unfolding fromInk spelled theWord newline
   ink-on value next r e rest =
       record { answer = answered-on nothing (field (theWord "ink") newline) (λ _. fromRows (headerOf s h)) s at step word value next _ e (rest .answer); held = rest .held }
 

@@ -7,7 +7,7 @@ ghost use Rattle.fields.specs.Steps.{judgedAs, stepAs, itself};
 use fields::ends::after_field;
 use fields::numbers::wide;
 use fields::runs::NEWLINE;
-use fields::runs::field_end;
+use fields::runs::field_at;
 use fields::steps::Step;
 use fields::steps::Verdict;
 
@@ -30,13 +30,7 @@ pub fn judge_ink(w: &[u8], m: usize) -> Verdict
 pub fn ink_field(s: &[u8], at: usize, m: usize) -> Step
     ensures { λ r. ⌜ stepAs itself (now (s .entry)) r ≡ field (inkField m) 10 (drop at (now (s .entry))) at ⌝ }
 {
-    let end = field_end(s, at);
-    if end == at {
-        return Step::Back {
-            number: 1,
-            place: at,
-        };
-    }
-    let verdict = judge_ink(&s[at..end], m);
-    after_field(s, verdict, NEWLINE, at, end)
+    let w = field_at(s, at);
+    let verdict = judge_ink(w, m);
+    after_field(s, at, w, verdict, NEWLINE)
 }

@@ -9,7 +9,7 @@ ghost use Rattle.tables.specs.Levels.{PlainLevel};
 use fields::ends::after_field;
 use fields::numbers::wide;
 use fields::runs::SPACE;
-use fields::runs::field_end;
+use fields::runs::field_at;
 use fields::steps::Step;
 use fields::steps::Verdict;
 
@@ -42,19 +42,13 @@ pub fn is_plain(s: &[u8], at: usize, due: u8) -> bool
     s[after] == SPACE
 }
 
-// As `level_field`, by the field's end and its judge.
+// As `level_field`, by the field and its judge.
 pub fn judged_level(s: &[u8], at: usize, due: u8) -> Step
     ensures { λ r. ⌜ stepAs nothing (now (s .entry)) r ≡ field (levelField due) 32 (drop at (now (s .entry))) at ⌝ }
 {
-    let end = field_end(s, at);
-    if end == at {
-        return Step::Back {
-            number: 1,
-            place: at,
-        };
-    }
-    let verdict = judge_level(&s[at..end], due);
-    after_field(s, verdict, SPACE, at, end)
+    let w = field_at(s, at);
+    let verdict = judge_level(w, due);
+    after_field(s, at, w, verdict, SPACE)
 }
 
 // Nearly every level field is plain, so that is tried first.

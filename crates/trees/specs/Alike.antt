@@ -4,10 +4,10 @@ use Prim.Native.Nat.{ℕ, _+_, _^_, _<_}
 use mathlib.Core.Path.{_≡_, refl, sym, ap, _∙_, _≡⟨_⟩_, _∎}
 use mathlib.Core.Bool.{true}
 use borrow.Author.Tests.{eqb-true, eq-eqb}
-use Rattle.rules.specs.Groups.{part, points, others, alike, alikeOver, wholeGroup}
+use Rattle.rules.specs.Groups.{part, points, others, alike, alikeOver}
 use Rattle.laws.specs.Tests.{all-mem, mem-all}
 use Rattle.trees.specs.Trees.{Alike, Apart, mix}
-use Rattle.trees.specs.Levels.{mix-whole, mix-join, mix-swap}
+use Rattle.trees.specs.Levels.{mix-join, mix-swap}
 use Rattle.trees.specs.Points.{part-in-points, points-are-parts}
 
 module _ (m n : ℕ) (pos : 0 < m) (f : ℕ → ℕ) where
@@ -51,7 +51,3 @@ module _ (m n : ℕ) (pos : 0 < m) (f : ℕ → ℕ) where
 
       swap : (r s : ℕ) → mix m n a r (mix m n b s y) ≡ mix m n b s (mix m n a r y)
       swap r s = mix-swap m n pos a b a< b< apart r s y
-
-  -- the whole group's classes are the inks
-  pub alike-whole : (p q : ℕ) → p < m ^ n → q < m ^ n → Alike m n f (wholeGroup n) p q → f p ≡ f q
-  alike-whole p q p< q< h = rw (mix-whole m n pos p 0 p<, mix-whole m n pos q 0 q<) at (h 0)

@@ -52,7 +52,7 @@ module _ (m n : ℕ) (f : ℕ → ℕ) where
 
   -- ---- how many lines
 
-  pub gate-list-length : (last : Bool) (before : ℕ) (w : Wiring) → length (gateList m n f last before w) ≡ gatesIn w
+  gate-list-length : (last : Bool) (before : ℕ) (w : Wiring) → length (gateList m n f last before w) ≡ gatesIn w
   unfolding gateList gatesIn
   gate-list-length last before (input i) = refl
   gate-list-length last before (gate a b) =
@@ -151,7 +151,7 @@ module _ (m n : ℕ) (f : ℕ → ℕ) where
 
   -- ---- the rules of a net sheet
 
-  pub gate-list-rules : (w : Wiring) → EachOnce n w → Filled m (fill m n f true w) → GateRules m n (gateList m n f true 0 w)
+  gate-list-rules : (w : Wiring) → EachOnce n w → Filled m (fill m n f true w) → GateRules m n (gateList m n f true 0 w)
   gate-list-rules w once filled =
       record {
         back = rw add-zero at (gate-list-back true 0 w once);

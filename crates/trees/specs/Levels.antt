@@ -88,7 +88,7 @@ sum-blend m (suc n) g h p y e =
     rw (← (sum-blend m n g h (p / m) (y / m) (λ i l. e i (le-step l))), ← (sum-digit (member n g) (p % m) (y % m)), e n (le-refl (suc n))) (omega arith)
 
 -- the index 0 gives every group 0
-pub part-zero : (m n g : ℕ) → part m n g 0 ≡ 0
+part-zero : (m n g : ℕ) → part m n g 0 ≡ 0
 unfolding part
 part-zero m zero g = refl
 part-zero m (suc n) g = simp (zero-div, zero-mod, part-zero m n g, zero-mul, zero-add) (same (member n g) 0)
@@ -106,7 +106,7 @@ module _ (m n : ℕ) (pos : 0 < m) where
   part-below g p = rw part-blend (blend-below m pos n (λ i. member i g) p 0)
 
   -- every level of the index 0
-  pub level-zero : (i : ℕ) → level m n 0 i ≡ 0
+  level-zero : (i : ℕ) → level m n 0 i ≡ 0
   unfolding level
   level-zero i = simp (zero-div, zero-mod)
 
@@ -116,9 +116,6 @@ module _ (m n : ℕ) (pos : 0 < m) where
 
   pub level-part-in : (g p i : ℕ) → i < n → member i g ≡ true → level m n (part m n g p) i ≡ level m n p i
   level-part-in g p i h e = rw (level-part, e)
-
-  pub level-part-out : (g p i : ℕ) → i < n → member i g ≡ false → level m n (part m n g p) i ≡ 0
-  level-part-out g p i h e = rw (level-part, e)
 
   -- what two indices give a group and the others is their blend
   mix-blend : (g p y : ℕ) → g < 2 ^ n → mix m n g p y ≡ blend m n (λ i. member i g) p y

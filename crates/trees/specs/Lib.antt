@@ -2,6 +2,7 @@
 -- Assumes nothing.
 pub mod Trees
 pub mod Members
+pub mod GroupSum
 pub mod Levels
 pub mod Points
 pub mod Alike

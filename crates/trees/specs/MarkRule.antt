@@ -58,7 +58,7 @@ parts-at-holds n marks g a h =
     (first .0, eqb-true _ _ (first .1), eqb-true _ _ (both .1))
 
 -- a group that the search finds and its rest are two parts
-pub parts-of : (n : ℕ) (marks : List ℕ) (g a : ℕ) → g < 2 ^ n → 0 < a → a < g → partsAt n marks g a ≡ true
+parts-of : (n : ℕ) (marks : List ℕ) (g a : ℕ) → g < 2 ^ n → 0 < a → a < g → partsAt n marks g a ≡ true
     → PartsIntoTwos n (markIn marks) g
 parts-of n marks g a g< some less h =
     let held = parts-at-holds n marks g a h in
@@ -103,7 +103,7 @@ search-parts n marks g g< h =
     let found = first-passes (partsAt n marks g) 1 (g - 1) h in
     parts-of n marks g _ g< (omega arith) (omega arith) (found .1)
 
-pub parts-search : (n : ℕ) (marks : List ℕ) (g : ℕ) → g < 2 ^ n → PartsIntoTwos n (markIn marks) g
+parts-search : (n : ℕ) (marks : List ℕ) (g : ℕ) → g < 2 ^ n → PartsIntoTwos n (markIn marks) g
     → any (partsAt n marks g) (range 1 (g - 1)) ≡ true
 parts-search n marks g g< parts =
     mem-any (partsAt n marks g) (mem-range 1 (g - 1) (parts .a) (omega arith) (omega arith)) (parts-found n marks g g< parts)
@@ -175,7 +175,7 @@ module _ (m n : ℕ) (pos : 0 < m) (f : ℕ → ℕ) where
   marks-length = marks-below-length m n f (2 ^ n)
 
   -- each mark is the rule's, with all marks at hand
-  pub mark-rule : (g : ℕ) → g < 2 ^ n → marked g ≡ markOf m n f (marksOf m n f) g
+  mark-rule : (g : ℕ) → g < 2 ^ n → marked g ≡ markOf m n f (marksOf m n f) g
   unfolding marksOf
   mark-rule g g< =
       mark-below m n f (2 ^ n) g g<
@@ -192,7 +192,7 @@ module _ (m n : ℕ) (pos : 0 < m) (f : ℕ → ℕ) where
   single-some (suc g) one = omega arith
 
   -- a group of one member has at most m classes: its level tells them
-  pub single-few : (g : ℕ) → g < 2 ^ n → size n g ≡ 1 → multiplicity m n f g ≤ m
+  single-few : (g : ℕ) → g < 2 ^ n → size n g ≡ 1 → multiplicity m n f g ≤ m
   single-few g g< one =
       let v : ℕ → ℕ = λ p. level m n p (firstInput n g) in
       let tells : Tells m n f g v = λ p q e. alike-part m n pos f g p q (part-ext m n pos g p q (λ i i< is. rw (only-member g i g< one is) e)) in
@@ -249,12 +249,3 @@ module _ (m n : ℕ) (pos : 0 < m) (f : ℕ → ℕ) where
             parted = λ _ parts. absurd (no-parts parts);
             otherwise = λ _ _ _ _. e;
           }
-
-  -- a mark is 0, 1 or 2
-  pub mark-values : (g : ℕ) → g < 2 ^ n → (marked g ≡ 0) ⊎ (marked g ≡ 1) ⊎ (marked g ≡ 2)
-  mark-values g g< = go (way g g<)
-    where
-      go : Way m n f marked g → (marked g ≡ 0) ⊎ (marked g ≡ 1) ⊎ (marked g ≡ 2)
-      go (to-none _ e) = inl e
-      go (to-one _ _ _ _ e) = inr (inl e)
-      go (to-two _ _ _ e) = inr (inr e)

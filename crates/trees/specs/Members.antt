@@ -7,7 +7,6 @@ use mathlib.Core.Path.{_≡_, refl, sym, ap, ap₂, _∙_}
 use mathlib.Core.Bool.{Bool, true, false, not, _&&_, _||_, false≢true, and-false}
 use lib.Dec.{eqb, eqb·zero-suc, eqb·suc-zero, eqb·suc-suc}
 use lib.Pow.{pow-pos, pow-lt}
-use borrow.Author.Tests.{eqb-true}
 use Rattle.rules.specs.Lists.{range, those}
 use Rattle.rules.specs.Groups.{member, size, wholeGroup, others}
 use Rattle.rules.specs.Marks.{inside}
@@ -58,12 +57,6 @@ member-ext (suc n) g h g< h< e =
 pub member-zero : (i : ℕ) → member i 0 ≡ false
 unfolding member
 member-zero i = rw zero-div
-
--- a group has no member past its width
-pub member-past : (i n g : ℕ) → g < 2 ^ n → n ≤ i → member i g ≡ false
-member-past i zero g g< h = let e : g ≡ 0 = omega arith in rw e (member-zero i)
-member-past zero (suc n) g g< h = absurd (omega arith)
-member-past (suc i) (suc n) g g< h = member-suc i g ∙ member-past i n (g / 2) (omega arith) (omega arith)
 
 -- a later input's group, halved, is the group of the input before
 pow-half : (i : ℕ) → 2 ^ suc i / 2 ≡ 2 ^ i
@@ -248,7 +241,7 @@ size-le zero g = omega arith
 size-le (suc n) g = omega (arith, size-suc n g, size-le n (g / 2))
 
 -- only the empty group has no member
-pub size-empty : (n g : ℕ) → g < 2 ^ n → size n g ≡ 0 → g ≡ 0
+size-empty : (n g : ℕ) → g < 2 ^ n → size n g ≡ 0 → g ≡ 0
 size-empty zero g g< h = omega arith
 size-empty (suc n) g g< h = omega (arith, size-empty n (g / 2) (omega arith) (omega (arith, size-suc n g)), size-suc n g)
 
@@ -298,9 +291,3 @@ first-member (suc n) g g< h = go (first-member n (g / 2) (omega arith)) (member 
         let low : g % 2 ≡ 0 = low-bit g ∙ ap oneIf e in
         let (below, is) = ih (omega arith) in
         rw (first-even n g e) (omega arith, member-suc (firstInput n (g / 2)) g ∙ is)
-
--- of one input's group it is that input
-pub first-single : (i n : ℕ) → i < n → firstInput n (2 ^ i) ≡ i
-first-single i n h =
-    eqb-true (firstInput n (2 ^ i)) i
-    (sym (member-single (firstInput n (2 ^ i)) i) ∙ first-member n (2 ^ i) (single-below i n h) (pow-pos i) .1)

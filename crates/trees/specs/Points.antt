@@ -2,17 +2,15 @@
 -- Assumes nothing.
 use Prim.Native.Nat.{ℕ, zero, suc, _+_, _-_, _*_, _/_, _%_, _^_, _≤_, _<_}
 use mathlib.Core.Path.{_≡_, refl, sym, ap, fun-ext, _∙_}
-use mathlib.Core.Logic.{_⊎_, inl, inr}
 use mathlib.Core.Bool.{Bool, true, false, cond}
-use mathlib.Core.List.{List, [], _∷_, _++_, List·Memᴰ, List·Memᴰ·head, List·Memᴰ·tail, List·Memᴰ·not-nil, List·Memᴰ·append-cases, List·Memᴰ·eq-of-singleton, map}
-use native.Mathlib.Nat.{add-zero, zero-add, zero-mul, suc-mul, le-refl, le-step, pow-zero, pow-suc, mod-lt, not-suc-le-zero, le-of-suc-le-suc, le-add-right, add-lt-add-of-le-of-lt, div-add-mod', lt-of-lt-of-le, div-lt-iff-lt-mul, div-mul-le-self, one-mul, add-comm}
+use mathlib.Core.List.{List, [], _∷_, List·Memᴰ, List·Memᴰ·head, List·Memᴰ·eq-of-singleton, map}
+use native.Mathlib.Nat.{add-zero, zero-add, zero-mul, suc-mul, le-refl, le-step, pow-zero, pow-suc, mod-lt, le-add-right, add-lt-add-of-le-of-lt, div-add-mod', one-mul, add-comm}
 use native.Mathlib.Omega.{arith}
-use lib.ListN.{length, getD}
+use lib.ListN.{length}
 use lib.Arith.{digits-div, digits-mod}
 use lib.Pow.{pow-add}
 use Rattle.rules.specs.Groups.{member, part, points, size, wholeGroup}
 use Rattle.rules.specs.Lists.{range, concatMap, those}
-use Rattle.laws.specs.Places.{mem-getD}
 use Rattle.laws.specs.Concat.{concat-length, mem-concat, concat-mem}
 use Rattle.laws.specs.Ranges.{range-length, range-append, range-suc, map-range, mem-range, range-mem}
 use Rattle.laws.specs.Counts.{count-cons, count-append}
@@ -84,57 +82,6 @@ points-fixed m (suc n) pos g q h = go (concat-mem (block m (member n g)) (points
         → part m (suc n) g q ≡ q
     go s rest = join (s .0) (rest (s .0) (s .1)) (block-mem m pos (member n g) (s .0) q (s .2))
 
--- ---- their order
-
--- each number is below all later ones
-abbrev Rising : List ℕ → Type 0
-Rising [] = Unit {0}
-Rising (x ∷ xs) = ((y : ℕ) → List·Memᴰ y xs → x < y) × Rising xs
-
--- by place, a later number is larger
-rising-getD : (xs : List ℕ) → Rising xs → (i j : ℕ) → i < j → j < length xs → getD xs i 0 < getD xs j 0
-rising-getD [] r i j h k = absurd (not-suc-le-zero k)
-rising-getD (x ∷ xs) r zero zero h k = absurd (not-suc-le-zero h)
-rising-getD (x ∷ xs) r zero (suc j) h k = r .0 (getD xs j 0) (mem-getD xs j 0 (le-of-suc-le-suc k))
-rising-getD (x ∷ xs) r (suc i) zero h k = absurd (not-suc-le-zero h)
-rising-getD (x ∷ xs) r (suc i) (suc j) h k = rising-getD xs (r .1) i j (le-of-suc-le-suc h) (le-of-suc-le-suc k)
-
--- two rising lists, the first below the second
-rising-append : (xs ys : List ℕ) → Rising xs → Rising ys → ((x y : ℕ) → List·Memᴰ x xs → List·Memᴰ y ys → x < y) → Rising (xs ++ ys)
-rising-append [] ys rx ry h = ry
-rising-append (x ∷ xs) ys rx ry h = ((λ y i. go y (List·Memᴰ·append-cases xs i)), rising-append xs ys (rx .1) ry (λ z y i. h z y (List·Memᴰ·tail i)))
-  where
-    go : (y : ℕ) → List·Memᴰ y xs ⊎ List·Memᴰ y ys → x < y
-    go y (inl i) = rx .0 y i
-    go y (inr i) = h x y (List·Memᴰ·head refl) i
-
--- a range rises
-rising-range : (a k : ℕ) → Rising (range a k)
-unfolding range
-rising-range a zero = tt
-rising-range a (suc k) = ((λ y i. range-mem (suc a) k y i .0), rising-range (suc a) k)
-
--- a block of a lower assignment is below one of a higher
-lt-of-div-lt : (m a b : ℕ) → 0 < m → a / m < b / m → a < b
-lt-of-div-lt m a b pos h = lt-of-lt-of-le (div-lt-iff-lt-mul pos .0 h) (div-mul-le-self b m)
-
--- blocks over a rising list
-rising-blocks : (m : ℕ) → 0 < m → (c : Bool) (xs : List ℕ) → Rising xs → Rising (concatMap (block m c) xs)
-unfolding concatMap
-rising-blocks m pos c [] r = tt
-rising-blocks m pos c (x ∷ xs) r =
-    rising-append (block m c x) (concatMap (block m c) xs) (rising-range (x * m) (choices m c)) (rising-blocks m pos c xs (r .1))
-    (λ a b i j. apart a b i (concat-mem (block m c) xs j))
-  where
-    apart : (a b : ℕ) → List·Memᴰ a (block m c x) → (z : ℕ) × List·Memᴰ z xs × List·Memᴰ b (block m c z) → a < b
-    apart a b i s = lt-of-div-lt m a b pos (rw (block-mem m pos c x a i .0, block-mem m pos c (s .0) b (s .2) .0) (r .0 (s .0) (s .1)))
-
--- a group's assignments rise
-rising-points : (m n : ℕ) → 0 < m → (g : ℕ) → Rising (points m n g)
-unfolding points
-rising-points m zero pos g = ((λ y i. absurd (List·Memᴰ·not-nil i)), tt)
-rising-points m (suc n) pos g = rw points-suc (rising-blocks m pos (member n g) (points m n g) (rising-points m n pos g))
-
 -- ---- their number
 
 -- one more input adds at most one member
@@ -183,7 +130,3 @@ module _ (m n : ℕ) (pos : 0 < m) where
   -- the whole group's assignments are all indices, in order
   pub points-whole : points m n (wholeGroup n) ≡ range 0 (m ^ n)
   points-whole = points-full m n (wholeGroup n) (λ i h. member-whole i n h)
-
-  -- they are counted upward
-  pub points-rise : (g i j : ℕ) → i < j → j < length (points m n g) → getD (points m n g) i 0 < getD (points m n g) j 0
-  points-rise g = rising-getD (points m n g) (rising-points m n pos g)

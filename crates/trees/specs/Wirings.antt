@@ -107,12 +107,12 @@ module _ (m n : ℕ) (pos : 0 < m) (f : ℕ → ℕ) where
       )
 
   -- what a wire below the last carries is below m, and tells the classes of its group
-  pub carried-below : (w : Wiring) → EachOnce n w → EachGate (Few m n f) w → (p : ℕ) → carried m n f false w p < m
+  carried-below : (w : Wiring) → EachOnce n w → EachGate (Few m n f) w → (p : ℕ) → carried m n f false w p < m
   unfolding carried
   carried-below (input i) once few p = level-below m n pos p i
   carried-below (gate a b) once few p = lt-of-lt-of-le (class-below m n pos f (groupOf (gate a b)) (group-below n (gate a b) once) p) (few .0)
 
-  pub carried-tells : (w : Wiring) → EachOnce n w → Tells m n f (groupOf w) (carried m n f false w)
+  carried-tells : (w : Wiring) → EachOnce n w → Tells m n f (groupOf w) (carried m n f false w)
   unfolding carried groupOf
   carried-tells (input i) once p q e = alike-part m n pos f (2 ^ i) p q (level-single m n pos i p q e)
   carried-tells (gate a b) once p q e = class-alike m n pos f (groupOf (gate a b)) (group-below n (gate a b) once) p q e

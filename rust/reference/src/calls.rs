@@ -1,7 +1,7 @@
 //! Every call of document 01, with the buffers lent to it.
 //!
 //! "15 and 16 leave cells and marks written where the call has them, the output
-//! untouched. Every other refusal changes no buffer. Longer buffers keep their
+//! untouched. Every other refusal changes no buffer." "Longer buffers keep their
 //! further bytes."
 
 use crate::groups::{capped_multiplicity, whole};
@@ -87,7 +87,7 @@ fn no_tree(marks: &[u8], n: usize) -> Refusal {
     Refusal::new(refusal::NO_TREE, stuck as u64)
 }
 
-/// A net sheet against a table sheet. "It puts the table sheet's inks in the
+/// A net sheet against a table sheet. It "puts the table sheet's inks in the
 /// cells buffer", whether they agree or not.
 /// Refusals: the net's 1 to 8, the table's 1 to 6, 12, 13.
 pub fn check(net_sheet: &[u8], table_sheet: &[u8], cells: &mut [u8]) -> Result<Verdict, Refusal> {

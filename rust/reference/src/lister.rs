@@ -14,7 +14,7 @@ pub struct Lister<'a> {
 }
 
 impl<'a> Lister<'a> {
-    /// "It starts only on an accepted sheet, gives the refusal of any other."
+    /// "it starts only on an accepted sheet, gives the refusal of any other"
     pub fn start(sheet: &'a [u8]) -> Result<Lister<'a>, Refusal> {
         read_net_sheet(sheet)?;
         let mut lister = Lister { sheet, at: 0 };
@@ -28,8 +28,8 @@ impl<'a> Lister<'a> {
 impl<'a> Iterator for Lister<'a> {
     type Item = &'a [u8];
 
-    /// "Gives one gate line at each turn, as the part of the sheet that holds it
-    /// without its line feed; after the last line answers that none is left", at
+    /// "gives one gate line at each turn, as the part of the sheet that holds it
+    /// without its line feed", and "after the last line answers that none is left", at
     /// every further turn too, since the place stays at the sheet's end.
     fn next(&mut self) -> Option<&'a [u8]> {
         let rest = &self.sheet[self.at..];

@@ -29,8 +29,8 @@ struct Reader<'a> {
 }
 
 impl<'a> Reader<'a> {
-    /// "A field is a longest run of bytes other than space and line feed": the
-    /// run that starts here, up to the sheet's end if need be.
+    /// "A field is a longest run of bytes other than space (32) and line
+    /// feed": the run that starts here, up to the sheet's end if need be.
     fn run(&self) -> &'a [u8] {
         let rest = &self.sheet[self.at..];
         let ends = |&byte: &u8| byte == SPACE || byte == LINE_FEED;
@@ -39,7 +39,7 @@ impl<'a> Reader<'a> {
     }
 
     /// One field and the one byte due after it. "The place is the field's first
-    /// byte, or the byte where the separator should stand."
+    /// byte, or the byte where the separator should stand".
     fn field<T>(
         &mut self,
         judge: impl FnOnce(&'a [u8]) -> Judged<T>,
@@ -58,7 +58,7 @@ impl<'a> Reader<'a> {
         Ok(value)
     }
 
-    /// "With nothing after its last line"; otherwise 1 at "the first byte after
+    /// "nothing after its last line"; otherwise 1 at "the first byte after
     /// the last line".
     fn end(&self) -> Result<(), Refusal> {
         if self.at < self.sheet.len() {

@@ -65,7 +65,7 @@ fn a_refusal_is_two_lines() {
 /// A sheet that goes on past the first 65,536 bytes is turned back like its
 /// front part, and the rest need not be read.
 #[test]
-fn more_bytes_than_are_read() {
+fn a_sheet_and_then_far_too_much() {
     let sheet = lines(CASE_2);
     let refusal = format!("number place\n1 {}\n", sheet.len()).into_bytes();
     let long = [sheet, vec![b'x'; 200_000]].concat();

@@ -29,6 +29,18 @@ pub struct Turn {
     pub second: usize,
 }
 
+/// Settling and making: a sheet, then the cells, the marks and the output lent.
+pub type SheetCall = unsafe extern "C" fn(
+    sheet: *const u8,
+    sheet_length: usize,
+    cells: *mut u8,
+    cells_length: usize,
+    marks: *mut u8,
+    marks_length: usize,
+    output: *mut u8,
+    output_length: usize,
+) -> Answer;
+
 extern "C" {
     pub fn sitgurp_multiplicity(
         m: usize,

@@ -48,10 +48,12 @@ pub enum Verdict {
     Differ(usize),
 }
 
+/// The answer of a call that takes one sheet or none: 1 to 8 are that sheet's.
 fn answered(answer: ffi::Answer, named: Named, sheet: &[u8]) -> Result<usize, Refusal> {
     match answer.number {
         0 => Ok(answer.value),
-        number => Err(Refusal::new(number, answer.value, named, sheet)),
+        number @ 1..=8 => Err(Refusal::new(number, answer.value, named, sheet)),
+        number => Err(Refusal::new(number, answer.value, Named::Neither, sheet)),
     }
 }
 
@@ -84,18 +86,7 @@ pub fn settle(
     marks: &mut [u8],
     output: &mut [u8],
 ) -> Result<usize, Refusal> {
-    let answer = unsafe {
-        ffi::sitgurp_settle(
-            sheet.as_ptr(),
-            sheet.len(),
-            cells.as_mut_ptr(),
-            cells.len(),
-            marks.as_mut_ptr(),
-            marks.len(),
-            output.as_mut_ptr(),
-            output.len(),
-        )
-    };
+    let answer = lent(ffi::sitgurp_settle, sheet, cells, marks, output);
     answered(answer, Named::Net, sheet)
 }
 
@@ -106,8 +97,19 @@ pub fn make(
     marks: &mut [u8],
     output: &mut [u8],
 ) -> Result<usize, Refusal> {
-    let answer = unsafe {
-        ffi::sitgurp_make(
+    let answer = lent(ffi::sitgurp_make, sheet, cells, marks, output);
+    answered(answer, Named::Table, sheet)
+}
+
+fn lent(
+    call: ffi::SheetCall,
+    sheet: &[u8],
+    cells: &mut [u8],
+    marks: &mut [u8],
+    output: &mut [u8],
+) -> ffi::Answer {
+    unsafe {
+        call(
             sheet.as_ptr(),
             sheet.len(),
             cells.as_mut_ptr(),
@@ -117,8 +119,7 @@ pub fn make(
             output.as_mut_ptr(),
             output.len(),
         )
-    };
-    answered(answer, Named::Table, sheet)
+    }
 }
 
 /// Checks a net sheet against a table sheet, and puts the table sheet's inks in `cells`.
@@ -133,27 +134,13 @@ pub fn check(net_sheet: &[u8], table_sheet: &[u8], cells: &mut [u8]) -> Result<V
             cells.len(),
         )
     };
+    let refused = |named, sheet| Err(Refusal::new(verdict.number, verdict.value, named, sheet));
     match (verdict.kind, verdict.named) {
         (0, _) => Ok(Verdict::Agree),
         (1, _) => Ok(Verdict::Differ(verdict.value)),
-        (_, 1) => Err(Refusal::new(
-            verdict.number,
-            verdict.value,
-            Named::Net,
-            net_sheet,
-        )),
-        (_, 2) => Err(Refusal::new(
-            verdict.number,
-            verdict.value,
-            Named::Table,
-            table_sheet,
-        )),
-        _ => Err(Refusal::new(
-            verdict.number,
-            verdict.value,
-            Named::Neither,
-            &[],
-        )),
+        (_, 1) => refused(Named::Net, net_sheet),
+        (_, 2) => refused(Named::Table, table_sheet),
+        _ => refused(Named::Neither, &[]),
     }
 }
 

@@ -22,7 +22,6 @@ pub struct Refusal {
 
 impl Refusal {
     pub(crate) fn new(number: usize, place: usize, named: Named, sheet: &[u8]) -> Refusal {
-        let named = if number <= 8 { named } else { Named::Neither };
         let position = (number <= 8).then(|| position(sheet, place));
         Refusal {
             number,
@@ -68,6 +67,19 @@ fn position(sheet: &[u8], place: usize) -> (usize, usize) {
     (line, column)
 }
 
+/// A group's inputs, by their places in line 3, from 1.
+struct Members(usize);
+
+impl fmt::Display for Members {
+    fn fmt(&self, f: &mut fmt::Formatter<'_>) -> fmt::Result {
+        let places: Vec<String> = (0..usize::BITS)
+            .filter(|i| self.0 >> i & 1 == 1)
+            .map(|i| (i + 1).to_string())
+            .collect();
+        write!(f, "inputs {}", places.join(", "))
+    }
+}
+
 impl fmt::Display for Refusal {
     fn fmt(&self, f: &mut fmt::Formatter<'_>) -> fmt::Result {
         let sheet = match self.named {
@@ -82,7 +94,7 @@ impl fmt::Display for Refusal {
             }
             (10, _) => write!(f, " at index {})", self.place),
             (13..=15, _) => write!(f, "; {} bytes are needed)", self.place),
-            (16, _) => write!(f, " at group {})", self.place),
+            (16, _) => write!(f, " at group {}: {})", self.place, Members(self.place)),
             _ => write!(f, ")"),
         }
     }

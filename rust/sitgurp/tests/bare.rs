@@ -42,7 +42,7 @@ fn tables() -> Vec<(usize, usize, Vec<u8>)> {
 }
 
 #[test]
-fn every_group_of_every_size() {
+fn groups_of_every_size() {
     for (m, n, cells) in tables() {
         let groups = 1usize << n;
         for group in (0..=groups + 1).step_by(1 + groups / 64) {

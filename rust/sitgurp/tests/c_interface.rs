@@ -103,14 +103,46 @@ fn in_c(text: &str) -> Vec<Declared> {
     declarations.collect()
 }
 
+/// The names and C types of `pub extern "C" fn name(a: T, ...) -> R` in the proved crate, where a slice is a pointer and a length.
+fn in_rattle(text: &str) -> Vec<(String, Vec<String>, String)> {
+    let declarations = text.split("pub extern \"C\" fn ").skip(1).map(|part| {
+        let (name, rest) = part.split_once('(').expect("parameters");
+        let (parameters, rest) = rest.split_once(')').expect("an end");
+        let parameters = parameters.split(',').filter_map(|one| one.split_once(':'));
+        let types = parameters.flat_map(|(_, of)| match of.trim() {
+            "usize" => vec!["size_t"],
+            "&[u8]" => vec!["const uint8_t *", "size_t"],
+            "&mut [u8]" => vec!["uint8_t *", "size_t"],
+            other => panic!("type {other}"),
+        });
+        let result = rest.split_whitespace().nth(1).expect("a result");
+        let result = result
+            .strip_prefix("Sitgurp")
+            .expect("a struct of the crate");
+        (
+            name.to_string(),
+            types.map(String::from).collect(),
+            c_type(result),
+        )
+    });
+    declarations.collect()
+}
+
 #[test]
-fn the_header_declares_what_rust_declares() {
+fn the_header_declares_what_rust_and_the_proved_crate_declare() {
     let mut rust = in_rust(&read("rust/sitgurp/src/ffi.rs"));
     let mut c = in_c(&read("include/sitgurp.h"));
+    let mut rattle = in_rattle(&read("crates/capi/src/lib.rt"));
     rust.sort();
     c.sort();
+    rattle.sort();
     assert_eq!(c, rust);
-    assert_eq!(c.len(), 7);
+    let c_types = c.into_iter().map(|(name, parameters, result)| {
+        let types = parameters.into_iter().map(|(_, of)| of).collect();
+        (name, types, result)
+    });
+    assert_eq!(rattle, c_types.collect::<Vec<_>>());
+    assert_eq!(rattle.len(), 7);
 }
 
 #[test]

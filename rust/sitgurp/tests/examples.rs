@@ -2,6 +2,7 @@
 
 use std::fs;
 use std::path::Path;
+use std::process::Command;
 
 #[test]
 fn every_example_gives_what_stands_beside_it() {
@@ -36,4 +37,18 @@ fn every_example_gives_what_stands_beside_it() {
         count += 1;
     }
     assert!(count >= 4, "only {count} examples");
+}
+
+#[test]
+fn the_rule_written_for_awk_gives_its_table() {
+    let folder = Path::new(env!("CARGO_MANIFEST_DIR")).join("../../examples");
+    let written = Command::new("awk")
+        .arg("-f")
+        .arg(folder.join("shade.awk"))
+        .output()
+        .expect("awk runs");
+    assert_eq!(
+        written.stdout,
+        fs::read(folder.join("shade.table")).expect("a table sheet")
+    );
 }

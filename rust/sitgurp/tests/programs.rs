@@ -2,17 +2,22 @@
 
 use reference::generate::{Generator, TableKind};
 use reference::programs::{make_program, settle_program};
-use std::io::Write;
-use std::path::Path;
+use std::fs::File;
+use std::io::{Seek, Write};
+use std::path::{Path, PathBuf};
 use std::process::{Command, Stdio};
 
 const SEED: u64 = 512;
 
+fn program(name: &str) -> PathBuf {
+    Path::new(env!("CARGO_MANIFEST_DIR"))
+        .join("../../target/bin")
+        .join(name)
+}
+
 /// What the program prints for these bytes on standard input, written in two pieces: a short read is not the end.
 fn printed(program: &str, input: &[u8]) -> Vec<u8> {
-    let path = Path::new(env!("CARGO_MANIFEST_DIR"))
-        .join("../../target/bin")
-        .join(program);
+    let path = self::program(program);
     let mut child = Command::new(&path)
         .stdin(Stdio::piped())
         .stdout(Stdio::piped())
@@ -74,8 +79,26 @@ fn damaged_sheets() {
     }
 }
 
+/// Of a file of 70,000 bytes a program reads the first 65,536: there the file stands when it has ended.
 #[test]
-fn more_bytes_than_the_programs_read() {
+fn a_program_reads_its_first_bytes() {
+    let path = Path::new(env!("CARGO_TARGET_TMPDIR")).join("long_input");
+    std::fs::write(&path, vec![b'0'; 70_000]).expect("a file");
+    for name in ["settle", "make"] {
+        let mut file = File::open(&path).expect("the file");
+        let lent = file.try_clone().expect("the same file");
+        let output = Command::new(program(name))
+            .stdin(lent)
+            .output()
+            .expect("the program runs");
+        assert_eq!(output.stdout, b"number place\n1 0\n");
+        assert_eq!(file.stream_position().expect("a place"), 65_536);
+    }
+}
+
+/// Bytes after the last line, more of them than a program reads.
+#[test]
+fn a_sheet_and_then_far_too_much() {
     let mut generator = Generator::new(SEED + 2);
     for (m, n) in [(2, 2), (2, 11)] {
         let mut net = generator.net_sheet(m, n);

@@ -184,6 +184,11 @@ static void largest(void) {
                                 "left right table\n"
                                 "aaaaaaaa bbbbbbbb 0110\n1 cccccccc 0110\n2 dddddddd 0110\n3 eeeeeeee 0110\n4 ffffffff 0110\n"
                                 "5 gggggggg 0110\n6 hhhhhhhh 0110\n7 iiiiiiii 0110\n8 jjjjjjjj 0110\n9 kkkkkkkk 0110\n";
+    static const char settled[] = "levels inputs\n2 11\n"
+                                  "aaaaaaaa bbbbbbbb cccccccc dddddddd eeeeeeee ffffffff gggggggg hhhhhhhh iiiiiiii jjjjjjjj kkkkkkkk\n"
+                                  "left right table\n"
+                                  "jjjjjjjj kkkkkkkk 0110\niiiiiiii 1 0110\nhhhhhhhh 2 0110\ngggggggg 3 0110\nffffffff 4 0110\n"
+                                  "eeeeeeee 5 0110\ndddddddd 6 0110\ncccccccc 7 0110\nbbbbbbbb 8 0110\naaaaaaaa 9 0110\n";
     static uint8_t table[SITGURP_MOST_TABLE_SHEET];
     static uint8_t most_cells[SITGURP_MOST_CELLS];
     static uint8_t most_marks[SITGURP_MOST_MARKS];
@@ -195,6 +200,8 @@ static void largest(void) {
     if (failures > 0) {
         return;
     }
+    /* a sum's settled net takes the last two inputs first, then each earlier one */
+    HOLDS(made.value == sizeof settled - 1 && memcmp(net, settled, made.value) == 0);
     HOLDS(says(sitgurp_check(net, made.value, table, sizeof table, most_cells, sizeof most_cells), 0, 0, 0, 0));
 }
 

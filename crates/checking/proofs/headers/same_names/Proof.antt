@@ -1,12 +1,12 @@
 -- `checking::headers::same_names` meets its contract. The loop's invariant: all names are the same exactly when those from `i` on are.
 -- Assumes nothing.
 use Prim.Native.Nat.{_-_}
-use mathlib.Core.Path.{_≡_, sym, _∙_}
+use mathlib.Core.Path.{_≡_, sym, ap₂, _∙_}
 use mathlib.Core.List.{map}
 use native.Mathlib.Omega.{arith}
 use native.Mathlib.Nat.{sub-zero}
 use borrow.Author.Tests.{not-true, not-false}
-use Rattle.rules.specs.Lists.{range}
+use Rattle.rules.specs.Lists.{range, same}
 use Rattle.rules.specs.Calls.{sameNames}
 use Rattle.nets.specs.Forms.{nameIn}
 use Rattle.checking.specs.Headers.{sameFrom, names-next, names-differ, names-end}
@@ -22,16 +22,20 @@ abbrev μ-loop : tie.MeasureT-loop
 loop-holds : tie.Need-loop-holds Inv-loop μ-loop
 loop-holds c = rw sub-zero
 
-same-input-requires : tie.Need-same-input-requires Inv-loop μ-loop
-same-input-requires c κs =
-    let start = c .before .before .before .before in
-    let i = c .before .loop .i in
-    (omega arith, start .pre .1 i (c .loop-test .taken), start .pre .2 i (c .loop-test .taken))
+name-of-requires : tie.Need-name-of-requires Inv-loop μ-loop
+name-of-requires c κs = (omega arith, c .before .before .before .before .pre .1 (c .before .loop .i) (c .loop-test .taken))
+
+name-of-requires-2 : tie.Need-name-of-requires-2 Inv-loop μ-loop
+name-of-requires-2 c κs = (omega arith, c .before .before .before .before .before .pre .2 (c .before .before .loop .i) (c .before .loop-test .taken))
+
+same-bytes-requires : tie.Need-same-bytes-requires Inv-loop μ-loop
+same-bytes-requires c κs = tt
 
 returns : tie.Need-returns Inv-loop μ-loop
 returns c =
-    let at = c .before .before .before .loop in
-    sym (at .inv ∙ names-differ _ _ (at .i) _ (c .before .before .loop-test .taken) (sym (c .before .same-input .ensures) ∙ not-true _ (c .if1 .taken)))
+    let at = c .before .before .before .before .before .loop in
+    let told = c .before .same-bytes .ensures ∙ ap₂ same (c .before .before .before .name-of .ensures) (c .before .before .name-of2 .ensures) in
+    sym (at .inv ∙ names-differ _ _ (at .i) _ (c .before .before .before .before .loop-test .taken) (sym told ∙ not-true _ (c .if1 .taken)))
 
 add-i : tie.Need-add-i Inv-loop μ-loop
 add-i c = omega arith
@@ -41,8 +45,9 @@ loop-less c = omega arith
 
 loop-again : tie.Need-loop-again Inv-loop μ-loop
 loop-again c =
-    let at = c .before .before .before .loop in
-    at .inv ∙ names-next _ _ (at .i) _ (c .before .before .loop-test .taken) (sym (c .before .same-input .ensures) ∙ not-false _ (c .if1 .left))
+    let at = c .before .before .before .before .before .loop in
+    let told = c .before .same-bytes .ensures ∙ ap₂ same (c .before .before .before .name-of .ensures) (c .before .before .name-of2 .ensures) in
+    at .inv ∙ names-next _ _ (at .i) _ (c .before .before .before .before .loop-test .taken) (sym told ∙ not-false _ (c .if1 .left))
 
 returns-2 : tie.Need-returns-2 Inv-loop μ-loop
 returns-2 c = sym (c .before .loop .inv ∙ names-end _ _ (c .before .loop .i) _ (c .loop-test .left))
@@ -54,7 +59,9 @@ same-names-spec =
     Inv-loop
     μ-loop
     loop-holds
-    same-input-requires
+    name-of-requires
+    name-of-requires-2
+    same-bytes-requires
     returns
     add-i
     loop-less

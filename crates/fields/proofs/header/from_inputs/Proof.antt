@@ -5,14 +5,15 @@ use native.Mathlib.Omega.{arith}
 use Rattle.rules.specs.Text.{newline}
 use Rattle.rules.specs.Fields.{field}
 use Rattle.rules.specs.Sheets.{inputsField}
+use Rattle.laws.specs.Sizes.{levels-fit}
 use Rattle.fields.specs.Header.{fromInputs, fromNames, rest-back, rest-on, from-names}
 use Rattle.fields.specs.Steps.{itself}
-use Rattle.fields.specs.Taken.{inputs-on, levels-most}
+use Rattle.fields.specs.Taken.{inputs-on}
 use Rattle.fields.proofs.header.from_inputs.Statement.{statement}
 use Rattle.fields.proofs.header.from_inputs.Tie as tie
 
 inputs-field-requires : tie.Need-inputs-field-requires
-inputs-field-requires c κs = levels-most _ (c .before .pre .0)
+inputs-field-requires c κs = levels-fit _ .0 (c .before .pre .0) .1
 
 enum-known-number : tie.Need-enum-known-number
 enum-known-number c = search needs

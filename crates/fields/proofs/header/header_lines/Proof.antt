@@ -2,15 +2,21 @@
 -- Assumes nothing.
 use borrow.Author.Needs.{needs}
 use native.Mathlib.Omega.{arith}
-use Rattle.rules.specs.Text.{space, newline}
-use Rattle.rules.specs.Fields.{field, theWord, _>>=_}
+use Rattle.rules.specs.Text.{text}
 use Rattle.fields.specs.Header.{fromLevels, rest-back, rest-on, from-first}
 use Rattle.fields.specs.Steps.{nothing}
+use Rattle.fields.specs.Words.{twoWords}
 use Rattle.fields.proofs.header.header_lines.Statement.{statement}
 use Rattle.fields.proofs.header.header_lines.Tie as tie
 
-first-line-requires : tie.Need-first-line-requires
-first-line-requires c κs = search needs
+slice-aggregate-two-words : tie.Need-slice-aggregate-two-words
+slice-aggregate-two-words c = search needs
+
+slice-aggregate-two-words-2 : tie.Need-slice-aggregate-two-words-2
+slice-aggregate-two-words-2 c = search needs
+
+two-words-requires : tie.Need-two-words-requires
+two-words-requires c κs = search needs
 
 enum-known-number : tie.Need-enum-known-number
 enum-known-number c = search needs
@@ -22,25 +28,29 @@ enum-known-next : tie.Need-enum-known-next
 enum-known-next c = search needs
 
 from-levels-requires : tie.Need-from-levels-requires
-from-levels-requires c κs = omega (arith, c .before .before .before .first-line .ensures .ends _ _ (c .before .next .given .1))
+from-levels-requires c κs = omega (arith, c .before .before .before .two-words .ensures .ends _ _ (c .before .next .given .1))
 
 returns : tie.Need-returns
+unfolding text
 returns c =
     from-first _ _ _
-    (rest-back nothing (field (theWord "levels") space >>= λ _. field (theWord "inputs") newline) (λ _. fromLevels _) _ 0 _
-    (c .before .before .before .before .first-line .ensures .reads) _ _ (c .turned .result) (c .before .before .number .given .1) (c .turned .ensures))
+    (rest-back nothing (twoWords _ _) (λ _. fromLevels _) _ 0 _ (c .before .before .before .before .two-words .ensures .reads) _ _ (c .turned .result)
+    (c .before .before .number .given .1) (c .turned .ensures))
 
 returns-2 : tie.Need-returns-2
+unfolding text
 returns-2 c =
     from-first _ _ _
-    (rest-on nothing (field (theWord "levels") space >>= λ _. field (theWord "inputs") newline) (λ _. fromLevels _) _ 0 _
-    (c .before .before .before .before .first-line .ensures .reads) _ _ (c .from-levels .result) (c .before .before .next .given .1) (c .from-levels .ensures))
+    (rest-on nothing (twoWords _ _) (λ _. fromLevels _) _ 0 _ (c .before .before .before .before .two-words .ensures .reads) _ _ (c .from-levels .result)
+    (c .before .before .next .given .1) (c .from-levels .ensures))
 
 pub header-lines-spec : {M : Type 1} → statement M
 header-lines-spec =
     tie.close
     (tie.spec
-    first-line-requires
+    slice-aggregate-two-words
+    slice-aggregate-two-words-2
+    two-words-requires
     enum-known-number
     turned-requires
     enum-known-next

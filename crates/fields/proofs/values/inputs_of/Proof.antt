@@ -6,12 +6,12 @@ use native.Mathlib.Omega.{arith}
 use Rattle.rules.specs.Lists.{range, find, same}
 use Rattle.rules.specs.Text.{decimal}
 use Rattle.rules.specs.Sheets.{inputsOf}
-use Rattle.fields.specs.Finding.{find-here, find-next, find-none}
+use Rattle.laws.specs.Walks.{find-next, find-stop, find-end}
 use Rattle.fields.proofs.values.inputs_of.Statement.{statement}
 use Rattle.fields.proofs.values.inputs_of.Tie as tie
 
 abbrev Inv-loop : tie.InvT-loop
-Inv-loop w n₀ n = (inputsOf w ≡ find (λ k. same w (decimal k)) (range n (12 - n))) × (n ≤ 12)
+Inv-loop w n₀ n = (find (λ k. same w (decimal k)) (range n (12 - n)) ≡ inputsOf w) × (n ≤ 12)
 
 abbrev μ-loop : tie.MeasureT-loop
 μ-loop w n₀ n = 12 - n
@@ -24,7 +24,7 @@ is-decimal-requires : tie.Need-is-decimal-requires Inv-loop μ-loop
 is-decimal-requires c κs = omega arith
 
 returns : tie.Need-returns Inv-loop μ-loop
-returns c = sym (c .before .before .before .loop .inv .0 ∙ find-here _ (c .before .before .before .loop .n) 12 (omega arith) (sym (c .before .is-decimal .ensures) ∙ c .if1 .taken))
+returns c = sym (find-stop _ (c .before .before .before .loop .n) 12 (omega arith) (sym (c .before .is-decimal .ensures) ∙ c .if1 .taken)) ∙ c .before .before .before .loop .inv .0
 
 add-n : tie.Need-add-n Inv-loop μ-loop
 add-n c = omega arith
@@ -33,10 +33,10 @@ loop-less : tie.Need-loop-less Inv-loop μ-loop
 loop-less c = omega arith
 
 loop-again : tie.Need-loop-again Inv-loop μ-loop
-loop-again c = (c .before .before .before .loop .inv .0 ∙ find-next _ (c .before .before .before .loop .n) 12 (omega arith) (sym (c .before .is-decimal .ensures) ∙ c .if1 .left), omega arith)
+loop-again c = (find-next _ (c .before .before .before .loop .n) 12 (omega arith) (sym (c .before .is-decimal .ensures) ∙ c .if1 .left) ∙ c .before .before .before .loop .inv .0, omega arith)
 
 returns-2 : tie.Need-returns-2 Inv-loop μ-loop
-returns-2 c = sym (c .before .loop .inv .0 ∙ find-none _ (c .before .loop .n) 12 (omega arith))
+returns-2 c = sym (find-end _ (c .before .loop .n) 12 (omega arith)) ∙ c .before .loop .inv .0
 
 pub inputs-of-spec : {M : Type 1} → statement M
 inputs-of-spec =

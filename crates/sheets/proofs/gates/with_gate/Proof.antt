@@ -2,7 +2,7 @@
 -- Assumes nothing.
 use borrow.Author.Needs.{needs}
 use Rattle.sheets.specs.Digits.{digits-count}
-use Rattle.sheets.specs.Gates.{gates-grown}
+use Rattle.sheets.specs.Gates.{form-grown}
 use Rattle.sheets.proofs.gates.with_gate.Statement.{statement}
 use Rattle.sheets.proofs.gates.with_gate.Tie as tie
 
@@ -33,7 +33,7 @@ add-t13 c = search needs
 returns : tie.Need-returns
 returns c =
     let pre = c .before .before .before .before .before .before .before .pre in
-    gates-grown _ _ _ _ _ (pre .0) (pre .1) (pre .2) (digits-count _ _ _ (pre .6)) (c .before .before .copy-digits .ensures)
+    form-grown _ _ _ _ _ (pre .0) (pre .1) (pre .2) (digits-count _ _ _ (pre .6)) (c .before .before .copy-digits .ensures)
 
 pub with-gate-spec : {M : Type 1} → statement M
 with-gate-spec =

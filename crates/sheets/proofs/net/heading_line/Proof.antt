@@ -1,11 +1,9 @@
--- `sheets::net::heading_line` meets its contract: three fixed words.
+-- `sheets::net::heading_line` meets its contract: a word, then two more.
 -- Assumes nothing.
 use borrow.Author.Needs.{needs}
-use mathlib.Core.Path.{refl, _∙_}
-use Rattle.rules.specs.Text.{space, newline, text}
-use Rattle.fields.specs.Header.{spelled-word}
-use Rattle.fields.specs.declared.steps.Step.the-variants.{Back}
-use Rattle.sheets.specs.Answers.{left-back, left-on, right-back, right-on}
+use mathlib.Core.Path.{refl}
+use Rattle.rules.specs.Text.{text}
+use Rattle.sheets.specs.Answers.{left-back, left-on}
 use Rattle.sheets.proofs.net.heading_line.Statement.{statement}
 use Rattle.sheets.proofs.net.heading_line.Tie as tie
 
@@ -21,40 +19,22 @@ enum-known-number c = search needs
 enum-known-next : tie.Need-enum-known-next
 enum-known-next c = search needs
 
-slice-aggregate-word-field-2 : tie.Need-slice-aggregate-word-field-2
-slice-aggregate-word-field-2 c = search needs
+slice-aggregate-two-words : tie.Need-slice-aggregate-two-words
+slice-aggregate-two-words c = search needs
 
-word-field-requires-2 : tie.Need-word-field-requires-2
-word-field-requires-2 c κs = search needs
+slice-aggregate-two-words-2 : tie.Need-slice-aggregate-two-words-2
+slice-aggregate-two-words-2 c = search needs
 
-enum-known-number-2 : tie.Need-enum-known-number-2
-enum-known-number-2 c = search needs
-
-enum-known-next-2 : tie.Need-enum-known-next-2
-enum-known-next-2 c = search needs
-
-slice-aggregate-word-field-3 : tie.Need-slice-aggregate-word-field-3
-slice-aggregate-word-field-3 c = search needs
-
-word-field-requires-3 : tie.Need-word-field-requires-3
-word-field-requires-3 c κs = search needs
+two-words-requires : tie.Need-two-words-requires
+two-words-requires c κs = search needs
 
 returns : tie.Need-returns
-unfolding text space
-returns c = left-back _ (c .before .before .before .before .before .before .args .at) _ (c .before .before .before .word-field .ensures ∙ spelled-word 32 _ _ "left") _ _ _ (c .before .number .given .1) refl
+unfolding text
+returns c = left-back _ (c .before .before .before .before .before .before .args .at) _ (c .before .before .before .word-field .ensures) _ _ _ (c .before .number .given .1) refl
 
 returns-2 : tie.Need-returns-2
-unfolding text space
-returns-2 c =
-    left-on _ (c .before .before .before .before .before .before .before .before .before .before .before .args .at) _ (c .before .before .before .before .before .before .before .before .word-field .ensures ∙ spelled-word 32 _ _ "left") (Back _ _) _ _ (c .before .before .before .before .before .before .next .given .1)
-    (right-back _ (c .before .before .before .before .before .before .next .given .0 .1 .0) _ (c .before .before .before .word-field2 .ensures ∙ spelled-word 32 _ _ "right") _ _ _ (c .before .number2 .given .1) refl)
-
-returns-3 : tie.Need-returns-3
-unfolding text space newline
-returns-3 c =
-    left-on _ (c .before .before .before .before .before .before .before .before .before .before .before .before .before .args .at) _ (c .before .before .before .before .before .before .before .before .before .before .word-field .ensures ∙ spelled-word 32 _ _ "left") (c .word-field3 .result) _ _ (c .before .before .before .before .before .before .before .before .next .given .1)
-    (right-on _ (c .before .before .before .before .before .before .before .before .next .given .0 .1 .0) _ (c .before .before .before .before .before .word-field2 .ensures ∙ spelled-word 32 _ _ "right") (c .word-field3 .result) _ _ (c .before .before .before .next2 .given .1)
-    (c .word-field3 .ensures ∙ spelled-word 10 _ _ "table"))
+unfolding text
+returns-2 c = left-on _ (c .before .before .before .before .before .before .before .before .before .args .at) _ (c .before .before .before .before .before .before .word-field .ensures) (c .two-words .result) _ _ (c .before .before .before .before .next .given .1) (c .two-words .ensures .reads)
 
 pub heading-line-spec : {M : Type 1} → statement M
 heading-line-spec =
@@ -64,12 +44,8 @@ heading-line-spec =
     word-field-requires
     enum-known-number
     enum-known-next
-    slice-aggregate-word-field-2
-    word-field-requires-2
-    enum-known-number-2
-    enum-known-next-2
-    slice-aggregate-word-field-3
-    word-field-requires-3
+    slice-aggregate-two-words
+    slice-aggregate-two-words-2
+    two-words-requires
     returns
-    returns-2
-    returns-3)
+    returns-2)

@@ -1,18 +1,22 @@
 -- `sheets::references::refers` meets its contract: an input by its name, a gate by its number.
 -- Assumes nothing.
 use borrow.Author.Needs.{needs}
-use mathlib.Core.Path.{_∙_}
+use mathlib.Core.Path.{ap, _∙_}
 use native.Mathlib.Omega.{arith}
+use Rattle.rules.specs.Lists.{same}
 use Rattle.laws.specs.Sizes.{sized}
 use Rattle.sheets.specs.References.{refers-input, refers-gate}
 use Rattle.sheets.proofs.references.refers.Statement.{statement}
 use Rattle.sheets.proofs.references.refers.Tie as tie
 
-same-name-requires : tie.Need-same-name-requires
-same-name-requires c κs = let size = sized _ _ (c .before .before .before .pre .0 .fits) in (omega (arith, size .inputs-most), c .before .before .before .pre .0 .names _ (c .if1 .taken))
+name-of-requires : tie.Need-name-of-requires
+name-of-requires c κs = let size = sized _ _ (c .before .before .before .pre .0 .fits) in (omega (arith, size .inputs-most), c .before .before .before .pre .0 .names _ (c .if1 .taken))
+
+same-bytes-requires : tie.Need-same-bytes-requires
+same-bytes-requires c κs = search needs
 
 returns : tie.Need-returns
-returns c = c .same-name .ensures ∙ refers-input _ _ _ _ (c .before .if1 .taken)
+returns c = c .same-bytes .ensures ∙ (ap (same _) (c .before .name-of .ensures) ∙ refers-input _ _ _ _ (c .before .before .if1 .taken))
 
 add-is-decimal : tie.Need-add-is-decimal
 add-is-decimal c = let size = sized _ _ (c .before .before .before .pre .0 .fits) in omega (arith, size .inputs-most)
@@ -30,7 +34,8 @@ pub refers-spec : {M : Type 1} → statement M
 refers-spec =
     tie.close
     (tie.spec
-    same-name-requires
+    name-of-requires
+    same-bytes-requires
     returns
     add-is-decimal
     sub-is-decimal

@@ -1,9 +1,7 @@
 -- `tables::sheet::from_ink` meets its contract: a fixed word, then the rows.
 -- Assumes nothing.
-use mathlib.Core.Path.{_∙_}
 use borrow.Author.Needs.{needs}
-use Rattle.rules.specs.Text.{newline, text}
-use Rattle.fields.specs.Header.{spelled-word}
+use Rattle.rules.specs.Text.{text}
 use Rattle.tables.specs.Parts.{ink-refused, ink-on}
 use Rattle.tables.proofs.sheet.from_ink.Statement.{statement}
 use Rattle.tables.proofs.sheet.from_ink.Tie as tie
@@ -24,16 +22,16 @@ from-rows-requires : tie.Need-from-rows-requires
 from-rows-requires c κs = search needs
 
 returns : tie.Need-returns
-unfolding text newline
-returns c = ink-refused _ _ _ _ _ (c .before .before .before .word-field .ensures ∙ spelled-word 10 _ _ "ink") _ _ (c .before .number .given .1)
+unfolding text
+returns c = ink-refused _ _ _ _ _ (c .before .before .before .word-field .ensures) _ _ (c .before .number .given .1)
 
 same-length : tie.Need-same-length
 same-length c = search needs
 
 returns-2 : tie.Need-returns-2
-unfolding text newline
+unfolding text
 returns-2 c =
-    ink-on _ _ _ _ _ (c .before .before .before .before .before .before .before .word-field .ensures ∙ spelled-word 10 _ _ "ink") _ _ _
+    ink-on _ _ _ _ _ (c .before .before .before .before .before .before .before .word-field .ensures) _ _ _
     (c .before .before .before .before .before .next .given .1) (c .before .before .from-rows .ensures)
 
 pub from-ink-spec : {M : Type 1} → statement M

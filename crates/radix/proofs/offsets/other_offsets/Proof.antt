@@ -1,0 +1,35 @@
+-- `radix::offsets::other_offsets` meets its contract: the number that is passed is that of the other inputs' group. Assumes nothing.
+use Prim.Native.Nat.{ℕ}
+use mathlib.Core.Path.{subst}
+use borrow.Author.Needs.{needs}
+use Rattle.rules.specs.Groups.{points}
+use Rattle.radix.specs.Fronts.{Front, rest-others}
+use Rattle.radix.proofs.offsets.other_offsets.Statement.{statement}
+use Rattle.radix.proofs.offsets.other_offsets.Tie as tie
+
+power-requires : tie.Need-power-requires
+power-requires c κs = search needs
+
+sub-offsets : tie.Need-sub-offsets
+sub-offsets c = search needs
+
+sub-offsets-2 : tie.Need-sub-offsets-2
+sub-offsets-2 c = search needs
+
+offsets-requires : tie.Need-offsets-requires
+offsets-requires c κs = search needs
+
+same-length : tie.Need-same-length
+same-length c = search needs
+
+returns : tie.Need-returns
+returns c =
+    let a = c .before .before .before .before .before .before .args in
+    let called = c .before .before .offsets in
+    subst (λ (h : ℕ). Front (points (a .m) (a .n) h) (called .result) (called .last .1 .1 .1 .0))
+    (rest-others (a .n) (a .g) _ (c .before .before .before .before .power .ensures)) (called .ensures)
+
+pub other-offsets-spec : {M : Type 1} → statement M
+other-offsets-spec =
+    tie.close
+    (tie.spec power-requires sub-offsets sub-offsets-2 offsets-requires same-length returns)

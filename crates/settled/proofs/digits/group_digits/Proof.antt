@@ -1,0 +1,77 @@
+-- `settled::digits::group_digits` meets its contract: the lists that it writes from are the other inputs' assignments and the
+-- group's classes. Assumes nothing.
+use borrow.Author.Needs.{needs}
+use Rattle.rules.specs.Calls.{inkIn}
+use Rattle.radix.specs.Fronts.{fits-in, part-is}
+use Rattle.settled.specs.GateDigits.{written-given}
+use Rattle.settled.specs.Ready.{ready}
+use Rattle.settled.proofs.digits.group_digits.Statement.{statement}
+use Rattle.settled.proofs.digits.group_digits.Tie as tie
+
+slice-aggregate-other-offsets : tie.Need-slice-aggregate-other-offsets
+slice-aggregate-other-offsets c = search needs
+
+other-offsets-requires : tie.Need-other-offsets-requires
+other-offsets-requires c κs = search needs
+
+slice-aggregate-class-list : tie.Need-slice-aggregate-class-list
+slice-aggregate-class-list c = search needs
+
+class-list-requires : tie.Need-class-list-requires
+class-list-requires c κs = search needs
+
+sub-write-digits : tie.Need-sub-write-digits
+sub-write-digits c = search needs
+
+part-write-digits-start : tie.Need-part-write-digits-start
+part-write-digits-start c = search needs
+
+part-write-digits-end : tie.Need-part-write-digits-end
+part-write-digits-end c = fits-in (c .before .before .before .before .before .other-offsets .ensures)
+
+sub-write-digits-2 : tie.Need-sub-write-digits-2
+sub-write-digits-2 c = search needs
+
+part-write-digits-start-2 : tie.Need-part-write-digits-start-2
+part-write-digits-start-2 c = search needs
+
+part-write-digits-end-2 : tie.Need-part-write-digits-end-2
+part-write-digits-end-2 c = fits-in (c .before .before .before .before .class-list .ensures)
+
+write-digits-requires : tie.Need-write-digits-requires
+write-digits-requires c κs =
+    let start = c .before .before .before .before .before .before .before .before .before .before .before .before .before .before .before in
+    let a = start .args in
+    let pre = start .pre in (
+      pre .0 .some,
+      ready (a .m) (a .n) (a .cells .now) (inkIn (a .cells .now)) (a .g) (a .left .now) (a .right .now) (pre .0) (pre .1) (pre .2) (pre .3) _ _
+          (part-is (c .before .before .before .before .before .before .before .before .before .other-offsets .ensures)) (part-is (c .before .before .before .before .before .before .class-list .ensures)),
+      pre .4,
+    )
+
+same-length : tie.Need-same-length
+same-length c = search needs
+
+returns : tie.Need-returns
+returns c =
+    let a = c .before .before .before .before .before .before .before .before .before .before .before .before .before .before .before .before .before .before .args in
+    written-given (a .m) (a .n) (inkIn (a .cells .now)) (a .last) (a .at) (a .digits .now) _ (a .g) (a .left .now) (a .right .now) _ _
+    (part-is (c .before .before .before .before .before .before .before .before .before .before .before .before .other-offsets .ensures)) (part-is (c .before .before .before .before .before .before .before .before .before .class-list .ensures)) (c .before .before .write-digits .ensures)
+
+pub group-digits-spec : {M : Type 1} → statement M
+group-digits-spec =
+    tie.close
+    (tie.spec
+    slice-aggregate-other-offsets
+    other-offsets-requires
+    slice-aggregate-class-list
+    class-list-requires
+    sub-write-digits
+    part-write-digits-start
+    part-write-digits-end
+    sub-write-digits-2
+    part-write-digits-start-2
+    part-write-digits-end-2
+    write-digits-requires
+    same-length
+    returns)

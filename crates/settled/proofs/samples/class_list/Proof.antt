@@ -1,0 +1,37 @@
+-- `settled::samples::class_list` meets its contract: the call that counts the classes does not stop. Assumes nothing.
+use borrow.Author.Needs.{needs}
+use Rattle.rules.specs.Groups.{classes, multiplicity}
+use Rattle.rules.specs.Calls.{inkIn}
+use Rattle.settled.specs.Samples.{counted-all}
+use Rattle.settled.proofs.samples.class_list.Statement.{statement}
+use Rattle.settled.proofs.samples.class_list.Tie as tie
+
+slice-aggregate-group-classes : tie.Need-slice-aggregate-group-classes
+slice-aggregate-group-classes c = search needs
+
+slice-aggregate-group-classes-2 : tie.Need-slice-aggregate-group-classes-2
+slice-aggregate-group-classes-2 c = search needs
+
+group-classes-requires : tie.Need-group-classes-requires
+group-classes-requires c κs = search needs
+
+same-length : tie.Need-same-length
+same-length c = search needs
+
+returns : tie.Need-returns
+unfolding multiplicity
+returns c =
+    let start = c .before .before .before .before .before .before .before .before .before .before in
+    let a = start .args in
+    let called = c .before .before .before .before .group-classes in
+    counted-all (a .m) (classes (a .m) (a .n) (inkIn (a .cells .now)) (a .g)) (called .result) (called .last .1 .1 .1 .1 .1 .1 .0) (start .pre .3) (called .ensures)
+
+pub class-list-spec : {M : Type 1} → statement M
+class-list-spec =
+    tie.close
+    (tie.spec
+    slice-aggregate-group-classes
+    slice-aggregate-group-classes-2
+    group-classes-requires
+    same-length
+    returns)
