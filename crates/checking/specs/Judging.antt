@@ -2,12 +2,12 @@
 -- Assumes nothing.
 use Prim.Native.Nat.{ℕ, _-_, _^_, _≤_, _<_}
 use mathlib.Core.Path.{_≡_, sym, ap, ap₂, _∙_, subst⁻¹}
-use mathlib.Core.Bool.{true, false, _&&_, and-eq-true-iff}
+use mathlib.Core.Bool.{Bool, true, false, not, _&&_, and-eq-true-iff}
 use mathlib.Core.List.{List}
 use native.Mathlib.Omega.{arith}
 use lib.Dec.{eqb}
 use lib.ListN.{length, take, length-take}
-use borrow.Author.Tests.{eqb-true}
+use borrow.Author.Tests.{eqb-true, not-true, not-false}
 use Rattle.rules.specs.Calls.{Checked, turnedDown, neither, sameNames, sameHeader, checkedInto, checkCall}
 use Rattle.laws.specs.Outcomes.{check-accepted, check-12, check-13, check-compared}
 use Rattle.nets.specs.declared.forms.Header.{Header}
@@ -32,29 +32,34 @@ module _ (s : List ℕ) (h : Header) (net : Net) (taken : NetTaken s h net) (t :
   both-accepted : checkCall s t cells ≡ checkedInto (netIn s h net) (tableIn t inks k) cells
   both-accepted = check-accepted s t cells (netIn s h net) (taken .reads) (tableIn t inks k) (other .reads)
 
-  pub headers-differ : sameHeader (headerOf s h) (headerOf t k) ≡ false → record { answer = turnedDown neither 12 0; cells = cells } ≡ checkCall s t cells
-  headers-differ e = sym (both-accepted ∙ check-12 (netIn s h net) (tableIn t inks k) cells e)
+  -- the headers compared, and the test of the answer
+  module _ (same : Bool) (told : same ≡ sameHeader (headerOf s h) (headerOf t k)) where
+    pub headers-differ : not same ≡ true → record { answer = turnedDown neither 12 0; cells = cells } ≡ checkCall s t cells
+    headers-differ other = sym (both-accepted ∙ check-12 (netIn s h net) (tableIn t inks k) cells (sym told ∙ not-true same other))
 
-  module _ (same : sameHeader (headerOf s h) (headerOf t k) ≡ true) (count : ℕ) (is : count ≡ h .levels ^ h .inputs) where
-    count-is : count ≡ k .levels ^ k .inputs
-    count-is = is ∙ same-cells s h t k same
+    module _ (alike : not same ≡ false) (count : ℕ) (is : count ≡ h .levels ^ h .inputs) where
+      agreed : sameHeader (headerOf s h) (headerOf t k) ≡ true
+      agreed = sym told ∙ not-false same alike
 
-    inks-length : length (inksIn inks k) ≡ count
-    unfolding headerOf
-    inks-length = ap length (sym (inks-front t k inks other count count-is)) ∙ inks-given t k inks other count count-is .kept .count ∙ sym count-is
+      count-is : count ≡ k .levels ^ k .inputs
+      count-is = is ∙ same-cells s h t k agreed
 
-    -- the buffer holds all inks
-    pub inks-long : count ≤ length inks
-    inks-long = omega (arith, inks-length, length-take (k .levels ^ k .inputs) inks)
+      inks-length : length (inksIn inks k) ≡ count
+      unfolding headerOf
+      inks-length = ap length (sym (inks-front t k inks other count count-is)) ∙ inks-given t k inks other count count-is .kept .count ∙ sym count-is
 
-    pub cells-short : length cells < count → record { answer = turnedDown neither 13 count; cells = cells } ≡ checkCall s t cells
-    cells-short short =
-        (λ i. record { answer = turnedDown neither 13 (sym inks-length i); cells = cells })
-        ∙ sym (both-accepted ∙ check-13 (netIn s h net) (tableIn t inks k) cells same (subst⁻¹ (λ (n : ℕ). length cells < n) inks-length short))
+      -- the buffer holds all inks
+      pub inks-long : count ≤ length inks
+      inks-long = omega (arith, inks-length, length-take (k .levels ^ k .inputs) inks)
 
-    pub cells-long : count ≤ length cells → (before after : List ℕ) (all : ℕ) → Tabled net before after all → (r : Checked)
-        → r ≡ comparedInto (take (count - 0) after) (take (count - 0) inks) cells → r ≡ checkCall s t cells
-    cells-long long before after all did r e =
-        let fits : length (inksIn inks k) ≤ length cells = omega (arith, inks-length) in
-        e ∙ ap₂ (λ (xs ys : List ℕ). comparedInto xs ys cells) (front s h net taken before after all count did is) (inks-front t k inks other count count-is)
-        ∙ sym (both-accepted ∙ check-compared (netIn s h net) (tableIn t inks k) cells same fits)
+      pub cells-short : length cells < count → record { answer = turnedDown neither 13 count; cells = cells } ≡ checkCall s t cells
+      cells-short short =
+          (λ i. record { answer = turnedDown neither 13 (sym inks-length i); cells = cells })
+          ∙ sym (both-accepted ∙ check-13 (netIn s h net) (tableIn t inks k) cells agreed (subst⁻¹ (λ (n : ℕ). length cells < n) inks-length short))
+
+      pub cells-long : count ≤ length cells → (before after : List ℕ) (all : ℕ) → Tabled net before after all → (r : Checked)
+          → r ≡ comparedInto (take (count - 0) after) (take (count - 0) inks) cells → r ≡ checkCall s t cells
+      cells-long long before after all did r e =
+          let fits : length (inksIn inks k) ≤ length cells = omega (arith, inks-length) in
+          e ∙ ap₂ (λ (xs ys : List ℕ). comparedInto xs ys cells) (front s h net taken before after all count did is) (inks-front t k inks other count count-is)
+          ∙ sym (both-accepted ∙ check-compared (netIn s h net) (tableIn t inks k) cells agreed fits)

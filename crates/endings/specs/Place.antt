@@ -15,7 +15,7 @@ use Rattle.rules.specs.Groups.{size}
 use Rattle.rules.specs.Marks.{markIn, bySize, noTreePlace}
 use Rattle.laws.specs.Concat.{concat-mem}
 use Rattle.laws.specs.Finds.{or-else, find-append, find-those}
-use Rattle.laws.specs.Ranges.{range-mem, range-next}
+use Rattle.laws.specs.Ranges.{range-mem, range-next, range-none}
 
 abbrev pub isOne : List ℕ → ℕ → Bool
 isOne marks g = eqb (markIn marks g) 1
@@ -53,10 +53,8 @@ module _ (n end : ℕ) (marks : List ℕ) (k g : ℕ) where
     lowest-next e = rw (range-next g end h, e, find)
 
   pub lowest-past : end ≤ g → foundBelow end end ≡ lowest n end marks k g
-  unfolding lowest find range
-  lowest-past h =
-      let e : end - g ≡ 0 = omega arith in
-      found-none end end (omega arith) ∙ rw e
+  unfolding lowest find
+  lowest-past h = found-none end end (omega arith) ∙ rw (range-none g end h)
 
 -- ---- size by size
 
@@ -81,10 +79,8 @@ module _ (n : ℕ) (marks : List ℕ) where
     place-next l = sym (size-next k h ∙ ap (λ o. or-else o (placeFrom n marks (k + 1))) (sym search-by ∙ found-none end g l))
 
   pub place-none : (k : ℕ) → n < k → placeFrom n marks k ≡ none
-  unfolding placeFrom concatMap range find
-  place-none k h =
-      let e : n + 1 - k ≡ 0 = omega arith in
-      rw e
+  unfolding placeFrom concatMap find
+  place-none k h = rw (range-none k (n + 1) (omega arith))
 
   -- the search from the empty group on is the place
   place-from : elim (placeFrom n marks 0) as (λ _. ℕ) [ none ↦ 0 | some g ↦ g ] ≡ noTreePlace n marks

@@ -4,12 +4,11 @@ use Prim.Native.Nat.{ℕ, suc, _+_, _-_, _≤_, _<_}
 use mathlib.Core.Path.{_≡_, refl, sym, ap, _∙_}
 use mathlib.Core.List.{List, [], _∷_, _++_, map, append-assoc}
 use native.Mathlib.Nat.{zero-add, sub-zero}
-use native.Mathlib.Omega.{arith}
 use Rattle.rules.specs.Lists.{range}
 use Rattle.rules.specs.Text.{space, newline}
 use Rattle.rules.specs.Printed.{line}
 use Rattle.laws.specs.Concat.{map-append}
-use Rattle.laws.specs.Ranges.{range-suc, range-next}
+use Rattle.laws.specs.Ranges.{range-suc, range-next, range-none}
 
 -- fields, each with the space behind it
 unfoldable pub spaced : List (List ℕ) → List ℕ
@@ -53,10 +52,8 @@ unfolding spacedFrom spaced
 spaced-next f i n h = ap (λ (r : List ℕ). spaced (map f r)) (range-next i n h)
 
 pub spaced-none : (f : ℕ → List ℕ) (i n : ℕ) → n ≤ i → spacedFrom f i n ≡ []
-unfolding spacedFrom spaced range
-spaced-none f i n h =
-    let e : n - i ≡ 0 = omega arith in
-    rw e
+unfolding spacedFrom spaced
+spaced-none f i n h = rw (range-none i n h)
 
 -- a line of the fields f 0 .. f n
 pub line-from : (f : ℕ → List ℕ) (n : ℕ) → line (map f (range 0 (suc n))) ≡ spacedFrom f 0 n ++ (f n ++ (newline ∷ []))

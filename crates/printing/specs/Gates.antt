@@ -17,7 +17,7 @@ use Rattle.nets.specs.declared.forms.Header.{Header}
 use Rattle.nets.specs.declared.forms.Net.{Net}
 use Rattle.nets.specs.Room.{mostDigits}
 use Rattle.nets.specs.Forms.{nameIn, headerOf, gateOf, gatesOf}
-use Rattle.laws.specs.Ranges.{range-next, map-range-length, map-range-at}
+use Rattle.laws.specs.Ranges.{range-next, range-none, map-range-length, map-range-at}
 use Rattle.lines.specs.Names.{namesIn, netIn}
 
 -- what a reference is printed as
@@ -51,10 +51,8 @@ module _ (s : List ℕ) (h : Header) (net : Net) where
   lines-next k l = ap (λ (r : List ℕ). concatMap (printedGate (namesIn s h)) (map (gateOf net) r)) (range-next k (net .gates) l)
 
   pub lines-none : (k : ℕ) → net .gates ≤ k → linesFrom s h net k ≡ []
-  unfolding linesFrom concatMap range
-  lines-none k l =
-      let e : net .gates - k ≡ 0 = omega arith in
-      rw e
+  unfolding linesFrom concatMap
+  lines-none k l = rw (range-none k (net .gates) l)
 
 module _ (net : Net) (inside : GatesInside net) (k : ℕ) (h : k < net .gates) where
   -- where the gate's digits end

@@ -1,8 +1,6 @@
 -- `checking::check::check_accepted` meets its contract: 12, then 13, then the net's table and the inks.
 -- Assumes nothing.
-use mathlib.Core.Path.{sym, _∙_}
 use native.Mathlib.Omega.{arith}
-use borrow.Author.Tests.{not-true, not-false}
 use Rattle.accepted.specs.Taken.{held-size, cells-some, sound, own-most, front-length}
 use Rattle.checking.specs.Judging.{headers-differ, inks-long, cells-short, cells-long}
 use borrow.Author.Needs.{needs}
@@ -20,13 +18,12 @@ same-header-requires c κs = search needs
 returns : tie.Need-returns
 returns c =
     let start = c .before .before .before .before .before .before .before in
-    headers-differ _ _ _ (start .pre .0) _ _ _ (start .pre .1) _ (sym (c .before .same-header .ensures) ∙ not-true _ (c .if1 .taken))
+    headers-differ _ _ _ (start .pre .0) _ _ _ (start .pre .1) _ _ (c .before .same-header .ensures) (c .if1 .taken)
 
 returns-2 : tie.Need-returns-2
 returns-2 c =
     let start = c .before .before .before .before .before .before .before .before in
-    let same = sym (c .before .before .same-header .ensures) ∙ not-false _ (c .before .if1 .left) in
-    cells-short _ _ _ (start .pre .0) _ _ _ (start .pre .1) _ same _ (c .before .before .before .power .ensures) (c .if2 .taken)
+    cells-short _ _ _ (start .pre .0) _ _ _ (start .pre .1) _ _ (c .before .before .same-header .ensures) (c .before .if1 .left) _ (c .before .before .before .power .ensures) (c .if2 .taken)
 
 slice-aggregate-table : tie.Need-slice-aggregate-table
 slice-aggregate-table c = search needs
@@ -54,8 +51,7 @@ part-compare-into-start-2 c = search needs
 part-compare-into-end-2 : tie.Need-part-compare-into-end-2
 part-compare-into-end-2 c =
     let start = c .before .before .before .before .before .before .before .before .before .before .before .before .before in
-    let same = sym (c .before .before .before .before .before .before .before .same-header .ensures) ∙ not-false _ (c .before .before .before .before .before .before .if1 .left) in
-    omega (arith, inks-long _ _ _ (start .pre .0) _ _ _ (start .pre .1) (start .args .cells .now) same _ (c .before .before .before .before .before .before .before .before .power .ensures))
+    omega (arith, inks-long _ _ _ (start .pre .0) _ _ _ (start .pre .1) (start .args .cells .now) _ (c .before .before .before .before .before .before .before .same-header .ensures) (c .before .before .before .before .before .before .if1 .left) _ (c .before .before .before .before .before .before .before .before .power .ensures))
 
 compare-into-requires : tie.Need-compare-into-requires
 compare-into-requires c κs =
@@ -69,8 +65,7 @@ same-length c = search needs
 returns-3 : tie.Need-returns-3
 returns-3 c =
     let start = c .before .before .before .before .before .before .before .before .before .before .before .before .before .before .before .before .before .before in
-    let same = sym (c .before .before .before .before .before .before .before .before .before .before .before .before .same-header .ensures) ∙ not-false _ (c .before .before .before .before .before .before .before .before .before .before .before .if1 .left) in
-    cells-long _ _ _ (start .pre .0) _ _ _ (start .pre .1) _ same _ (c .before .before .before .before .before .before .before .before .before .before .before .before .before .power .ensures) (c .before .before .before .before .before .before .before .before .before .before .if2 .left) _ _ _ (c .before .before .before .before .before .before .before .before .table2 .ensures) _
+    cells-long _ _ _ (start .pre .0) _ _ _ (start .pre .1) _ _ (c .before .before .before .before .before .before .before .before .before .before .before .before .same-header .ensures) (c .before .before .before .before .before .before .before .before .before .before .before .if1 .left) _ (c .before .before .before .before .before .before .before .before .before .before .before .before .before .power .ensures) (c .before .before .before .before .before .before .before .before .before .before .if2 .left) _ _ _ (c .before .before .before .before .before .before .before .before .table2 .ensures) _
     (c .before .before .compare-into .ensures)
 
 pub check-accepted-spec : {M : Type 1} → statement M

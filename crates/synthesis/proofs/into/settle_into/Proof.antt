@@ -20,7 +20,8 @@ returns-2 : tie.Need-returns-2
 returns-2 c = given-14 _ _ _ (c .before .before .before .before .before .before .before .before .pre) _ _ _ (c .before .before .if1 .left) _ (c .before .marks-length .ensures) (c .if2 .taken)
 
 settle-marked-requires : tie.Need-settle-marked-requires
-settle-marked-requires c κs = search needs
+settle-marked-requires c κs =
+    (c .before .before .before .before .before .before .before .before .before .before .before .pre, c .before .before .before .before .before .if1 .left, omega (arith, c .before .before .before .before .marks-length .ensures, c .before .before .before .if2 .left))
 
 same-length : tie.Need-same-length
 same-length c = search needs

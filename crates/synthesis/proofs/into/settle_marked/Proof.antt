@@ -35,7 +35,7 @@ returns : tie.Need-returns
 returns c =
     let start = c .before .before .before .before .before .before .before .before .before .before .before .before .before .before .before .before in
     let did = c .before .before .before .before .before .mark-all in
-    given-16 _ _ _ (start .pre .0) _ _ _ (did .ensures) (omega (arith, start .pre .2, did .kept .1 .1 .1 .0)) _ _ _ (put-wrote (start .pre .1) (c .before .before .before .before .before .before .before .before .before .copy .ensures) .text) (c .before .before .if1 .taken)
+    given-16 _ _ _ (start .pre .0) _ _ _ (did .ensures) (omega (arith, start .pre .2, did .kept .1 .1 .1 .0)) _ _ (start .args .out .now) (put-wrote (start .pre .1) (c .before .before .before .before .before .before .before .before .before .copy .ensures) .text) (c .before .before .if1 .taken)
     _ (c .no-tree-place .ensures)
 
 settled-net-requires : tie.Need-settled-net-requires
