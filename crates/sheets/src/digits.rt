@@ -7,11 +7,11 @@ ghost use lib.Seq.{paste};
 ghost use Rattle.rules.specs.Limits.{mostLevels};
 ghost use Rattle.sheets.specs.Digits.{DigitsRead, isTable, areDigits, digitsAt};
 use fields::ends::after_field;
+use fields::ends::judged;
 use fields::numbers::wide;
 use fields::runs::NEWLINE;
 use fields::runs::field_at;
 use fields::steps::Step;
-use fields::steps::Verdict;
 use radix::limits::MOST_DIGITS;
 
 // Is w m·m digits below m?
@@ -42,10 +42,8 @@ pub fn digits_field(s: &[u8], at: usize, m: usize) -> Step
     ensures { λ r. ⌜ DigitsRead (now (s .entry)) at m r ⌝ }
 {
     let w = field_at(s, at);
-    if is_table(w, m) {
-        return after_field(s, at, w, Verdict::Good(w.len()), NEWLINE);
-    }
-    after_field(s, at, w, Verdict::Bad(6), NEWLINE)
+    let verdict = judged(is_table(w, m), w.len(), 6);
+    after_field(s, at, w, verdict, NEWLINE)
 }
 
 // Copies the `count` digits that stand in the sheet from `at` on.
