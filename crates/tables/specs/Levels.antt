@@ -15,6 +15,7 @@ use Rattle.laws.specs.Same.{same-refl}
 use Rattle.laws.specs.Walks.{rest}
 use Rattle.fields.specs.Compared.{same-length}
 use Rattle.fields.specs.Runs.{is-neither, is-space}
+use Rattle.fields.specs.Values.{one-byte}
 
 -- at `at` stands the digit of `due`, with a space after it
 pub record PlainLevel (s : List ℕ) (at due : ℕ) : Type 0 where
@@ -27,9 +28,7 @@ not-plain s at due e = let z : _≡_ {A = ℕ} 0 1 = cc in absurd (omega arith)
 
 same-one : (w : List ℕ) (x : ℕ) → length w ≡ 1 → same w (x ∷ []) ≡ eqb (getD w 0 0) x
 unfolding same
-same-one [] x e = absurd (omega arith)
-same-one (a ∷ []) x e = elim (eqb a x) as (λ t. elim t as (λ _. Bool) [ true ↦ true | false ↦ false ] ≡ t) [ true ↦ refl | false ↦ refl ]
-same-one (a ∷ b ∷ w) x e = absurd (omega arith)
+same-one w x e = rw (one-byte w e) (elim (eqb (getD w 0 0) x) as (λ t. elim t as (λ _. Bool) [ true ↦ true | false ↦ false ] ≡ t) [ true ↦ refl | false ↦ refl ])
 
 module _ (due : ℕ) (w : List ℕ) where
   pub level-long : (length w ≡ 1 → ⊥) → false ≡ same w (digitByte due ∷ [])
