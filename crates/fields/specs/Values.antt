@@ -29,20 +29,20 @@ one-byte [] e = absurd (omega arith)
 one-byte (b ∷ []) e = refl
 one-byte (b ∷ d ∷ w) e = absurd (omega arith)
 
-module _ (w : List ℕ) (b : ℕ) (e : length w ≡ 1) (q : b ≡ getD w 0 0) where
-  pub levels-low : b < 50 → bad 2 ≡ levelsField w
+module _ (w : List ℕ) (e : length w ≡ 1) where
+  pub levels-low : getD w 0 0 < 50 → bad 2 ≡ levelsField w
   unfolding levelsField isDigit levelsFit
-  levels-low h = rw (one-byte w e, ← q) (simp (lt-leb 2 (b - 48) (omega arith), and-false))
+  levels-low h = rw (one-byte w e) (simp (lt-leb 2 (getD w 0 0 - 48) (omega arith), and-false))
 
-  pub levels-high : 57 < b → bad 2 ≡ levelsField w
+  pub levels-high : 57 < getD w 0 0 → bad 2 ≡ levelsField w
   unfolding levelsField isDigit levelsFit
-  levels-high h = rw (one-byte w e, ← q) (simp (le-ltb b 58 (omega arith), and-false))
+  levels-high h = rw (one-byte w e) (simp (le-ltb (getD w 0 0) 58 (omega arith), and-false))
 
-  pub levels-good : 50 ≤ b → b ≤ 57 → good (b - 48) ≡ levelsField w
+  pub levels-good : 50 ≤ getD w 0 0 → getD w 0 0 ≤ 57 → good (getD w 0 0 - 48) ≡ levelsField w
   unfolding levelsField isDigit levelsFit
   levels-good h k =
-      rw (one-byte w e, ← q)
-      (simp (le-leb 48 b (omega arith), lt-ltb b 58 (omega arith), le-leb 2 (b - 48) (omega arith), le-leb (b - 48) 9 (omega arith)))
+      let b = getD w 0 0 in
+      rw (one-byte w e) (simp (le-leb 48 b (omega arith), lt-ltb b 58 (omega arith), le-leb 2 (b - 48) (omega arith), le-leb (b - 48) 9 (omega arith)))
 
 inputs-range : (w : List ℕ) (n : ℕ) → inputsOf w ≡ some n → (fewestInputs ≤ n) × (n ≤ mostInputs)
 unfolding inputsOf

@@ -5,12 +5,6 @@ ghost use Rattle.rules.specs.Lists.{same};
 ghost use Rattle.rules.specs.Text.{decimal};
 use crate::same::same_bytes;
 
-pub fn wide(b: u8) -> usize
-    ensures { λ r. ⌜ r ≡ b ⌝ }
-{
-    b as usize
-}
-
 // Is w the decimal value of n?
 pub fn is_decimal(w: &[u8], n: usize) -> bool
     requires { ⌜ n < 100 ⌝ }

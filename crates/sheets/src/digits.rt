@@ -8,7 +8,6 @@ ghost use Rattle.rules.specs.Limits.{mostLevels};
 ghost use Rattle.sheets.specs.Digits.{DigitsRead, isTable, areDigits, digitsAt};
 use fields::ends::after_field;
 use fields::ends::judged;
-use fields::numbers::wide;
 use fields::runs::NEWLINE;
 use fields::runs::field_at;
 use fields::steps::Step;
@@ -24,7 +23,7 @@ pub fn is_table(w: &[u8], m: usize) -> bool
     }
     let mut i: usize = 0;
     while i < w.len() {
-        let b = wide(w[i]);
+        let b = w[i] as usize;
         if b < 48 {
             return false;
         }

@@ -34,9 +34,9 @@ module _ (due : ℕ) (w : List ℕ) where
   pub level-long : (length w ≡ 1 → ⊥) → false ≡ same w (digitByte due ∷ [])
   level-long h = sym (same-length w (digitByte due ∷ []) h)
 
-  pub level-byte : length w ≡ 1 → (b d : ℕ) → b ≡ getD w 0 0 → d ≡ due → eqb b (48 + d) ≡ same w (digitByte due ∷ [])
+  pub level-byte : length w ≡ 1 → eqb (getD w 0 0) (48 + due) ≡ same w (digitByte due ∷ [])
   unfolding digitByte
-  level-byte one b d byte is-due = rw (byte, is-due) (sym (same-one w (48 + due) one))
+  level-byte one = sym (same-one w (48 + due) one)
 
 -- two bytes on, the level is read
 pub plain-read : (s : List ℕ) (at due : ℕ) → PlainLevel s at due → read tt (drop (at + 2) s) (at + 2) ≡ field (levelField due) 32 (drop at s) at

@@ -11,7 +11,6 @@ ghost use Rattle.fields.specs.Steps.{stepAs, nothing};
 ghost use Rattle.tables.specs.Levels.{PlainLevel};
 use fields::ends::after_field;
 use fields::ends::judged;
-use fields::numbers::wide;
 use fields::runs::SPACE;
 use fields::runs::field_at;
 use fields::steps::Step;
@@ -23,7 +22,7 @@ pub fn is_level(w: &[u8], due: u8) -> bool
     if w.len() != 1 {
         return false;
     }
-    wide(w[0]) == 48 + wide(due)
+    w[0] as usize == 48 + due as usize
 }
 
 // Does the digit of `due` stand at `at`, with a space after it?
@@ -37,7 +36,7 @@ pub fn is_plain(s: &[u8], at: usize, due: u8) -> bool
     if s.len() <= after {
         return false;
     }
-    if wide(s[at]) != 48 + wide(due) {
+    if s[at] as usize != 48 + due as usize {
         return false;
     }
     s[after] == SPACE
