@@ -7,8 +7,10 @@ use native.Mathlib.Omega.{arith}
 use lib.ListN.{length, drop, drop-of-length-le}
 use lib.Seq.{drop-cons}
 use Rattle.rules.specs.Fields.{Read, read, turnedBack, Reader, then, _>>=_, give, closed}
-use Rattle.rules.specs.Calls.{Answer, accepted, refused, answered}
-use Rattle.fields.specs.Steps.{stepAs}
+use Rattle.rules.specs.Calls.{answered}
+use Rattle.fields.specs.Steps.{stepAs, outcomeAs}
+use Rattle.fields.specs.declared.steps.Outcome.{Outcome}
+use Rattle.fields.specs.declared.steps.Outcome.the-variants.{Accepted, Refused}
 use Rattle.fields.specs.declared.steps.Step.{Step}
 use Rattle.fields.specs.declared.steps.Step.the-variants.{On, Back}
 
@@ -23,27 +25,38 @@ module _ {A B : Type 0} (f : ℕ → A) (one : Reader A) (rest : A → Reader B)
   unfolding then
   chained-on value next e onward = rw (← reads, e) onward
 
--- the same of the answer to a whole sheet
-module _ {A B : Type 0} (f : ℕ → A) (one : Reader A) (rest : A → Reader B) (s : List ℕ) (at : ℕ) (step : Step)
-    (reads : stepAs f s step ≡ one (drop at s) at) where
-  pub answered-back : (number place : ℕ) → step ≡ Back number place → refused number place ≡ answered ((one >>= rest) (drop at s) at)
-  unfolding then answered
-  answered-back number place e = rw (← reads, e) refl
+-- ---- the answer to a whole sheet
 
-  pub answered-on : (value next : ℕ) (x : Answer B) → step ≡ On value next → x ≡ answered (rest (f value) (drop next s) next)
-      → x ≡ answered ((one >>= rest) (drop at s) at)
+-- what is left of a sheet is read by `reader`, with the outcome o: where it is accepted, it gives b, and `Held` holds
+pub record Answers {B : Type 0} (s : List ℕ) (at : ℕ) (reader : Reader B) (b : B) (Held : Type 0) (o : Outcome) : Type 0 where
+  pub answer : outcomeAs b o ≡ answered (reader (drop at s) at)
+  pub held : o ≡ Accepted → Held
+
+-- a refusal accepts nothing
+never : {A : Type 0} (number place : ℕ) → Refused number place ≡ Accepted → A
+never number place e = let z : _≡_ {A = ℕ} 0 1 = cc in absurd (omega arith)
+
+module _ {A B : Type 0} (f : ℕ → A) (one : Reader A) (rest : A → Reader B) (s : List ℕ) (at : ℕ) (step : Step)
+    (reads : stepAs f s step ≡ one (drop at s) at) (b : B) (Held : Type 0) where
+  pub answers-back : (number place : ℕ) → step ≡ Back number place → Answers s at (one >>= rest) b Held (Refused number place)
+  unfolding then answered
+  answers-back number place e = record { answer = rw (← reads, e) refl; held = never number place }
+
+  pub answers-on : (value next : ℕ) (o : Outcome) → step ≡ On value next → Answers s next (rest (f value)) b Held o → Answers s at (one >>= rest) b Held o
   unfolding then
-  answered-on value next x e onward = rw (← reads, e) onward
+  answers-on value next o e onward = record { answer = rw (← reads, e) (onward .answer); held = onward .held }
 
 -- nothing stands after the last line
-module _ (s : List ℕ) (at : ℕ) {B : Type 0} (b : B) where
-  pub closed-over : at < length s → refused 1 at ≡ answered ((closed >>= λ _. give b) (drop at s) at)
+module _ {B : Type 0} (s : List ℕ) (at : ℕ) (b : B) (Held : Type 0) where
+  pub answers-over : at < length s → Answers s at (closed >>= λ _. give b) b Held (Refused 1 at)
   unfolding then answered closed
-  closed-over h = rw (drop-cons s at 0) refl
+  answers-over h = record { answer = rw (drop-cons s at 0) refl; held = never 1 at }
 
-  pub closed-here : length s ≤ at → accepted b ≡ answered ((closed >>= λ _. give b) (drop at s) at)
+  pub answers-closed : length s ≤ at → Held → Answers s at (closed >>= λ _. give b) b Held Accepted
   unfolding then answered closed
-  closed-here h = rw (drop-of-length-le s h) refl
+  answers-closed h held = record { answer = rw (drop-of-length-le s h) refl; held = λ _. held }
+
+-- ---- readers and steps
 
 pub then-then : {A B C : Type 0} (x : Read A) (f : A → Reader B) (g : B → Reader C) → then (then x f) g ≡ then x (λ a. f a >>= g)
 unfolding then

@@ -10,14 +10,29 @@ use lib.ListN.{length, drop, getD, drop-of-length-le}
 use lib.Seq.{drop-cons, drop-drop}
 use lib.Dec.{eqb}
 use borrow.Author.Tests.{eq-eqb, ne-eqb}
-use Rattle.rules.specs.Fields.{Read, read, turnedBack, Judge, separator, afterField, fieldOf, field, run, past}
+use Rattle.rules.specs.Fields.{Read, read, turnedBack, Judge, judged, separator, afterField, fieldOf, field, run, past}
 use Rattle.laws.specs.Runs.{run-rest}
-use Rattle.fields.specs.Steps.{judgedAs, judgedField, stepAs, itself}
+use Rattle.fields.specs.Steps.{tested, judgedAs, judgedField, stepAs, itself}
 use Rattle.fields.specs.declared.steps.Step.{Step}
 use Rattle.fields.specs.declared.steps.Verdict.{Verdict}
 use Rattle.fields.specs.declared.steps.Verdict.the-variants.{Good, Bad}
 
--- ---- the byte after the field w at `at`, of the verdict v
+-- ---- the byte after a field
+
+module _ (s : List ℕ) (end value due : ℕ) where
+  pub separator-due : end < length s → getD s end 0 ≡ due → read value (drop (end + 1) s) (end + 1) ≡ separator value due (drop end s) end
+  unfolding separator
+  separator-due h e = rw (add-one, drop-cons s end 0, eq-eqb _ _ e, separator)
+
+  pub separator-other : end < length s → (getD s end 0 ≡ due → ⊥) → turnedBack 1 end ≡ separator value due (drop end s) end
+  unfolding separator
+  separator-other h e = rw (drop-cons s end 0, ne-eqb _ _ e, separator)
+
+  pub separator-missing : length s ≤ end → turnedBack 1 end ≡ separator value due (drop end s) end
+  unfolding separator
+  separator-missing h = rw (drop-of-length-le s h)
+
+-- ---- the field w at `at`, of the verdict v
 
 module _ (s : List ℕ) (at : ℕ) (w : List ℕ) (v : Verdict) (due : ℕ) (is : w ≡ run (drop at s)) where
   pub after-empty : length w ≡ 0 → turnedBack 1 at ≡ judgedField v due s at
@@ -29,34 +44,26 @@ module _ (s : List ℕ) (at : ℕ) (w : List ℕ) (v : Verdict) (due : ℕ) (is 
       go (b ∷ w) e = absurd (omega arith)
 
   module _ (some : length w ≡ 0 → ⊥) where
-    full : afterField (judgedAs itself v) due (drop (at + length w) s) at (at + length w) ≡ judgedField v due s at
+    full : judgedField v due s at ≡ afterField (judgedAs itself v) due (past (drop at s)) at (at + length w)
     unfolding judgedField field fieldOf
-    full = rw (← is) (ap (λ t. afterField (judgedAs itself v) due t at (at + length w)) rest ∙ go w some)
+    full = rw (← is) (go w some)
       where
-        rest : drop (at + length w) s ≡ past (drop at s)
-        rest = sym (drop-drop (length w) at s) ∙ (ap (λ u. drop (length u) (drop at s)) is ∙ run-rest (drop at s))
-
         go : (w : List ℕ) → (length w ≡ 0 → ⊥)
-            → afterField (judgedAs itself v) due (past (drop at s)) at (at + length w) ≡ fieldOf (λ _. judgedAs itself v) due w (past (drop at s)) at
+            → fieldOf (λ _. judgedAs itself v) due w (past (drop at s)) at ≡ afterField (judgedAs itself v) due (past (drop at s)) at (at + length w)
         go [] h = absurd (h refl)
         go (b ∷ w) h = refl
 
     pub after-bad : (number : ℕ) → v ≡ Bad number → turnedBack number at ≡ judgedField v due s at
     unfolding afterField
-    after-bad number e = rw (← full, e) refl
+    after-bad number e = rw (full, e) refl
 
-    module _ (value : ℕ) (good : v ≡ Good value) (end : ℕ) (ends : end ≡ at + length w) where
-      pub after-due : end < length s → getD s end 0 ≡ due → read value (drop (end + 1) s) (end + 1) ≡ judgedField v due s at
-      unfolding afterField separator
-      after-due h e = rw (← full, good, ← ends, add-one, drop-cons s end 0, eq-eqb _ _ e, separator)
-
-      pub after-other : end < length s → (getD s end 0 ≡ due → ⊥) → turnedBack 1 end ≡ judgedField v due s at
-      unfolding afterField separator
-      after-other h e = rw (← full, good, ← ends, drop-cons s end 0, ne-eqb _ _ e, separator)
-
-      pub after-missing : length s ≤ end → turnedBack 1 end ≡ judgedField v due s at
-      unfolding afterField separator
-      after-missing h = rw (← full, good, ← ends, drop-of-length-le s h)
+    pub after-good : (value : ℕ) (r : Step) → v ≡ Good value → stepAs itself s r ≡ separator value due (drop (at + length w) s) (at + length w)
+        → stepAs itself s r ≡ judgedField v due s at
+    unfolding afterField
+    after-good value r e reads = rw (full, e) (reads ∙ ap (λ t. separator value due t (at + length w)) rest)
+      where
+        rest : drop (at + length w) s ≡ past (drop at s)
+        rest = sym (drop-drop (length w) at s) ∙ (ap (λ u. drop (length u) (drop at s)) is ∙ run-rest (drop at s))
 
 -- ---- what a judge says of the field's bytes
 
@@ -94,3 +101,14 @@ module _ {A : Type 0} (f : ℕ → A) where
   unfolding judgedField field
   field-judged judge due s at w v r is judges after =
       step-mapped s r ∙ (ap mapped after ∙ field-mapped judge v due (run (drop at s)) (past (drop at s)) at (judges ∙ ap judge is))
+
+  -- the same where the judge is a test
+  pub field-tested : (judge : Judge A) (due : ℕ) (s : List ℕ) (at : ℕ) (w : List ℕ) (test : Bool) (value number : ℕ) (v : Verdict) (r : Step)
+      → w ≡ run (drop at s) → v ≡ tested test value number → judged test (f value) number ≡ judge w → stepAs itself s r ≡ judgedField v due s at
+      → stepAs f s r ≡ field judge due (drop at s) at
+  unfolding tested
+  field-tested judge due s at w test value number v r is e judges after = field-judged judge due s at w v r is (ap (judgedAs f) e ∙ (as-judged test ∙ judges)) after
+    where
+      as-judged : (t : Bool) → judgedAs f (tested t value number) ≡ judged t (f value) number
+      as-judged true = refl
+      as-judged false = refl

@@ -16,19 +16,19 @@ use Rattle.laws.specs.Ranges.{range-suc, map-range-same}
 use Rattle.laws.specs.Runs.{run-front}
 use Rattle.rules.specs.Lists.{range}
 use Rattle.rules.specs.Text.{space}
-use Rattle.rules.specs.Fields.{good, bad, then, give, field, run}
+use Rattle.rules.specs.Fields.{good, then, give, field, run}
 use Rattle.rules.specs.Sheets.{nameField, nameFields}
 use Rattle.rules.specs.Limits.{mostInputs}
 use Rattle.nets.specs.Forms.{noNames, nameIn, headerOf}
 use Rattle.nets.specs.declared.forms.Header.{Header}
 use Rattle.fields.specs.Chained.{never-both}
-use Rattle.fields.specs.Judging.{field-judged}
+use Rattle.fields.specs.Judging.{field-tested}
 use Rattle.fields.specs.Names.{isNew, new-short, NamesHeld}
-use Rattle.fields.specs.Steps.{judgedField, stepAs, itself}
-use Rattle.fields.specs.Taken.{field-on}
+use Rattle.fields.specs.Steps.{tested, judgedAs, judgedField, stepAs, itself}
+use Rattle.fields.specs.Taken.{Taken, field-on}
 use Rattle.fields.specs.declared.steps.Step.{Step}
 use Rattle.fields.specs.declared.steps.Step.the-variants.{On, Back}
-use Rattle.fields.specs.declared.steps.Verdict.the-variants.{Good, Bad}
+use Rattle.fields.specs.declared.steps.Verdict.{Verdict}
 use Rattle.fields.specs.declared.lines.HeaderRead.{HeaderRead}
 
 -- reading a name at `at`
@@ -65,32 +65,24 @@ pub record NamesRead (s : List ℕ) (at m n last : ℕ) (r : HeaderRead) : Type 
 
 -- ---- a name
 
-module _ (s : List ℕ) (at due : ℕ) (earlier : List (List ℕ)) (w : List ℕ) (is : w ≡ run (drop at s)) (r : Step) where
-  pub name-refused : isNew earlier w ≡ false → stepAs itself s r ≡ judgedField (Bad 4) due s at → NameRead s at due earlier r
-  unfolding judgedField nameField
-  name-refused e after =
-      record {
-        reads = field-judged (λ len. take len (drop at s)) (nameField earlier) due s at w (Bad 4) r is (rw e refl) after;
-        held = λ len next q.
-            let told = field-on s r at len next q itself (λ _. bad 4) due after .judged in
-            let z : _≡_ {A = ℕ} 0 1 = cc in
-            absurd (omega arith);
-      }
+pub name-read : (s : List ℕ) (at due : ℕ) (earlier : List (List ℕ)) (w : List ℕ) (test : Bool) (v : Verdict) (r : Step) → w ≡ run (drop at s)
+    → test ≡ isNew earlier w → v ≡ tested test (length w) 4 → stepAs itself s r ≡ judgedField v due s at → NameRead s at due earlier r
+unfolding tested judgedField nameField
+name-read s at due earlier w test v r is new e after =
+    record {
+      reads = field-tested (λ len. take len (drop at s)) (nameField earlier) due s at w test (length w) 4 v r is e (rw (front, new) refl) after;
+      held = λ len next q. let told = field-on s r at len next q itself (λ _. judgedAs itself v) due after in go test new len next (ap (judgedAs itself) (sym e) ∙ told .judged) told;
+    }
+  where
+    front : take (length w) (drop at s) ≡ w
+    front = rw is (run-front (drop at s))
 
-  pub name-taken : isNew earlier w ≡ true → stepAs itself s r ≡ judgedField (Good (length w)) due s at → NameRead s at due earlier r
-  unfolding judgedField nameField
-  name-taken e after =
-      record {
-        reads = field-judged (λ len. take len (drop at s)) (nameField earlier) due s at w (Good (length w)) r is (rw (e, front) refl) after;
-        held = λ len next q.
-            let told = field-on s r at len next q itself (λ _. good (length w)) due after in
-            let judged = told .judged in
-            let long : length w ≡ len = cc in
-            (omega (arith, new-short earlier w e), omega (arith, told .ends, ap length is), told .within);
-      }
-    where
-      front : take (length w) (drop at s) ≡ w
-      front = rw is (run-front (drop at s))
+    go : (t : Bool) → t ≡ isNew earlier w → (len next : ℕ) → judgedAs itself (tested t (length w) 4) ≡ good len → Taken (λ _. judgedAs itself v) len s at next
+        → (len ≤ 8) × (next ≡ at + len + 1) × (next ≤ length s)
+    go true is-new len next good-len told =
+        let long : length w ≡ len = cc in
+        (omega (arith, new-short earlier w (sym is-new)), omega (arith, told .ends, ap length is), told .within)
+    go false is-old len next good-len told = let z : _≡_ {A = ℕ} 0 1 = cc in absurd (omega arith)
 
 -- ---- one name more
 

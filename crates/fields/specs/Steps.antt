@@ -1,6 +1,7 @@
 -- What the code's answers stand for in document 01's definitions.
 -- Assumes nothing.
 use Prim.Native.Nat.{ℕ}
+use mathlib.Core.Bool.{Bool, cond}
 use mathlib.Core.List.{List}
 use mathlib.Core.Option.{Option, none, some}
 use lib.ListN.{drop}
@@ -27,6 +28,10 @@ nothing value = tt
 abbrev pub judgedAs : {A : Type 0} → (ℕ → A) → Verdict → Judged A
 judgedAs f (Good value) = good (f value)
 judgedAs f (Bad number) = bad number
+
+-- the verdict of a test
+unfoldable pub tested : Bool → ℕ → ℕ → Verdict
+tested test value number = cond test (Good value) (Bad number)
 
 -- the field at `at` in the sheet s, of the verdict v
 unfoldable pub judgedField : Verdict → ℕ → List ℕ → ℕ → Read ℕ

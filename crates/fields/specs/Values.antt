@@ -23,33 +23,26 @@ levels-long [] h = refl
 levels-long (b ∷ []) h = absurd (h refl)
 levels-long (b ∷ d ∷ w) h = refl
 
-by-byte : (w : List ℕ) → length w ≡ 1 → levelsField w ≡ levelsField (getD w 0 0 ∷ [])
-by-byte [] e = absurd (omega arith)
-by-byte (b ∷ []) e = refl
-by-byte (b ∷ d ∷ w) e = absurd (omega arith)
+-- a field of one byte
+pub one-byte : (w : List ℕ) → length w ≡ 1 → w ≡ getD w 0 0 ∷ []
+one-byte [] e = absurd (omega arith)
+one-byte (b ∷ []) e = refl
+one-byte (b ∷ d ∷ w) e = absurd (omega arith)
 
-module _ (b : ℕ) where
-  low : b < 50 → bad 2 ≡ levelsField (b ∷ [])
+module _ (w : List ℕ) (e : length w ≡ 1) where
+  pub levels-low : getD w 0 0 < 50 → bad 2 ≡ levelsField w
   unfolding levelsField isDigit levelsFit
-  low h = simp (lt-leb 2 (b - 48) (omega arith), and-false)
+  levels-low h = rw (one-byte w e) (simp (lt-leb 2 (getD w 0 0 - 48) (omega arith), and-false))
 
-  high : 57 < b → bad 2 ≡ levelsField (b ∷ [])
+  pub levels-high : 57 < getD w 0 0 → bad 2 ≡ levelsField w
   unfolding levelsField isDigit levelsFit
-  high h = simp (le-ltb b 58 (omega arith), and-false)
+  levels-high h = rw (one-byte w e) (simp (le-ltb (getD w 0 0) 58 (omega arith), and-false))
 
-  right : 50 ≤ b → b ≤ 57 → good (b - 48) ≡ levelsField (b ∷ [])
+  pub levels-good : 50 ≤ getD w 0 0 → getD w 0 0 ≤ 57 → good (getD w 0 0 - 48) ≡ levelsField w
   unfolding levelsField isDigit levelsFit
-  right h k = simp (le-leb 48 b (omega arith), lt-ltb b 58 (omega arith), le-leb 2 (b - 48) (omega arith), le-leb (b - 48) 9 (omega arith))
-
-module _ (w : List ℕ) (b : ℕ) (e : length w ≡ 1) (q : b ≡ getD w 0 0) where
-  pub levels-low : b < 50 → bad 2 ≡ levelsField w
-  levels-low h = rw (by-byte w e, ← q) (low b h)
-
-  pub levels-high : 57 < b → bad 2 ≡ levelsField w
-  levels-high h = rw (by-byte w e, ← q) (high b h)
-
-  pub levels-good : 50 ≤ b → b ≤ 57 → good (b - 48) ≡ levelsField w
-  levels-good h k = rw (by-byte w e, ← q) (right b h k)
+  levels-good h k =
+      let b = getD w 0 0 in
+      rw (one-byte w e) (simp (le-leb 48 b (omega arith), lt-ltb b 58 (omega arith), le-leb 2 (b - 48) (omega arith), le-leb (b - 48) 9 (omega arith)))
 
 inputs-range : (w : List ℕ) (n : ℕ) → inputsOf w ≡ some n → (fewestInputs ≤ n) × (n ≤ mostInputs)
 unfolding inputsOf

@@ -1,10 +1,38 @@
-// After a field: the byte that is due there.
+// A field's verdict, and the byte that is due after it.
 ghost use mathlib.Core.Path.{_≡_};
 ghost use lib.ListN.{drop};
-ghost use Rattle.rules.specs.Fields.{run};
-ghost use Rattle.fields.specs.Steps.{judgedField, stepAs, itself};
+ghost use Rattle.rules.specs.Fields.{run, separator};
+ghost use Rattle.fields.specs.Steps.{tested, judgedField, stepAs, itself};
 use crate::steps::Step;
 use crate::steps::Verdict;
+
+// The verdict of a test: the value, or the number that turns the sheet back.
+pub fn judged(test: bool, value: usize, number: usize) -> Verdict
+    ensures { λ r. ⌜ r ≡ tested test value number ⌝ }
+{
+    if test {
+        return Verdict::Good(value);
+    }
+    Verdict::Bad(number)
+}
+
+// After a field with this value: `due` stands at `end`.
+pub fn separated(s: &[u8], end: usize, value: usize, due: u8) -> Step
+    ensures { λ r. ⌜ stepAs itself (now (s .entry)) r ≡ separator value due (drop end (now (s .entry))) end ⌝ }
+{
+    if end < s.len() {
+        if s[end] == due {
+            return Step::On {
+                value,
+                next: end + 1,
+            };
+        }
+    }
+    Step::Back {
+        number: 1,
+        place: end,
+    }
+}
 
 // The field w at `at` was judged: an empty one or a bad one turns the sheet back, and after a good one stands `due`.
 pub fn after_field(s: &[u8], at: usize, w: &[u8], verdict: Verdict, due: u8) -> Step
@@ -19,20 +47,6 @@ pub fn after_field(s: &[u8], at: usize, w: &[u8], verdict: Verdict, due: u8) -> 
     }
     match verdict {
         Verdict::Bad(number) => Step::Back { number, place: at },
-        Verdict::Good(value) => {
-            let end = at + w.len();
-            if end < s.len() {
-                if s[end] == due {
-                    return Step::On {
-                        value,
-                        next: end + 1,
-                    };
-                }
-            }
-            Step::Back {
-                number: 1,
-                place: end,
-            }
-        }
+        Verdict::Good(value) => separated(s, at + w.len(), value, due),
     }
 }

@@ -8,11 +8,11 @@ ghost use Rattle.nets.specs.Forms.{nameIn};
 ghost use Rattle.fields.specs.Names.{NamesHeld};
 ghost use Rattle.fields.specs.Lines.{NameRead, dueBefore, NamesRead};
 use crate::ends::after_field;
+use crate::ends::judged;
 use crate::names::is_new_name;
 use crate::runs::SPACE;
 use crate::runs::field_at;
 use crate::steps::Step;
-use crate::steps::Verdict;
 use nets::forms::Header;
 use nets::forms::no_names;
 
@@ -28,10 +28,8 @@ pub fn name_field(s: &[u8], at: usize, header: Header, count: usize, due: u8) ->
     ensures { λ r. ⌜ NameRead (now (s .entry)) at due (map (nameIn (now (s .entry)) header) (range 0 count)) r ⌝ }
 {
     let w = field_at(s, at);
-    if is_new_name(s, header, count, w) {
-        return after_field(s, at, w, Verdict::Good(w.len()), due);
-    }
-    after_field(s, at, w, Verdict::Bad(4), due)
+    let verdict = judged(is_new_name(s, header, count, w), w.len(), 4);
+    after_field(s, at, w, verdict, due)
 }
 
 // The separator that is due after name i of n.

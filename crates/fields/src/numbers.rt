@@ -3,29 +3,16 @@ ghost use mathlib.Core.Path.{_≡_};
 ghost use Prim.Native.Nat.{_<_};
 ghost use Rattle.rules.specs.Lists.{same};
 ghost use Rattle.rules.specs.Text.{decimal};
-
-pub fn wide(b: u8) -> usize
-    ensures { λ r. ⌜ r ≡ b ⌝ }
-{
-    b as usize
-}
+use crate::same::same_bytes;
 
 // Is w the decimal value of n?
 pub fn is_decimal(w: &[u8], n: usize) -> bool
     requires { ⌜ n < 100 ⌝ }
     ensures { λ r. ⌜ r ≡ same (now (w .entry)) (decimal n) ⌝ }
 {
+    let digits = [48 + (n / 10) as u8, 48 + (n % 10) as u8];
     if n < 10 {
-        if w.len() != 1 {
-            return false;
-        }
-        return wide(w[0]) == 48 + n;
+        return same_bytes(w, &digits[1..]);
     }
-    if w.len() != 2 {
-        return false;
-    }
-    if wide(w[0]) != 48 + n / 10 {
-        return false;
-    }
-    wide(w[1]) == 48 + n % 10
+    same_bytes(w, &digits)
 }

@@ -8,7 +8,6 @@ ghost use Rattle.rules.specs.Sheets.{levelsField, inputsOf, inputsField};
 ghost use Rattle.fields.specs.Steps.{judgedAs, stepAs, itself, optionOf};
 use crate::ends::after_field;
 use crate::numbers::is_decimal;
-use crate::numbers::wide;
 use crate::runs::NEWLINE;
 use crate::runs::SPACE;
 use crate::runs::field_at;
@@ -24,7 +23,7 @@ pub fn judge_levels(w: &[u8]) -> Verdict
     if w.len() != 1 {
         return Verdict::Bad(2);
     }
-    let b = wide(w[0]);
+    let b = w[0] as usize;
     if b < 48 + limits::FEWEST_LEVELS {
         return Verdict::Bad(2);
     }

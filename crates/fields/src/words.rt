@@ -2,30 +2,21 @@
 ghost use mathlib.Core.Path.{_≡_};
 ghost use lib.ListN.{drop};
 ghost use Rattle.rules.specs.Fields.{field};
-ghost use Rattle.fields.specs.Steps.{judgedAs, stepAs, nothing, spelled};
+ghost use Rattle.fields.specs.Steps.{stepAs, nothing, spelled};
 ghost use Rattle.fields.specs.Words.{WordsRead};
 use crate::ends::after_field;
+use crate::ends::judged;
 use crate::runs::NEWLINE;
 use crate::runs::SPACE;
 use crate::runs::field_at;
 use crate::same::same_bytes;
 use crate::steps::Step;
-use crate::steps::Verdict;
-
-pub fn judge_word(w: &[u8], word: &[u8]) -> Verdict
-    ensures { λ r. ⌜ judgedAs nothing r ≡ spelled (now (word .entry)) (now (w .entry)) ⌝ }
-{
-    if same_bytes(w, word) {
-        return Verdict::Good(0);
-    }
-    Verdict::Bad(1)
-}
 
 pub fn word_field(s: &[u8], at: usize, word: &[u8], due: u8) -> Step
     ensures { λ r. ⌜ stepAs nothing (now (s .entry)) r ≡ field (spelled (now (word .entry))) due (drop at (now (s .entry))) at ⌝ }
 {
     let w = field_at(s, at);
-    let verdict = judge_word(w, word);
+    let verdict = judged(same_bytes(w, word), 0, 1);
     after_field(s, at, w, verdict, due)
 }
 

@@ -3,17 +3,16 @@
 use Prim.Native.Nat.{ℕ, _-_, _≤_, _<_}
 use mathlib.Core.Path.{_≡_, ap, _∙_}
 use mathlib.Core.List.{List, []}
-use native.Mathlib.Omega.{arith}
 use lib.ListN.{length, drop}
 use Rattle.rules.specs.Text.{space, newline, text}
 use Rattle.rules.specs.Fields.{Reader, then, _>>=_, give, field, theWord, closed}
 use Rattle.rules.specs.Sheets as sheets
 use Rattle.rules.specs.Sheets.{headerLines, gateLines, netSheet}
-use Rattle.rules.specs.Calls.{Answer, refused, answered, readNet}
+use Rattle.rules.specs.Calls.{answered, readNet}
 use Rattle.nets.specs.Forms.{headerOf, gatesOf}
 use Rattle.nets.specs.declared.forms.Header.{Header}
 use Rattle.nets.specs.declared.forms.Net.{Net}
-use Rattle.fields.specs.Chained.{chained-back, chained-on, answered-back, answered-on, closed-over, closed-here, then-then}
+use Rattle.fields.specs.Chained.{chained-back, chained-on, Answers, answers-back, answers-on, answers-over, answers-closed, then-then}
 use Rattle.fields.specs.Header.{HeaderHeld, HeaderRest}
 use Rattle.fields.specs.Steps.{stepAs, nothing, outcomeAs, spelled}
 use Rattle.fields.specs.Words.{twoWords}
@@ -26,9 +25,9 @@ use Rattle.sheets.specs.References.{namesOf}
 use Rattle.sheets.specs.declared.gates.GatesRead.{GatesRead}
 use Rattle.sheets.specs.declared.net.NetRead.{NetRead}
 
--- the sheet's header and gates, or the refusal's number and place
-abbrev pub netAnswer : List ℕ → NetRead → Answer sheets.Net
-netAnswer s r = outcomeAs (record { header = headerOf s (r .header); gates = gatesOf (r .net) }) (r .outcome)
+-- the sheet's header and gates
+abbrev pub netIn : List ℕ → NetRead → sheets.Net
+netIn s r = record { header = headerOf s (r .header); gates = gatesOf (r .net) }
 
 -- what an accepted sheet's header and net keep
 pub record NetHeld (s : List ℕ) (r : NetRead) : Type 0 where
@@ -37,13 +36,12 @@ pub record NetHeld (s : List ℕ) (r : NetRead) : Type 0 where
 
 -- reading a whole net sheet
 pub record NetReads (s : List ℕ) (r : NetRead) : Type 0 where
-  pub answer : netAnswer s r ≡ readNet s
+  pub answer : outcomeAs (netIn s r) (r .outcome) ≡ readNet s
   pub held : r .outcome ≡ Accepted → NetHeld s r
 
 -- what is left of a net sheet is read by `reader`
-pub record NetRest (s : List ℕ) (at : ℕ) (reader : Reader sheets.Net) (r : NetRead) : Type 0 where
-  pub answer : netAnswer s r ≡ answered (reader (drop at s) at)
-  pub held : r .outcome ≡ Accepted → NetHeld s r
+abbrev pub NetRest : List ℕ → ℕ → Reader sheets.Net → NetRead → Type 0
+NetRest s at reader r = Answers s at reader (netIn s r) (NetHeld s r) (r .outcome)
 
 unfoldable pub headingLine : Reader (Unit {0})
 headingLine = field (theWord "left") space >>= λ _. field (theWord "right") space >>= λ _. field (theWord "table") newline
@@ -70,12 +68,6 @@ module _ (s : List ℕ) (at : ℕ) (step : Step) (reads : stepAs nothing s step 
 
 -- ---- from the gate lines back to the whole sheet
 
--- a refused sheet keeps nothing
-refused-rest : (s : List ℕ) (at : ℕ) (reader : Reader sheets.Net) (number place : ℕ) (h : Header) (net : Net)
-    → refused number place ≡ answered (reader (drop at s) at) → NetRest s at reader (record { outcome = Refused number place; header = h; net = net })
-refused-rest s at reader number place h net e =
-    record { answer = e; held = λ q. let z : _≡_ {A = ℕ} 0 1 = cc in absurd (omega arith) }
-
 module _ (s : List ℕ) (at : ℕ) (h : Header) (held : HeaderHeld s h) (r : GatesRead) (gates : GatesAll s at h r) where
   lines : Reader (List sheets.Gate)
   lines = gateLines (h .levels) (namesOf s h) (h .inputs - 1) []
@@ -83,43 +75,30 @@ module _ (s : List ℕ) (at : ℕ) (h : Header) (held : HeaderHeld s h) (r : Gat
   pub gates-back : (number place : ℕ) → r .step ≡ Back number place
       → NetRest s at (fromGates (headerOf s h)) (record { outcome = Refused number place; header = h; net = r .net })
   unfolding fromGates headerOf lines
-  gates-back number place e =
-      refused-rest s at (fromGates (headerOf s h)) number place h (r .net)
-      (answered-back (λ _. gatesOf (r .net)) lines _ s at (r .step) (gates .reads) number place e)
+  gates-back number place e = answers-back (λ _. gatesOf (r .net)) lines _ s at (r .step) (gates .reads) _ _ number place e
 
   module _ (value next : ℕ) (e : r .step ≡ On value next) where
     pub gates-over : next < length s → NetRest s at (fromGates (headerOf s h)) (record { outcome = Refused 1 next; header = h; net = r .net })
     unfolding fromGates headerOf lines
     gates-over more =
-        refused-rest s at (fromGates (headerOf s h)) 1 next h (r .net)
-        (answered-on (λ _. gatesOf (r .net)) lines _ s at (r .step) (gates .reads) value next (refused 1 next) e
-        (closed-over s next (record { header = headerOf s h; gates = gatesOf (r .net) }) more))
+        answers-on (λ _. gatesOf (r .net)) lines _ s at (r .step) (gates .reads) _ _ value next (Refused 1 next) e (answers-over s next _ _ more)
 
     pub gates-closed : length s ≤ next → NetRest s at (fromGates (headerOf s h)) (record { outcome = Accepted; header = h; net = r .net })
     unfolding fromGates headerOf lines
     gates-closed done =
-        record {
-          answer =
-              answered-on (λ _. gatesOf (r .net)) lines _ s at (r .step) (gates .reads) value next _ e
-              (closed-here s next (record { header = headerOf s h; gates = gatesOf (r .net) }) done);
-          held = λ _. record { header = held; whole = gates .whole value next e };
-        }
+        answers-on (λ _. gatesOf (r .net)) lines _ s at (r .step) (gates .reads) _ _ value next Accepted e
+        (answers-closed s next _ _ done (record { header = held; whole = gates .whole value next e }))
 
 module _ (s : List ℕ) (at : ℕ) (h : Header) (step : Step) (reads : stepAs nothing s step ≡ headingLine (drop at s) at) where
   pub heading-back : (number place : ℕ) (net : Net) → step ≡ Back number place
       → NetRest s at (fromHeading (headerOf s h)) (record { outcome = Refused number place; header = h; net = net })
   unfolding fromHeading
-  heading-back number place net e =
-      refused-rest s at (fromHeading (headerOf s h)) number place h net (answered-back nothing headingLine _ s at step reads number place e)
+  heading-back number place net e = answers-back nothing headingLine _ s at step reads _ _ number place e
 
   pub heading-on : (value next : ℕ) (r : NetRead) → step ≡ On value next → NetRest s next (fromGates (headerOf s h)) r
       → NetRest s at (fromHeading (headerOf s h)) r
   unfolding fromHeading
-  heading-on value next r e onward =
-      record {
-        answer = answered-on nothing headingLine (λ _. fromGates (headerOf s h)) s at step reads value next _ e (onward .answer);
-        held = onward .held;
-      }
+  heading-on value next r e onward = answers-on nothing headingLine (λ _. fromGates (headerOf s h)) s at step reads _ _ value next _ e onward
 
 -- the whole sheet is its header, and the rest
 sheet-split : (s : List ℕ) → (headerLines newline >>= fromHeading) s 0 ≡ netSheet s 0
@@ -134,20 +113,16 @@ sheet-split s = ap (then (headerLines newline s 0)) (λ i h t at. words h t at i
         ∙ ap (then (field (theWord "left") space t at)) (λ i _ u p. then-then (field (theWord "right") space u p) (λ _. field (theWord "table") newline) (λ _. fromGates h) i)
 
 module _ (s : List ℕ) (r : HeaderRead) (header : HeaderRest s 0 (headerLines newline) r) where
+  whole : (out : NetRead) → NetRest s 0 (headerLines newline >>= fromHeading) out → NetReads s out
+  unfolding readNet
+  whole out rest = record { answer = rest .answer ∙ ap answered (sheet-split s); held = rest .held }
+
   pub net-back : (number place : ℕ) (net : Net) → r .step ≡ Back number place
       → NetReads s (record { outcome = Refused number place; header = r .header; net = net })
-  unfolding readNet
   net-back number place net e =
-      let rest = refused-rest s 0 (headerLines newline >>= fromHeading) number place (r .header) net
-      (answered-back (λ _. headerOf s (r .header)) (headerLines newline) fromHeading s 0 (r .step) (header .reads) number place e) in
-      record { answer = rest .answer ∙ ap answered (sheet-split s); held = rest .held }
+      whole (record { outcome = Refused number place; header = r .header; net = net })
+      (answers-back (λ _. headerOf s (r .header)) (headerLines newline) fromHeading s 0 (r .step) (header .reads) _ _ number place e)
 
   pub net-on : (value next : ℕ) (out : NetRead) → r .step ≡ On value next → NetRest s next (fromHeading (headerOf s (r .header))) out → NetReads s out
-  unfolding readNet
   net-on value next out e onward =
-      record {
-        answer =
-            answered-on (λ _. headerOf s (r .header)) (headerLines newline) fromHeading s 0 (r .step) (header .reads) value next _ e (onward .answer)
-            ∙ ap answered (sheet-split s);
-        held = onward .held;
-      }
+      whole out (answers-on (λ _. headerOf s (r .header)) (headerLines newline) fromHeading s 0 (r .step) (header .reads) _ _ value next _ e onward)

@@ -12,17 +12,17 @@ use lib.Dec.{eqb, leb, ltb}
 use borrow.Author.Tests.{lt-leb, le-leb, le-ltb, lt-ltb, eq-eqb, ne-eqb, eqb-true, leb-true}
 use Rattle.rules.specs.Lists.{all}
 use Rattle.rules.specs.Text.{isDigit}
-use Rattle.rules.specs.Fields.{good, bad, field, run}
+use Rattle.rules.specs.Fields.{good, field, run}
 use Rattle.rules.specs.Sheets.{digitsField}
 use Rattle.laws.specs.Places.{mem-getD}
 use Rattle.laws.specs.Runs.{run-front}
 use Rattle.laws.specs.Tests.{all-mem}
-use Rattle.fields.specs.Judging.{field-judged}
-use Rattle.fields.specs.Steps.{judgedField, stepAs, itself}
+use Rattle.fields.specs.Judging.{field-tested}
+use Rattle.fields.specs.Steps.{tested, judgedAs, judgedField, stepAs, itself}
 use Rattle.fields.specs.Taken.{Taken, field-on}
 use Rattle.fields.specs.declared.steps.Step.{Step}
 use Rattle.fields.specs.declared.steps.Step.the-variants.{On}
-use Rattle.fields.specs.declared.steps.Verdict.the-variants.{Good, Bad}
+use Rattle.fields.specs.declared.steps.Verdict.{Verdict}
 
 -- the `count` digits that stand in the sheet from `at` on, as numbers
 abbrev pub digitsAt : List ℕ → ℕ → ℕ → List ℕ
@@ -72,47 +72,38 @@ digit-least : (m b : ℕ) → isDigit m b ≡ true → 48 ≤ b
 unfolding isDigit
 digit-least m b e = leb-true 48 b (and-eq-true-iff (leb 48 b) (ltb b (48 + m)) .0 e .0)
 
-module _ (s : List ℕ) (at m : ℕ) (w : List ℕ) (is : w ≡ run (drop at s)) (r : Step) where
-  pub digits-refused : isTable m w ≡ false → stepAs itself s r ≡ judgedField (Bad 6) 10 s at → DigitsRead s at m r
-  unfolding judgedField digitsField isTable
-  digits-refused e after =
-      record {
-        reads = field-judged (λ count. digitsAt s at count) (digitsField m) 10 s at w (Bad 6) r is (rw e refl) after;
-        count = λ count next q. absurd (never count next q);
-        within = λ count next q. absurd (never count next q);
-        digits = λ count next q. absurd (never count next q);
-      }
-    where
-      never : (count next : ℕ) → r ≡ On count next → ⊥
-      never count next q =
-          let told = field-on s r at count next q itself (λ _. bad 6) 10 after .judged in
-          let z : _≡_ {A = ℕ} 0 1 = cc in
-          omega arith
+pub digits-read : (s : List ℕ) (at m : ℕ) (w : List ℕ) (test : Bool) (v : Verdict) (r : Step) → w ≡ run (drop at s)
+    → test ≡ isTable m w → v ≡ tested test (length w) 6 → stepAs itself s r ≡ judgedField v 10 s at → DigitsRead s at m r
+unfolding tested judgedField digitsField isTable
+digits-read s at m w test v r is table e after =
+    record {
+      reads = field-tested (λ count. digitsAt s at count) (digitsField m) 10 s at w test (length w) 6 v r is e (rw (front, table) refl) after;
+      count = λ count next q. told count next q .0;
+      within = λ count next q. told count next q .1;
+      digits = λ count next q. told count next q .2;
+    }
+  where
+    front : take (length w) (drop at s) ≡ w
+    front = rw is (run-front (drop at s))
 
-  pub digits-taken : isTable m w ≡ true → stepAs itself s r ≡ judgedField (Good (length w)) 10 s at → DigitsRead s at m r
-  unfolding judgedField digitsField isTable
-  digits-taken e after =
-      record {
-        reads = field-judged (λ count. digitsAt s at count) (digitsField m) 10 s at w (Good (length w)) r is (rw (e, front) refl) after;
-        count = λ count next q. let told = taken count next q .judged in let same : count ≡ length w = cc in same ∙ long;
-        within = λ count next q. let told = taken count next q in omega (arith, told .ends, told .within, ap length is, long);
-        digits = λ count next q i h.
-            digit-least m (getD s (at + i) 0)
-            (rw (← getD-drop at s i 0, ← getD-take (length w) (drop at s) i 0 (rw long h), front)
-            (all-mem (isDigit m) (mem-getD w i 0 (rw long h)) (tests .1)));
-      }
-    where
-      tests : (eqb (length w) (m * m) ≡ true) × (all (isDigit m) w ≡ true)
-      tests = and-eq-true-iff (eqb (length w) (m * m)) (all (isDigit m) w) .0 e
+    go : (t : Bool) → t ≡ isTable m w → (count next : ℕ) → judgedAs itself (tested t (length w) 6) ≡ good count → Taken (λ _. judgedAs itself v) count s at next
+        → (count ≡ m * m) × (at + m * m ≤ length s) × areDigits s at (m * m)
+    go false other count next good-count taken = let z : _≡_ {A = ℕ} 0 1 = cc in absurd (omega arith)
+    go true same count next good-count taken =
+        let (sized, digits) = and-eq-true-iff (eqb (length w) (m * m)) (all (isDigit m) w) .0 (sym same) in
+        let long : length w ≡ m * m = eqb-true (length w) (m * m) sized in
+        let whole : length w ≡ count = cc in (
+          sym whole ∙ long,
+          omega (arith, taken .ends, taken .within, ap length is, long),
+          λ i h.
+              digit-least m (getD s (at + i) 0)
+              (rw (← getD-drop at s i 0, ← getD-take (length w) (drop at s) i 0 (rw long h), front) (all-mem (isDigit m) (mem-getD w i 0 (rw long h)) digits)),
+        )
 
-      long : length w ≡ m * m
-      long = eqb-true (length w) (m * m) (tests .0)
-
-      front : take (length w) (drop at s) ≡ w
-      front = rw is (run-front (drop at s))
-
-      taken : (count next : ℕ) → r ≡ On count next → Taken (λ _. good (length w)) count s at next
-      taken count next q = field-on s r at count next q itself (λ _. good (length w)) 10 after
+    told : (count next : ℕ) → r ≡ On count next → (count ≡ m * m) × (at + m * m ≤ length s) × areDigits s at (m * m)
+    told count next q =
+        let taken = field-on s r at count next q itself (λ _. judgedAs itself v) 10 after in
+        go test table count next (ap (judgedAs itself) (sym e) ∙ taken .judged) taken
 
 -- ---- the digits copied
 

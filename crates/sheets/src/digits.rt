@@ -7,11 +7,10 @@ ghost use lib.Seq.{paste};
 ghost use Rattle.rules.specs.Limits.{mostLevels};
 ghost use Rattle.sheets.specs.Digits.{DigitsRead, isTable, areDigits, digitsAt};
 use fields::ends::after_field;
-use fields::numbers::wide;
+use fields::ends::judged;
 use fields::runs::NEWLINE;
 use fields::runs::field_at;
 use fields::steps::Step;
-use fields::steps::Verdict;
 use radix::limits::MOST_DIGITS;
 
 // Is w m·m digits below m?
@@ -24,7 +23,7 @@ pub fn is_table(w: &[u8], m: usize) -> bool
     }
     let mut i: usize = 0;
     while i < w.len() {
-        let b = wide(w[i]);
+        let b = w[i] as usize;
         if b < 48 {
             return false;
         }
@@ -42,10 +41,8 @@ pub fn digits_field(s: &[u8], at: usize, m: usize) -> Step
     ensures { λ r. ⌜ DigitsRead (now (s .entry)) at m r ⌝ }
 {
     let w = field_at(s, at);
-    if is_table(w, m) {
-        return after_field(s, at, w, Verdict::Good(w.len()), NEWLINE);
-    }
-    after_field(s, at, w, Verdict::Bad(6), NEWLINE)
+    let verdict = judged(is_table(w, m), w.len(), 6);
+    after_field(s, at, w, verdict, NEWLINE)
 }
 
 // Copies the `count` digits that stand in the sheet from `at` on.

@@ -6,7 +6,7 @@ ghost use Rattle.nets.specs.Room.{mostGates, mostDigits};
 ghost use Rattle.fields.specs.Header.{HeaderHeld};
 ghost use Rattle.sheets.specs.Digits.{areDigits, digitsAt};
 ghost use Rattle.nets.specs.Forms.{gatesOf};
-ghost use Rattle.sheets.specs.Gates.{NetForm, Grown, GateRest, GateRoom, fromDigits, fromRight, oneGate};
+ghost use Rattle.sheets.specs.Gates.{NetForm, Grown, GateRest, GateRoom, Room, fromDigits, fromRight, oneGate};
 ghost use Rattle.sheets.specs.GateLines.{GatesAll};
 ghost use Rattle.sheets.specs.References.{namesOf};
 use crate::digits::copy_digits;
@@ -51,7 +51,7 @@ pub fn with_gate(s: &[u8], at: usize, net: Net, left: usize, right: usize) -> Ne
 
 // From a gate's table field on.
 pub fn from_digits(s: &[u8], at: usize, net: Net, left: usize, right: usize) -> GatesRead
-    requires { ⌜ NetForm net × (net .gates < mostGates) × ((net .gates + 1) * (net .levels * net .levels) ≤ mostDigits) × (net .levels ≤ mostLevels) × (left < 256) × (right < 256) ⌝ }
+    requires { ⌜ NetForm net × Room net × (left < 256) × (right < 256) ⌝ }
     ensures { λ r. ⌜ GateRest (now (s .entry)) at (fromDigits (net .levels) (gatesOf net) left right) net r ⌝ }
 {
     let step = digits_field(s, at, net.levels);

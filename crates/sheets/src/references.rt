@@ -15,7 +15,6 @@ ghost use Rattle.sheets.specs.References.{namesOf};
 use fields::ends::after_field;
 use fields::names::name_of;
 use fields::numbers::is_decimal;
-use fields::numbers::wide;
 use fields::runs::SPACE;
 use fields::runs::field_at;
 use fields::same::same_bytes;
@@ -61,10 +60,10 @@ pub fn is_used(net: Net, r: usize) -> bool
     let gates = net.gates;
     let mut k: usize = 0;
     while k < gates {
-        if wide(net.left[k]) == r {
+        if net.left[k] as usize == r {
             return true;
         }
-        if wide(net.right[k]) == r {
+        if net.right[k] as usize == r {
             return true;
         }
         k += 1;

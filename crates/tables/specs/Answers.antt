@@ -3,15 +3,16 @@
 use Prim.Native.Nat.{ℕ, _^_}
 use mathlib.Core.Path.{_≡_}
 use mathlib.Core.List.{List, []}
-use lib.ListN.{take, drop}
+use lib.ListN.{take}
 use Rattle.rules.specs.Text.{newline}
 use Rattle.rules.specs.Fields.{Reader, _>>=_, give, field, theWord, closed}
 use Rattle.rules.specs.Sheets as sheets
 use Rattle.rules.specs.Sheets.{Table, rowLines}
-use Rattle.rules.specs.Calls.{Answer, answered, readTable}
+use Rattle.rules.specs.Calls.{readTable}
 use Rattle.laws.specs.Bounds.{Below}
 use Rattle.nets.specs.Forms.{headerOf}
 use Rattle.nets.specs.declared.forms.Header.{Header}
+use Rattle.fields.specs.Chained.{Answers}
 use Rattle.fields.specs.Header.{HeaderHeld}
 use Rattle.fields.specs.Steps.{outcomeAs}
 use Rattle.fields.specs.declared.steps.Outcome.{Outcome}
@@ -25,9 +26,6 @@ inksIn cells h = take (h .levels ^ h .inputs) cells
 abbrev pub tableIn : List ℕ → List ℕ → Header → Table
 tableIn s cells h = record { header = headerOf s h; inks = inksIn cells h }
 
-abbrev pub tableAnswer : List ℕ → List ℕ → TableRead → Answer Table
-tableAnswer s cells r = outcomeAs (tableIn s cells (r .header)) (r .outcome)
-
 -- what an accepted sheet's header and inks keep
 pub record TableHeld (s cells : List ℕ) (h : Header) : Type 0 where
   pub header : HeaderHeld s h
@@ -35,13 +33,12 @@ pub record TableHeld (s cells : List ℕ) (h : Header) : Type 0 where
 
 -- reading a whole table sheet, with `cells` as they are afterwards
 pub record TableReads (s cells : List ℕ) (r : TableRead) : Type 0 where
-  pub answer : tableAnswer s cells r ≡ readTable s
+  pub answer : outcomeAs (tableIn s cells (r .header)) (r .outcome) ≡ readTable s
   pub held : r .outcome ≡ Accepted → TableHeld s cells (r .header)
 
 -- what is left of a table sheet with the header h is read by `reader`
-pub record TableRest (s : List ℕ) (at : ℕ) (reader : Reader Table) (h : Header) (cells : List ℕ) (r : Outcome) : Type 0 where
-  pub answer : outcomeAs (tableIn s cells h) r ≡ answered (reader (drop at s) at)
-  pub held : r ≡ Accepted → Below (h .levels) (inksIn cells h)
+abbrev pub TableRest : List ℕ → ℕ → Reader Table → Header → List ℕ → Outcome → Type 0
+TableRest s at reader h cells o = Answers s at reader (tableIn s cells h) (Below (h .levels) (inksIn cells h)) o
 
 -- the rows under a header, and the end after them
 abbrev pub allRows : sheets.Header → Reader (List ℕ)

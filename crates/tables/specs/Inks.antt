@@ -12,6 +12,7 @@ use Rattle.rules.specs.Text.{isDigit}
 use Rattle.rules.specs.Fields.{read, good, bad, field, run}
 use Rattle.rules.specs.Sheets.{inkField}
 use Rattle.fields.specs.Taken.{field-read, judged-good}
+use Rattle.fields.specs.Values.{one-byte}
 
 pub ink-long : (m : ℕ) (w : List ℕ) → (length w ≡ 1 → ⊥) → bad 6 ≡ inkField m w
 unfolding inkField
@@ -19,23 +20,18 @@ ink-long m [] h = refl
 ink-long m (b ∷ []) h = absurd (h refl)
 ink-long m (b ∷ d ∷ w) h = refl
 
-by-byte : (m : ℕ) (w : List ℕ) → length w ≡ 1 → inkField m w ≡ inkField m (getD w 0 0 ∷ [])
-by-byte m [] e = absurd (omega arith)
-by-byte m (b ∷ []) e = refl
-by-byte m (b ∷ d ∷ w) e = absurd (omega arith)
-
-module _ (m : ℕ) (w : List ℕ) (b : ℕ) (e : length w ≡ 1) (q : b ≡ getD w 0 0) where
-  pub ink-low : b < 48 → bad 6 ≡ inkField m w
+module _ (m : ℕ) (w : List ℕ) (e : length w ≡ 1) where
+  pub ink-low : getD w 0 0 < 48 → bad 6 ≡ inkField m w
   unfolding inkField isDigit
-  ink-low h = rw (by-byte m w e, ← q) (simp (lt-leb 48 b h))
+  ink-low h = rw (one-byte w e) (simp (lt-leb 48 (getD w 0 0) h))
 
-  pub ink-high : 48 ≤ b → m ≤ b - 48 → bad 6 ≡ inkField m w
+  pub ink-high : 48 ≤ getD w 0 0 → m ≤ getD w 0 0 - 48 → bad 6 ≡ inkField m w
   unfolding inkField isDigit
-  ink-high h k = rw (by-byte m w e, ← q) (simp (le-ltb b (48 + m) (omega arith), and-false))
+  ink-high h k = rw (one-byte w e) (simp (le-ltb (getD w 0 0) (48 + m) (omega arith), and-false))
 
-  pub ink-good : 48 ≤ b → b - 48 < m → good (b - 48) ≡ inkField m w
+  pub ink-good : 48 ≤ getD w 0 0 → getD w 0 0 - 48 < m → good (getD w 0 0 - 48) ≡ inkField m w
   unfolding inkField isDigit
-  ink-good h k = rw (by-byte m w e, ← q) (simp (le-leb 48 b h, lt-ltb b (48 + m) (omega arith)))
+  ink-good h k = rw (one-byte w e) (simp (le-leb 48 (getD w 0 0) h, lt-ltb (getD w 0 0) (48 + m) (omega arith)))
 
 -- an ink that was read is a level
 ink-told : (m : ℕ) (w : List ℕ) (ink : ℕ) → inkField m w ≡ good ink → ink < m

@@ -1,19 +1,21 @@
 -- A level field, by its byte.
 -- Assumes nothing.
 use Prim.Native.Nat.{ℕ, _+_, _<_}
-use mathlib.Core.Path.{_≡_, refl, ap}
+use mathlib.Core.Path.{_≡_, refl, sym, ap}
 use mathlib.Core.Bool.{Bool, true, false}
 use mathlib.Core.List.{List, [], _∷_}
 use native.Mathlib.Omega.{arith}
 use lib.ListN.{length, drop, getD}
-use borrow.Author.Tests.{eq-eqb, ne-eqb}
+use lib.Dec.{eqb}
+use Rattle.rules.specs.Lists.{same}
 use Rattle.rules.specs.Text.{digitByte}
-use Rattle.rules.specs.Fields.{Read, read, good, bad, run, past, separator, afterField, fieldOf, field}
+use Rattle.rules.specs.Fields.{Read, read, good, run, past, separator, afterField, fieldOf, field}
 use Rattle.rules.specs.Sheets.{levelField}
+use Rattle.laws.specs.Same.{same-refl}
 use Rattle.laws.specs.Walks.{rest}
 use Rattle.fields.specs.Compared.{same-length}
-use Rattle.fields.specs.Decimals.{same-one}
 use Rattle.fields.specs.Runs.{is-neither, is-space}
+use Rattle.fields.specs.Values.{one-byte}
 
 -- at `at` stands the digit of `due`, with a space after it
 pub record PlainLevel (s : List ℕ) (at due : ℕ) : Type 0 where
@@ -24,23 +26,21 @@ pub record PlainLevel (s : List ℕ) (at due : ℕ) : Type 0 where
 pub not-plain : (s : List ℕ) (at due : ℕ) → _≡_ {A = Bool} false true → PlainLevel s at due
 not-plain s at due e = let z : _≡_ {A = ℕ} 0 1 = cc in absurd (omega arith)
 
+same-one : (w : List ℕ) (x : ℕ) → length w ≡ 1 → same w (x ∷ []) ≡ eqb (getD w 0 0) x
+unfolding same
+same-one w x e = rw (one-byte w e) (elim (eqb (getD w 0 0) x) as (λ t. elim t as (λ _. Bool) [ true ↦ true | false ↦ false ] ≡ t) [ true ↦ refl | false ↦ refl ])
+
 module _ (due : ℕ) (w : List ℕ) where
-  pub level-long : (length w ≡ 1 → ⊥) → bad 5 ≡ levelField due w
-  unfolding levelField digitByte
-  level-long h = rw (same-length w ((48 + due) ∷ []) h)
+  pub level-long : (length w ≡ 1 → ⊥) → false ≡ same w (digitByte due ∷ [])
+  level-long h = sym (same-length w (digitByte due ∷ []) h)
 
-  module _ (one : length w ≡ 1) (b d : ℕ) (byte : b ≡ getD w 0 0) (is-due : d ≡ due) where
-    pub level-other : (b ≡ 48 + d → ⊥) → bad 5 ≡ levelField due w
-    unfolding levelField digitByte
-    level-other h = rw (same-one w (48 + due) one, ← byte, ← is-due, ne-eqb b (48 + d) h)
-
-    pub level-good : b ≡ 48 + d → good tt ≡ levelField due w
-    unfolding levelField digitByte
-    level-good h = rw (same-one w (48 + due) one, ← byte, ← is-due, eq-eqb b (48 + d) h)
+  pub level-byte : length w ≡ 1 → eqb (getD w 0 0) (48 + due) ≡ same w (digitByte due ∷ [])
+  unfolding digitByte
+  level-byte one = sym (same-one w (48 + due) one)
 
 -- two bytes on, the level is read
 pub plain-read : (s : List ℕ) (at due : ℕ) → PlainLevel s at due → read tt (drop (at + 2) s) (at + 2) ≡ field (levelField due) 32 (drop at s) at
-unfolding field fieldOf afterField separator run past
+unfolding field fieldOf afterField separator run past levelField digitByte
 plain-read s at due plain =
     rw (here, run, past, is-neither (48 + due) (λ e. omega (arith, e)) (λ e. omega (arith, e)), is-space 32 refl, ← good-level)
     (ap {B = Read (Unit {0})} (read tt (drop (at + 2) s)) (omega arith))
@@ -51,4 +51,4 @@ plain-read s at due plain =
         rw (rest s at (omega (arith, plain .within)), rest s (at + 1) (plain .within), plain .digit, plain .after, two)
 
     good-level : good tt ≡ levelField due ((48 + due) ∷ [])
-    good-level = level-good due ((48 + due) ∷ []) refl (48 + due) due refl refl refl
+    good-level = rw (same-refl ((48 + due) ∷ []))

@@ -3,12 +3,11 @@
 use Prim.Native.Nat.{ℕ, _≤_, _<_}
 use mathlib.Core.Path.{_≡_}
 use mathlib.Core.List.{List}
-use native.Mathlib.Omega.{arith}
 use lib.ListN.{length, drop}
 use Rattle.rules.specs.Text.{space, newline, text}
 use Rattle.rules.specs.Fields.{field, theWord}
 use Rattle.rules.specs.Sheets.{headerLines, tableSheet}
-use Rattle.rules.specs.Calls.{refused, readTable}
+use Rattle.rules.specs.Calls.{readTable}
 use Rattle.nets.specs.Forms.{headerOf}
 use Rattle.nets.specs.declared.forms.Header.{Header}
 use Rattle.fields.specs.Header.{HeaderRest}
@@ -16,15 +15,11 @@ use Rattle.fields.specs.Steps.{stepAs, nothing, spelled}
 use Rattle.fields.specs.declared.steps.Step.{Step}
 use Rattle.fields.specs.declared.steps.Step.the-variants.{On, Back}
 use Rattle.fields.specs.declared.lines.HeaderRead.{HeaderRead}
-use Rattle.tables.specs.Answers.{tableIn, inksIn, TableReads, TableRest, allRows, theEnd, fromRows, fromInk}
-use Rattle.fields.specs.Chained.{answered-back, answered-on, closed-over, closed-here}
+use Rattle.tables.specs.Answers.{tableIn, inksIn, TableHeld, TableReads, TableRest, allRows, theEnd, fromRows, fromInk}
+use Rattle.fields.specs.Chained.{answers-back, answers-on, answers-over, answers-closed}
 use Rattle.tables.specs.Rows.{RowsRead}
 use Rattle.fields.specs.declared.steps.Outcome.{Outcome}
 use Rattle.fields.specs.declared.steps.Outcome.the-variants.{Accepted, Refused}
-
--- a refusal accepts nothing
-never : {A : Type 0} (number place : ℕ) → Refused number place ≡ Accepted → A
-never number place e = let z : _≡_ {A = ℕ} 0 1 = cc in absurd (omega arith)
 
 -- ---- the rows
 
@@ -32,23 +27,20 @@ module _ (s : List ℕ) (at : ℕ) (h : Header) (cells : List ℕ) (step : Step)
   pub rows-refused : (number place : ℕ) → step ≡ Back number place → TableRest s at (fromRows (headerOf s h)) h cells (Refused number place)
   unfolding fromRows headerOf
   rows-refused number place e =
-      record { answer = answered-back (λ _. inksIn cells h) (allRows (headerOf s h)) (theEnd (headerOf s h)) s at step (rows .reads) number place e; held = never number place }
+      answers-back (λ _. inksIn cells h) (allRows (headerOf s h)) (theEnd (headerOf s h)) s at step (rows .reads) _ _ number place e
 
-  pub rows-over : (value next : ℕ) → step ≡ On value next → next < length s → TableRest s at (fromRows (headerOf s h)) h cells (Refused 1 next)
-  unfolding fromRows headerOf
-  rows-over value next e over =
-      record {
-        answer = answered-on (λ _. inksIn cells h) (allRows (headerOf s h)) (theEnd (headerOf s h)) s at step (rows .reads) value next (refused 1 next) e (closed-over s next (tableIn s cells h) over);
-        held = never 1 next;
-      }
+  module _ (value next : ℕ) (e : step ≡ On value next) where
+    pub rows-over : next < length s → TableRest s at (fromRows (headerOf s h)) h cells (Refused 1 next)
+    unfolding fromRows headerOf
+    rows-over over =
+        answers-on (λ _. inksIn cells h) (allRows (headerOf s h)) (theEnd (headerOf s h)) s at step (rows .reads) _ _ value next _ e
+        (answers-over s next _ _ over)
 
-  pub rows-closed : (value next : ℕ) → step ≡ On value next → length s ≤ next → TableRest s at (fromRows (headerOf s h)) h cells Accepted
-  unfolding fromRows headerOf
-  rows-closed value next e end =
-      record {
-        answer = answered-on (λ _. inksIn cells h) (allRows (headerOf s h)) (theEnd (headerOf s h)) s at step (rows .reads) value next _ e (closed-here s next (tableIn s cells h) end);
-        held = λ _. rows .held value next e;
-      }
+    pub rows-closed : length s ≤ next → TableRest s at (fromRows (headerOf s h)) h cells Accepted
+    unfolding fromRows headerOf
+    rows-closed end =
+        answers-on (λ _. inksIn cells h) (allRows (headerOf s h)) (theEnd (headerOf s h)) s at step (rows .reads) _ _ value next _ e
+        (answers-closed s next _ _ end (rows .held value next e))
 
 -- ---- the word
 
@@ -56,14 +48,12 @@ module _ (s : List ℕ) (at : ℕ) (h : Header) (cells : List ℕ) (step : Step)
     (word : stepAs nothing s step ≡ field (spelled (text "ink")) 10 (drop at s) at) where
   pub ink-refused : (number place : ℕ) → step ≡ Back number place → TableRest s at (fromInk (headerOf s h)) h cells (Refused number place)
   unfolding fromInk spelled theWord newline
-  ink-refused number place e =
-      record { answer = answered-back nothing (field (theWord "ink") newline) (λ _. fromRows (headerOf s h)) s at step word number place e; held = never number place }
+  ink-refused number place e = answers-back nothing (field (theWord "ink") newline) _ s at step word _ _ number place e
 
   pub ink-on : (value next : ℕ) (r : Outcome) → step ≡ On value next → TableRest s next (fromRows (headerOf s h)) h cells r
       → TableRest s at (fromInk (headerOf s h)) h cells r
   unfolding fromInk spelled theWord newline
-  ink-on value next r e rest =
-      record { answer = answered-on nothing (field (theWord "ink") newline) (λ _. fromRows (headerOf s h)) s at step word value next _ e (rest .answer); held = rest .held }
+  ink-on value next r e rest = answers-on nothing (field (theWord "ink") newline) (λ _. fromRows (headerOf s h)) s at step word _ _ value next r e rest
 
 -- ---- the header
 
@@ -72,7 +62,8 @@ module _ (s cells : List ℕ) (read : HeaderRead) (lines : HeaderRest s 0 (heade
       → TableReads s cells (record { outcome = Refused number place; header = read .header })
   unfolding readTable tableSheet fromInk fromRows
   header-refused number place e =
-      record { answer = answered-back _ (headerLines space) fromInk s 0 (read .step) (lines .reads) number place e; held = never number place }
+      let rest = answers-back _ (headerLines space) fromInk s 0 (read .step) (lines .reads) (tableIn s cells (read .header)) (TableHeld s cells (read .header)) number place e in
+      record { answer = rest .answer; held = rest .held }
 
   pub header-on : (value next : ℕ) (r : Outcome) → read .step ≡ On value next
       → TableRest s next (fromInk (headerOf s (read .header))) (read .header) cells r
@@ -80,6 +71,6 @@ module _ (s cells : List ℕ) (read : HeaderRead) (lines : HeaderRest s 0 (heade
   unfolding readTable tableSheet fromInk fromRows
   header-on value next r e rest =
       record {
-        answer = answered-on _ (headerLines space) fromInk s 0 (read .step) (lines .reads) value next _ e (rest .answer);
+        answer = answers-on _ (headerLines space) fromInk s 0 (read .step) (lines .reads) _ _ value next r e rest .answer;
         held = λ accepts. record { header = lines .held value next e; inks = rest .held accepts };
       }

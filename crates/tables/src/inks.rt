@@ -5,7 +5,6 @@ ghost use Rattle.rules.specs.Fields.{field};
 ghost use Rattle.rules.specs.Sheets.{inkField};
 ghost use Rattle.fields.specs.Steps.{judgedAs, stepAs, itself};
 use fields::ends::after_field;
-use fields::numbers::wide;
 use fields::runs::NEWLINE;
 use fields::runs::field_at;
 use fields::steps::Step;
@@ -17,7 +16,7 @@ pub fn judge_ink(w: &[u8], m: usize) -> Verdict
     if w.len() != 1 {
         return Verdict::Bad(6);
     }
-    let b = wide(w[0]);
+    let b = w[0] as usize;
     if b < 48 {
         return Verdict::Bad(6);
     }

@@ -1,28 +1,28 @@
 // An input level of a row: it is the next in the count.
 ghost use mathlib.Core.Path.{_≡_};
 ghost use mathlib.Core.Bool.{true};
+ghost use mathlib.Core.List.{[], _∷_};
 ghost use lib.ListN.{drop};
+ghost use Rattle.rules.specs.Lists.{same};
+ghost use Rattle.rules.specs.Text.{digitByte};
 ghost use Rattle.rules.specs.Fields.{field};
 ghost use Rattle.rules.specs.Sheets.{levelField};
-ghost use Rattle.fields.specs.Steps.{judgedAs, stepAs, nothing};
+ghost use Rattle.fields.specs.Steps.{stepAs, nothing};
 ghost use Rattle.tables.specs.Levels.{PlainLevel};
 use fields::ends::after_field;
-use fields::numbers::wide;
+use fields::ends::judged;
 use fields::runs::SPACE;
 use fields::runs::field_at;
 use fields::steps::Step;
-use fields::steps::Verdict;
 
-pub fn judge_level(w: &[u8], due: u8) -> Verdict
-    ensures { λ r. ⌜ judgedAs nothing r ≡ levelField due (now (w .entry)) ⌝ }
+// Is w the digit of `due`?
+pub fn is_level(w: &[u8], due: u8) -> bool
+    ensures { λ r. ⌜ r ≡ same (now (w .entry)) (digitByte due ∷ []) ⌝ }
 {
     if w.len() != 1 {
-        return Verdict::Bad(5);
+        return false;
     }
-    if wide(w[0]) != 48 + wide(due) {
-        return Verdict::Bad(5);
-    }
-    Verdict::Good(0)
+    w[0] as usize == 48 + due as usize
 }
 
 // Does the digit of `due` stand at `at`, with a space after it?
@@ -36,7 +36,7 @@ pub fn is_plain(s: &[u8], at: usize, due: u8) -> bool
     if s.len() <= after {
         return false;
     }
-    if wide(s[at]) != 48 + wide(due) {
+    if s[at] as usize != 48 + due as usize {
         return false;
     }
     s[after] == SPACE
@@ -47,7 +47,7 @@ pub fn judged_level(s: &[u8], at: usize, due: u8) -> Step
     ensures { λ r. ⌜ stepAs nothing (now (s .entry)) r ≡ field (levelField due) 32 (drop at (now (s .entry))) at ⌝ }
 {
     let w = field_at(s, at);
-    let verdict = judge_level(w, due);
+    let verdict = judged(is_level(w, due), 0, 5);
     after_field(s, at, w, verdict, SPACE)
 }
 

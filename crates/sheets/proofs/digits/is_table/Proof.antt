@@ -1,7 +1,7 @@
 -- `sheets::digits::is_table` meets its contract. The loop's invariant: all are digits exactly when the rest is.
 -- Assumes nothing.
 use Prim.Native.Nat.{_-_}
-use mathlib.Core.Path.{_≡_, sym, ap, _∙_}
+use mathlib.Core.Path.{_≡_, sym, _∙_}
 use native.Mathlib.Nat.{mul-le-mul, lt-of-le-of-lt}
 use native.Mathlib.Omega.{arith}
 use lib.Dec.{lit<}
@@ -20,7 +20,7 @@ abbrev μ-loop : tie.MeasureT-loop
 μ-loop w m i₀ i = length w - i
 
 mul-if1 : tie.Need-mul-if1 Inv-loop μ-loop
-mul-if1 c = record { fits = lt-of-le-of-lt (mul-le-mul (c .before .pre) (c .before .pre)) (lit< tt) }
+mul-if1 c = record { fits = lt-of-le-of-lt (mul-le-mul (c .pre) (c .pre)) (lit< tt) }
 
 returns : tie.Need-returns Inv-loop μ-loop
 returns c = table-long _ _ (c .if1 .taken)
@@ -28,24 +28,24 @@ returns c = table-long _ _ (c .if1 .taken)
 loop-holds : tie.Need-loop-holds Inv-loop μ-loop
 loop-holds c = table-digits _ _ (c .if1 .left)
 
-shared-slice-read-wide : tie.Need-shared-slice-read-wide Inv-loop μ-loop
-shared-slice-read-wide c = omega arith
+shared-slice-read-b : tie.Need-shared-slice-read-b Inv-loop μ-loop
+shared-slice-read-b c = omega arith
 
-wide-requires : tie.Need-wide-requires Inv-loop μ-loop
-wide-requires c κs = tt
+cast-b : tie.Need-cast-b Inv-loop μ-loop
+cast-b c = omega (arith, c .shared-slice-known .given (c .before .before .loop .i))
 
 returns-2 : tie.Need-returns-2 Inv-loop μ-loop
 returns-2 c =
-    let head = c .before .before .before .before in
-    sym (all-stop _ _ (head .loop .i) (c .before .before .before .loop-test .taken) (ap (isDigit _) (sym (c .before .wide .ensures)) ∙ digit-low _ _ (c .if2 .taken))) ∙ head .loop .inv
+    let head = c .before .before .before in
+    sym (all-stop _ _ (head .loop .i) (c .before .before .loop-test .taken) (digit-low _ _ (c .if2 .taken))) ∙ head .loop .inv
 
 add-if3 : tie.Need-add-if3 Inv-loop μ-loop
 add-if3 c = omega arith
 
 returns-3 : tie.Need-returns-3 Inv-loop μ-loop
 returns-3 c =
-    let head = c .before .before .before .before .before in
-    sym (all-stop _ _ (head .loop .i) (c .before .before .before .before .loop-test .taken) (ap (isDigit _) (sym (c .before .before .wide .ensures)) ∙ digit-high _ _ (c .if3 .taken))) ∙ head .loop .inv
+    let head = c .before .before .before .before in
+    sym (all-stop _ _ (head .loop .i) (c .before .before .before .loop-test .taken) (digit-high _ _ (c .if3 .taken))) ∙ head .loop .inv
 
 add-i : tie.Need-add-i Inv-loop μ-loop
 add-i c = omega arith
@@ -55,8 +55,8 @@ loop-less c = omega arith
 
 loop-again : tie.Need-loop-again Inv-loop μ-loop
 loop-again c =
-    let head = c .before .before .before .before .before in
-    all-next _ _ (head .loop .i) (c .before .before .before .before .loop-test .taken) (ap (isDigit _) (sym (c .before .before .wide .ensures)) ∙ digit-good _ _ (c .before .if2 .left) (c .if3 .left)) ∙ head .loop .inv
+    let head = c .before .before .before .before in
+    all-next _ _ (head .loop .i) (c .before .before .before .loop-test .taken) (digit-good _ _ (c .before .if2 .left) (c .if3 .left)) ∙ head .loop .inv
 
 returns-4 : tie.Need-returns-4 Inv-loop μ-loop
 returns-4 c = sym (all-end _ _ (c .before .loop .i) (c .loop-test .left)) ∙ c .before .loop .inv
@@ -70,8 +70,8 @@ is-table-spec =
     mul-if1
     returns
     loop-holds
-    shared-slice-read-wide
-    wide-requires
+    shared-slice-read-b
+    cast-b
     returns-2
     add-if3
     returns-3

@@ -18,7 +18,7 @@ with-gate-requires : tie.Need-with-gate-requires
 with-gate-requires c κs =
     let pre = c .before .before .before .before .pre in
     let read = c .before .before .digits-field .ensures in
-    (pre .0, pre .1, pre .2, pre .3, pre .4, pre .5, read .within _ _ (c .enum-told2 .given .1), read .digits _ _ (c .enum-told2 .given .1))
+    (pre .0, pre .1 .few, pre .1 .digits, pre .1 .levels, pre .2, pre .3, read .within _ _ (c .enum-told2 .given .1), read .digits _ _ (c .enum-told2 .given .1))
 
 returns : tie.Need-returns
 returns c = digits-back _ _ _ _ _ _ _ _ (c .before .before .digits-field .ensures) (c .enum-told .given .1)

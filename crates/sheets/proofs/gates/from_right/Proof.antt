@@ -19,9 +19,8 @@ enum-known-value c = search needs
 from-digits-requires : tie.Need-from-digits-requires
 from-digits-requires c κs =
     let pre = c .before .before .before .before .before .pre in
-    let room = room-told _ _ _ (pre .0) in
     let below = reference-below _ _ (c .before .before .before .before .before .args .at) _ _ _ _ _ _ (c .before .before .before .reference-field .ensures) (c .before .value .given .1) in
-    (pre .0 .form, room .few, room .digits, room .levels, pre .1, omega (arith, reference-small _ _ _ _ (pre .0) below))
+    (pre .0 .form, room-told _ _ _ (pre .0), pre .1, omega (arith, reference-small _ _ _ _ (pre .0) below))
 
 returns : tie.Need-returns
 returns c = right-back _ _ _ _ _ _ (c .before .before .before .reference-field .ensures) _ _ (c .before .number .given .1)

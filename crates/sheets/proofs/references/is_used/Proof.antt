@@ -1,5 +1,6 @@
 -- `sheets::references::is_used` meets its contract. The loop's invariant: one of all gates uses r exactly when one from `k` on does.
 -- Assumes nothing.
+use borrow.Author.Needs.{needs}
 use Prim.Native.Nat.{_-_}
 use mathlib.Core.Path.{_≡_, sym, _∙_}
 use mathlib.Core.List.{map}
@@ -23,38 +24,38 @@ loop-holds : tie.Need-loop-holds Inv-loop μ-loop
 unfolding gatesOf
 loop-holds c = rw sub-zero
 
-element-copy-out-wide : tie.Need-element-copy-out-wide Inv-loop μ-loop
-element-copy-out-wide c = omega (arith, c .loop-test .taken, c .before .before .pre)
+element-copy-out-if1 : tie.Need-element-copy-out-if1 Inv-loop μ-loop
+element-copy-out-if1 c = omega arith
 
-wide-requires : tie.Need-wide-requires Inv-loop μ-loop
-wide-requires c κs = tt
+cast-if1 : tie.Need-cast-if1 Inv-loop μ-loop
+cast-if1 c = search needs
 
 returns : tie.Need-returns Inv-loop μ-loop
-returns c = sym (c .before .before .before .before .loop .inv ∙ used-left _ _ (c .before .before .before .before .loop .k) (c .before .before .before .loop-test .taken) (sym (c .before .wide .ensures) ∙ c .if1 .taken))
+returns c =
+    let head = c .before .before .before in
+    sym (head .loop .inv ∙ used-left _ _ (head .loop .k) (c .before .before .loop-test .taken) (c .if1 .taken))
 
-element-copy-out-wide-2 : tie.Need-element-copy-out-wide-2 Inv-loop μ-loop
-element-copy-out-wide-2 c = omega (arith, c .before .before .before .loop-test .taken, c .before .before .before .before .before .pre)
+element-copy-out-if2 : tie.Need-element-copy-out-if2 Inv-loop μ-loop
+element-copy-out-if2 c = omega arith
 
-wide-requires-2 : tie.Need-wide-requires-2 Inv-loop μ-loop
-wide-requires-2 c κs = tt
+cast-if2 : tie.Need-cast-if2 Inv-loop μ-loop
+cast-if2 c = search needs
 
 returns-2 : tie.Need-returns-2 Inv-loop μ-loop
 returns-2 c =
-    sym
-    (c .before .before .before .before .before .before .before .loop .inv
-    ∙ used-right _ _ (c .before .before .before .before .before .before .before .loop .k) (c .before .before .before .before .before .before .loop-test .taken) (λ e. c .before .before .before .if1 .left (c .before .before .before .before .wide .ensures ∙ e)) (sym (c .before .wide2 .ensures) ∙ c .if2 .taken))
+    let head = c .before .before .before .before .before in
+    sym (head .loop .inv ∙ used-right _ _ (head .loop .k) (c .before .before .before .before .loop-test .taken) (c .before .before .if1 .left) (c .if2 .taken))
 
 add-k : tie.Need-add-k Inv-loop μ-loop
-add-k c = omega (arith, c .before .before .before .before .before .before .loop-test .taken, c .before .before .before .before .before .before .before .before .pre)
+add-k c = omega arith
 
 loop-less : tie.Need-loop-less Inv-loop μ-loop
-loop-less c = omega (arith, c .before .before .before .before .before .before .loop-test .taken)
+loop-less c = omega arith
 
 loop-again : tie.Need-loop-again Inv-loop μ-loop
 loop-again c =
-    c .before .before .before .before .before .before .before .loop .inv
-    ∙ used-next _ _ (c .before .before .before .before .before .before .before .loop .k) (c .before .before .before .before .before .before .loop-test .taken) (λ e. c .before .before .before .if1 .left (c .before .before .before .before .wide .ensures ∙ e))
-    (λ e. c .if2 .left (c .before .wide2 .ensures ∙ e))
+    let head = c .before .before .before .before .before in
+    head .loop .inv ∙ used-next _ _ (head .loop .k) (c .before .before .before .before .loop-test .taken) (c .before .before .if1 .left) (c .if2 .left)
 
 returns-3 : tie.Need-returns-3 Inv-loop μ-loop
 returns-3 c = sym (c .before .loop .inv ∙ used-none _ _ (c .before .loop .k) (c .loop-test .left))
@@ -66,11 +67,11 @@ is-used-spec =
     Inv-loop
     μ-loop
     loop-holds
-    element-copy-out-wide
-    wide-requires
+    element-copy-out-if1
+    cast-if1
     returns
-    element-copy-out-wide-2
-    wide-requires-2
+    element-copy-out-if2
+    cast-if2
     returns-2
     add-k
     loop-less

@@ -1,7 +1,7 @@
 -- `tables::levels::is_plain` meets its contract: it says no, or has compared both bytes.
 -- Assumes nothing.
-use native.Mathlib.Omega.{arith}
 use borrow.Author.Needs.{needs}
+use native.Mathlib.Omega.{arith}
 use borrow.Author.Tests.{eqb-true}
 use Rattle.tables.specs.Levels.{not-plain}
 use Rattle.tables.proofs.levels.is_plain.Statement.{statement}
@@ -16,14 +16,11 @@ add-after c = search needs
 returns-2 : tie.Need-returns-2
 returns-2 c = not-plain _ _ _
 
-shared-slice-read-wide : tie.Need-shared-slice-read-wide
-shared-slice-read-wide c = search needs
+shared-slice-read-if3 : tie.Need-shared-slice-read-if3
+shared-slice-read-if3 c = search needs
 
-wide-requires : tie.Need-wide-requires
-wide-requires c κs = search needs
-
-wide-requires-2 : tie.Need-wide-requires-2
-wide-requires-2 c κs = search needs
+cast-if3 : tie.Need-cast-if3
+cast-if3 c = omega (arith, c .shared-slice-known .given (c .before .before .before .args .at))
 
 add-if3 : tie.Need-add-if3
 add-if3 c = search needs
@@ -37,8 +34,8 @@ shared-slice-read-result c = search needs
 returns-4 : tie.Need-returns-4
 returns-4 c e =
     record {
-      within = omega (arith, c .before .before .before .before .before .if2 .left);
-      digit = omega (arith, c .before .before .before .wide .ensures, c .before .before .wide2 .ensures, c .before .if3 .left);
+      within = omega (arith, c .before .before .before .if2 .left);
+      digit = c .before .if3 .left;
       after = eqb-true _ _ e;
     }
 
@@ -49,9 +46,8 @@ is-plain-spec =
     returns
     add-after
     returns-2
-    shared-slice-read-wide
-    wide-requires
-    wide-requires-2
+    shared-slice-read-if3
+    cast-if3
     add-if3
     returns-3
     shared-slice-read-result
