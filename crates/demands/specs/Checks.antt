@@ -170,7 +170,7 @@ pub record Agreeing (s r cells : List ℕ) : Type 0 where
   pub net : Net
   pub table : Table
   pub reads-net : readNet s ≡ accepted net
-  pub reads-table : readTable r ≡ accepted table
+  reads-table : readTable r ≡ accepted table
   pub header : net .header ≡ table .header
   pub long : table .header .levels ^ table .header .inputs ≤ length cells
   pub agrees : (p : ℕ) → p < table .header .levels ^ table .header .inputs → value (net .header .levels) (net .header .inputs) (net .gates) p ≡ inkIn (table .inks) p

@@ -38,7 +38,7 @@ three-lines net kept =
     rw (append-assoc, head-fed (net .header)) (lines-first (headLines (net .header)) _ (head-unbroken (net .header) (kept .header)))
 
 -- the header that those lines say
-pub header-said : (h k : Header) → KeptHeader h → KeptHeader k → firstLines h (h .names) ≡ firstLines k (k .names) → h ≡ k
+header-said : (h k : Header) → KeptHeader h → KeptHeader k → firstLines h (h .names) ≡ firstLines k (k .names) → h ≡ k
 header-said h k kept kept' e =
     let (place, d) = spells-header newline parts-newline .back (h, kept) [] 0 tt in
     let (place', d') = spells-header newline parts-newline .back (k, kept') [] 0 tt in

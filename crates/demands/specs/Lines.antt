@@ -62,7 +62,7 @@ lines-first (w ∷ ws) rest h =
     ∙ ap (λ (t : List ℕ). w ++ newline ∷ t) (lines-first ws rest (h .1))
     ∙ sym (append-snoc w newline (concatMap fed ws))
 
-pub unbroken-append : (vs ws : List (List ℕ)) → Unbroken vs → Unbroken ws → Unbroken (vs ++ ws)
+unbroken-append : (vs ws : List (List ℕ)) → Unbroken vs → Unbroken ws → Unbroken (vs ++ ws)
 unbroken-append [] ws h k = k
 unbroken-append (v ∷ vs) ws h k = (h .0, unbroken-append vs ws (h .1) k)
 
@@ -74,7 +74,7 @@ body [] = []
 body (w ∷ []) = w
 body (w ∷ v ∷ ws) = w ++ space ∷ body (v ∷ ws)
 
-pub line-fed : (ws : List (List ℕ)) → line ws ≡ fed (body ws)
+line-fed : (ws : List (List ℕ)) → line ws ≡ fed (body ws)
 unfolding line body fed
 line-fed [] = refl
 line-fed (w ∷ []) = refl
@@ -111,7 +111,7 @@ all-join (x ∷ xs) ys h k =
     let (first, more) = all-iff inLine x xs .0 h in
     all-iff inLine x (xs ++ ys) .1 (first, all-join xs ys more k)
 
-pub body-unbroken : (ws : List (List ℕ)) → Words ws → all inLine (body ws) ≡ true
+body-unbroken : (ws : List (List ℕ)) → Words ws → all inLine (body ws) ≡ true
 unfolding body all inLine space newline
 body-unbroken [] h = refl
 body-unbroken (w ∷ []) h = word-unbroken w (h .0)

@@ -80,7 +80,7 @@ lineAt s k = let at = afterLines s k in record { start = at; count = lineLength 
 
 module _ (s : List ℕ) (ws : List (List ℕ)) (lines : s ≡ concatMap fed ws) (unbroken : Unbroken ws) where
   -- the sheet ends after its last line
-  pub after-last : afterLines s (length ws) ≡ length s
+  after-last : afterLines s (length ws) ≡ length s
   after-last = rw lines (ap (λ (t : List ℕ). afterLines t (length ws)) (sym (append-nil (concatMap fed ws))) ∙ after-first ws [] unbroken)
 
   module _ (k : ℕ) (inside : k < length ws) where
@@ -111,14 +111,14 @@ module _ (s : List ℕ) (ws : List (List ℕ)) (lines : s ≡ concatMap fed ws) 
     long = ap lineLength rest ∙ length-one (getD ws k []) after (unbroken-at k ws unbroken inside)
 
     -- the part of the line is within the sheet, with its line feed, ..
-    pub line-inside : lineAt s k .start + lineAt s k .count < length s
+    line-inside : lineAt s k .start + lineAt s k .count < length s
     unfolding lineAt
     line-inside =
         rw (long, there)
         (subst⁻¹ (λ (t : List ℕ). length before + length (getD ws k []) < length t) split (simp length-append (omega arith)))
 
     -- .. and its bytes are the line's
-    pub line-bytes : partOf s (lineAt s k) ≡ getD ws k []
+    line-bytes : partOf s (lineAt s k) ≡ getD ws k []
     unfolding partOf lineAt
     line-bytes = rw (long, rest) (take-at (getD ws k []) (newline ∷ after) (length (getD ws k [])) refl)
 
@@ -162,7 +162,7 @@ module _ (s : List ℕ) (net : Net) (reads : readNet s ≡ accepted net) where
   net-at k d h = rw (four-more k) (map-at (gateBody (net .header .names)) (net .gates) k d [] h)
 
   -- "n − 1 gate lines"
-  pub gate-count : length (net .gates) ≡ net .header .inputs - 1
+  gate-count : length (net .gates) ≡ net .header .inputs - 1
   gate-count = omega (arith, kept .gates .count)
 
   -- the part that a turn gives lies within the sheet, with its line feed, ..

@@ -45,10 +45,10 @@ module _ (t : Table) (kept : KeptTable t) where
   inks-below p h = kept .below p (subst⁻¹ (λ (k : ℕ). p < k) (kept .count) h)
 
   -- mark 2 at the whole group, a tree, and an accepted net sheet with the table are one
-  pub two-tree : HasTree t ↔ WholeTwo t
+  two-tree : HasTree t ↔ WholeTwo t
   two-tree = tree-exists (t .header .levels) (t .header .inputs) pos several (inkIn (t .inks)) inks-below
 
-  pub tree-sheet : HasTree t → HasSheet t
+  tree-sheet : HasTree t → HasSheet t
   unfolding tableOfNet
   tree-sheet tree =
       let net : Net = record { header = t .header; gates = tree .0 } in
@@ -67,14 +67,14 @@ module _ (t : Table) (kept : KeptTable t) where
       λ i. record { header = t .header; inks = table-is (t .header .levels) (t .header .inputs) (settledNet t .gates) (t .inks) (kept .count) (net .1) i }
 
   -- and keeps every rule of a net
-  pub made-kept : WholeTwo t → KeptNet (settledNet t)
+  made-kept : WholeTwo t → KeptNet (settledNet t)
   unfolding settledNet
   made-kept two = record {
     header = kept .header;
     gates = settled-net (t .header .levels) (t .header .inputs) pos several (inkIn (t .inks)) inks-below two .0;
   }
 
-pub sheet-tree : (t : Table) → HasSheet t → HasTree t
+sheet-tree : (t : Table) → HasSheet t → HasTree t
 unfolding tableOfNet
 sheet-tree t has =
     let net : Net = has .1 in

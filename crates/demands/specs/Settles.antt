@@ -87,7 +87,7 @@ module _ (net : Net) (kept : KeptNet net) where
   unfolding settledNet tableOfNet settledOf
   settled-kept = record { header = kept .header; gates = settled-is-net (net .header .levels) (net .header .inputs) pos several (net .gates) (kept .gates) }
 
-  pub settled-has-table : tableOfNet (settledNet (tableOfNet net)) ≡ tableOfNet net
+  settled-has-table : tableOfNet (settledNet (tableOfNet net)) ≡ tableOfNet net
   unfolding settledNet tableOfNet settledOf
   settled-has-table = λ i. record { header = net .header; inks = settled-table (net .header .levels) (net .header .inputs) pos several (net .gates) (kept .gates) i }
 

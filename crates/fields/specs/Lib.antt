@@ -5,7 +5,6 @@ pub mod Header
 pub mod Judging
 pub mod Lines
 pub mod Names
-pub mod Ranges
 pub mod Runs
 pub mod Steps
 pub mod Taken

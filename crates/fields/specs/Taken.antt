@@ -16,7 +16,7 @@ use Rattle.rules.specs.Sheets.{levelsField, inputsOf, inputsField}
 use Rattle.laws.specs.Finds.{found-is, first-in-range}
 use Rattle.laws.specs.Runs.{run-past}
 use Rattle.laws.specs.Same.{same-true}
-use Rattle.fields.specs.Decimals.{decimal-length}
+use Rattle.laws.specs.Decimals.{decimal-length}
 use Rattle.fields.specs.Steps.{spelled, stepAs, itself, nothing}
 use Rattle.fields.specs.declared.steps.Step.{Step}
 use Rattle.fields.specs.declared.steps.Step.the-variants.{On}
@@ -73,7 +73,7 @@ inputs-found : (w : List ℕ) (n : ℕ) → inputsOf w ≡ some n → (fewestInp
 unfolding inputsOf
 inputs-found w n e =
     let found = found-is (first-in-range (λ k. same w (decimal k)) fewestInputs (mostInputs + 1 - fewestInputs)) n e in
-    (found .0, omega (arith, found .1), rw (same-true w (decimal n) (found .2)) (decimal-length n (omega (arith, found .1))))
+    (found .0, omega (arith, found .1), rw (same-true w (decimal n) (found .2)) (decimal-length 1 n (omega (arith, found .1))))
 
 inputs-told : (m n : ℕ) (w : List ℕ) → inputsField m w ≡ good n → (fewestInputs ≤ n) × (n ≤ mostInputs) × (cellsFit m n ≡ true) × (length w ≤ 2)
 unfolding inputsField

@@ -15,6 +15,7 @@ use Rattle.rules.specs.Text.{space, newline, text}
 use Rattle.rules.specs.Fields.{Read, read, turnedBack, then, _>>=_, give, Judged, good, bad, Judge, judged, isSeparator, run, past, separator, afterField, fieldOf, field, theWord, closed}
 use Rattle.laws.specs.Tests.{all-iff}
 use Rattle.laws.specs.Same.{same-refl, same-true}
+use Rattle.laws.specs.Runs.{run-past}
 use Rattle.readback.specs.Spells.{SpellsTo, Spells, not-read}
 
 -- a byte that a field may hold
@@ -52,16 +53,6 @@ past-plain [] due rest h e = rw (e, past)
 past-plain (b ∷ w) due rest h e =
     let (i, j) = all-iff plain b w .0 h in
     rw (not-true (isSeparator b) i, past) (past-plain w due rest j e)
-
--- a text is its first run and what stands past it
-run-past : (s : List ℕ) → s ≡ run s ++ past s
-unfolding run past
-run-past [] = refl
-run-past (b ∷ s) = go (isSeparator b) refl (run-past s)
-  where
-    go : (t : Bool) → isSeparator b ≡ t → s ≡ run s ++ past s → b ∷ s ≡ run (b ∷ s) ++ past (b ∷ s)
-    go true e r = rw (e, run, past) refl
-    go false e r = rw (e, run, past) (ap (λ u. b ∷ u) r)
 
 -- ---- a judge and the words that it passes
 
@@ -118,7 +109,7 @@ field-of-word judge due [] a rest at h e = absurd (false≢true h)
 field-of-word judge due (b ∷ w) a rest at h e = (suc (at + suc (length w)), rw (e, eq-eqb due due refl, separator) refl)
 
 -- a word's bytes are plain
-pub word-plain : (w : List ℕ) → isWord w ≡ true → all plain w ≡ true
+word-plain : (w : List ℕ) → isWord w ≡ true → all plain w ≡ true
 unfolding isWord
 word-plain [] h = absurd (false≢true h)
 word-plain (b ∷ w) h = h

@@ -138,11 +138,6 @@ module _ (m n : ℕ) (pos : 0 < m) where
   pub part-whole : (p : ℕ) → p < m ^ n → part m n (wholeGroup n) p ≡ p
   part-whole p p< = level-ext m n pos (part m n (wholeGroup n) p) p (part-below (wholeGroup n) p) p< (λ i h. level-part-in (wholeGroup n) p i h (member-whole i n h))
 
-  pub mix-whole : (p y : ℕ) → p < m ^ n → mix m n (wholeGroup n) p y ≡ p
-  mix-whole p y p< =
-      level-ext m n pos (mix m n (wholeGroup n) p y) p (mix-below (wholeGroup n) p y (whole-below n)) p<
-      (λ i h. level-mix-in (wholeGroup n) p y i (whole-below n) h (member-whole i n h))
-
   -- what a group is given depends on the levels of its members alone
   pub part-ext : (g p q : ℕ) → ((i : ℕ) → i < n → member i g ≡ true → level m n p i ≡ level m n q i) → part m n g p ≡ part m n g q
   part-ext g p q e = level-ext m n pos (part m n g p) (part m n g q) (part-below g p) (part-below g q) (λ i h. go i h (member i g) refl)
