@@ -21,7 +21,7 @@ use Rattle.groups.specs.Answers.{answerOf}
 use Rattle.lines.specs.Put.{Wrote}
 use Rattle.lines.specs.Refusals.{refusalLines}
 use Rattle.demands.specs.Settles.{written-front}
-use Rattle.endings.specs.Answers.{madeOf}
+use Rattle.output.specs.Answers.{madeOf}
 use Rattle.settling.specs.declared.program.Printed.{Printed}
 
 -- a text at the front of its bytes, and what lending that part asks

@@ -1,7 +1,7 @@
 // Settling and making. Any sheet and buffers of any length may come in.
 ghost use mathlib.Core.Path.{_≡_};
 ghost use Rattle.rules.specs.Calls.{settleCall, makeCall};
-ghost use Rattle.endings.specs.Answers.{madeOf};
+ghost use Rattle.output.specs.Answers.{madeOf};
 ghost use Rattle.accepted.specs.Taken.{NetTaken};
 use fields::steps::Outcome;
 use groups::call::Answer;

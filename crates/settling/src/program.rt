@@ -5,7 +5,7 @@ ghost use Prim.Native.Nat.{ℕ};
 ghost use lib.ListN.{take};
 ghost use Rattle.rules.specs.Limits.{mostRead};
 ghost use Rattle.rules.specs.Calls.{programOutput, settleProgram, makeProgram};
-ghost use Rattle.endings.specs.Answers.{madeOf};
+ghost use Rattle.output.specs.Answers.{madeOf};
 ghost use Rattle.settling.specs.Program.{Fits, Prints};
 use crate::calls;
 use groups::call::Answer;

@@ -27,8 +27,8 @@ use Rattle.readback.specs.Length.{net-length}
 use Rattle.settled.specs.Wired.{MarksIn}
 use Rattle.settled.specs.SettledNet.{SettledNet, marks-in}
 use Rattle.accepted.specs.Taken.{Given}
-use Rattle.endings.specs.Answers.{madeOf}
-use Rattle.endings.specs.Place.{place-agree}
+use Rattle.output.specs.Answers.{madeOf}
+use Rattle.output.specs.Place.{place-agree}
 
 module _ (s : List ℕ) (h : Header) (inks : List ℕ) (given : Given s h inks) where
   pub given-size : sizeFits (h .levels) (h .inputs) ≡ true

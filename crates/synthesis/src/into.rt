@@ -5,15 +5,15 @@ ghost use lib.ListN.{length};
 ghost use Rattle.rules.specs.Marks.{marksLength};
 ghost use Rattle.rules.specs.Calls.{afterMarks, settledInto};
 ghost use Rattle.lines.specs.Names.{tableIn};
-ghost use Rattle.endings.specs.Answers.{madeOf};
+ghost use Rattle.output.specs.Answers.{madeOf};
 ghost use Rattle.accepted.specs.Taken.{Given};
-use endings::place;
-use endings::sheet;
 use groups::call::Answer;
 use lines::put::copy;
 use marks::marking;
 use marks::stored;
 use nets::forms::Header;
+use output::place;
+use output::sheet;
 use settled::settle;
 
 // The cells and the marks, and then refusal 16, refusal 15 or the sheet.

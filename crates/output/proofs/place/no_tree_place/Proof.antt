@@ -1,12 +1,12 @@
--- `endings::place::no_tree_place` meets its contract. The loop's invariant: the search from the size that is looked at on is the
+-- `output::place::no_tree_place` meets its contract. The loop's invariant: the search from the size that is looked at on is the
 -- search. Assumes nothing.
 use Prim.Native.Nat.{_+_, _-_, _≤_}
 use mathlib.Core.Path.{_≡_, refl, sym, _∙_}
 use native.Mathlib.Omega.{arith}
 use Rattle.marks.specs.Stored.{held, held-room}
-use Rattle.endings.specs.Place.{placeFrom, place-here, place-next, place-none, place-found, place-missing}
-use Rattle.endings.proofs.place.no_tree_place.Statement.{statement}
-use Rattle.endings.proofs.place.no_tree_place.Tie as tie
+use Rattle.output.specs.Place.{placeFrom, place-here, place-next, place-none, place-found, place-missing}
+use Rattle.output.proofs.place.no_tree_place.Statement.{statement}
+use Rattle.output.proofs.place.no_tree_place.Tie as tie
 
 abbrev Inv-loop : tie.InvT-loop
 Inv-loop n marks end k₀ k = (k ≤ n + 1) × (placeFrom n (held marks) k ≡ placeFrom n (held marks) 0)

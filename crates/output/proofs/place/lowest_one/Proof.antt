@@ -1,12 +1,12 @@
--- `endings::place::lowest_one` meets its contract. The loop's invariant: the search from the group that is looked at on is the
+-- `output::place::lowest_one` meets its contract. The loop's invariant: the search from the group that is looked at on is the
 -- search. Assumes nothing.
 use Prim.Native.Nat.{_-_, _≤_}
 use mathlib.Core.Path.{_≡_, refl, sym, _∙_}
 use native.Mathlib.Omega.{arith}
 use Rattle.marks.specs.Stored.{held}
-use Rattle.endings.specs.Place.{lowest, lowest-here, lowest-next, lowest-past}
-use Rattle.endings.proofs.place.lowest_one.Statement.{statement}
-use Rattle.endings.proofs.place.lowest_one.Tie as tie
+use Rattle.output.specs.Place.{lowest, lowest-here, lowest-next, lowest-past}
+use Rattle.output.proofs.place.lowest_one.Statement.{statement}
+use Rattle.output.proofs.place.lowest_one.Tie as tie
 
 abbrev Inv-loop : tie.InvT-loop
 Inv-loop n end marks k g₀ g = (g ≤ end) × (lowest n end (held marks) k g ≡ lowest n end (held marks) k 0)

@@ -8,7 +8,7 @@ ghost use Rattle.rules.specs.Printed.{printedNet};
 ghost use Rattle.rules.specs.Calls.{writtenSheet};
 ghost use Rattle.lines.specs.Names.{NamesInside, netIn};
 ghost use Rattle.printing.specs.Gates.{GatesInside};
-ghost use Rattle.endings.specs.Answers.{madeOf};
+ghost use Rattle.output.specs.Answers.{madeOf};
 use groups::call::Answer;
 use lines::put::copy;
 use nets::forms::Header;

@@ -5,7 +5,7 @@ ghost use lib.ListN.{length};
 ghost use Rattle.rules.specs.Groups.{size};
 ghost use Rattle.rules.specs.Marks.{marksLength, noTreePlace};
 ghost use Rattle.marks.specs.Stored.{held};
-ghost use Rattle.endings.specs.Place.{oneOf, lowest, foundBelow};
+ghost use Rattle.output.specs.Place.{oneOf, lowest, foundBelow};
 use marks::stored;
 use radix::powers;
 

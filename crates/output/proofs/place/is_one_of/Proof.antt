@@ -1,10 +1,10 @@
--- `endings::place::is_one_of` meets its contract. Assumes nothing.
+-- `output::place::is_one_of` meets its contract. Assumes nothing.
 use mathlib.Core.Path.{sym, _∙_}
 use mathlib.Core.Bool.{and-true, and-false}
 use borrow.Author.Needs.{needs}
 use borrow.Author.Tests.{eq-eqb, ne-eqb}
-use Rattle.endings.proofs.place.is_one_of.Statement.{statement}
-use Rattle.endings.proofs.place.is_one_of.Tie as tie
+use Rattle.output.proofs.place.is_one_of.Statement.{statement}
+use Rattle.output.proofs.place.is_one_of.Tie as tie
 
 mark-at-requires : tie.Need-mark-at-requires
 mark-at-requires c κs = search needs

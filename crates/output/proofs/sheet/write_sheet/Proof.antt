@@ -1,9 +1,9 @@
--- `endings::sheet::write_sheet` meets its contract. Assumes nothing.
+-- `output::sheet::write_sheet` meets its contract. Assumes nothing.
 use native.Mathlib.Omega.{arith}
 use borrow.Author.Needs.{needs}
-use Rattle.endings.specs.Answers.{sheet-short, sheet-copied}
-use Rattle.endings.proofs.sheet.write_sheet.Statement.{statement}
-use Rattle.endings.proofs.sheet.write_sheet.Tie as tie
+use Rattle.output.specs.Answers.{sheet-short, sheet-copied}
+use Rattle.output.proofs.sheet.write_sheet.Statement.{statement}
+use Rattle.output.proofs.sheet.write_sheet.Tie as tie
 
 slice-aggregate-print-net : tie.Need-slice-aggregate-print-net
 slice-aggregate-print-net c = search needs
