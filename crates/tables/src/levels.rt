@@ -26,7 +26,7 @@ pub fn is_level(w: &[u8], due: u8) -> bool
 }
 
 // Does the digit of `due` stand at `at`, with a space after it?
-pub fn is_plain(s: &[u8], at: usize, due: u8) -> bool
+fn is_plain(s: &[u8], at: usize, due: u8) -> bool
     ensures { λ r. ⌜ (r ≡ true → PlainLevel (now (s .entry)) at due) ⌝ }
 {
     if s.len() <= at {
