@@ -35,8 +35,6 @@ pub fn turn_at(s: &[u8], at: usize) -> Turn
         return Turn::NoneLeft;
     }
     let end = line_end(s, at);
-    Turn::Line {
-        start: at,
-        count: end - at,
-    }
+    let count = end - at;
+    Turn::Line { start: at, count }
 }

@@ -11,11 +11,11 @@ returns c = turn-none _ _ (c .if1 .taken)
 line-end-requires : tie.Need-line-end-requires
 line-end-requires c κs = search needs
 
-sub-t4 : tie.Need-sub-t4
-sub-t4 c = search needs
+sub-count : tie.Need-sub-count
+sub-count c = search needs
 
 returns-2 : tie.Need-returns-2
 returns-2 c = turn-given _ _ _ (c .line-end .ensures) (c .before .if1 .left)
 
 pub turn-at-spec : {M : Type 1} → statement M
-turn-at-spec = tie.close (tie.spec returns line-end-requires sub-t4 returns-2)
+turn-at-spec = tie.close (tie.spec returns line-end-requires sub-count returns-2)
