@@ -1,6 +1,6 @@
 -- The levels field, by its byte; the inputs field, by the number that it is the decimal value of.
 -- Assumes nothing.
-use Prim.Native.Nat.{ℕ, _-_, _^_, _≤_, _<_}
+use Prim.Native.Nat.{ℕ, _+_, _-_, _^_, _≤_, _<_}
 use mathlib.Core.Path.{_≡_, refl, sym, ap, _∙_}
 use mathlib.Core.Bool.{and-false}
 use mathlib.Core.Option.{some}
@@ -46,7 +46,7 @@ module _ (w : List ℕ) (e : length w ≡ 1) where
 
 inputs-range : (w : List ℕ) (n : ℕ) → inputsOf w ≡ some n → (fewestInputs ≤ n) × (n ≤ mostInputs)
 unfolding inputsOf
-inputs-range w n e = let f = found-is (first-in-range _ 2 10) n e in (f .0, omega (arith, f .1))
+inputs-range w n e = let f = found-is (first-in-range _ fewestInputs (mostInputs + 1 - fewestInputs)) n e in (f .0, omega (arith, f .1))
 
 pub inputs-none : (w : List ℕ) (m : ℕ) (r : Found) → optionOf r ≡ inputsOf w → r ≡ Nowhere → bad 3 ≡ inputsField m w
 unfolding inputsField

@@ -7,12 +7,13 @@ use native.Mathlib.Omega.{arith}
 use borrow.Author.Needs.{needs}
 use lib.ListN.{getD, take, drop, length}
 use Rattle.nets.specs.declared.forms.Header.{Header}
+use Rattle.rules.specs.Limits.{mostInputs}
 use Rattle.nets.specs.Forms.{nameIn}
 use Rattle.lines.specs.Names.{NamesInside}
 use Rattle.lines.proofs.header.print_name.Statement.{statement}
 use Rattle.lines.proofs.header.print_name.Tie as tie
 
-room : {s : List ℕ} {h : Header} → NamesInside s h → {i : ℕ} → i < h .inputs → i < 11
+room : {s : List ℕ} {h : Header} → NamesInside s h → {i : ℕ} → i < h .inputs → i < mostInputs
 room n l = omega (arith, n .count)
 
 -- the part of the sheet that the code takes

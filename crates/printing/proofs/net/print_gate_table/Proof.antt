@@ -5,17 +5,18 @@ use mathlib.Core.Path.{_≡_, sym, ap, _∙_}
 use native.Mathlib.Omega.{arith}
 use borrow.Author.Needs.{needs}
 use lib.ListN.{length, take, drop, length-map}
+use Rattle.nets.specs.Room.{mostDigits}
 use Rattle.nets.specs.declared.forms.Net.{Net}
 use Rattle.nets.specs.Forms.{gateOf}
 use Rattle.printing.specs.Gates.{table-end, table-digit}
 use Rattle.printing.proofs.net.print_gate_table.Statement.{statement}
 use Rattle.printing.proofs.net.print_gate_table.Tie as tie
 
-end : (c : tie.Start) → c .args .k * (c .args .net .levels * c .args .net .levels) + c .args .net .levels * c .args .net .levels ≤ 162
+end : (c : tie.Start) → c .args .k * (c .args .net .levels * c .args .net .levels) + c .args .net .levels * c .args .net .levels ≤ mostDigits
 end c = omega (arith, c .pre .0 .room, table-end (c .args .net) (c .pre .0) (c .args .k) (c .pre .1))
 
 -- an array of the form has its length
-size : (c : tie.Start) → length (c .args .net .digits) ≡ 162
+size : (c : tie.Start) → length (c .args .net .digits) ≡ mostDigits
 size c = sym (length-map (c .args .net .digits) (λ v. v)) ∙ c .good .0 .1 .1 .1 .1 .1 .1 .1 .0 .1 .0 .1
 
 -- the part that the code takes
