@@ -11,23 +11,30 @@ pub enum Named {
 }
 
 /// Why a call was turned back, and where.
-#[derive(Clone, Copy, Debug, PartialEq, Eq)]
+#[derive(Clone, Debug, PartialEq, Eq)]
 pub struct Refusal {
     pub number: usize,
     pub place: usize,
     pub named: Named,
     /// Line and column of the place in the sheet, from 1, where the refusal is a sheet's.
     pub position: Option<(usize, usize)>,
+    /// The names of the group's inputs, where the table has no tree.
+    pub inputs: Vec<String>,
 }
 
 impl Refusal {
     pub(crate) fn new(number: usize, place: usize, named: Named, sheet: &[u8]) -> Refusal {
         let position = (number <= 8).then(|| position(sheet, place));
+        let inputs = match number {
+            16 => names_of(sheet, place),
+            _ => Vec::new(),
+        };
         Refusal {
             number,
             place,
             named,
             position,
+            inputs,
         }
     }
 
@@ -67,17 +74,14 @@ fn position(sheet: &[u8], place: usize) -> (usize, usize) {
     (line, column)
 }
 
-/// A group's inputs, by their places in line 3, from 1.
-struct Members(usize);
-
-impl fmt::Display for Members {
-    fn fmt(&self, f: &mut fmt::Formatter<'_>) -> fmt::Result {
-        let places: Vec<String> = (0..usize::BITS)
-            .filter(|i| self.0 >> i & 1 == 1)
-            .map(|i| (i + 1).to_string())
-            .collect();
-        write!(f, "inputs {}", places.join(", "))
-    }
+/// The names of a group's inputs, from line 3 of an accepted sheet.
+fn names_of(sheet: &[u8], group: usize) -> Vec<String> {
+    let line = sheet.split(|&byte| byte == b'\n').nth(2).unwrap_or(&[]);
+    line.split(|&byte| byte == b' ')
+        .enumerate()
+        .filter(|(i, _)| group >> i & 1 == 1)
+        .map(|(_, name)| String::from_utf8_lossy(name).into_owned())
+        .collect()
 }
 
 impl fmt::Display for Refusal {
@@ -94,7 +98,7 @@ impl fmt::Display for Refusal {
             }
             (10, _) => write!(f, " at index {})", self.place),
             (13..=15, _) => write!(f, "; {} bytes are needed)", self.place),
-            (16, _) => write!(f, " at group {}: {})", self.place, Members(self.place)),
+            (16, _) => write!(f, " at group {}: {})", self.place, self.inputs.join(", ")),
             _ => write!(f, ")"),
         }
     }

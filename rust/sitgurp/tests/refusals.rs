@@ -142,6 +142,6 @@ fn a_refusal_in_words() {
     );
     assert_eq!(
         said("table", include_str!("../../../examples/majority.table")),
-        "no tree of two-input gates computes this table (refusal 16 at group 7: inputs 1, 2, 3)"
+        "no tree of two-input gates computes this table (refusal 16 at group 7: a, b, c)"
     );
 }
