@@ -1,7 +1,8 @@
 -- Document 01 ("Shade nets: tables, groups and settled trees") as definitions that compute, in the document's own order.
--- Each definition's comment quotes the sentence that it states, or says what the definition is for. `Lists`, `Text` and `Fields` are the means; the rest follows
--- the document's sections: Sheets (`Limits`, `Sheets`, `Printed`, `Kept`), `Value`, `Groups`, `Marks`, `Settled`, then the calls with
--- what they turn back (`Calls`, `Lister`), and the starred cases (`Cases`).
+-- Each definition's comment quotes the sentence that it states, or says what the definition is for. `Lists`, `Text` and
+-- `Fields` are the means; the rest follows the document's sections: Sheets (`Limits`, `Sheets`, `Printed`, `Kept`),
+-- `Value`, `Groups`, `Marks`, `Settled`, then the calls with what they turn back (`Calls`, `Lister`), and the starred cases
+-- (`Cases`).
 -- Assumes nothing.
 pub mod Lists
 pub mod Text

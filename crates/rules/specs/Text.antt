@@ -28,12 +28,12 @@ digitByte d = 48 + d
 unfoldable pub isDigit : ℕ → ℕ → Bool
 isDigit m b = leb 48 b && ltb b (48 + m)
 
--- "No decimal value has a needless leading zero." `fuel` is at least the number of digits.
+-- "No decimal value has a needless leading zero." `fuel` is at least the number of digits less one.
 unfoldable pub decimalF : ℕ → ℕ → List ℕ
 decimalF zero n = digitByte (n % 10) ∷ []
 decimalF (suc fuel) n =
     elim (ltb n 10) [ true ↦ digitByte n ∷ [] | false ↦ decimalF fuel (n / 10) ++ (digitByte (n % 10) ∷ []) ]
 
--- a number as a decimal value: n has no more digits than n + 1
+-- a number as a decimal value: it has at most n + 1 digits
 unfoldable pub decimal : ℕ → List ℕ
 decimal n = decimalF n n
