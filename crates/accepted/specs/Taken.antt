@@ -10,7 +10,8 @@ use Rattle.rules.specs.Limits.{mostCells}
 use Rattle.rules.specs.Sheets.{Gate}
 use Rattle.rules.specs.Kept.{KeptNet, KeptTable, IsNet}
 use Rattle.rules.specs.Value.{tableOf}
-use Rattle.rules.specs.Calls.{accepted, refused, readNet, readTable, tableOfNet}
+use Rattle.rules.specs.Answers.{accepted, refused}
+use Rattle.rules.specs.Reading.{readNet, readTable, tableOfNet}
 use Rattle.laws.specs.Sizes.{Size, sized}
 use Rattle.trees.specs.Uniqueness.{table-length}
 use Rattle.nets.specs.declared.forms.Header.{Header}

@@ -3,7 +3,11 @@
 use Prim.Native.Nat.{ℕ}
 use mathlib.Core.Path.{_≡_, ap, _∙_}
 use mathlib.Core.List.{List}
-use Rattle.rules.specs.Calls.{Answer, accepted, refused, Marked, Made, Written, Checked, Named, netNamed, tableNamed, neither, Verdict, agree, differ, turnedDown}
+use Rattle.rules.specs.Answers.{Answer, accepted, refused, Named, netNamed, tableNamed, neither}
+use Rattle.rules.specs.Marking.{Marked}
+use Rattle.rules.specs.Settling.{Made}
+use Rattle.rules.specs.TableWriting.{Written}
+use Rattle.rules.specs.Checking.{Checked, Verdict, agree, differ, turnedDown}
 use Rattle.rules.specs.Lister.{Turn, gateAt, noneLeft}
 use Rattle.capi.specs.declared.SitgurpAnswer.{SitgurpAnswer}
 use Rattle.capi.specs.declared.SitgurpTurn.{SitgurpTurn}

@@ -1,6 +1,10 @@
 // The calls for C and Rust, over numbers and byte slices. include/sitgurp.h declares them.
 ghost use mathlib.Core.Path.{_≡_};
-ghost use Rattle.rules.specs.Calls.{multiplicityCall, markingCall, settleCall, makeCall, checkCall, writeTableCall};
+ghost use Rattle.rules.specs.Multiplicity.{multiplicityCall};
+ghost use Rattle.rules.specs.Marking.{markingCall};
+ghost use Rattle.rules.specs.Settling.{settleCall, makeCall};
+ghost use Rattle.rules.specs.Checking.{checkCall};
+ghost use Rattle.rules.specs.TableWriting.{writeTableCall};
 ghost use Rattle.groups.specs.Answers.{answerOf};
 ghost use Rattle.rules.specs.Lister.{listing};
 ghost use Rattle.lister.specs.Calls.{listedAs};

@@ -6,7 +6,7 @@ use mathlib.Core.Bool.{Bool, true, false, and-false}
 use mathlib.Core.List.{List, map}
 use borrow.Author.Tests.{eq-eqb, ne-eqb}
 use Rattle.rules.specs.Lists.{range, same}
-use Rattle.rules.specs.Calls.{sameNames, sameHeader}
+use Rattle.rules.specs.Checking.{sameNames, sameHeader}
 use Rattle.laws.specs.Ranges.{range-next, range-none}
 use Rattle.nets.specs.declared.forms.Header.{Header}
 use Rattle.nets.specs.Forms.{nameIn, headerOf}

@@ -8,7 +8,8 @@ use native.Mathlib.Omega.{arith}
 use lib.Dec.{eqb}
 use lib.ListN.{length, take, length-take}
 use borrow.Author.Tests.{eqb-true, not-true, not-false}
-use Rattle.rules.specs.Calls.{Checked, turnedDown, neither, sameNames, sameHeader, checkedInto, checkCall}
+use Rattle.rules.specs.Checking.{Checked, turnedDown, sameNames, sameHeader, checkedInto, checkCall}
+use Rattle.rules.specs.Answers.{neither}
 use Rattle.laws.specs.Outcomes.{check-accepted, check-12, check-13, check-compared}
 use Rattle.nets.specs.declared.forms.Header.{Header}
 use Rattle.nets.specs.declared.forms.Net.{Net}

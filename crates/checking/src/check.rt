@@ -1,6 +1,6 @@
 // The check call: a net sheet against a table sheet.
 ghost use mathlib.Core.Path.{_≡_};
-ghost use Rattle.rules.specs.Calls.{checkCall};
+ghost use Rattle.rules.specs.Checking.{checkCall};
 ghost use Rattle.comparing.specs.Answers.{checkedOf};
 ghost use Rattle.accepted.specs.Taken.{NetTaken, TableTaken};
 use crate::headers::same_header;

@@ -4,7 +4,7 @@ ghost use mathlib.Core.List.{map};
 ghost use Prim.Native.Nat.{_≤_};
 ghost use Rattle.rules.specs.Lists.{range};
 ghost use Rattle.rules.specs.Limits.{mostInputs};
-ghost use Rattle.rules.specs.Calls.{sameNames, sameHeader};
+ghost use Rattle.rules.specs.Checking.{sameNames, sameHeader};
 ghost use Rattle.nets.specs.Forms.{nameIn, headerOf};
 ghost use Rattle.fields.specs.Names.{NamesHeld};
 ghost use Rattle.fields.specs.Header.{HeaderHeld};

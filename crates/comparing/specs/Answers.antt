@@ -2,22 +2,23 @@
 -- Assumes nothing.
 use Prim.Native.Nat.{ℕ}
 use mathlib.Core.List.{List}
-use Rattle.rules.specs.Calls as calls
-use Rattle.rules.specs.Calls.{Checked}
+use Rattle.rules.specs.Answers as answers
+use Rattle.rules.specs.Checking as checking
+use Rattle.rules.specs.Checking.{Checked}
 use Rattle.comparing.specs.declared.verdict.Named.{Named}
 use Rattle.comparing.specs.declared.verdict.Named.the-variants as named
 use Rattle.comparing.specs.declared.verdict.Verdict.{Verdict}
 use Rattle.comparing.specs.declared.verdict.Verdict.the-variants.{Agree, Differ, Refused}
 
-abbrev pub namedOf : Named → calls.Named
-namedOf named.Net = calls.netNamed
-namedOf named.Table = calls.tableNamed
-namedOf named.Neither = calls.neither
+abbrev pub namedOf : Named → answers.Named
+namedOf named.Net = answers.netNamed
+namedOf named.Table = answers.tableNamed
+namedOf named.Neither = answers.neither
 
-abbrev pub verdictOf : Verdict → calls.Verdict
-verdictOf Agree = calls.agree
-verdictOf (Differ index) = calls.differ index
-verdictOf (Refused named number place) = calls.turnedDown (namedOf named) number place
+abbrev pub verdictOf : Verdict → checking.Verdict
+verdictOf Agree = checking.agree
+verdictOf (Differ index) = checking.differ index
+verdictOf (Refused named number place) = checking.turnedDown (namedOf named) number place
 
 -- the verdict, and the cells buffer after the call
 abbrev pub checkedOf : Verdict → List ℕ → Checked
@@ -25,4 +26,4 @@ checkedOf r cells = record { answer = verdictOf r; cells = cells }
 
 -- a net's table held against a table sheet's inks, which are put in the cells buffer whether they agree or not
 abbrev pub comparedInto : List ℕ → List ℕ → List ℕ → Checked
-comparedInto table inks cells = record { answer = calls.compared table inks; cells = calls.written cells inks }
+comparedInto table inks cells = record { answer = checking.compared table inks; cells = answers.written cells inks }

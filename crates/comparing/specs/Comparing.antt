@@ -6,7 +6,7 @@ use mathlib.Core.List.{List}
 use native.Mathlib.Decide.{decLt}
 use native.Mathlib.Omega.{arith}
 use lib.ListN.{length, getD}
-use Rattle.rules.specs.Calls.{Verdict, agree, differ, compared}
+use Rattle.rules.specs.Checking.{Verdict, agree, differ, compared}
 use Rattle.lines.specs.Put.{Put, put-wrote}
 use Rattle.demands.specs.Checks.{Compared, all-agree, first-differs, comparison}
 use Rattle.comparing.specs.Answers.{comparedInto}

@@ -2,7 +2,7 @@
 ghost use mathlib.Core.Path.{_≡_};
 ghost use Prim.Native.Nat.{_≤_, _<_};
 ghost use lib.ListN.{length};
-ghost use Rattle.rules.specs.Calls.{compared};
+ghost use Rattle.rules.specs.Checking.{compared};
 ghost use Rattle.comparing.specs.Answers.{verdictOf, checkedOf, comparedInto};
 use lines::put::copy;
 

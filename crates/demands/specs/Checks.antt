@@ -16,7 +16,10 @@ use Rattle.rules.specs.Lists.{range, firstPlace, same}
 use Rattle.rules.specs.Sheets.{Header, Net, Table}
 use Rattle.rules.specs.Printed.{printedTable}
 use Rattle.rules.specs.Value.{value}
-use Rattle.rules.specs.Calls.{Answer, accepted, refused, Verdict, agree, differ, Named, netNamed, tableNamed, neither, turnedDown, Checked, inkIn, written, readNet, readTable, tableOfNet, sameNames, sameHeader, compared, checkedInto, checkCall, Written, writeTableCall}
+use Rattle.rules.specs.Answers.{Answer, accepted, refused, Named, netNamed, tableNamed, neither, inkIn, written}
+use Rattle.rules.specs.Checking.{Verdict, agree, differ, turnedDown, Checked, sameNames, sameHeader, compared, checkedInto, checkCall}
+use Rattle.rules.specs.Reading.{readNet, readTable, tableOfNet}
+use Rattle.rules.specs.TableWriting.{Written, writeTableCall}
 use Rattle.laws.specs.FirstPlaces.{before-first, at-first}
 use Rattle.laws.specs.Outcomes.{check-net-refused, check-table-refused, check-accepted, check-12, check-13, check-compared, table-15, table-written}
 use Rattle.laws.specs.Ranges.{range-length, range-at}

@@ -11,7 +11,8 @@ use Rattle.rules.specs.Fields.{Read, read}
 use Rattle.rules.specs.Sheets.{Header, Net, headerLines}
 use Rattle.rules.specs.Printed.{line, firstLines, printedNet}
 use Rattle.rules.specs.Kept.{KeptHeader, KeptNet}
-use Rattle.rules.specs.Calls.{accepted, readNet}
+use Rattle.rules.specs.Answers.{accepted}
+use Rattle.rules.specs.Reading.{readNet}
 use Rattle.demands.specs.Bounds.{inputs-several}
 use Rattle.demands.specs.Lines.{linesOf, lines-first, headLines, head-fed, head-unbroken}
 use Rattle.readback.specs.Fields.{parts-newline}

@@ -17,7 +17,8 @@ use Rattle.rules.specs.Text.{newline, text}
 use Rattle.rules.specs.Sheets.{Gate, Net}
 use Rattle.rules.specs.Printed.{line, firstLines, printedGate, printedNet}
 use Rattle.rules.specs.Kept.{KeptNet}
-use Rattle.rules.specs.Calls.{Answer, accepted, refused, readNet, onward}
+use Rattle.rules.specs.Answers.{Answer, accepted, refused, onward}
+use Rattle.rules.specs.Reading.{readNet}
 use Rattle.rules.specs.Lister.{Part, lineLength, afterLines, Turn, gateAt, noneLeft, turnOf, listing}
 use Rattle.laws.specs.Concat.{concat-append}
 use Rattle.laws.specs.Places.{map-at}

@@ -16,7 +16,9 @@ use Rattle.rules.specs.Sheets.{Net, Table}
 use Rattle.rules.specs.Printed.{printedNet}
 use Rattle.rules.specs.Marks.{marksLength, storedMarks, noTreePlace}
 use Rattle.rules.specs.Kept.{KeptNet, KeptTable}
-use Rattle.rules.specs.Calls.{accepted, refused, Made, inkIn, written, readNet, readTable, tableOfNet, settledNet, writtenSheet, afterMarks, settledInto, settleCall, makeCall}
+use Rattle.rules.specs.Answers.{accepted, refused, inkIn, written}
+use Rattle.rules.specs.Settling.{Made, settledNet, writtenSheet, afterMarks, settledInto, settleCall, makeCall}
+use Rattle.rules.specs.Reading.{readNet, readTable, tableOfNet}
 use Rattle.laws.specs.Outcomes.{WholeTwo, marksOfTable, make-accepted, into-marked, marked-16, marked-tree}
 use Rattle.trees.specs.Existence.{TreeExists, tree-exists, settled-net}
 use Rattle.trees.specs.Uniqueness.{table-is, table-at}

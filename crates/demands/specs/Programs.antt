@@ -14,7 +14,10 @@ use Rattle.rules.specs.Sheets.{Header, Net, Table}
 use Rattle.rules.specs.Printed.{line, printedNet}
 use Rattle.rules.specs.Marks.{marksLength, noTreePlace}
 use Rattle.rules.specs.Kept.{KeptHeader}
-use Rattle.rules.specs.Calls.{Answer, accepted, refused, Made, readNet, readTable, tableOfNet, settledNet, settleCall, makeCall, programOutput, zeros, settleProgram, makeProgram}
+use Rattle.rules.specs.Answers.{Answer, accepted, refused}
+use Rattle.rules.specs.Settling.{Made, settledNet, settleCall, makeCall}
+use Rattle.rules.specs.Reading.{readNet, readTable, tableOfNet}
+use Rattle.rules.specs.Programs.{programOutput, zeros, settleProgram, makeProgram}
 use Rattle.laws.specs.Distinct.{In}
 use Rattle.laws.specs.Sizes.{kept-size}
 use Rattle.laws.specs.Outcomes.{marksOfTable, settle-refused, make-refused}

@@ -15,7 +15,14 @@ use Rattle.rules.specs.Limits.{sizeFits}
 use Rattle.rules.specs.Sheets.{Table}
 use Rattle.rules.specs.Printed.{printedTable}
 use Rattle.rules.specs.Marks.{marksLength}
-use Rattle.rules.specs.Calls.{Answer, accepted, refused, onward, readNet, readTable, tableOfNet, bareCells, multiplicityCall, Marked, markingCall, Made, writtenSheet, afterMarks, settledInto, settleCall, makeCall, Verdict, turnedDown, Named, netNamed, tableNamed, neither, sameHeader, compared, Checked, checkedInto, checkCall, Written, writeTableCall}
+use Rattle.rules.specs.Answers.{Answer, accepted, refused, onward, Named, netNamed, tableNamed, neither}
+use Rattle.rules.specs.Reading.{readNet, readTable, tableOfNet}
+use Rattle.rules.specs.BareCells.{bareCells}
+use Rattle.rules.specs.Multiplicity.{multiplicityCall}
+use Rattle.rules.specs.Marking.{Marked, markingCall}
+use Rattle.rules.specs.Settling.{Made, writtenSheet, afterMarks, settledInto, settleCall, makeCall}
+use Rattle.rules.specs.Checking.{Verdict, turnedDown, sameHeader, compared, Checked, checkedInto, checkCall}
+use Rattle.rules.specs.TableWriting.{Written, writeTableCall}
 use Rattle.rules.specs.Lister.{listing}
 use Rattle.laws.specs.Distinct.{In, NotIn}
 use Rattle.laws.specs.Tests.{all-iff, any-cons}

@@ -15,7 +15,9 @@ use Rattle.rules.specs.Sheets.{Net, Table}
 use Rattle.rules.specs.Printed.{printedNet}
 use Rattle.rules.specs.Marks.{marksLength, storedMarks}
 use Rattle.rules.specs.Kept.{KeptNet, KeptTable}
-use Rattle.rules.specs.Calls.{Answer, accepted, refused, Made, written, readNet, tableOfNet, settledNet, settledInto, settleCall}
+use Rattle.rules.specs.Answers.{Answer, accepted, refused, written}
+use Rattle.rules.specs.Settling.{Made, settledNet, settledInto, settleCall}
+use Rattle.rules.specs.Reading.{readNet, tableOfNet}
 use Rattle.laws.specs.Outcomes.{WholeTwo, marksOfTable, settle-accepted, into-marked, marked-tree, sheet-written}
 use Rattle.trees.specs.Uniqueness.{settledOf, table-length, net-inks, net-two, settled-is-net, settled-table}
 use Rattle.demands.specs.Bounds.{levels-pos, inputs-several}

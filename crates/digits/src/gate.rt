@@ -4,7 +4,7 @@ ghost use mathlib.Core.Path.{_≡_};
 ghost use Prim.Native.Nat.{ℕ, _+_, _*_, _^_, _≤_, _<_};
 ghost use lib.ListN.{length, getD};
 ghost use lib.Seq.{paste};
-ghost use Rattle.rules.specs.Calls.{inkIn};
+ghost use Rattle.rules.specs.Answers.{inkIn};
 ghost use Rattle.groups.specs.Within.{Within};
 ghost use Rattle.trees.specs.Wirings.{Few};
 ghost use Rattle.digits.specs.GateDigits.{given, givenBy, sampledDigit, sampledDigits, DigitsAt};

@@ -4,7 +4,7 @@ ghost use Prim.Native.Nat.{ℕ, _*_, _^_, _≤_, _<_};
 ghost use lib.Dec.{eqb};
 ghost use lib.ListN.{length, take};
 ghost use Rattle.rules.specs.Groups.{size, classes};
-ghost use Rattle.rules.specs.Calls.{inkIn};
+ghost use Rattle.rules.specs.Answers.{inkIn};
 ghost use Rattle.rules.specs.Settled.{firstInput};
 ghost use Rattle.radix.specs.Fronts.{Front};
 ghost use Rattle.trees.specs.Wirings.{Few};

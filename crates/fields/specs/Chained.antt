@@ -7,7 +7,7 @@ use native.Mathlib.Omega.{arith}
 use lib.ListN.{length, drop, drop-of-length-le}
 use lib.Seq.{drop-cons}
 use Rattle.rules.specs.Fields.{Read, read, turnedBack, Reader, then, _>>=_, give, closed}
-use Rattle.rules.specs.Calls.{answered}
+use Rattle.rules.specs.Reading.{answered}
 use Rattle.fields.specs.Steps.{stepAs, outcomeAs}
 use Rattle.fields.specs.declared.steps.Outcome.{Outcome}
 use Rattle.fields.specs.declared.steps.Outcome.the-variants.{Accepted, Refused}

@@ -9,7 +9,7 @@ use Rattle.rules.specs.Lists.{same}
 use Rattle.rules.specs.Fields.{Read, read, turnedBack, Judge, Judged, good, bad, judged, field}
 use Rattle.fields.specs.declared.steps.Found.{Found}
 use Rattle.fields.specs.declared.steps.Found.the-variants.{At, Nowhere}
-use Rattle.rules.specs.Calls.{Answer, accepted, refused}
+use Rattle.rules.specs.Answers.{Answer, accepted, refused}
 use Rattle.fields.specs.declared.steps.Outcome.{Outcome}
 use Rattle.fields.specs.declared.steps.Outcome.the-variants.{Accepted, Refused}
 use Rattle.fields.specs.declared.steps.Step.{Step}

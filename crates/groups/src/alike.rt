@@ -4,7 +4,7 @@ ghost use Prim.Native.Nat.{ℕ, _≤_, _<_};
 ghost use lib.ListN.{length, take, getD};
 ghost use Rattle.rules.specs.Lists.{firstPlace};
 ghost use Rattle.rules.specs.Groups.{alikeOver};
-ghost use Rattle.rules.specs.Calls.{inkIn};
+ghost use Rattle.rules.specs.Answers.{inkIn};
 ghost use Rattle.groups.specs.Within.{Within};
 
 // Is the ink the same at p and at q for each assignment in ys of the other inputs?

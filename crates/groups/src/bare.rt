@@ -3,7 +3,7 @@ ghost use mathlib.Core.Path.{_≡_};
 ghost use mathlib.Core.Bool.{not};
 ghost use lib.Dec.{ltb};
 ghost use Rattle.rules.specs.Lists.{firstPlace};
-ghost use Rattle.rules.specs.Calls.{bareCells};
+ghost use Rattle.rules.specs.BareCells.{bareCells};
 ghost use Rattle.groups.specs.Answers.{bareOf};
 use radix::powers;
 

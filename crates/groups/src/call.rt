@@ -4,7 +4,7 @@ ghost use mathlib.Core.Bool.{true};
 ghost use Prim.Native.Nat.{_^_};
 ghost use lib.ListN.{length};
 ghost use Rattle.rules.specs.Limits.{sizeFits};
-ghost use Rattle.rules.specs.Calls.{multiplicityCall};
+ghost use Rattle.rules.specs.Multiplicity.{multiplicityCall};
 ghost use Rattle.groups.specs.Answers.{answerOf, groupAnswer};
 use crate::bare;
 use crate::bare::Bare;

@@ -2,7 +2,7 @@
 ghost use Prim.Native.Nat.{ℕ, _^_, _≤_, _<_};
 ghost use lib.ListN.{length, getD};
 ghost use Rattle.rules.specs.Groups.{classes};
-ghost use Rattle.rules.specs.Calls.{inkIn};
+ghost use Rattle.rules.specs.Answers.{inkIn};
 ghost use Rattle.groups.specs.Firsts.{classesOver, Counted};
 ghost use Rattle.groups.specs.Within.{Within, Room};
 use crate::alike;

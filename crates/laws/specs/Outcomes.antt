@@ -10,7 +10,11 @@ use Rattle.rules.specs.Sheets.{Net, Table}
 use Rattle.rules.specs.Printed.{printedNet, printedTable}
 use Rattle.rules.specs.Groups.{wholeGroup}
 use Rattle.rules.specs.Marks.{markIn, marksOf, marksLength, storedMarks, noTreePlace}
-use Rattle.rules.specs.Calls.{accepted, refused, inkIn, written, readNet, readTable, tableOfNet, settledNet, writtenSheet, afterMarks, settledInto, settleCall, makeCall, turnedDown, netNamed, tableNamed, neither, checkCall, sameHeader, compared, checkedInto, writeTableCall}
+use Rattle.rules.specs.Answers.{accepted, refused, inkIn, written, netNamed, tableNamed, neither}
+use Rattle.rules.specs.Reading.{readNet, readTable, tableOfNet}
+use Rattle.rules.specs.Settling.{settledNet, writtenSheet, afterMarks, settledInto, settleCall, makeCall}
+use Rattle.rules.specs.Checking.{turnedDown, checkCall, sameHeader, compared, checkedInto}
+use Rattle.rules.specs.TableWriting.{writeTableCall}
 
 -- ---- settling and making
 

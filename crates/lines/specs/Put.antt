@@ -9,7 +9,7 @@ use native.Mathlib.Omega.{arith}
 use lib.ListN
 use lib.ListN.{length, getD, drop, set, length-append, length-set, drop-of-length-le}
 use lib.Seq.{drop-cons, sets, length-sets, sets-eq}
-use Rattle.rules.specs.Calls.{written}
+use Rattle.rules.specs.Answers.{written}
 
 -- the text t fits into the buffer from `at` on
 abbrev pub Room : List ℕ → ℕ → List ℕ → Type 0

@@ -11,7 +11,8 @@ use lib.Dec.{leb}
 use denote.Ref.{RefT, now}
 use borrow.Author.Tests.{lt-ltb, le-ltb, lt-leb, le-leb}
 use Rattle.rules.specs.Sheets.{Net}
-use Rattle.rules.specs.Calls.{accepted, readNet}
+use Rattle.rules.specs.Answers.{accepted}
+use Rattle.rules.specs.Reading.{readNet}
 use Rattle.rules.specs.Lister.{lineLength, afterLines, Turn, gateAt, noneLeft, turnOf}
 use Rattle.demands.specs.Listing.{partOf, lineAt, gate-inside, gates-end}
 use Rattle.lister.specs.Places.{lineStart, standsAt}

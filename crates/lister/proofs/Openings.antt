@@ -5,7 +5,8 @@ use mathlib.Core.Path.{_≡_, refl, sym, ap, _∙_}
 use mathlib.Core.List.{List}
 use native.Mathlib.Omega.{arith}
 use Rattle.rules.specs.Sheets.{Net}
-use Rattle.rules.specs.Calls.{Answer, accepted, refused, readNet, onward}
+use Rattle.rules.specs.Answers.{Answer, accepted, refused, onward}
+use Rattle.rules.specs.Reading.{readNet}
 use Rattle.rules.specs.Lister.{Turn, gateAt, noneLeft, listing}
 use Rattle.fields.specs.Steps.{outcomeAs}
 use Rattle.fields.specs.declared.steps.Outcome.the-variants.{Accepted, Refused as NotAccepted}

@@ -2,7 +2,8 @@
 -- Assumes nothing.
 use Prim.Native.Nat.{ℕ}
 use mathlib.Core.List.{List}
-use Rattle.rules.specs.Calls.{Answer, accepted, refused, readNet, onward}
+use Rattle.rules.specs.Answers.{Answer, accepted, refused, onward}
+use Rattle.rules.specs.Reading.{readNet}
 use Rattle.rules.specs.Lister.{Turn, gateAt, noneLeft}
 use Rattle.lister.specs.declared.turns.Turn as code
 use Rattle.lister.specs.declared.turns.Turn.the-variants.{Line, NoneLeft}

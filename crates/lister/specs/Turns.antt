@@ -8,7 +8,8 @@ use lib.ListN.{length, drop}
 use lib.Dec.{ltb}
 use denote.Ref.{RefT, now}
 use Rattle.rules.specs.Sheets.{Net}
-use Rattle.rules.specs.Calls.{accepted, readNet}
+use Rattle.rules.specs.Answers.{accepted}
+use Rattle.rules.specs.Reading.{readNet}
 use Rattle.rules.specs.Lister.{lineLength, Turn, gateAt, noneLeft, turnOf}
 use Rattle.demands.specs.Listing.{partOf}
 use Rattle.lister.specs.declared.turns.Turn as code

@@ -9,7 +9,9 @@ use lib.ListN.{length}
 use borrow.Author.Tests.{lt-ltb, le-ltb}
 use Rattle.rules.specs.Groups.{wholeGroup}
 use Rattle.rules.specs.Marks.{markIn, marksOf, marksLength, storedMarks}
-use Rattle.rules.specs.Calls.{Marked, accepted, refused, inkIn, written, bareCells, markingCall}
+use Rattle.rules.specs.Marking.{Marked, markingCall}
+use Rattle.rules.specs.Answers.{accepted, refused, inkIn, written}
+use Rattle.rules.specs.BareCells.{bareCells}
 use Rattle.groups.specs.declared.call.Answer.{Answer}
 use Rattle.groups.specs.Answers.{answerOf}
 use Rattle.marks.specs.Marking.{Marking}

@@ -10,7 +10,7 @@ use lib.Pow.{pow-pos}
 use lib.Seq.{getD-take}
 use Rattle.rules.specs.Groups.{wholeGroup}
 use Rattle.rules.specs.Marks.{markIn, markOf, marksBelow, marksOf, marksLength, storedMarks}
-use Rattle.rules.specs.Calls.{written}
+use Rattle.rules.specs.Answers.{written}
 use Rattle.trees.specs.MarkRule.{mark-agree, marks-length}
 use Rattle.marks.specs.Stored.{held, put, held-room, put-length, put-front, put-past, held-all}
 

@@ -6,7 +6,7 @@ use mathlib.Core.List.{List, [], _∷_, _++_}
 use lib.ListN.{length, take, drop, set, length-set, take-append-drop, List·getD-append}
 use lib.Seq.{take-suc-set, drop-set-lt}
 use Rattle.rules.specs.Marks.{markIn, marksLength, storedMarks}
-use Rattle.rules.specs.Calls.{written}
+use Rattle.rules.specs.Answers.{written}
 
 -- the marks that a buffer holds, by group number
 unfoldable pub held : List ℕ → List ℕ

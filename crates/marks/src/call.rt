@@ -4,7 +4,7 @@ ghost use mathlib.Core.Bool.{true};
 ghost use Prim.Native.Nat.{_^_};
 ghost use lib.ListN.{length};
 ghost use Rattle.rules.specs.Limits.{sizeFits};
-ghost use Rattle.rules.specs.Calls.{markingCall};
+ghost use Rattle.rules.specs.Marking.{markingCall};
 ghost use Rattle.marks.specs.Answers.{markedOf, markedInto};
 use crate::marking;
 use crate::stored;

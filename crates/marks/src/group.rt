@@ -4,7 +4,7 @@ ghost use Prim.Native.Nat.{ℕ, _^_, _≤_, _<_};
 ghost use lib.ListN.{length};
 ghost use Rattle.rules.specs.Limits.{mostLevels};
 ghost use Rattle.rules.specs.Marks.{markOf};
-ghost use Rattle.rules.specs.Calls.{inkIn};
+ghost use Rattle.rules.specs.Answers.{inkIn};
 ghost use Rattle.groups.specs.Within.{Room};
 ghost use Rattle.marks.specs.Rule.{fewMark};
 ghost use Rattle.marks.specs.Stored.{held};

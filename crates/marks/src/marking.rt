@@ -5,7 +5,7 @@ ghost use Prim.Native.Nat.{_^_, _≤_};
 ghost use lib.ListN.{length};
 ghost use Rattle.rules.specs.Limits.{sizeFits};
 ghost use Rattle.rules.specs.Marks.{marksLength};
-ghost use Rattle.rules.specs.Calls.{inkIn};
+ghost use Rattle.rules.specs.Answers.{inkIn};
 ghost use Rattle.marks.specs.Marking.{Marking};
 use crate::group;
 use crate::stored;

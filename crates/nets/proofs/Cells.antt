@@ -8,7 +8,7 @@ use lib.ListN.{length, getD, take, drop, set, length-append, length-drop}
 use lib.Seq.{drop-cons, append-snoc, set-at, take-at}
 use Rattle.rules.specs.Lists.{range}
 use Rattle.rules.specs.Value.{value, tableOf}
-use Rattle.rules.specs.Calls.{written}
+use Rattle.rules.specs.Answers.{written}
 use Rattle.laws.specs.Ranges.{map-range-length, map-range-suc}
 use Rattle.nets.specs.declared.forms.Net.{Net}
 use Rattle.nets.specs.Forms.{gatesOf}

@@ -5,7 +5,7 @@ use mathlib.Core.Path.{_≡_}
 use mathlib.Core.List.{List, _++_}
 use lib.ListN.{length, getD, take, drop}
 use Rattle.rules.specs.Value.{withGates, tableOf}
-use Rattle.rules.specs.Calls.{written}
+use Rattle.rules.specs.Answers.{written}
 use Rattle.nets.specs.declared.forms.Net.{Net}
 use Rattle.nets.specs.Forms.{gatesOf}
 use Rattle.nets.specs.Sound.{Sound}

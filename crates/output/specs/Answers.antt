@@ -5,7 +5,8 @@ use mathlib.Core.Path.{_≡_, sym, ap, _∙_, subst}
 use mathlib.Core.List.{List}
 use native.Mathlib.Omega.{arith}
 use lib.ListN.{length, take}
-use Rattle.rules.specs.Calls.{Made, accepted, refused, written, writtenSheet}
+use Rattle.rules.specs.Settling.{Made, writtenSheet}
+use Rattle.rules.specs.Answers.{accepted, refused, written}
 use Rattle.laws.specs.Outcomes.{sheet-15, sheet-written}
 use Rattle.radix.specs.Fronts.{front}
 use Rattle.groups.specs.declared.call.Answer.{Answer}

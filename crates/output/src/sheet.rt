@@ -5,7 +5,7 @@ ghost use Prim.Native.Nat.{ℕ, _≤_};
 ghost use lib.ListN.{length};
 ghost use Rattle.rules.specs.Limits.{mostSettled};
 ghost use Rattle.rules.specs.Printed.{printedNet};
-ghost use Rattle.rules.specs.Calls.{writtenSheet};
+ghost use Rattle.rules.specs.Settling.{writtenSheet};
 ghost use Rattle.lines.specs.Names.{NamesInside, netIn};
 ghost use Rattle.printing.specs.Gates.{GatesInside};
 ghost use Rattle.output.specs.Answers.{madeOf};

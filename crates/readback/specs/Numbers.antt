@@ -14,7 +14,8 @@ use Rattle.rules.specs.Text.{space, newline, text, digitByte, isDigit}
 use Rattle.rules.specs.Limits.{levelsFit, cellsFit}
 use Rattle.rules.specs.Fields.{Read, read, turnedBack, Reader, then, _>>=_, give, Judged, good, bad, Judge, judged, run, past, separator, afterField, fieldOf, field, theWord, closed}
 use Rattle.rules.specs.Sheets.{Gate, levelsField, inputsOf, inputsField, isName, nameField, nameFields, headerLines, referenceOf, referenceField, digitsField, usedBy, gateLine, gateLines, netSheet, levelsAt, levelField, inkField, levelFields, rowLines, tableSheet}
-use Rattle.rules.specs.Calls.{Answer, refused, answered, readNet, readTable}
+use Rattle.rules.specs.Answers.{Answer, refused}
+use Rattle.rules.specs.Reading.{answered, readNet, readTable}
 use Rattle.laws.specs.Distinct.{In}
 use Rattle.readback.specs.Spells.{not-read}
 use Rattle.readback.specs.Fields.{not-good}

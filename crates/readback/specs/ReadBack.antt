@@ -10,7 +10,8 @@ use Rattle.rules.specs.Fields.{Read, read, turnedBack, Reader}
 use Rattle.rules.specs.Sheets.{Net, Table}
 use Rattle.rules.specs.Printed.{printedNet, printedTable}
 use Rattle.rules.specs.Kept.{KeptNet, KeptTable}
-use Rattle.rules.specs.Calls.{Answer, accepted, refused, answered, readNet, readTable}
+use Rattle.rules.specs.Answers.{Answer, accepted, refused}
+use Rattle.rules.specs.Reading.{answered, readNet, readTable}
 use Rattle.readback.specs.Spells.{SpellsTo}
 use Rattle.readback.specs.Fields.{Ended}
 use Rattle.readback.specs.NetSheets.{spells-net}

@@ -13,7 +13,10 @@ use Rattle.rules.specs.Text.{newline, text, isDigit}
 use Rattle.rules.specs.Sheets.{Net, Table, levelsAt}
 use Rattle.rules.specs.Printed.{printedTable}
 use Rattle.rules.specs.Marks.{markIn, marksOf}
-use Rattle.rules.specs.Calls.{Answer, accepted, refused, onward, inkIn, readNet, tableOfNet, multiplicityCall, settleProgram, makeProgram}
+use Rattle.rules.specs.Answers.{Answer, accepted, refused, onward, inkIn}
+use Rattle.rules.specs.Reading.{readNet, tableOfNet}
+use Rattle.rules.specs.Multiplicity.{multiplicityCall}
+use Rattle.rules.specs.Programs.{settleProgram, makeProgram}
 use Rattle.rules.specs.Evaluation.{computing}
 
 -- ---- how a case is written down

@@ -10,7 +10,15 @@ use Rattle.rules.specs.Value.{gateValue, withGates, value, tableOf}
 use Rattle.rules.specs.Groups.{member, size, wholeGroup, others, points, part, alikeOver, alike, firsts, classes, multiplicity, capped}
 use Rattle.rules.specs.Marks.{inside, partsAt, markOf, marksBelow, marksOf, marksLength, storedMarks, bySize, noTreePlace}
 use Rattle.rules.specs.Settled.{groupOf, firstInput, splitOf, wiringBy, settledWiring, classNumber, carried, digitAt, gateDigits, gatesIn, referenceTo, gateList, settledGates}
-use Rattle.rules.specs.Calls.{onward, written, answered, readNet, readTable, tableOfNet, bareCells, multiplicityCall, markingCall, settledNet, writtenSheet, afterMarks, settledInto, settleCall, makeCall, sameNames, sameHeader, compared, checkedInto, checkCall, writeTableCall, programOutput, settleProgram, makeProgram}
+use Rattle.rules.specs.Answers.{onward, written}
+use Rattle.rules.specs.Reading.{answered, readNet, readTable, tableOfNet}
+use Rattle.rules.specs.BareCells.{bareCells}
+use Rattle.rules.specs.Multiplicity.{multiplicityCall}
+use Rattle.rules.specs.Marking.{markingCall}
+use Rattle.rules.specs.Settling.{settledNet, writtenSheet, afterMarks, settledInto, settleCall, makeCall}
+use Rattle.rules.specs.Checking.{sameNames, sameHeader, compared, checkedInto, checkCall}
+use Rattle.rules.specs.TableWriting.{writeTableCall}
+use Rattle.rules.specs.Programs.{programOutput, settleProgram, makeProgram}
 use Rattle.rules.specs.Lister.{lineLength, afterLines, turnOf, listing}
 
 unfoldable pub computing : Unit {0}

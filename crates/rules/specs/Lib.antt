@@ -15,7 +15,15 @@ pub mod Value
 pub mod Groups
 pub mod Marks
 pub mod Settled
-pub mod Calls
+pub mod Answers
+pub mod Reading
+pub mod BareCells
+pub mod Multiplicity
+pub mod Marking
+pub mod Settling
+pub mod Checking
+pub mod TableWriting
+pub mod Programs
 pub mod Lister
 pub mod Evaluation
 pub mod Cases

@@ -9,7 +9,8 @@ use lib.ListN.{length, drop}
 use lib.Dec.{eqb, ltb}
 use Rattle.rules.specs.Text.{newline}
 use Rattle.rules.specs.Sheets.{Net}
-use Rattle.rules.specs.Calls.{Answer, accepted, readNet, onward}
+use Rattle.rules.specs.Answers.{Answer, accepted, onward}
+use Rattle.rules.specs.Reading.{readNet}
 
 -- a part of a sheet: where it begins and how long it is
 pub record Part : Type 0 where

@@ -13,7 +13,7 @@ use Rattle.rules.specs.Sheets.{Gate}
 use Rattle.rules.specs.Groups.{wholeGroup}
 use Rattle.rules.specs.Marks.{markIn, marksOf, marksLength, storedMarks}
 use Rattle.rules.specs.Settled.{gateList, settledWiring, settledGates}
-use Rattle.rules.specs.Calls.{written}
+use Rattle.rules.specs.Answers.{written}
 use Rattle.rules.specs.Kept.{IsNet}
 use Rattle.nets.specs.declared.forms.Net.{Net}
 use Rattle.nets.specs.Forms.{gateOf, gatesOf}

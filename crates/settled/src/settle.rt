@@ -6,7 +6,7 @@ ghost use lib.ListN.{length};
 ghost use Rattle.rules.specs.Limits.{sizeFits};
 ghost use Rattle.rules.specs.Groups.{size, wholeGroup};
 ghost use Rattle.rules.specs.Marks.{markIn, marksOf};
-ghost use Rattle.rules.specs.Calls.{inkIn};
+ghost use Rattle.rules.specs.Answers.{inkIn};
 ghost use Rattle.nets.specs.Room.{mostGates, mostDigits};
 ghost use Rattle.digits.specs.Sized.{Sized};
 ghost use Rattle.digits.specs.Ready.{Parts};

@@ -13,7 +13,10 @@ use Rattle.rules.specs.Sheets.{Net, Table}
 use Rattle.rules.specs.Printed.{printedNet}
 use Rattle.rules.specs.Groups.{wholeGroup}
 use Rattle.rules.specs.Marks.{markIn, marksLength, storedMarks}
-use Rattle.rules.specs.Calls.{Answer, accepted, refused, Made, written, readNet, readTable, tableOfNet, settledNet, writtenSheet, settledInto, settleCall, makeCall, programOutput, zeros}
+use Rattle.rules.specs.Answers.{Answer, accepted, refused, written}
+use Rattle.rules.specs.Settling.{Made, settledNet, writtenSheet, settledInto, settleCall, makeCall}
+use Rattle.rules.specs.Reading.{readNet, readTable, tableOfNet}
+use Rattle.rules.specs.Programs.{programOutput, zeros}
 use Rattle.laws.specs.Outcomes.{WholeTwo, marksOfTable, into-13, into-14, into-marked, marked-16, marked-tree, sheet-15, sheet-written, settle-refused, settle-accepted, make-refused, make-accepted}
 use Rattle.groups.specs.declared.call.Answer as own
 use Rattle.groups.specs.declared.call.Answer.the-variants.{Accepted, Refused}

@@ -1,6 +1,6 @@
 // Settling and making. Any sheet and buffers of any length may come in.
 ghost use mathlib.Core.Path.{_≡_};
-ghost use Rattle.rules.specs.Calls.{settleCall, makeCall};
+ghost use Rattle.rules.specs.Settling.{settleCall, makeCall};
 ghost use Rattle.output.specs.Answers.{madeOf};
 ghost use Rattle.accepted.specs.Taken.{NetTaken};
 use fields::steps::Outcome;

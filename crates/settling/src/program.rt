@@ -4,7 +4,7 @@ ghost use mathlib.Core.List.{List};
 ghost use Prim.Native.Nat.{ℕ};
 ghost use lib.ListN.{take};
 ghost use Rattle.rules.specs.Limits.{mostRead};
-ghost use Rattle.rules.specs.Calls.{programOutput, settleProgram, makeProgram};
+ghost use Rattle.rules.specs.Programs.{programOutput, settleProgram, makeProgram};
 ghost use Rattle.output.specs.Answers.{madeOf};
 ghost use Rattle.settling.specs.Program.{Fits, Prints};
 use crate::calls;

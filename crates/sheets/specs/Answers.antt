@@ -8,7 +8,7 @@ use Rattle.rules.specs.Text.{space, newline, text}
 use Rattle.rules.specs.Fields.{Reader, then, _>>=_, give, field, theWord, closed}
 use Rattle.rules.specs.Sheets as sheets
 use Rattle.rules.specs.Sheets.{headerLines, gateLines, netSheet}
-use Rattle.rules.specs.Calls.{answered, readNet}
+use Rattle.rules.specs.Reading.{answered, readNet}
 use Rattle.nets.specs.Forms.{headerOf, gatesOf}
 use Rattle.nets.specs.declared.forms.Header.{Header}
 use Rattle.nets.specs.declared.forms.Net.{Net}

@@ -11,7 +11,8 @@ use Rattle.rules.specs.Printed.{printedNet}
 use Rattle.rules.specs.Kept.{KeptNet}
 use Rattle.rules.specs.Marks.{markIn, marksOf, marksLength, noTreePlace}
 use Rattle.rules.specs.Groups.{wholeGroup}
-use Rattle.rules.specs.Calls.{refused, inkIn, written, settledNet, writtenSheet, afterMarks, settledInto}
+use Rattle.rules.specs.Answers.{refused, inkIn, written}
+use Rattle.rules.specs.Settling.{settledNet, writtenSheet, afterMarks, settledInto}
 use Rattle.laws.specs.Outcomes.{marksOfTable, into-13, into-14, into-marked, marked-16, marked-tree}
 use Rattle.nets.specs.declared.forms.Header.{Header}
 use Rattle.nets.specs.declared.forms.Net.{Net}

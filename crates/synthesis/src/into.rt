@@ -3,7 +3,7 @@ ghost use mathlib.Core.Path.{_≡_};
 ghost use Prim.Native.Nat.{_≤_};
 ghost use lib.ListN.{length};
 ghost use Rattle.rules.specs.Marks.{marksLength};
-ghost use Rattle.rules.specs.Calls.{afterMarks, settledInto};
+ghost use Rattle.rules.specs.Settling.{afterMarks, settledInto};
 ghost use Rattle.lines.specs.Names.{tableIn};
 ghost use Rattle.output.specs.Answers.{madeOf};
 ghost use Rattle.accepted.specs.Taken.{Given};

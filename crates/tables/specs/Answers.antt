@@ -8,7 +8,7 @@ use Rattle.rules.specs.Text.{newline}
 use Rattle.rules.specs.Fields.{Reader, _>>=_, give, field, theWord, closed}
 use Rattle.rules.specs.Sheets as sheets
 use Rattle.rules.specs.Sheets.{Table, rowLines}
-use Rattle.rules.specs.Calls.{readTable}
+use Rattle.rules.specs.Reading.{readTable}
 use Rattle.laws.specs.Bounds.{Below}
 use Rattle.nets.specs.Forms.{headerOf}
 use Rattle.nets.specs.declared.forms.Header.{Header}

@@ -7,7 +7,7 @@ use lib.ListN.{length, drop}
 use Rattle.rules.specs.Text.{space, newline, text}
 use Rattle.rules.specs.Fields.{field, theWord}
 use Rattle.rules.specs.Sheets.{headerLines, tableSheet}
-use Rattle.rules.specs.Calls.{readTable}
+use Rattle.rules.specs.Reading.{readTable}
 use Rattle.nets.specs.Forms.{headerOf}
 use Rattle.nets.specs.declared.forms.Header.{Header}
 use Rattle.fields.specs.Header.{HeaderRest}

@@ -12,7 +12,7 @@ use Rattle.rules.specs.Lists.{range, those}
 use Rattle.rules.specs.Groups.{member, others, wholeGroup, size}
 use Rattle.rules.specs.Settled.{classNumber}
 use Rattle.rules.specs.Marks.{markIn, marksOf}
-use Rattle.rules.specs.Calls.{inkIn}
+use Rattle.rules.specs.Answers.{inkIn}
 use Rattle.rules.specs.Cases.{named, byRule, abcd, oneIf, seven}
 use Rattle.rules.specs.Evaluation.{computing}
 use Rattle.trees.specs.Members.{others-below}

@@ -11,7 +11,7 @@ use lib.ListN.{length, length-map}
 use lib.Dec.{eqb}
 use Rattle.rules.specs.Lists.{all, same}
 use Rattle.rules.specs.Groups.{size, others, wholeGroup, points, alikeOver, firsts, classes, multiplicity}
-use Rattle.rules.specs.Calls.{inkIn}
+use Rattle.rules.specs.Answers.{inkIn}
 use Rattle.rules.specs.Cases.{digits, byRule, figureRows, figure}
 use Rattle.rules.specs.Evaluation.{computing}
 use Rattle.trees.specs.Firsts.{firsts-map}

@@ -12,7 +12,7 @@ use Rattle.rules.specs.Value.{value, tableOf}
 use Rattle.rules.specs.Groups.{wholeGroup}
 use Rattle.rules.specs.Marks.{marksOf}
 use Rattle.rules.specs.Settled.{settledGates}
-use Rattle.rules.specs.Calls.{inkIn}
+use Rattle.rules.specs.Answers.{inkIn}
 use Rattle.rules.specs.Kept.{IsNet}
 use Rattle.laws.specs.Ranges.{map-range-length, map-range-at}
 use Rattle.trees.specs.Trees.{Computes}

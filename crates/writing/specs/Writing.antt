@@ -6,7 +6,9 @@ use mathlib.Core.List.{List}
 use lib.ListN.{length, take}
 use Rattle.rules.specs.Sheets.{Table}
 use Rattle.rules.specs.Printed.{printedTable}
-use Rattle.rules.specs.Calls.{Written, accepted, refused, tableOfNet, writeTableCall}
+use Rattle.rules.specs.TableWriting.{Written, writeTableCall}
+use Rattle.rules.specs.Answers.{accepted, refused}
+use Rattle.rules.specs.Reading.{tableOfNet}
 use Rattle.laws.specs.Outcomes.{table-15, table-written}
 use Rattle.groups.specs.Answers.{answerOf}
 use Rattle.groups.specs.declared.call.Answer.{Answer}

@@ -1,6 +1,6 @@
 // The table writing call: from a net sheet to its table sheet.
 ghost use mathlib.Core.Path.{_≡_};
-ghost use Rattle.rules.specs.Calls.{writeTableCall};
+ghost use Rattle.rules.specs.TableWriting.{writeTableCall};
 ghost use Rattle.writing.specs.Writing.{writtenOf};
 ghost use Rattle.accepted.specs.Taken.{NetTaken};
 use crate::lengths::table_length;

@@ -1,6 +1,6 @@
 -- `capi::sitgurp_check` meets its contract: it is the check, its verdict as four numbers. Assumes nothing.
 use mathlib.Core.Path.{ap, _∙_}
-use Rattle.rules.specs.Calls.{Checked}
+use Rattle.rules.specs.Checking.{Checked}
 use Rattle.capi.specs.Flat.{flatVerdict}
 use borrow.Author.Needs.{needs}
 use Rattle.capi.proofs.sitgurp_check.Statement.{statement}

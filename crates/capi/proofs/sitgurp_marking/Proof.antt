@@ -1,6 +1,6 @@
 -- `capi::sitgurp_marking` meets its contract: it is the marking call, its answer as two numbers. Assumes nothing.
 use mathlib.Core.Path.{ap, _∙_}
-use Rattle.rules.specs.Calls.{Marked}
+use Rattle.rules.specs.Marking.{Marked}
 use Rattle.capi.specs.Flat.{flatOf}
 use borrow.Author.Needs.{needs}
 use Rattle.capi.proofs.sitgurp_marking.Statement.{statement}

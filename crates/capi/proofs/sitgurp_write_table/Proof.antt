@@ -1,6 +1,6 @@
 -- `capi::sitgurp_write_table` meets its contract: it is table writing, its answer as two numbers. Assumes nothing.
 use mathlib.Core.Path.{ap, _∙_}
-use Rattle.rules.specs.Calls.{Written}
+use Rattle.rules.specs.TableWriting.{Written}
 use Rattle.capi.specs.Flat.{flatOf}
 use borrow.Author.Needs.{needs}
 use Rattle.capi.proofs.sitgurp_write_table.Statement.{statement}

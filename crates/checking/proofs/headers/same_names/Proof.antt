@@ -7,7 +7,7 @@ use native.Mathlib.Omega.{arith}
 use native.Mathlib.Nat.{sub-zero}
 use borrow.Author.Tests.{not-true, not-false}
 use Rattle.rules.specs.Lists.{range, same}
-use Rattle.rules.specs.Calls.{sameNames}
+use Rattle.rules.specs.Checking.{sameNames}
 use Rattle.nets.specs.Forms.{nameIn}
 use Rattle.checking.specs.Headers.{sameFrom, names-next, names-differ, names-end}
 use Rattle.checking.proofs.headers.same_names.Statement.{statement}

@@ -2,7 +2,7 @@
 use mathlib.Core.Path.{sym, _∙_}
 use native.Mathlib.Omega.{arith}
 use borrow.Author.Needs.{needs}
-use Rattle.rules.specs.Calls.{inkIn}
+use Rattle.rules.specs.Answers.{inkIn}
 use Rattle.digits.specs.GateDigits.{given, digit-sum, no-left, no-right}
 use Rattle.digits.proofs.gate.digit.Statement.{statement}
 use Rattle.digits.proofs.gate.digit.Tie as tie

@@ -3,7 +3,7 @@ use native.Mathlib.Nat.{lt-of-lt-of-le}
 use native.Mathlib.Omega.{arith}
 use borrow.Author.Needs.{needs}
 use lib.Pow.{pow-mono}
-use Rattle.rules.specs.Calls.{inkIn}
+use Rattle.rules.specs.Answers.{inkIn}
 use Rattle.radix.specs.Fronts.{fits-in, part-is}
 use Rattle.trees.specs.Members.{join-below}
 use Rattle.digits.specs.GateDigits.{written-digits}

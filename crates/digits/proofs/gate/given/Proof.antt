@@ -6,7 +6,7 @@ use borrow.Author.Needs.{needs}
 use lib.Seq.{take-length}
 use Rattle.rules.specs.Lists.{firstPlace}
 use Rattle.rules.specs.Groups.{alikeOver}
-use Rattle.rules.specs.Calls.{inkIn}
+use Rattle.rules.specs.Answers.{inkIn}
 use Rattle.digits.specs.GateDigits.{given, given-at-most}
 use Rattle.digits.proofs.gate.given.Statement.{statement}
 use Rattle.digits.proofs.gate.given.Tie as tie

@@ -1,7 +1,7 @@
 -- `digits::gate::group_digits` meets its contract: the lists that it writes from are the other inputs' assignments and the
 -- group's classes. Assumes nothing.
 use borrow.Author.Needs.{needs}
-use Rattle.rules.specs.Calls.{inkIn}
+use Rattle.rules.specs.Answers.{inkIn}
 use Rattle.radix.specs.Fronts.{fits-in, part-is}
 use Rattle.digits.specs.GateDigits.{written-given}
 use Rattle.digits.specs.Ready.{ready}

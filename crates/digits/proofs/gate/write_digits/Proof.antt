@@ -6,7 +6,7 @@ use native.Mathlib.Omega.{arith}
 use native.Mathlib.Numerals.{add-one}
 use lib.ListN.{length, set, length-set}
 use lib.Seq.{paste, paste-zero, paste-suc}
-use Rattle.rules.specs.Calls.{inkIn}
+use Rattle.rules.specs.Answers.{inkIn}
 use Rattle.digits.specs.GateDigits.{given, sampledDigit, sampledDigits, sampled-length, sampled-at}
 use Rattle.digits.proofs.gate.write_digits.Statement.{statement}
 use Rattle.digits.proofs.gate.write_digits.Tie as tie

@@ -1,7 +1,7 @@
 -- `digits::samples::class_list` meets its contract: the call that counts the classes does not stop. Assumes nothing.
 use borrow.Author.Needs.{needs}
 use Rattle.rules.specs.Groups.{classes, multiplicity}
-use Rattle.rules.specs.Calls.{inkIn}
+use Rattle.rules.specs.Answers.{inkIn}
 use Rattle.digits.specs.Samples.{counted-all}
 use Rattle.digits.proofs.samples.class_list.Statement.{statement}
 use Rattle.digits.proofs.samples.class_list.Tie as tie

@@ -3,7 +3,7 @@ use Prim.Native.Nat.{ℕ, _*_, _<_}
 use mathlib.Core.Path.{sym, ap, _∙_, subst}
 use native.Mathlib.Omega.{arith}
 use borrow.Author.Needs.{needs}
-use Rattle.rules.specs.Calls.{inkIn}
+use Rattle.rules.specs.Answers.{inkIn}
 use Rattle.trees.specs.Members.{first-member}
 use Rattle.digits.specs.Samples.{weight-fits, single-front, several-front}
 use Rattle.digits.proofs.samples.samples.Statement.{statement}

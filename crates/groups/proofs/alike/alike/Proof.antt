@@ -5,7 +5,7 @@ use native.Mathlib.Omega.{arith}
 use borrow.Author.Tests.{eq-eqb, ne-eqb}
 use lib.ListN.{length, getD, drop}
 use Rattle.laws.specs.Walks.{all-next, all-stop, all-end}
-use Rattle.rules.specs.Calls.{inkIn}
+use Rattle.rules.specs.Answers.{inkIn}
 use Rattle.rules.specs.Groups.{alikeOver}
 use Rattle.groups.proofs.alike.alike.Statement.{statement}
 use Rattle.groups.proofs.alike.alike.Tie as tie

@@ -8,7 +8,7 @@ use native.Mathlib.Omega.{arith}
 use lib.ListN.{length, getD, take, drop}
 use lib.Seq.{length-take-le, getD-take}
 use Rattle.rules.specs.Lists.{firstPlace}
-use Rattle.rules.specs.Calls.{inkIn}
+use Rattle.rules.specs.Answers.{inkIn}
 use Rattle.rules.specs.Groups.{alikeOver}
 use Rattle.laws.specs.Walks.{place-next, place-stop, place-end}
 use Rattle.groups.proofs.alike.class_of.Statement.{statement}

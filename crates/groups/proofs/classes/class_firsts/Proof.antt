@@ -5,7 +5,7 @@ use Prim.Native.Nat.{_-_}
 use mathlib.Core.Path.{_≡_, refl, _∙_}
 use native.Mathlib.Omega.{arith}
 use lib.ListN.{length, length-set}
-use Rattle.rules.specs.Calls.{inkIn}
+use Rattle.rules.specs.Answers.{inkIn}
 use Rattle.groups.proofs.Counting.{Kept, kept-none, kept-all, kept-known, kept-new, kept-over}
 use Rattle.groups.proofs.classes.class_firsts.Statement.{statement}
 use Rattle.groups.proofs.classes.class_firsts.Tie as tie

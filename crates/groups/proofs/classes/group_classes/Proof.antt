@@ -6,7 +6,7 @@ use mathlib.Core.Path.{_≡_, sym, ap₂, subst, subst₂}
 use mathlib.Core.List.{List}
 use lib.ListN.{length, getD}
 use Rattle.rules.specs.Groups.{others, points, classes}
-use Rattle.rules.specs.Calls.{inkIn}
+use Rattle.rules.specs.Answers.{inkIn}
 use Rattle.radix.specs.Fronts.{fits-in, part-is}
 use Rattle.groups.specs.Firsts.{classesOver, Counted}
 use Rattle.groups.specs.Within.{Within, points-within}

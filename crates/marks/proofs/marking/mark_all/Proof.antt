@@ -8,7 +8,7 @@ use borrow.Author.Count.{falls}
 use lib.ListN.{length}
 use lib.Pow.{pow-pos}
 use Rattle.rules.specs.Marks.{markIn}
-use Rattle.rules.specs.Calls.{inkIn}
+use Rattle.rules.specs.Answers.{inkIn}
 use Rattle.laws.specs.Sizes.{sized}
 use Rattle.marks.specs.Stored.{held}
 use Rattle.marks.specs.Marking.{Below, below-none, has-room, below-next, below-all}

@@ -11,7 +11,7 @@ use lib.Pow.{pow-mono}
 use Rattle.rules.specs.Groups.{size}
 use Rattle.rules.specs.Marks.{inside, markIn, marksOf}
 use Rattle.rules.specs.Settled.{firstInput, splitOf}
-use Rattle.rules.specs.Calls.{inkIn}
+use Rattle.rules.specs.Answers.{inkIn}
 use Rattle.marks.specs.Stored.{held-room}
 use Rattle.trees.specs.Members.{size-one}
 use Rattle.trees.specs.MarkTwo.{two-says}

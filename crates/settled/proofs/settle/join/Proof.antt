@@ -6,7 +6,7 @@ use native.Mathlib.Omega.{arith}
 use borrow.Author.Needs.{needs}
 use lib.ListN.{length}
 use Rattle.nets.specs.Room.{mostGates, mostDigits}
-use Rattle.rules.specs.Calls.{inkIn}
+use Rattle.rules.specs.Answers.{inkIn}
 use Rattle.settled.specs.Growth.{joined}
 use Rattle.settled.proofs.settle.join.Statement.{statement}
 use Rattle.settled.proofs.settle.join.Tie as tie

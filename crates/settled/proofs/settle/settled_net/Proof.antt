@@ -5,7 +5,7 @@ use native.Mathlib.Omega.{arith}
 use lib.Pow.{pow-pos}
 use Rattle.rules.specs.Groups.{wholeGroup}
 use Rattle.rules.specs.Marks.{markIn, marksOf}
-use Rattle.rules.specs.Calls.{inkIn}
+use Rattle.rules.specs.Answers.{inkIn}
 use Rattle.trees.specs.Members.{whole-below, size-le}
 use Rattle.nets.specs.Forms.{noGates}
 use Rattle.digits.specs.Sized.{Sized, sized}

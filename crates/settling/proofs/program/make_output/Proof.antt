@@ -1,6 +1,7 @@
 -- `settling::program::make_output` meets its contract. Assumes nothing.
 use Rattle.rules.specs.Marks.{marksLength}
-use Rattle.rules.specs.Calls.{makeCall, makeProgram}
+use Rattle.rules.specs.Settling.{makeCall}
+use Rattle.rules.specs.Programs.{makeProgram}
 use Rattle.settling.specs.Program.{make-fits, output-fits, output-prints}
 use borrow.Author.Needs.{needs}
 use Rattle.settling.proofs.program.make_output.Statement.{statement}

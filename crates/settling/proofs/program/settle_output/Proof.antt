@@ -1,6 +1,7 @@
 -- `settling::program::settle_output` meets its contract. Assumes nothing.
 use Rattle.rules.specs.Marks.{marksLength}
-use Rattle.rules.specs.Calls.{settleCall, settleProgram}
+use Rattle.rules.specs.Settling.{settleCall}
+use Rattle.rules.specs.Programs.{settleProgram}
 use Rattle.settling.specs.Program.{settle-fits, output-fits, output-prints}
 use borrow.Author.Needs.{needs}
 use Rattle.settling.proofs.program.settle_output.Statement.{statement}
