@@ -29,7 +29,7 @@ use Rattle.tables.specs.Answers.{TableReads, inksIn}
 use Rattle.tables.specs.declared.sheet.TableRead.{TableRead}
 use Rattle.lines.specs.Names.{NamesInside, netIn, tableIn}
 use Rattle.readback.specs.ReadBack.{net-accepted, table-accepted}
-use Rattle.demands.specs.Settles.{kept-table}
+use Rattle.trees.specs.NetTables.{kept-table}
 
 -- the header and the net of an accepted net sheet
 pub record NetTaken (s : List ℕ) (h : Header) (net : Net) : Type 0 where

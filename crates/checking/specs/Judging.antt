@@ -10,7 +10,7 @@ use lib.ListN.{length, take, length-take}
 use borrow.Author.Tests.{eqb-true, not-true, not-false}
 use Rattle.rules.specs.Checking.{Checked, turnedDown, sameNames, sameHeader, checkedInto, checkCall}
 use Rattle.rules.specs.Answers.{neither}
-use Rattle.laws.specs.Outcomes.{check-accepted, check-12, check-13, check-compared}
+use Rattle.laws.specs.Checking.{check-accepted, check-12, check-13, check-compared}
 use Rattle.nets.specs.declared.forms.Header.{Header}
 use Rattle.nets.specs.declared.forms.Net.{Net}
 use Rattle.nets.specs.Forms.{headerOf}

@@ -8,7 +8,7 @@ use native.Mathlib.Omega.{arith}
 use lib.ListN.{length, getD}
 use Rattle.rules.specs.Checking.{Verdict, agree, differ, compared}
 use Rattle.lines.specs.Put.{Put, put-wrote}
-use Rattle.demands.specs.Checks.{Compared, all-agree, first-differs, comparison}
+use Rattle.laws.specs.Checking.{Compared, all-agree, first-differs, comparison}
 use Rattle.comparing.specs.Answers.{comparedInto}
 
 -- the two agree at every index below i

@@ -4,15 +4,15 @@
 use Prim.Native.Nat.{ℕ, _^_, _≤_, _<_}
 use mathlib.Core.Path.{_≡_, refl, sym, ap, _∙_, ap₂, subst, subst⁻¹}
 use mathlib.Core.Logic.{_↔_}
-use mathlib.Core.Bool.{Bool, true, false, not, _&&_, and-eq-true-iff, false≢true}
+use mathlib.Core.Bool.{Bool, true, false, _&&_, and-eq-true-iff, false≢true}
 use mathlib.Core.List.{List, [], _∷_}
-use native.Mathlib.Nat.{zero-add, lt-of-not-le}
-use native.Mathlib.Decide.{decLe, decLt}
+use native.Mathlib.Nat.{lt-of-not-le}
+use native.Mathlib.Decide.{decLe}
 use native.Mathlib.Omega.{arith}
 use lib.ListN.{length, getD}
 use lib.Dec.{eqb}
-use borrow.Author.Tests.{lt-ltb, le-ltb, eq-eqb, eqb-true, eqb-false, not-false, not-true}
-use Rattle.rules.specs.Lists.{range, firstPlace, same}
+use borrow.Author.Tests.{eq-eqb}
+use Rattle.rules.specs.Lists.{same}
 use Rattle.rules.specs.Sheets.{Header, Net, Table}
 use Rattle.rules.specs.Printed.{printedTable}
 use Rattle.rules.specs.Value.{value}
@@ -20,59 +20,16 @@ use Rattle.rules.specs.Answers.{Answer, accepted, refused, Named, netNamed, tab
 use Rattle.rules.specs.Checking.{Verdict, agree, differ, turnedDown, Checked, sameNames, sameHeader, compared, checkedInto, checkCall}
 use Rattle.rules.specs.Reading.{readNet, readTable, tableOfNet}
 use Rattle.rules.specs.TableWriting.{Written, writeTableCall}
-use Rattle.laws.specs.FirstPlaces.{before-first, at-first}
-use Rattle.laws.specs.Outcomes.{check-net-refused, check-table-refused, check-accepted, check-12, check-13, check-compared, table-15, table-written}
-use Rattle.laws.specs.Ranges.{range-length, range-at}
+use Rattle.laws.specs.Checking.{check-net-refused, check-table-refused, check-accepted, check-12, check-13, check-compared}
+use Rattle.laws.specs.TableWriting.{table-15, table-written}
 use Rattle.laws.specs.Same.{same-refl, same-true}
 use Rattle.laws.specs.Tests.{both-eqb}
 use Rattle.readback.specs.ReadBack.{net-accepted, table-accepted, table-read-back}
 use Rattle.trees.specs.Uniqueness.{table-at, table-length}
-use Rattle.demands.specs.Settles.{sheetIn, accepted-inj, not-refused, kept-table, written-front}
-
--- ---- two lists of inks compared
-
--- at a place before the end, the two differ
-differs : List ℕ → List ℕ → ℕ → Bool
-differs xs ys p = not (eqb (getD xs p 0) (getD ys p 0))
-
--- the first place at which they differ, or the length
-firstDifference : List ℕ → List ℕ → ℕ
-firstDifference xs ys = firstPlace (differs xs ys) (range 0 (length xs))
-
--- a comparison ends in one of two ways
-pub data Compared (xs ys : List ℕ) : Type 0 where
-  all-agree : compared xs ys ≡ agree → ((p : ℕ) → p < length xs → getD xs p 0 ≡ getD ys p 0) → Compared xs ys
-  first-differs : (k : ℕ) → compared xs ys ≡ differ k → k < length xs → (getD xs k 0 ≡ getD ys k 0 → ⊥)
-      → ((p : ℕ) → p < k → getD xs p 0 ≡ getD ys p 0) → Compared xs ys
-
-same-at : (xs ys : List ℕ) (p : ℕ) → differs xs ys p ≡ false → getD xs p 0 ≡ getD ys p 0
-unfolding differs
-same-at xs ys p e = eqb-true _ _ (not-false _ e)
-
-module _ (xs ys : List ℕ) where
-  place : ℕ
-  place = firstDifference xs ys
-
-  before : (p : ℕ) → p < place → p < length xs → getD xs p 0 ≡ getD ys p 0
-  unfolding place firstDifference
-  before p h l =
-      same-at xs ys p
-      (subst (λ (q : ℕ). differs xs ys q ≡ false) (range-at 0 (length xs) p 0 l ∙ zero-add p) (before-first (differs xs ys) 0 (range 0 (length xs)) p h))
-
-  there : place < length xs → getD xs place 0 ≡ getD ys place 0 → ⊥
-  unfolding place firstDifference differs
-  there h =
-      eqb-false _ _
-      (not-true _ (subst (λ (q : ℕ). differs xs ys q ≡ true) (range-at 0 (length xs) place 0 h ∙ zero-add place)
-      (at-first (differs xs ys) 0 (range 0 (length xs)) (subst⁻¹ (λ (l : ℕ). place < l) (range-length 0 (length xs)) h))))
-
-  pub comparison : Compared xs ys
-  unfolding compared place firstDifference differs
-  comparison = go (decLt place (length xs))
-    where
-      go : Dec (place < length xs) → Compared xs ys
-      go (yes h) = first-differs place (rw (lt-ltb place (length xs) h, compared)) h (there h) (λ p l. before p l (omega arith))
-      go (no h) = all-agree (rw (le-ltb place (length xs) (omega arith), compared)) (λ p l. before p (omega arith) l)
+use Rattle.demands.specs.Settles.{sheetIn}
+use Rattle.laws.specs.Answers.{accepted-inj, not-refused, written-front}
+use Rattle.trees.specs.NetTables.{kept-table}
+use Rattle.laws.specs.Checking.{Compared, all-agree, first-differs, comparison}
 
 -- ---- checking
 

@@ -13,7 +13,7 @@ use Rattle.rules.specs.Printed.{line, firstLines, printedNet}
 use Rattle.rules.specs.Kept.{KeptHeader, KeptNet}
 use Rattle.rules.specs.Answers.{accepted}
 use Rattle.rules.specs.Reading.{readNet}
-use Rattle.demands.specs.Bounds.{inputs-several}
+use Rattle.trees.specs.NetTables.{inputs-several}
 use Rattle.demands.specs.Lines.{linesOf, lines-first, headLines, head-fed, head-unbroken}
 use Rattle.readback.specs.Fields.{parts-newline}
 use Rattle.readback.specs.Header.{headText, spells-header}

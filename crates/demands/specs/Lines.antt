@@ -21,7 +21,7 @@ use Rattle.readback.specs.Fields.{plain, isWord}
 use Rattle.readback.specs.Decimals.{decimal-word}
 use Rattle.readback.specs.Judges.{name-word, judges-digits}
 use Rattle.readback.specs.References.{reference-word}
-use Rattle.demands.specs.Bounds.{levels-pos}
+use Rattle.trees.specs.NetTables.{levels-pos}
 
 -- ---- lines and their line feeds
 

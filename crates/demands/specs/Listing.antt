@@ -24,7 +24,7 @@ use Rattle.laws.specs.Concat.{concat-append}
 use Rattle.laws.specs.Places.{map-at}
 use Rattle.laws.specs.Tests.{all-iff}
 use Rattle.readback.specs.ReadBack.{net-accepted}
-use Rattle.demands.specs.Bounds.{inputs-several}
+use Rattle.trees.specs.NetTables.{inputs-several}
 use Rattle.demands.specs.Lines.{fed, inLine, Unbroken, linesOf, lines-first, headLines, fourLines, four-fed, four-unbroken, gateBody, gate-fed, netLines, net-fed, net-unbroken}
 
 -- ---- the lines of any sheet

@@ -19,14 +19,16 @@ use Rattle.rules.specs.Kept.{KeptNet, KeptTable}
 use Rattle.rules.specs.Answers.{accepted, refused, inkIn, written}
 use Rattle.rules.specs.Settling.{Made, settledNet, writtenSheet, afterMarks, settledInto, settleCall, makeCall}
 use Rattle.rules.specs.Reading.{readNet, readTable, tableOfNet}
-use Rattle.laws.specs.Outcomes.{WholeTwo, marksOfTable, make-accepted, into-marked, marked-16, marked-tree}
+use Rattle.laws.specs.Settling.{WholeTwo, marksOfTable, make-accepted, into-marked, marked-16, marked-tree}
 use Rattle.trees.specs.Existence.{TreeExists, tree-exists, settled-net}
 use Rattle.trees.specs.Uniqueness.{table-is, table-at}
-use Rattle.demands.specs.Bounds.{levels-pos, inputs-several}
+use Rattle.trees.specs.NetTables.{levels-pos, inputs-several}
 use Rattle.readback.specs.Length.{net-length}
 use Rattle.readback.specs.ReadBack.{net-read-back, net-accepted, table-accepted}
-use Rattle.demands.specs.Settles.{sheetIn, sheetOf, accepted-inj, not-refused, Long, written-front, settled-written, settles, table-path}
-use Rattle.demands.specs.Refusals.{not-given, sheet-numbers, by-test}
+use Rattle.demands.specs.Settles.{sheetIn, sheetOf, Long, settled-written, settles, table-path}
+use Rattle.laws.specs.Answers.{accepted-inj, not-refused, written-front}
+use Rattle.demands.specs.Numbers.{not-given, by-test}
+use Rattle.demands.specs.SettlingNumbers.{sheet-numbers}
 
 -- some gate list, whatever its wiring and digits, is a net of the table's levels and inputs and computes its inks
 abbrev pub HasTree : Table → Type 0

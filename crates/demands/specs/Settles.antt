@@ -3,27 +3,25 @@
 -- and gate tables, the two settled sheets are equal in length and in every byte exactly when the two nets compute the same
 -- table."
 -- Assumes nothing.
-use Prim.Native.Nat.{ℕ, _^_, _≤_, _<_}
-use mathlib.Core.Path.{_≡_, refl, sym, ap, _∙_, subst}
+use Prim.Native.Nat.{ℕ, _^_, _≤_}
+use mathlib.Core.Path.{_≡_, sym, ap, _∙_}
 use mathlib.Core.Logic.{_↔_}
 use mathlib.Core.List.{List}
-use native.Mathlib.Omega.{arith}
-use lib.ListN.{length, take, drop}
-use lib.Seq.{take-at}
+use lib.ListN.{length, take}
 use Rattle.rules.specs.Limits.{mostSettled}
 use Rattle.rules.specs.Sheets.{Net, Table}
 use Rattle.rules.specs.Printed.{printedNet}
 use Rattle.rules.specs.Marks.{marksLength, storedMarks}
-use Rattle.rules.specs.Kept.{KeptNet, KeptTable}
+use Rattle.rules.specs.Kept.{KeptNet}
 use Rattle.rules.specs.Answers.{Answer, accepted, refused, written}
 use Rattle.rules.specs.Settling.{Made, settledNet, settledInto, settleCall}
 use Rattle.rules.specs.Reading.{readNet, tableOfNet}
-use Rattle.laws.specs.Outcomes.{WholeTwo, marksOfTable, settle-accepted, into-marked, marked-tree, sheet-written}
-use Rattle.trees.specs.Uniqueness.{settledOf, table-length, net-inks, net-two, settled-is-net, settled-table}
-use Rattle.demands.specs.Bounds.{levels-pos, inputs-several}
+use Rattle.laws.specs.Settling.{WholeTwo, marksOfTable, settle-accepted, into-marked, marked-tree, sheet-written}
 use Rattle.demands.specs.FirstLines.{threeLines, three-lines, same-lines}
 use Rattle.readback.specs.ReadBack.{net-read-back, net-accepted}
 use Rattle.readback.specs.Length.{net-length}
+use Rattle.laws.specs.Answers.{accepted-inj, written-front}
+use Rattle.trees.specs.NetTables.{net-whole-two, settled-kept, settled-has-table}
 
 -- "A call that writes a sheet answers its length, and the sheet is that many bytes from the front of the output."
 unfoldable pub sheetIn : Answer ℕ → List ℕ → Answer (List ℕ)
@@ -34,22 +32,11 @@ sheetIn (refused number place) output = refused number place
 abbrev pub sheetOf : Made → Answer (List ℕ)
 sheetOf made = sheetIn (made .answer) (made .output)
 
-pub accepted-inj : {A : Type 0} (a b : A) → accepted a ≡ accepted b → a ≡ b
-accepted-inj a b e = cc
-
-pub not-refused : {A : Type 0} (a : A) (number place : ℕ) → accepted a ≡ refused number place → ⊥
-not-refused a number place e = let z : _≡_ {A = ℕ} 0 1 = cc in omega arith
-
 -- "Needed: m to the n bytes, 2 to the n bytes, and the settled sheet's length"
 pub record Long (t : Table) (cells marks output : List ℕ) : Type 0 where
   pub cells-fit : t .header .levels ^ t .header .inputs ≤ length cells
   pub marks-fit : marksLength (t .header .inputs) ≤ length marks
   pub output-fits : length (printedNet (settledNet t)) ≤ length output
-
--- what is written stands at the front
-pub written-front : (buffer bytes : List ℕ) → take (length bytes) (written buffer bytes) ≡ bytes
-unfolding written
-written-front buffer bytes = take-at bytes (drop (length bytes) buffer) (length bytes) refl
 
 -- a table whose whole group has mark 2, and long buffers: the sheet of its settled net is written
 pub settled-written : (t : Table) (cells marks output : List ℕ) → WholeTwo t → Long t cells marks output
@@ -61,37 +48,6 @@ settled-written t cells marks output two long =
     ∙ marked-tree t cells marks output two
     ∙ sheet-written (printedNet (settledNet t)) (written cells (t .inks)) (written marks (storedMarks (marksOfTable t))) output (long .output-fits))
     ∙ ap accepted (written-front output (printedNet (settledNet t)))
-
-module _ (net : Net) (kept : KeptNet net) where
-  pos : 0 < net .header .levels
-  pos = levels-pos (net .header .levels) (kept .header .levels)
-
-  several : 1 < net .header .inputs
-  several = inputs-several (net .header .inputs) (kept .header .inputs)
-
-  -- a net's table keeps a table's rules, and its whole group has mark 2
-  pub kept-table : KeptTable (tableOfNet net)
-  unfolding tableOfNet
-  kept-table =
-      let count = table-length (net .header .levels) (net .header .inputs) (net .gates) in
-      record {
-        header = kept .header;
-        count = count;
-        below = λ k h. net-inks (net .header .levels) (net .header .inputs) pos several (net .gates) (kept .gates) k (subst (λ (l : ℕ). k < l) count h);
-      }
-
-  pub net-whole-two : WholeTwo (tableOfNet net)
-  unfolding tableOfNet
-  net-whole-two = net-two (net .header .levels) (net .header .inputs) pos several (net .gates) (kept .gates)
-
-  -- its settled net keeps a net's rules, and has its table
-  pub settled-kept : KeptNet (settledNet (tableOfNet net))
-  unfolding settledNet tableOfNet settledOf
-  settled-kept = record { header = kept .header; gates = settled-is-net (net .header .levels) (net .header .inputs) pos several (net .gates) (kept .gates) }
-
-  settled-has-table : tableOfNet (settledNet (tableOfNet net)) ≡ tableOfNet net
-  unfolding settledNet tableOfNet settledOf
-  settled-has-table = λ i. record { header = net .header; inks = settled-table (net .header .levels) (net .header .inputs) pos several (net .gates) (kept .gates) i }
 
 -- ---- the demand
 

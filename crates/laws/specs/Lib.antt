@@ -6,7 +6,9 @@ pub mod Distinct
 pub mod Finds
 pub mod FirstPlaces
 pub mod Levels
-pub mod Outcomes
+pub mod Settling
+pub mod Checking
+pub mod TableWriting
 pub mod Pastes
 pub mod Pigeonhole
 pub mod Places
@@ -17,3 +19,4 @@ pub mod Same
 pub mod Sizes
 pub mod Tests
 pub mod Walks
+pub mod Answers

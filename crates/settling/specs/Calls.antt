@@ -5,7 +5,7 @@ use mathlib.Core.Path.{_≡_, sym, ap, _∙_}
 use mathlib.Core.List.{List}
 use lib.ListN.{take}
 use Rattle.rules.specs.Settling.{settledInto, settleCall, makeCall}
-use Rattle.laws.specs.Outcomes.{settle-accepted, make-accepted}
+use Rattle.laws.specs.Settling.{settle-accepted, make-accepted}
 use Rattle.nets.specs.declared.forms.Header.{Header}
 use Rattle.nets.specs.declared.forms.Net.{Net}
 use Rattle.nets.specs.Evaluating.{Tabled}

@@ -13,7 +13,7 @@ use Rattle.rules.specs.Marks.{markIn, marksOf, marksLength, noTreePlace}
 use Rattle.rules.specs.Groups.{wholeGroup}
 use Rattle.rules.specs.Answers.{refused, inkIn, written}
 use Rattle.rules.specs.Settling.{settledNet, writtenSheet, afterMarks, settledInto}
-use Rattle.laws.specs.Outcomes.{marksOfTable, into-13, into-14, into-marked, marked-16, marked-tree}
+use Rattle.laws.specs.Settling.{marksOfTable, into-13, into-14, into-marked, marked-16, marked-tree}
 use Rattle.nets.specs.declared.forms.Header.{Header}
 use Rattle.nets.specs.declared.forms.Net.{Net}
 use Rattle.nets.specs.Forms.{headerOf}

@@ -9,7 +9,7 @@ use Rattle.rules.specs.Printed.{printedTable}
 use Rattle.rules.specs.TableWriting.{Written, writeTableCall}
 use Rattle.rules.specs.Answers.{accepted, refused}
 use Rattle.rules.specs.Reading.{tableOfNet}
-use Rattle.laws.specs.Outcomes.{table-15, table-written}
+use Rattle.laws.specs.TableWriting.{table-15, table-written}
 use Rattle.groups.specs.Answers.{answerOf}
 use Rattle.groups.specs.declared.call.Answer.{Answer}
 use Rattle.nets.specs.declared.forms.Header.{Header}

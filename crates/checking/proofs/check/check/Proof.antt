@@ -1,7 +1,7 @@
 -- `checking::check::check` meets its contract: what the net sheet is refused for, or what checking it against the table sheet does.
 -- Assumes nothing.
 use mathlib.Core.Path.{sym}
-use Rattle.laws.specs.Outcomes.{check-net-refused}
+use Rattle.laws.specs.Checking.{check-net-refused}
 use Rattle.accepted.specs.Taken.{net-refused, net-taken}
 use borrow.Author.Needs.{needs}
 use Rattle.checking.proofs.check.check.Statement.{statement}

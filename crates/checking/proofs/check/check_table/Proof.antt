@@ -2,7 +2,7 @@
 -- Assumes nothing.
 use mathlib.Core.Path.{sym}
 use native.Mathlib.Omega.{arith}
-use Rattle.laws.specs.Outcomes.{check-table-refused}
+use Rattle.laws.specs.Checking.{check-table-refused}
 use Rattle.accepted.specs.Taken.{table-refused, table-taken}
 use borrow.Author.Needs.{needs}
 use Rattle.checking.proofs.check.check_table.Statement.{statement}

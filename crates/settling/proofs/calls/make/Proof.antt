@@ -1,7 +1,7 @@
 -- `settling::calls::make` meets its contract. Assumes nothing.
 use mathlib.Core.Path.{sym, _∙_}
 use native.Mathlib.Omega.{arith}
-use Rattle.laws.specs.Outcomes.{make-refused}
+use Rattle.laws.specs.Settling.{make-refused}
 use Rattle.accepted.specs.Taken.{held-size, table-taken, table-refused, inks-given}
 use Rattle.settling.specs.Calls.{table-settled}
 use borrow.Author.Needs.{needs}

@@ -1,6 +1,6 @@
 -- `settling::calls::settle` meets its contract. Assumes nothing.
 use mathlib.Core.Path.{sym}
-use Rattle.laws.specs.Outcomes.{settle-refused}
+use Rattle.laws.specs.Settling.{settle-refused}
 use Rattle.accepted.specs.Taken.{net-refused, net-taken}
 use borrow.Author.Needs.{needs}
 use Rattle.settling.proofs.calls.settle.Statement.{statement}

@@ -1,7 +1,7 @@
 -- `writing::write::write_table` meets its contract: what the net sheet is refused for, or what writing its table does.
 -- Assumes nothing.
 use mathlib.Core.Path.{sym}
-use Rattle.laws.specs.Outcomes as outcomes
+use Rattle.laws.specs.TableWriting as outcomes
 use Rattle.accepted.specs.Taken.{net-refused, net-taken}
 use borrow.Author.Needs.{needs}
 use Rattle.writing.proofs.write.write_table.Statement.{statement}

@@ -1,22 +1,17 @@
--- What each call comes to, one law for each outcome.
+-- What settling and making come to, one law for each outcome.
 -- Assumes nothing.
 use Prim.Native.Nat.{ℕ, _^_, _≤_, _<_}
 use mathlib.Core.Path.{_≡_}
 use mathlib.Core.List.{List}
-use mathlib.Core.Bool.{true, false}
 use lib.ListN.{length}
 use borrow.Author.Tests.{lt-ltb, le-ltb, eq-eqb, ne-eqb}
 use Rattle.rules.specs.Sheets.{Net, Table}
-use Rattle.rules.specs.Printed.{printedNet, printedTable}
+use Rattle.rules.specs.Printed.{printedNet}
 use Rattle.rules.specs.Groups.{wholeGroup}
 use Rattle.rules.specs.Marks.{markIn, marksOf, marksLength, storedMarks, noTreePlace}
-use Rattle.rules.specs.Answers.{accepted, refused, inkIn, written, netNamed, tableNamed, neither}
+use Rattle.rules.specs.Answers.{accepted, refused, inkIn, written}
 use Rattle.rules.specs.Reading.{readNet, readTable, tableOfNet}
 use Rattle.rules.specs.Settling.{settledNet, writtenSheet, afterMarks, settledInto, settleCall, makeCall}
-use Rattle.rules.specs.Checking.{turnedDown, checkCall, sameHeader, compared, checkedInto}
-use Rattle.rules.specs.TableWriting.{writeTableCall}
-
--- ---- settling and making
 
 -- the marks of a table
 abbrev pub marksOfTable : Table → List ℕ
@@ -92,54 +87,3 @@ module _ (s cells marks output : List ℕ) where
   pub make-accepted : (t : Table) → readTable s ≡ accepted t → makeCall s cells marks output ≡ settledInto t cells marks output
   unfolding makeCall
   make-accepted t e = rw (e, makeCall)
-
--- ---- checking
-
-module _ (s r cells : List ℕ) where
-  pub check-net-refused : (number place : ℕ) → readNet s ≡ refused number place
-      → checkCall s r cells ≡ record { answer = turnedDown netNamed number place; cells = cells }
-  unfolding checkCall
-  check-net-refused number place e = rw (e, checkCall)
-
-  pub check-table-refused : (net : Net) → readNet s ≡ accepted net → (number place : ℕ) → readTable r ≡ refused number place
-      → checkCall s r cells ≡ record { answer = turnedDown tableNamed number place; cells = cells }
-  unfolding checkCall
-  check-table-refused net d number place e = rw (d, e, checkCall)
-
-  pub check-accepted : (net : Net) → readNet s ≡ accepted net → (t : Table) → readTable r ≡ accepted t → checkCall s r cells ≡ checkedInto net t cells
-  unfolding checkCall
-  check-accepted net d t e = rw (d, e, checkCall)
-
-module _ (net : Net) (t : Table) (cells : List ℕ) where
-  pub check-12 : sameHeader (net .header) (t .header) ≡ false → checkedInto net t cells ≡ record { answer = turnedDown neither 12 0; cells = cells }
-  unfolding checkedInto
-  check-12 e = rw (e, checkedInto)
-
-  pub check-13 : sameHeader (net .header) (t .header) ≡ true → length cells < length (t .inks)
-      → checkedInto net t cells ≡ record { answer = turnedDown neither 13 (length (t .inks)); cells = cells }
-  unfolding checkedInto
-  check-13 e h = rw (e, lt-ltb _ _ h, checkedInto)
-
-  pub check-compared : sameHeader (net .header) (t .header) ≡ true → length (t .inks) ≤ length cells
-      → checkedInto net t cells ≡ record { answer = compared (tableOfNet net .inks) (t .inks); cells = written cells (t .inks) }
-  unfolding checkedInto
-  check-compared e h = rw (e, le-ltb _ _ h, checkedInto)
-
--- ---- table writing
-
-pub table-refused : (sheet output : List ℕ) (number place : ℕ) → readNet sheet ≡ refused number place
-    → writeTableCall sheet output ≡ record { answer = refused number place; output = output }
-unfolding writeTableCall
-table-refused sheet output number place e = rw (e, writeTableCall)
-
-module _ (sheet output : List ℕ) (net : Net) (reads : readNet sheet ≡ accepted net) where
-  pub table-15 : length output < length (printedTable (tableOfNet net))
-      → writeTableCall sheet output ≡ record { answer = refused 15 (length (printedTable (tableOfNet net))); output = output }
-  unfolding writeTableCall
-  table-15 h = rw (reads, lt-ltb _ _ h, writeTableCall)
-
-  pub table-written : length (printedTable (tableOfNet net)) ≤ length output
-      → writeTableCall sheet output
-      ≡ record { answer = accepted (length (printedTable (tableOfNet net))); output = written output (printedTable (tableOfNet net)) }
-  unfolding writeTableCall
-  table-written h = rw (reads, le-ltb _ _ h, writeTableCall)

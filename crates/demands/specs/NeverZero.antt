@@ -1,0 +1,48 @@
+-- No call refuses with 0.
+-- Assumes nothing.
+use Prim.Native.Nat.{ℕ}
+use mathlib.Core.Path.{_≡_, refl, sym}
+use mathlib.Core.Bool.{true≢false}
+use mathlib.Core.List.{List}
+use Rattle.rules.specs.Lists.{any}
+use Rattle.rules.specs.Answers.{refused, Named, netNamed, tableNamed, neither}
+use Rattle.rules.specs.Multiplicity.{multiplicityCall}
+use Rattle.rules.specs.Marking.{markingCall}
+use Rattle.rules.specs.Settling.{settleCall, makeCall}
+use Rattle.rules.specs.Checking.{turnedDown, checkCall}
+use Rattle.rules.specs.TableWriting.{writeTableCall}
+use Rattle.rules.specs.Lister.{listing}
+use Rattle.laws.specs.Distinct.{In}
+use Rattle.readback.specs.Numbers.{netNumbers}
+use Rattle.demands.specs.Numbers.{not-given}
+use Rattle.demands.specs.MultiplicityNumbers.{multiplicity-numbers, multiplicityNumbers}
+use Rattle.demands.specs.MarkingNumbers.{marking-numbers, markingNumbers}
+use Rattle.demands.specs.SettlingNumbers.{make-numbers, makeNumbers, settle-numbers, settleNumbers}
+use Rattle.demands.specs.CheckingNumbers.{check-numbers, checkNumbers}
+use Rattle.demands.specs.TableWritingNumbers.{write-table-numbers, writeTableNumbers}
+use Rattle.demands.specs.ListingNumbers.{listing-numbers}
+
+-- No call refuses with 0: over C, where 0 says that a call accepted, the two are told apart.
+pub never-0 : (place : ℕ)
+    → ((m n : ℕ) (cells : List ℕ) (g : ℕ) → multiplicityCall m n cells g ≡ refused 0 place → ⊥)
+    × ((m n : ℕ) (cells marks : List ℕ) → markingCall m n cells marks .answer ≡ refused 0 place → ⊥)
+    × ((s cells marks output : List ℕ) → settleCall s cells marks output .answer ≡ refused 0 place → ⊥)
+    × ((s cells marks output : List ℕ) → makeCall s cells marks output .answer ≡ refused 0 place → ⊥)
+    × ((s r cells : List ℕ) (named : Named) → checkCall s r cells .answer ≡ turnedDown named 0 place → ⊥)
+    × ((s output : List ℕ) → writeTableCall s output .answer ≡ refused 0 place → ⊥)
+    × ((s : List ℕ) (k : ℕ) → listing s k ≡ refused 0 place → ⊥)
+unfolding any
+never-0 place = (
+  λ m n cells g. not-given multiplicityNumbers _ (multiplicity-numbers m n cells g) 0 place refl,
+  λ m n cells marks. not-given markingNumbers _ (marking-numbers m n cells marks) 0 place refl,
+  λ s cells marks output. not-given settleNumbers _ (settle-numbers s cells marks output) 0 place refl,
+  λ s cells marks output. not-given makeNumbers _ (make-numbers s cells marks output) 0 place refl,
+  λ s r cells named e. no-0 named (check-numbers s r cells named 0 place e),
+  λ s output. not-given writeTableNumbers _ (write-table-numbers s output) 0 place refl,
+  λ s k. not-given netNumbers _ (listing-numbers s k) 0 place refl,
+)
+  where
+    no-0 : (named : Named) → In 0 (checkNumbers named) → ⊥
+    no-0 netNamed e = true≢false (sym e)
+    no-0 tableNamed e = true≢false (sym e)
+    no-0 neither e = true≢false (sym e)

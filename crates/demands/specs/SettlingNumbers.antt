@@ -1,0 +1,67 @@
+-- The numbers with which settling and making may refuse.
+-- Assumes nothing.
+use Prim.Native.Nat.{ℕ, _^_}
+use mathlib.Core.Path.{_≡_, refl, subst⁻¹}
+use mathlib.Core.List.{List, [], _∷_}
+use native.Mathlib.Decide.{ℕ-discrete}
+use lib.ListN.{length}
+use lib.Dec.{ltb}
+use Rattle.rules.specs.Lists.{all, any}
+use Rattle.rules.specs.Sheets.{Table}
+use Rattle.rules.specs.Marks.{marksLength}
+use Rattle.rules.specs.Answers.{refused}
+use Rattle.rules.specs.Reading.{readNet, readTable, tableOfNet}
+use Rattle.rules.specs.Settling.{Made, writtenSheet, afterMarks, settledInto, settleCall, makeCall}
+use Rattle.laws.specs.Distinct.{In}
+use Rattle.laws.specs.Settling.{WholeTwo, marked-16, marked-tree}
+use Rattle.readback.specs.Numbers.{netNumbers, tableNumbers, net-refusal, table-refusal}
+use Rattle.readback.specs.ReadBack.{net-accepted}
+use Rattle.trees.specs.NetTables.{net-whole-two}
+use Rattle.demands.specs.Numbers.{Gives, accepts, by-answer, by-test, not-given, refuses, wider}
+
+abbrev pub settleNumbers : List ℕ
+settleNumbers = 1 ∷ 2 ∷ 3 ∷ 4 ∷ 6 ∷ 7 ∷ 8 ∷ 13 ∷ 14 ∷ 15 ∷ []
+
+abbrev pub makeNumbers : List ℕ
+makeNumbers = 1 ∷ 2 ∷ 3 ∷ 4 ∷ 5 ∷ 6 ∷ 13 ∷ 14 ∷ 16 ∷ 15 ∷ []
+
+abbrev MadeGives : List ℕ → Made → Type 0
+MadeGives numbers made = Gives numbers (made .answer)
+
+pub sheet-numbers : (numbers : List ℕ) → In 15 numbers → (sheet cells marks output : List ℕ) → Gives numbers (writtenSheet sheet cells marks output .answer)
+unfolding writtenSheet
+sheet-numbers numbers h15 sheet cells marks output =
+    by-test (MadeGives numbers) (ltb (length output) (length sheet)) _ _ (refuses numbers 15 _ h15) (accepts numbers _)
+
+-- 13, 14, 15, and 16 where the whole group has another mark than 2
+into-numbers : (numbers : List ℕ) → In 13 numbers → In 14 numbers → In 15 numbers → (t : Table) → ((WholeTwo t → ⊥) → In 16 numbers)
+    → (cells marks output : List ℕ) → Gives numbers (settledInto t cells marks output .answer)
+unfolding settledInto
+into-numbers numbers h13 h14 h15 t h16 cells marks output =
+    by-test (MadeGives numbers) (ltb (length cells) (t .header .levels ^ t .header .inputs)) _ _ (refuses numbers 13 _ h13)
+    (by-test (MadeGives numbers) (ltb (length marks) (marksLength (t .header .inputs))) _ _ (refuses numbers 14 _ h14) (marked (ℕ-discrete _ 2)))
+  where
+    marked : Dec (WholeTwo t) → Gives numbers (afterMarks t cells marks output .answer)
+    marked (yes two) = subst⁻¹ (MadeGives numbers) (marked-tree t cells marks output two) (sheet-numbers numbers h15 _ _ _ output)
+    marked (no other) = subst⁻¹ (MadeGives numbers) (marked-16 t cells marks output other) (refuses numbers 16 _ (h16 other))
+
+module _ (s cells marks output : List ℕ) where
+  -- settling gives no 16: a net's table has a tree
+  pub settle-numbers : Gives settleNumbers (settleCall s cells marks output .answer)
+  unfolding settleCall any all
+  settle-numbers =
+      by-answer (MadeGives settleNumbers) (readNet s) _ _
+      (λ net e. into-numbers settleNumbers refl refl refl (tableOfNet net) (λ other. absurd (other (net-whole-two net (net-accepted s net e .1)))) cells marks output)
+      (λ number place e. refuses settleNumbers number place (wider netNumbers settleNumbers refl number (net-refusal s number place e)))
+
+  pub make-numbers : Gives makeNumbers (makeCall s cells marks output .answer)
+  unfolding makeCall any all
+  make-numbers =
+      by-answer (MadeGives makeNumbers) (readTable s) _ _
+      (λ t _. into-numbers makeNumbers refl refl refl t (λ _. refl) cells marks output)
+      (λ number place e. refuses makeNumbers number place (wider tableNumbers makeNumbers refl number (table-refusal s number place e)))
+
+  -- "Settling never gives 16."
+  pub settle-never-16 : (place : ℕ) → settleCall s cells marks output .answer ≡ refused 16 place → ⊥
+  unfolding any
+  settle-never-16 place = not-given settleNumbers _ settle-numbers 16 place refl
