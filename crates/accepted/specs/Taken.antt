@@ -20,13 +20,13 @@ use Rattle.nets.specs.Forms.{headerOf, gatesOf}
 use Rattle.nets.specs.Sound.{Sound}
 use Rattle.nets.specs.Evaluating.{Tabled}
 use Rattle.fields.specs.Header.{HeaderHeld}
-use Rattle.fields.specs.Steps.{outcomeAs}
-use Rattle.fields.specs.declared.steps.Outcome.the-variants.{Accepted, Refused}
-use Rattle.sheets.specs.Answers.{NetReads}
-use Rattle.sheets.specs.declared.net.NetRead.{NetRead}
-use Rattle.tables.specs.Answers as tables
-use Rattle.tables.specs.Answers.{TableReads, inksIn}
-use Rattle.tables.specs.declared.sheet.TableRead.{TableRead}
+use Rattle.answers.specs.Answers.{outcomeAs}
+use Rattle.answers.specs.declared.outcome.Outcome.the-variants.{Accepted, Refused}
+use Rattle.net_reading.specs.Answers.{NetReads}
+use Rattle.net_reading.specs.declared.net.NetRead.{NetRead}
+use Rattle.table_reading.specs.Answers as tables
+use Rattle.table_reading.specs.Answers.{TableReads, inksIn}
+use Rattle.table_reading.specs.declared.sheet.TableRead.{TableRead}
 use Rattle.lines.specs.Names.{NamesInside, netIn, tableIn}
 use Rattle.readback.specs.ReadBack.{net-accepted, table-accepted}
 use Rattle.trees.specs.NetTables.{kept-table}

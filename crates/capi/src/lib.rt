@@ -5,14 +5,14 @@ ghost use Rattle.rules.specs.Marking.{markingCall};
 ghost use Rattle.rules.specs.Settling.{settleCall, makeCall};
 ghost use Rattle.rules.specs.Checking.{checkCall};
 ghost use Rattle.rules.specs.TableWriting.{writeTableCall};
-ghost use Rattle.groups.specs.Answers.{answerOf};
+ghost use Rattle.answers.specs.Answers.{answerOf, namedOf};
 ghost use Rattle.rules.specs.Lister.{listing};
 ghost use Rattle.lister.specs.Calls.{listedAs};
-ghost use Rattle.comparing.specs.Answers.{namedOf, verdictOf};
+ghost use Rattle.comparing.specs.Answers.{verdictOf};
 ghost use Rattle.capi.specs.Flat.{flatOf, flatTurn, flatNamed, flatVerdict, FlatMarked, FlatMade, FlatWritten, FlatChecked};
-use comparing::verdict::Named;
+use answers::answer::Answer;
+use answers::named::Named;
 use comparing::verdict::Verdict;
-use groups::call::Answer;
 use lister::calls::Listed;
 use lister::turns::Turn;
 
@@ -135,7 +135,7 @@ pub extern "C" fn sitgurp_make(
 pub extern "C" fn sitgurp_write_table(sheet: &[u8], out: &mut [u8]) -> SitgurpAnswer
     ensures { λ r. ⌜ FlatWritten (writeTableCall (now (sheet .entry)) (now (out .entry))) r (now (out .exit)) ⌝ }
 {
-    flat(writing::write::write_table(sheet, out))
+    flat(table_writing::write::write_table(sheet, out))
 }
 
 // Kind 0: they agree. Kind 1: they differ, first at index `value`. Kind 2: refused with `number` at place `value`, which names the

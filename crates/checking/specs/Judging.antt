@@ -15,7 +15,7 @@ use Rattle.nets.specs.declared.forms.Header.{Header}
 use Rattle.nets.specs.declared.forms.Net.{Net}
 use Rattle.nets.specs.Forms.{headerOf}
 use Rattle.nets.specs.Evaluating.{Tabled}
-use Rattle.tables.specs.Answers.{inksIn, tableIn}
+use Rattle.table_reading.specs.Answers.{inksIn, tableIn}
 use Rattle.lines.specs.Names.{netIn}
 use Rattle.comparing.specs.Answers.{comparedInto}
 use Rattle.accepted.specs.Taken.{NetTaken, TableTaken, front, inks-front, inks-given}

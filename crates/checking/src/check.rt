@@ -4,17 +4,17 @@ ghost use Rattle.rules.specs.Checking.{checkCall};
 ghost use Rattle.comparing.specs.Answers.{checkedOf};
 ghost use Rattle.accepted.specs.Taken.{NetTaken, TableTaken};
 use crate::headers::same_header;
-use comparing::verdict::Named;
+use answers::named::Named;
+use answers::outcome::Outcome;
 use comparing::verdict::Verdict;
 use comparing::verdict::compare_into;
-use fields::steps::Outcome;
+use net_reading::net::read_net;
 use nets::forms::Header;
 use nets::forms::Net;
 use nets::values;
 use radix::limits::MOST_CELLS;
 use radix::powers::power;
-use sheets::net::read_net;
-use tables::sheet::read_table;
+use table_reading::sheet::read_table;
 
 // The net sheet s and the table sheet t, both accepted: refusal 12 or 13, or the inks of t, which stand at the front of `inks`, in
 // the cells buffer and held against the net's table.

@@ -4,16 +4,10 @@ use Prim.Native.Nat.{ℕ}
 use mathlib.Core.List.{List}
 use Rattle.rules.specs.Answers as answers
 use Rattle.rules.specs.Checking as checking
+use Rattle.answers.specs.Answers.{namedOf}
 use Rattle.rules.specs.Checking.{Checked}
-use Rattle.comparing.specs.declared.verdict.Named.{Named}
-use Rattle.comparing.specs.declared.verdict.Named.the-variants as named
 use Rattle.comparing.specs.declared.verdict.Verdict.{Verdict}
 use Rattle.comparing.specs.declared.verdict.Verdict.the-variants.{Agree, Differ, Refused}
-
-abbrev pub namedOf : Named → answers.Named
-namedOf named.Net = answers.netNamed
-namedOf named.Table = answers.tableNamed
-namedOf named.Neither = answers.neither
 
 abbrev pub verdictOf : Verdict → checking.Verdict
 verdictOf Agree = checking.agree

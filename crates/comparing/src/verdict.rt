@@ -4,14 +4,8 @@ ghost use Prim.Native.Nat.{_≤_, _<_};
 ghost use lib.ListN.{length};
 ghost use Rattle.rules.specs.Checking.{compared};
 ghost use Rattle.comparing.specs.Answers.{verdictOf, checkedOf, comparedInto};
+use answers::named::Named;
 use lines::put::copy;
-
-// Which of the two sheets a refusal names.
-pub enum Named {
-    Net,
-    Table,
-    Neither,
-}
 
 // Agreement, or the lowest index that differs, or a refusal's number and place.
 pub enum Verdict {

@@ -8,9 +8,10 @@ use lib.ListN.{length, drop, drop-of-length-le}
 use lib.Seq.{drop-cons}
 use Rattle.rules.specs.Fields.{Read, read, turnedBack, Reader, then, _>>=_, give, closed}
 use Rattle.rules.specs.Reading.{answered}
-use Rattle.fields.specs.Steps.{stepAs, outcomeAs}
-use Rattle.fields.specs.declared.steps.Outcome.{Outcome}
-use Rattle.fields.specs.declared.steps.Outcome.the-variants.{Accepted, Refused}
+use Rattle.fields.specs.Steps.{stepAs}
+use Rattle.answers.specs.Answers.{outcomeAs}
+use Rattle.answers.specs.declared.outcome.Outcome.{Outcome}
+use Rattle.answers.specs.declared.outcome.Outcome.the-variants.{Accepted, Refused}
 use Rattle.fields.specs.declared.steps.Step.{Step}
 use Rattle.fields.specs.declared.steps.Step.the-variants.{On, Back}
 

@@ -9,9 +9,6 @@ use Rattle.rules.specs.Lists.{same}
 use Rattle.rules.specs.Fields.{Read, read, turnedBack, Judge, Judged, good, bad, judged, field}
 use Rattle.fields.specs.declared.steps.Found.{Found}
 use Rattle.fields.specs.declared.steps.Found.the-variants.{At, Nowhere}
-use Rattle.rules.specs.Answers.{Answer, accepted, refused}
-use Rattle.fields.specs.declared.steps.Outcome.{Outcome}
-use Rattle.fields.specs.declared.steps.Outcome.the-variants.{Accepted, Refused}
 use Rattle.fields.specs.declared.steps.Step.{Step}
 use Rattle.fields.specs.declared.steps.Step.the-variants.{On, Back}
 use Rattle.fields.specs.declared.steps.Verdict.{Verdict}
@@ -45,11 +42,6 @@ stepAs f s (Back number place) = turnedBack number place
 abbrev pub optionOf : Found → Option ℕ
 optionOf (At i) = some i
 optionOf Nowhere = none
-
--- an accepted sheet's value, or the refusal's number and place
-abbrev pub outcomeAs : {A : Type 0} → A → Outcome → Answer A
-outcomeAs a Accepted = accepted a
-outcomeAs a (Refused number place) = refused number place
 
 -- a fixed word, by its bytes
 unfoldable pub spelled : List ℕ → Judge (Unit {0})

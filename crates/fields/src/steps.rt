@@ -17,9 +17,3 @@ pub enum Found {
     At(usize),
     Nowhere,
 }
-
-// What reading a whole sheet comes to.
-pub enum Outcome {
-    Accepted,
-    Refused { number: usize, place: usize },
-}

@@ -15,18 +15,6 @@ use Rattle.rules.specs.Answers as answers
 use Rattle.rules.specs.Answers.{inkIn}
 use Rattle.rules.specs.BareCells.{bareCells}
 use Rattle.rules.specs.Multiplicity.{multiplicityCall}
-use Rattle.groups.specs.declared.bare.Bare.{Bare}
-use Rattle.groups.specs.declared.bare.Bare.the-variants as bare
-use Rattle.groups.specs.declared.call.Answer.{Answer}
-use Rattle.groups.specs.declared.call.Answer.the-variants.{Accepted, Refused}
-
-abbrev pub answerOf : Answer → answers.Answer ℕ
-answerOf (Accepted value) = answers.accepted value
-answerOf (Refused number place) = answers.refused number place
-
-abbrev pub bareOf : Bare → answers.Answer (Unit {0})
-bareOf bare.Good = answers.accepted tt
-bareOf (bare.Refused number place) = answers.refused number place
 
 -- the multiplicity call once the bare cells are accepted
 unfoldable pub groupAnswer : ℕ → ℕ → List ℕ → ℕ → answers.Answer ℕ

@@ -4,13 +4,9 @@ ghost use mathlib.Core.Bool.{not};
 ghost use lib.Dec.{ltb};
 ghost use Rattle.rules.specs.Lists.{firstPlace};
 ghost use Rattle.rules.specs.BareCells.{bareCells};
-ghost use Rattle.groups.specs.Answers.{bareOf};
+ghost use Rattle.answers.specs.Answers.{outcomeAs};
+use answers::outcome::Outcome;
 use radix::powers;
-
-pub enum Bare {
-    Good,
-    Refused { number: usize, place: usize },
-}
 
 // The index of the first cell that is not below m, or the number of cells.
 fn first_over(m: usize, cells: &[u8]) -> usize
@@ -27,28 +23,28 @@ fn first_over(m: usize, cells: &[u8]) -> usize
 }
 
 // Refusals 9 and 10.
-pub fn bare_cells(m: usize, n: usize, cells: &[u8]) -> Bare
-    ensures { λ r. ⌜ bareOf r ≡ bareCells m n (now (cells .entry)) ⌝ }
+pub fn bare_cells(m: usize, n: usize, cells: &[u8]) -> Outcome
+    ensures { λ r. ⌜ outcomeAs tt r ≡ bareCells m n (now (cells .entry)) ⌝ }
 {
     if !powers::size_fits(m, n) {
-        return Bare::Refused {
+        return Outcome::Refused {
             number: 9,
             place: 0,
         };
     }
     if cells.len() != powers::power(m, n) {
-        return Bare::Refused {
+        return Outcome::Refused {
             number: 9,
             place: 0,
         };
     }
     let k = first_over(m, cells);
     if k < cells.len() {
-        Bare::Refused {
+        Outcome::Refused {
             number: 10,
             place: k,
         }
     } else {
-        Bare::Good
+        Outcome::Accepted
     }
 }

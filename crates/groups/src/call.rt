@@ -5,18 +5,14 @@ ghost use Prim.Native.Nat.{_^_};
 ghost use lib.ListN.{length};
 ghost use Rattle.rules.specs.Limits.{sizeFits};
 ghost use Rattle.rules.specs.Multiplicity.{multiplicityCall};
-ghost use Rattle.groups.specs.Answers.{answerOf, groupAnswer};
+ghost use Rattle.answers.specs.Answers.{answerOf};
+ghost use Rattle.groups.specs.Answers.{groupAnswer};
 use crate::bare;
-use crate::bare::Bare;
 use crate::classes;
+use answers::answer::Answer;
+use answers::outcome::Outcome;
 use radix::limits;
 use radix::powers;
-
-// What a call answers: a value, or a refusal's number and place.
-pub enum Answer {
-    Accepted(usize),
-    Refused { number: usize, place: usize },
-}
 
 // Refusal 11, or the group's multiplicity.
 fn group_answer(m: usize, n: usize, cells: &[u8], group: usize) -> Answer
@@ -47,7 +43,7 @@ pub fn multiplicity(m: usize, n: usize, cells: &[u8], group: usize) -> Answer
 {
     let judged = bare::bare_cells(m, n, cells);
     match judged {
-        Bare::Refused { number, place } => Answer::Refused { number, place },
-        Bare::Good => group_answer(m, n, cells, group),
+        Outcome::Refused { number, place } => Answer::Refused { number, place },
+        Outcome::Accepted => group_answer(m, n, cells, group),
     }
 }

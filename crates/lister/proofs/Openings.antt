@@ -8,10 +8,10 @@ use Rattle.rules.specs.Sheets.{Net}
 use Rattle.rules.specs.Answers.{Answer, accepted, refused, onward}
 use Rattle.rules.specs.Reading.{readNet}
 use Rattle.rules.specs.Lister.{Turn, gateAt, noneLeft, listing}
-use Rattle.fields.specs.Steps.{outcomeAs}
-use Rattle.fields.specs.declared.steps.Outcome.the-variants.{Accepted, Refused as NotAccepted}
-use Rattle.sheets.specs.Answers.{NetReads}
-use Rattle.sheets.specs.declared.net.NetRead.{NetRead}
+use Rattle.answers.specs.Answers.{outcomeAs}
+use Rattle.answers.specs.declared.outcome.Outcome.the-variants.{Accepted, Refused as NotAccepted}
+use Rattle.net_reading.specs.Answers.{NetReads}
+use Rattle.net_reading.specs.declared.net.NetRead.{NetRead}
 use Rattle.demands.specs.Listing.{turn-refused}
 use Rattle.lister.specs.declared.turns.Turn as code
 use Rattle.lister.specs.declared.calls.Opened.{Opened}

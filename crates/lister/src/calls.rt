@@ -7,8 +7,8 @@ use crate::places::first_gate;
 use crate::places::line_after;
 use crate::turns::Turn;
 use crate::turns::turn_at;
-use fields::steps::Outcome;
-use sheets::net::read_net;
+use answers::outcome::Outcome;
+use net_reading::net::read_net;
 
 // Where a lister starts, on an accepted sheet; or the sheet's refusal.
 pub enum Opened {

@@ -12,8 +12,8 @@ use Rattle.rules.specs.Marks.{markIn, marksOf, marksLength, storedMarks}
 use Rattle.rules.specs.Marking.{Marked, markingCall}
 use Rattle.rules.specs.Answers.{accepted, refused, inkIn, written}
 use Rattle.rules.specs.BareCells.{bareCells}
-use Rattle.groups.specs.declared.call.Answer.{Answer}
-use Rattle.groups.specs.Answers.{answerOf}
+use Rattle.answers.specs.declared.answer.Answer.{Answer}
+use Rattle.answers.specs.Answers.{answerOf}
 use Rattle.marks.specs.Marking.{Marking}
 
 abbrev pub markedOf : Answer → List ℕ → Marked

@@ -8,9 +8,9 @@ ghost use Rattle.rules.specs.Marking.{markingCall};
 ghost use Rattle.marks.specs.Answers.{markedOf, markedInto};
 use crate::marking;
 use crate::stored;
+use answers::answer::Answer;
+use answers::outcome::Outcome;
 use groups::bare;
-use groups::bare::Bare;
-use groups::call::Answer;
 
 // Refusal 14, or all marks.
 fn mark_into(m: usize, n: usize, cells: &[u8], marks: &mut [u8]) -> Answer
@@ -33,7 +33,7 @@ pub fn marking(m: usize, n: usize, cells: &[u8], marks: &mut [u8]) -> Answer
 {
     let judged = bare::bare_cells(m, n, cells);
     match judged {
-        Bare::Refused { number, place } => Answer::Refused { number, place },
-        Bare::Good => mark_into(m, n, cells, marks),
+        Outcome::Refused { number, place } => Answer::Refused { number, place },
+        Outcome::Accepted => mark_into(m, n, cells, marks),
     }
 }

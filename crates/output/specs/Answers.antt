@@ -9,13 +9,9 @@ use Rattle.rules.specs.Settling.{Made, writtenSheet}
 use Rattle.rules.specs.Answers.{accepted, refused, written}
 use Rattle.laws.specs.Settling.{sheet-15, sheet-written}
 use Rattle.radix.specs.Fronts.{front}
-use Rattle.groups.specs.declared.call.Answer.{Answer}
-use Rattle.groups.specs.Answers.{answerOf}
+use Rattle.answers.specs.Answers.{answerOf}
 use Rattle.lines.specs.Put.{Put, Wrote, put-wrote}
 use Rattle.laws.specs.Answers.{written-front}
-
-abbrev pub madeOf : Answer → List ℕ → List ℕ → List ℕ → Made
-madeOf r cells marks output = record { answer = answerOf r; cells = cells; marks = marks; output = output }
 
 -- ---- a sheet that was printed into a buffer of its own, and the output
 

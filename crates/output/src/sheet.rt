@@ -7,13 +7,13 @@ ghost use Rattle.rules.specs.Limits.{mostSettled};
 ghost use Rattle.rules.specs.Printed.{printedNet};
 ghost use Rattle.rules.specs.Settling.{writtenSheet};
 ghost use Rattle.lines.specs.Names.{NamesInside, netIn};
-ghost use Rattle.printing.specs.Gates.{GatesInside};
-ghost use Rattle.output.specs.Answers.{madeOf};
-use groups::call::Answer;
+ghost use Rattle.net_printing.specs.Gates.{GatesInside};
+ghost use Rattle.answers.specs.Answers.{madeOf};
+use answers::answer::Answer;
 use lines::put::copy;
+use net_printing::net;
 use nets::forms::Header;
 use nets::forms::Net;
-use printing::net;
 use radix::limits;
 
 // Refusal 15, or the sheet and its length.

@@ -18,13 +18,12 @@ use Rattle.rules.specs.Settling.{Made, settledNet, writtenSheet, settledInto, s
 use Rattle.rules.specs.Reading.{readNet, readTable, tableOfNet}
 use Rattle.rules.specs.Programs.{programOutput, zeros}
 use Rattle.laws.specs.Settling.{WholeTwo, marksOfTable, into-13, into-14, into-marked, marked-16, marked-tree, sheet-15, sheet-written, settle-refused, settle-accepted, make-refused, make-accepted}
-use Rattle.groups.specs.declared.call.Answer as own
-use Rattle.groups.specs.declared.call.Answer.the-variants.{Accepted, Refused}
-use Rattle.groups.specs.Answers.{answerOf}
+use Rattle.answers.specs.declared.answer.Answer as own
+use Rattle.answers.specs.declared.answer.Answer.the-variants.{Accepted, Refused}
+use Rattle.answers.specs.Answers.{answerOf, madeOf}
 use Rattle.lines.specs.Put.{Wrote}
 use Rattle.lines.specs.Refusals.{refusalLines}
 use Rattle.laws.specs.Answers.{written-front}
-use Rattle.output.specs.Answers.{madeOf}
 use Rattle.settling.specs.declared.program.Printed.{Printed}
 
 -- a text at the front of its bytes, and what lending that part asks

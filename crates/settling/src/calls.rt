@@ -1,18 +1,18 @@
 // Settling and making. Any sheet and buffers of any length may come in.
 ghost use mathlib.Core.Path.{_≡_};
 ghost use Rattle.rules.specs.Settling.{settleCall, makeCall};
-ghost use Rattle.output.specs.Answers.{madeOf};
+ghost use Rattle.answers.specs.Answers.{madeOf};
 ghost use Rattle.accepted.specs.Taken.{NetTaken};
-use fields::steps::Outcome;
-use groups::call::Answer;
+use answers::answer::Answer;
+use answers::outcome::Outcome;
+use net_reading::net;
 use nets::forms::Header;
 use nets::forms::Net;
 use nets::values;
 use radix::limits;
 use radix::powers;
-use sheets::net;
 use synthesis::into;
-use tables::sheet;
+use table_reading::sheet;
 
 // The net's table goes into an array of its own first: a refusal must change no buffer.
 fn settle_net(

@@ -18,17 +18,17 @@ use Rattle.nets.specs.declared.forms.Header.{Header}
 use Rattle.nets.specs.declared.forms.Net.{Net}
 use Rattle.nets.specs.Forms.{headerOf}
 use Rattle.laws.specs.Sizes.{sized, kept-fits}
-use Rattle.groups.specs.declared.call.Answer.{Answer}
+use Rattle.answers.specs.declared.answer.Answer.{Answer}
 use Rattle.marks.specs.Stored.{held}
 use Rattle.marks.specs.Marking.{Marking}
 use Rattle.lines.specs.Names.{netIn, tableIn}
-use Rattle.printing.specs.Gates.{GatesInside}
-use Rattle.printing.specs.Kept.{gates-inside}
+use Rattle.net_printing.specs.Gates.{GatesInside}
+use Rattle.net_printing.specs.Kept.{gates-inside}
 use Rattle.readback.specs.Length.{net-length}
 use Rattle.settled.specs.Wired.{MarksIn}
 use Rattle.settled.specs.SettledNet.{SettledNet, marks-in}
 use Rattle.accepted.specs.Taken.{Given}
-use Rattle.output.specs.Answers.{madeOf}
+use Rattle.answers.specs.Answers.{madeOf}
 use Rattle.output.specs.Place.{place-agree}
 
 module _ (s : List ℕ) (h : Header) (inks : List ℕ) (given : Given s h inks) where

@@ -22,9 +22,4 @@ pub mod NoTree
 pub mod Existence
 pub mod Uniqueness
 pub mod DistinctInks
-pub mod PartitionMatrix
-pub mod Decompositions
-pub mod FanoutFree
-pub mod Conjecture2
-pub mod Conjecture3
 pub mod NetTables

@@ -1,7 +1,7 @@
 -- `capi::flat` meets its contract, in each arm. Assumes nothing.
 use mathlib.Core.Path.{sym, ap}
-use Rattle.groups.specs.declared.call.Answer.{Answer}
-use Rattle.groups.specs.Answers.{answerOf}
+use Rattle.answers.specs.declared.answer.Answer.{Answer}
+use Rattle.answers.specs.Answers.{answerOf}
 use Rattle.capi.specs.Flat.{flatOf}
 use borrow.Author.Needs.{needs}
 use Rattle.capi.proofs.flat.Statement.{statement}

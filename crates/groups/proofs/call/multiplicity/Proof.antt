@@ -1,7 +1,8 @@
 -- `groups::call::multiplicity` meets its contract: what bare cells are refused for, or what the group's answer is.
 -- Assumes nothing.
 use mathlib.Core.Path.{sym, ap, _∙_}
-use Rattle.groups.specs.Answers.{bareOf, bare-accepted, multiplicity-refused, multiplicity-judged}
+use Rattle.answers.specs.Answers.{outcomeAs}
+use Rattle.groups.specs.Answers.{bare-accepted, multiplicity-refused, multiplicity-judged}
 use borrow.Author.Needs.{needs}
 use Rattle.groups.proofs.call.multiplicity.Statement.{statement}
 use Rattle.groups.proofs.call.multiplicity.Tie as tie
@@ -16,13 +17,13 @@ enum-told : tie.Need-enum-told
 enum-told c = search needs
 
 group-answer-requires : tie.Need-group-answer-requires
-group-answer-requires c κs = bare-accepted _ _ _ (sym (ap bareOf (c .enum-told .given .1)) ∙ c .before .before .bare-cells .ensures)
+group-answer-requires c κs = bare-accepted _ _ _ (sym (ap (outcomeAs tt) (c .enum-told .given .1)) ∙ c .before .before .bare-cells .ensures)
 
 returns : tie.Need-returns
-returns c = multiplicity-refused _ _ _ _ _ _ (sym (ap bareOf (c .before .judged .given .1)) ∙ c .before .before .before .bare-cells .ensures)
+returns c = multiplicity-refused _ _ _ _ _ _ (sym (ap (outcomeAs tt) (c .before .judged .given .1)) ∙ c .before .before .before .bare-cells .ensures)
 
 returns-2 : tie.Need-returns-2
-returns-2 c = c .group-answer .ensures ∙ multiplicity-judged _ _ _ _ (sym (ap bareOf (c .before .enum-told .given .1)) ∙ c .before .before .before .bare-cells .ensures)
+returns-2 c = c .group-answer .ensures ∙ multiplicity-judged _ _ _ _ (sym (ap (outcomeAs tt) (c .before .enum-told .given .1)) ∙ c .before .before .before .bare-cells .ensures)
 
 pub multiplicity-spec : {M : Type 1} → statement M
 multiplicity-spec =

@@ -1,6 +1,7 @@
 -- `marks::call::marking` meets its contract: what bare cells are refused for, or what marking does. Assumes nothing.
 use mathlib.Core.Path.{sym, ap, _∙_}
-use Rattle.groups.specs.Answers.{bareOf, bare-accepted}
+use Rattle.answers.specs.Answers.{outcomeAs}
+use Rattle.groups.specs.Answers.{bare-accepted}
 use Rattle.marks.specs.Answers.{marking-refused, marking-judged}
 use borrow.Author.Needs.{needs}
 use Rattle.marks.proofs.call.marking.Statement.{statement}
@@ -16,10 +17,10 @@ enum-told : tie.Need-enum-told
 enum-told c = search needs
 
 mark-into-requires : tie.Need-mark-into-requires
-mark-into-requires c κs = bare-accepted _ _ _ (sym (ap bareOf (c .before .enum-told .given .1)) ∙ c .before .before .before .bare-cells .ensures)
+mark-into-requires c κs = bare-accepted _ _ _ (sym (ap (outcomeAs tt) (c .before .enum-told .given .1)) ∙ c .before .before .before .bare-cells .ensures)
 
 returns : tie.Need-returns
-returns c = marking-refused _ _ _ _ _ _ (sym (ap bareOf (c .before .judged .given .1)) ∙ c .before .before .before .bare-cells .ensures)
+returns c = marking-refused _ _ _ _ _ _ (sym (ap (outcomeAs tt) (c .before .judged .given .1)) ∙ c .before .before .before .bare-cells .ensures)
 
 same-length : tie.Need-same-length
 same-length c = search needs
@@ -28,7 +29,7 @@ returns-2 : tie.Need-returns-2
 returns-2 c =
     let a = c .before .before .before .before .before .before .before .before .before .args in
     c .before .before .mark-into .ensures
-    ∙ marking-judged (a .m) (a .n) (a .cells .now) (a .marks .now) (sym (ap bareOf (c .before .before .before .before .enum-told .given .1)) ∙ c .before .before .before .before .before .before .bare-cells .ensures)
+    ∙ marking-judged (a .m) (a .n) (a .cells .now) (a .marks .now) (sym (ap (outcomeAs tt) (c .before .before .before .before .enum-told .given .1)) ∙ c .before .before .before .before .before .before .bare-cells .ensures)
 
 pub marking-spec : {M : Type 1} → statement M
 marking-spec =

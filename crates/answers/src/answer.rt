@@ -1,0 +1,5 @@
+// What a call answers: a value, or a refusal's number and place.
+pub enum Answer {
+    Accepted(usize),
+    Refused { number: usize, place: usize },
+}

@@ -1,0 +1,6 @@
+// Which of the two sheets a refusal names.
+pub enum Named {
+    Net,
+    Table,
+    Neither,
+}

@@ -1,0 +1,73 @@
+-- `net_printing::net::print_digits` meets its contract. The loop's invariant: the digits from i on are left to write at p.
+-- Assumes nothing.
+use Prim.Native.Nat.{ℕ, _+_, _-_, _≤_, _<_}
+use mathlib.Core.List.{List, map}
+use native.Mathlib.Omega.{arith}
+use lib.ListN.{length, getD, set, drop, length-drop, length-map}
+use Rattle.rules.specs.Text.{digitByte}
+use Rattle.laws.specs.Places.{map-at}
+use Rattle.lines.specs.Put.{Left, all-left, next-left, past-left}
+use Rattle.net_printing.proofs.net.print_digits.Statement.{statement}
+use Rattle.net_printing.proofs.net.print_digits.Tie as tie
+
+abbrev Inv-loop : tie.InvT-loop
+Inv-loop digits out₀ at i₀ p₀ out i p = (i ≤ length digits) × Left out p (drop i (map digitByte digits)) out₀ at (map digitByte digits)
+
+abbrev μ-loop : tie.MeasureT-loop
+μ-loop digits out₀ at i₀ p₀ out i p = length digits - i
+
+-- what is left, by its length
+room : (digits : List ℕ) (i p n : ℕ) → p + length (drop i (map digitByte digits)) ≤ n → p + (length digits - i) ≤ n
+room digits i p n h = rw (length-drop, length-map) at h
+
+turn : (digits : List ℕ) (i : ℕ) {out : List ℕ} {p : ℕ} {out₀ : List ℕ} {at : ℕ} {t : List ℕ} → i < length digits → Left out p (drop i (map digitByte digits)) out₀ at t
+    → Left (set out p (48 + getD digits i 0)) (p + 1) (drop (i + 1) (map digitByte digits)) out₀ at t
+unfolding digitByte
+turn digits i h l = rw (map-at digitByte digits i 0 0 h) at (next-left (map digitByte digits) i (rw length-map h) l)
+
+loop-holds : tie.Need-loop-holds Inv-loop μ-loop
+loop-holds c = (omega arith, all-left (c .pre .0))
+
+shared-slice-read-out : tie.Need-shared-slice-read-out Inv-loop μ-loop
+shared-slice-read-out c = omega arith
+
+add-out : tie.Need-add-out Inv-loop μ-loop
+add-out c = omega (arith, c .before .before .before .pre .1 (c .before .before .loop .i) (c .before .loop-test .taken))
+
+slice-write-out : tie.Need-slice-write-out Inv-loop μ-loop
+slice-write-out c = omega (arith, room (c .before .before .before .args .digits .now) (c .before .before .loop .i) (c .before .before .loop .p) (length (c .before .before .loop .out)) (c .before .before .loop .inv .1 .room))
+
+add-i : tie.Need-add-i Inv-loop μ-loop
+add-i c = omega arith
+
+add-p : tie.Need-add-p Inv-loop μ-loop
+add-p c = omega (arith, room (c .before .before .before .args .digits .now) (c .before .before .loop .i) (c .before .before .loop .p) (length (c .before .before .loop .out)) (c .before .before .loop .inv .1 .room))
+
+loop-less : tie.Need-loop-less Inv-loop μ-loop
+loop-less c = omega arith
+
+loop-again : tie.Need-loop-again Inv-loop μ-loop
+loop-again c = (omega arith, turn (c .before .before .before .args .digits .now) (c .before .before .loop .i) (c .before .loop-test .taken) (c .before .before .loop .inv .1))
+
+same-length : tie.Need-same-length Inv-loop μ-loop
+same-length c = c .before .loop .inv .1 .kept
+
+returns : tie.Need-returns Inv-loop μ-loop
+returns c = past-left (map digitByte (c .before .before .args .digits .now)) (c .before .loop .i) (rw length-map (c .loop-test .left)) (c .before .loop .inv .1)
+
+pub print-digits-spec : {M : Type 1} → statement M
+print-digits-spec =
+    tie.close
+    (tie.spec
+    Inv-loop
+    μ-loop
+    loop-holds
+    shared-slice-read-out
+    add-out
+    slice-write-out
+    add-i
+    add-p
+    loop-less
+    loop-again
+    same-length
+    returns)

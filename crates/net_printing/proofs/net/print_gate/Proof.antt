@@ -1,0 +1,104 @@
+-- `net_printing::net::print_gate` meets its contract: after each call, what is left to write.
+-- Assumes nothing.
+use Prim.Native.Nat.{ℕ, _<_}
+use mathlib.Core.List.{List, [], _∷_, _++_, map}
+use native.Mathlib.Omega.{arith}
+use borrow.Author.Needs.{needs}
+use lib.ListN.{getD}
+use Rattle.rules.specs.Text.{space, newline, digitByte}
+use Rattle.rules.specs.Printed.{printedGate}
+use Rattle.nets.specs.Room.{mostGates}
+use Rattle.nets.specs.Forms.{gateOf}
+use Rattle.lines.specs.Put.{Put, Left, parts-left, put-left, room-for, room-byte, last-put}
+use Rattle.net_printing.specs.Gates.{referenceIn, gateLine}
+use Rattle.lines.specs.Lines.{line-three}
+use Rattle.net_printing.proofs.net.print_gate.Statement.{statement}
+use Rattle.net_printing.proofs.net.print_gate.Tie as tie
+
+abbrev left : tie.Start → List ℕ
+left c = referenceIn (c .args .s .now) (c .args .h) (getD (c .args .net .left) (c .args .k) 0)
+
+abbrev right : tie.Start → List ℕ
+right c = referenceIn (c .args .s .now) (c .args .h) (getD (c .args .net .right) (c .args .k) 0)
+
+abbrev digits : tie.Start → List ℕ
+digits c = map digitByte (gateOf (c .args .net) (c .args .k) .digits)
+
+abbrev Rest : tie.Start → List ℕ → ℕ → List ℕ → Type 0
+Rest c out at t = Left out at t (c .args .out .now) (c .args .at) (gateLine (c .args .s .now) (c .args .h) (c .args .net) (c .args .k))
+
+start : (c : tie.Start)
+    → Rest c (c .args .out .now) (c .args .at) ((left c ++ (space ∷ [])) ++ ((right c ++ (space ∷ [])) ++ (digits c ++ (newline ∷ []))))
+unfolding printedGate gateOf
+start c = parts-left (line-three (left c) (right c) (digits c)) (c .pre .3)
+
+first : (c : tie.After-print-wire)
+    → Put (c .before .before .before .before .before .before .before .args .out .now) (c .before .before .before .before .before .before .before .args .at) (left (c .before .before .before .before .before .before .before) ++ (space ∷ [])) (c .print-wire .last .1 .1 .1 .0) (c .print-wire .result)
+first c = rw (c .before .before .wide .ensures .0) at (c .print-wire .ensures)
+
+after-first : (c : tie.After-print-wire)
+    → Rest (c .before .before .before .before .before .before .before) (c .print-wire .last .1 .1 .1 .0) (c .print-wire .result) ((right (c .before .before .before .before .before .before .before) ++ (space ∷ [])) ++ (digits (c .before .before .before .before .before .before .before) ++ (newline ∷ [])))
+after-first c = put-left (start (c .before .before .before .before .before .before .before)) (first c)
+
+second : (c : tie.After-print-wire2)
+    → Put (c .before .before .before .before .before .print-wire .last .1 .1 .1 .0) (c .before .before .before .before .before .print-wire .result) (right (c .before .before .before .before .before .before .before .before .before .before .before .before) ++ (space ∷ [])) (c .print-wire2 .last .1 .1 .1 .0) (c .print-wire2 .result)
+second c = rw (c .before .before .wide2 .ensures .0) at (c .print-wire2 .ensures)
+
+after-second : (c : tie.After-print-wire2) → Rest (c .before .before .before .before .before .before .before .before .before .before .before .before) (c .print-wire2 .last .1 .1 .1 .0) (c .print-wire2 .result) (digits (c .before .before .before .before .before .before .before .before .before .before .before .before) ++ (newline ∷ []))
+after-second c = put-left (after-first (c .before .before .before .before .before)) (second c)
+
+after-table : (c : tie.After-print-gate-table) → Rest (c .before .before .before .before .before .before .before .before .before .before .before .before .before .before .before .before) (c .print-gate-table .last .1 .1 .0) (c .print-gate-table .result) (newline ∷ [])
+after-table c = put-left (after-second (c .before .before .before .before)) (c .print-gate-table .ensures)
+
+-- the form has room for the gate
+place : (c : tie.Start) → c .args .k < mostGates
+place c = omega (arith, c .pre .1 .count, c .pre .2)
+
+array-read-wide : tie.Need-array-read-wide
+array-read-wide c = place (c .before .before .before .before)
+
+wide-requires : tie.Need-wide-requires
+wide-requires c κs = search needs
+
+print-wire-requires : tie.Need-print-wire-requires
+print-wire-requires c κs =
+    rw (c .before .wide .ensures .0)
+    (c .before .before .before .before .before .before .pre .0, room-for (left (c .before .before .before .before .before .before) ++ (space ∷ [])) ((right (c .before .before .before .before .before .before) ++ (space ∷ [])) ++ (digits (c .before .before .before .before .before .before) ++ (newline ∷ []))) (start (c .before .before .before .before .before .before)))
+
+array-read-wide-2 : tie.Need-array-read-wide-2
+array-read-wide-2 c = place (c .before .before .before .before .before .before .before .before .before)
+
+wide-requires-2 : tie.Need-wide-requires-2
+wide-requires-2 c κs = search needs
+
+print-wire-requires-2 : tie.Need-print-wire-requires-2
+print-wire-requires-2 c κs =
+    rw (c .before .wide2 .ensures .0) (c .before .before .before .before .before .before .before .before .before .before .before .pre .0, room-for (right (c .before .before .before .before .before .before .before .before .before .before .before) ++ (space ∷ [])) (digits (c .before .before .before .before .before .before .before .before .before .before .before) ++ (newline ∷ [])) (after-first (c .before .before .before .before)))
+
+print-gate-table-requires : tie.Need-print-gate-table-requires
+print-gate-table-requires c κs = (c .before .before .before .before .before .before .before .before .before .before .before .before .before .before .before .pre .1, c .before .before .before .before .before .before .before .before .before .before .before .before .before .before .before .pre .2, room-for (digits (c .before .before .before .before .before .before .before .before .before .before .before .before .before .before .before)) (newline ∷ []) (after-second (c .before .before .before)))
+
+put-requires : tie.Need-put-requires
+put-requires c κs = room-byte (after-table (c .before .before .before))
+
+same-length : tie.Need-same-length
+same-length c = search needs
+
+returns : tie.Need-returns
+unfolding newline
+returns c = last-put (after-table (c .before .before .before .before .before .before)) (c .before .before .put .ensures)
+
+pub print-gate-spec : {M : Type 1} → statement M
+print-gate-spec =
+    tie.close
+    (tie.spec
+    array-read-wide
+    wide-requires
+    print-wire-requires
+    array-read-wide-2
+    wide-requires-2
+    print-wire-requires-2
+    print-gate-table-requires
+    put-requires
+    same-length
+    returns)

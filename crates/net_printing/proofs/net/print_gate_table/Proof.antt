@@ -1,0 +1,73 @@
+-- `net_printing::net::print_gate_table` meets its contract: the part of the form's digits that it prints is the gate's.
+-- Assumes nothing.
+use Prim.Native.Nat.{ℕ, _+_, _-_, _*_, _≤_}
+use mathlib.Core.Path.{_≡_, sym, ap, _∙_}
+use native.Mathlib.Omega.{arith}
+use borrow.Author.Needs.{needs}
+use lib.ListN.{length, take, drop, length-map}
+use Rattle.nets.specs.Room.{mostDigits}
+use Rattle.nets.specs.declared.forms.Net.{Net}
+use Rattle.nets.specs.Forms.{gateOf}
+use Rattle.net_printing.specs.Gates.{table-end, table-digit}
+use Rattle.net_printing.proofs.net.print_gate_table.Statement.{statement}
+use Rattle.net_printing.proofs.net.print_gate_table.Tie as tie
+
+end : (c : tie.Start) → c .args .k * (c .args .net .levels * c .args .net .levels) + c .args .net .levels * c .args .net .levels ≤ mostDigits
+end c = omega (arith, c .pre .0 .room, table-end (c .args .net) (c .pre .0) (c .args .k) (c .pre .1))
+
+-- an array of the form has its length
+size : (c : tie.Start) → length (c .args .net .digits) ≡ mostDigits
+size c = sym (length-map (c .args .net .digits) (λ v. v)) ∙ c .good .0 .1 .1 .1 .1 .1 .1 .1 .0 .1 .0 .1
+
+-- the part that the code takes
+part : (net : Net) (k : ℕ)
+    → take (k * (net .levels * net .levels) + net .levels * net .levels - k * (net .levels * net .levels)) (drop (k * (net .levels * net .levels)) (net .digits))
+    ≡ gateOf net k .digits
+unfolding gateOf
+part net k =
+    let size : ℕ = net .levels * net .levels in
+    let e : k * size + size - k * size ≡ size = omega arith in
+    ap (λ (n : ℕ). take n (drop (k * size) (net .digits))) e
+
+mul-size : tie.Need-mul-size
+mul-size c = omega (arith, end (c .before .before .before))
+
+mul-from : tie.Need-mul-from
+mul-from c = omega (arith, end (c .before .before .before))
+
+add-end : tie.Need-add-end
+add-end c = omega (arith, end (c .before .before .before))
+
+sub-print-digits : tie.Need-sub-print-digits
+sub-print-digits c = search needs
+
+part-print-digits-start : tie.Need-part-print-digits-start
+part-print-digits-start c = search needs
+
+part-print-digits-end : tie.Need-part-print-digits-end
+part-print-digits-end c = omega (arith, end (c .before .before .before .before), size (c .before .before .before .before))
+
+print-digits-requires : tie.Need-print-digits-requires
+print-digits-requires c κs =
+    rw (part (c .before .before .before .before .before .before .args .net) (c .before .before .before .before .before .before .args .k))
+    (c .before .before .before .before .before .before .pre .2, table-digit (c .before .before .before .before .before .before .args .net) (c .before .before .before .before .before .before .pre .0) (c .before .before .before .before .before .before .args .k) (c .before .before .before .before .before .before .pre .1))
+
+same-length : tie.Need-same-length
+same-length c = search needs
+
+returns : tie.Need-returns
+returns c = rw (part (c .before .before .before .before .before .before .before .before .before .args .net) (c .before .before .before .before .before .before .before .before .before .args .k)) at (c .before .before .print-digits .ensures)
+
+pub print-gate-table-spec : {M : Type 1} → statement M
+print-gate-table-spec =
+    tie.close
+    (tie.spec
+    mul-size
+    mul-from
+    add-end
+    sub-print-digits
+    part-print-digits-start
+    part-print-digits-end
+    print-digits-requires
+    same-length
+    returns)

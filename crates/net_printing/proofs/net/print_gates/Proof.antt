@@ -1,0 +1,62 @@
+-- `net_printing::net::print_gates` meets its contract. The loop's invariant: the lines from gate k on are left to write at p.
+-- Assumes nothing.
+use Prim.Native.Nat.{ℕ, _+_, _-_}
+use mathlib.Core.Path.{sym}
+use mathlib.Core.List.{List, _++_}
+use native.Mathlib.Omega.{arith}
+use Rattle.lines.specs.Put.{Left, parts-left, put-left, room-for, none-left}
+use Rattle.net_printing.specs.Gates.{gateLine, gateLines, linesFrom, lines-all, lines-next, lines-none}
+use Rattle.net_printing.proofs.net.print_gates.Statement.{statement}
+use Rattle.net_printing.proofs.net.print_gates.Tie as tie
+
+abbrev Inv-loop : tie.InvT-loop
+Inv-loop s h net out₀ at gates k₀ p₀ out k p = Left out p (linesFrom s h net k) out₀ at (gateLines s h net)
+
+abbrev μ-loop : tie.MeasureT-loop
+μ-loop s h net out₀ at gates k₀ p₀ out k p = gates - k
+
+abbrev this : tie.In-loop Inv-loop μ-loop → List ℕ
+this c = gateLine (c .before .before .before .before .args .s .now) (c .before .before .before .before .args .h) (c .before .before .before .before .args .net) (c .before .loop .k)
+
+abbrev later : tie.In-loop Inv-loop μ-loop → List ℕ
+later c = linesFrom (c .before .before .before .before .args .s .now) (c .before .before .before .before .args .h) (c .before .before .before .before .args .net) (c .before .loop .k + 1)
+
+turn : (c : tie.In-loop Inv-loop μ-loop)
+    → Left (c .before .loop .out) (c .before .loop .p) (this c ++ later c) (c .before .before .before .before .args .out .now) (c .before .before .before .before .args .at)
+    (gateLines (c .before .before .before .before .args .s .now) (c .before .before .before .before .args .h) (c .before .before .before .before .args .net))
+turn c = rw (lines-next (c .before .before .before .before .args .s .now) (c .before .before .before .before .args .h) (c .before .before .before .before .args .net) (c .before .loop .k) (c .loop-test .taken)) at (c .before .loop .inv)
+
+loop-holds : tie.Need-loop-holds Inv-loop μ-loop
+loop-holds c = parts-left (sym (lines-all (c .before .before .args .s .now) (c .before .before .args .h) (c .before .before .args .net))) (c .before .before .pre .2)
+
+print-gate-requires : tie.Need-print-gate-requires Inv-loop μ-loop
+print-gate-requires c κs = (c .before .before .before .before .before .pre .0, c .before .before .before .before .before .pre .1, c .before .loop-test .taken, room-for (this (c .before)) (later (c .before)) (turn (c .before)))
+
+add-k : tie.Need-add-k Inv-loop μ-loop
+add-k c = omega arith
+
+loop-less : tie.Need-loop-less Inv-loop μ-loop
+loop-less c = omega arith
+
+loop-again : tie.Need-loop-again Inv-loop μ-loop
+loop-again c = put-left (turn (c .before .before .before .before)) (c .before .before .print-gate .ensures)
+
+same-length : tie.Need-same-length Inv-loop μ-loop
+same-length c = c .before .loop .inv .kept
+
+returns : tie.Need-returns Inv-loop μ-loop
+returns c = none-left (rw (lines-none (c .before .before .before .before .args .s .now) (c .before .before .before .before .args .h) (c .before .before .before .before .args .net) (c .before .loop .k) (c .loop-test .left)) at (c .before .loop .inv))
+
+pub print-gates-spec : {M : Type 1} → statement M
+print-gates-spec =
+    tie.close
+    (tie.spec
+    Inv-loop
+    μ-loop
+    loop-holds
+    print-gate-requires
+    add-k
+    loop-less
+    loop-again
+    same-length
+    returns)

@@ -1,0 +1,84 @@
+-- `net_printing::net::print_net` meets its contract: after each call, what is left to write.
+-- Assumes nothing.
+use Prim.Native.Nat.{ℕ}
+use mathlib.Core.List.{List, [], _∷_, _++_}
+use native.Mathlib.Omega.{arith}
+use borrow.Author.Needs.{needs}
+use Rattle.rules.specs.Text.{space, newline, text, decimal}
+use Rattle.rules.specs.Printed.{line, printedNet}
+use Rattle.lines.specs.Put.{Left, parts-left, put-left, room-for, last-put, put-wrote}
+use Rattle.lines.specs.Names.{namesIn, netIn}
+use Rattle.net_printing.specs.Gates.{gateLines, net-parts}
+use Rattle.net_printing.proofs.net.print_net.Statement.{statement}
+use Rattle.net_printing.proofs.net.print_net.Tie as tie
+
+abbrev firstTwo : tie.Start → List ℕ
+firstTwo c = line (text "levels" ∷ text "inputs" ∷ []) ++ line (decimal (c .args .h .levels) ∷ decimal (c .args .h .inputs) ∷ [])
+
+abbrev third : tie.Start → List ℕ
+third c = line (namesIn (c .args .s .now) (c .args .h))
+
+abbrev fourth : List ℕ
+fourth = line (text "left" ∷ text "right" ∷ text "table" ∷ [])
+
+abbrev gates : tie.Start → List ℕ
+gates c = gateLines (c .args .s .now) (c .args .h) (c .args .net)
+
+abbrev sheet : tie.Start → List ℕ
+sheet c = printedNet (netIn (c .args .s .now) (c .args .h) (c .args .net))
+
+abbrev Rest : tie.Start → List ℕ → ℕ → List ℕ → Type 0
+Rest c out at t = Left out at t (c .args .out .now) 0 (sheet c)
+
+start : (c : tie.Start) → Rest c (c .args .out .now) 0 (firstTwo c ++ (third c ++ (fourth ++ gates c)))
+start c = parts-left (net-parts (c .args .s .now) (c .args .h) (c .args .net)) (omega (arith, c .pre .2))
+
+after-pair : (c : tie.After-print-pair) → Rest (c .before .before .before .before .before) (c .print-pair .last .1 .1 .1 .0) (c .print-pair .result) (third (c .before .before .before .before .before) ++ (fourth ++ gates (c .before .before .before .before .before)))
+unfolding line text space newline
+after-pair c = put-left (start (c .before .before .before .before .before)) (c .print-pair .ensures)
+
+after-names : (c : tie.After-print-names-line) → Rest (c .before .before .before .before .before .before .before .before .before) (c .print-names-line .last .1 .1 .0) (c .print-names-line .result) (fourth ++ gates (c .before .before .before .before .before .before .before .before .before))
+after-names c = put-left (after-pair (c .before .before .before .before)) (c .print-names-line .ensures)
+
+after-fourth : (c : tie.After-copy) → Rest (c .before .before .before .before .before .before .before .before .before .before .before .before .before .before) (c .copy .last .1 .0) (c .copy .result) (gates (c .before .before .before .before .before .before .before .before .before .before .before .before .before .before))
+unfolding line text space newline
+after-fourth c = put-left (after-names (c .before .before .before .before .before)) (c .copy .ensures)
+
+slice-aggregate-print-pair : tie.Need-slice-aggregate-print-pair
+slice-aggregate-print-pair c = search needs
+
+print-pair-requires : tie.Need-print-pair-requires
+unfolding line text space newline
+print-pair-requires c κs = room-for (firstTwo (c .before .before .before .before)) (third (c .before .before .before .before) ++ (fourth ++ gates (c .before .before .before .before))) (start (c .before .before .before .before))
+
+print-names-line-requires : tie.Need-print-names-line-requires
+print-names-line-requires c κs = (c .before .before .before .before .before .before .before .before .pre .0, room-for (third (c .before .before .before .before .before .before .before .before)) (fourth ++ gates (c .before .before .before .before .before .before .before .before)) (after-pair (c .before .before .before)))
+
+slice-aggregate-copy : tie.Need-slice-aggregate-copy
+slice-aggregate-copy c = search needs
+
+copy-requires : tie.Need-copy-requires
+unfolding line text space newline
+copy-requires c κs = room-for fourth (gates (c .before .before .before .before .before .before .before .before .before .before .before .before .before)) (after-names (c .before .before .before .before))
+
+print-gates-requires : tie.Need-print-gates-requires
+print-gates-requires c κs = (c .before .before .before .before .before .before .before .before .before .before .before .before .before .before .before .before .before .pre .0, c .before .before .before .before .before .before .before .before .before .before .before .before .before .before .before .before .before .pre .1, after-fourth (c .before .before .before) .room)
+
+same-length : tie.Need-same-length
+same-length c = search needs
+
+returns : tie.Need-returns
+returns c = put-wrote (c .before .before .before .before .before .before .before .before .before .before .before .before .before .before .before .before .before .before .before .before .pre .2) (last-put (after-fourth (c .before .before .before .before .before .before)) (c .before .before .print-gates .ensures))
+
+pub print-net-spec : {M : Type 1} → statement M
+print-net-spec =
+    tie.close
+    (tie.spec
+    slice-aggregate-print-pair
+    print-pair-requires
+    print-names-line-requires
+    slice-aggregate-copy
+    copy-requires
+    print-gates-requires
+    same-length
+    returns)

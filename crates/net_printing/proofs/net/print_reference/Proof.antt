@@ -1,0 +1,40 @@
+-- `net_printing::net::print_reference` meets its contract.
+-- Assumes nothing.
+use borrow.Author.Needs.{needs}
+use Rattle.net_printing.specs.Gates.{reference-name, reference-gate}
+use Rattle.net_printing.proofs.net.print_reference.Statement.{statement}
+use Rattle.net_printing.proofs.net.print_reference.Tie as tie
+
+print-name-requires : tie.Need-print-name-requires
+print-name-requires c κs =
+    (c .before .before .before .before .pre .0, c .before .if1 .taken, rw (reference-name (c .before .before .before .before .args .s .now) (c .before .before .before .before .args .h) (c .before .before .before .before .args .r) (c .before .if1 .taken)) at (c .before .before .before .before .pre .1))
+
+same-length : tie.Need-same-length
+same-length c = search needs
+
+returns : tie.Need-returns
+returns c = rw (reference-name (c .before .before .before .before .before .before .before .args .s .now) (c .before .before .before .before .before .before .before .args .h) (c .before .before .before .before .before .before .before .args .r) (c .before .before .before .before .if1 .taken)) (c .before .before .print-name .ensures)
+
+add-print-decimal : tie.Need-add-print-decimal
+add-print-decimal c = search needs
+
+print-decimal-requires : tie.Need-print-decimal-requires
+print-decimal-requires c κs = rw (reference-gate (c .before .before .before .before .args .s .now) (c .before .before .before .before .args .h) (c .before .before .before .before .args .r) (c .before .if1 .left)) at (c .before .before .before .before .pre .1)
+
+same-length-2 : tie.Need-same-length-2
+same-length-2 c = search needs
+
+returns-2 : tie.Need-returns-2
+returns-2 c = rw (reference-gate (c .before .before .before .before .before .before .before .args .s .now) (c .before .before .before .before .before .before .before .args .h) (c .before .before .before .before .before .before .before .args .r) (c .before .before .before .before .if1 .left)) (c .before .before .print-decimal .ensures)
+
+pub print-reference-spec : {M : Type 1} → statement M
+print-reference-spec =
+    tie.close
+    (tie.spec
+    print-name-requires
+    same-length
+    returns
+    add-print-decimal
+    print-decimal-requires
+    same-length-2
+    returns-2)

@@ -1,0 +1,40 @@
+-- `net_reading::gates::from_right` meets its contract: the right field, then the digits.
+-- Assumes nothing.
+use borrow.Author.Needs.{needs}
+use native.Mathlib.Omega.{arith}
+use Rattle.net_reading.specs.Gates.{right-back, right-on, room-told, reference-small}
+use Rattle.net_reading.specs.References.{reference-below}
+use Rattle.net_reading.proofs.gates.from_right.Statement.{statement}
+use Rattle.net_reading.proofs.gates.from_right.Tie as tie
+
+reference-field-requires : tie.Need-reference-field-requires
+reference-field-requires c κs = (c .before .pre .0 .held, omega (arith, room-told _ _ _ (c .before .pre .0) .few))
+
+enum-known-number : tie.Need-enum-known-number
+enum-known-number c = search needs
+
+enum-known-value : tie.Need-enum-known-value
+enum-known-value c = search needs
+
+from-digits-requires : tie.Need-from-digits-requires
+from-digits-requires c κs =
+    let pre = c .before .before .before .before .before .pre in
+    let below = reference-below _ _ (c .before .before .before .before .before .args .at) _ _ _ _ _ _ (c .before .before .before .reference-field .ensures) (c .before .value .given .1) in
+    (pre .0 .form, room-told _ _ _ (pre .0), pre .1, omega (arith, reference-small _ _ _ _ (pre .0) below))
+
+returns : tie.Need-returns
+returns c = right-back _ _ _ _ _ _ (c .before .before .before .reference-field .ensures) _ _ (c .before .number .given .1)
+
+returns-2 : tie.Need-returns-2
+returns-2 c = right-on _ _ _ _ _ _ (c .before .before .before .before .reference-field .ensures) _ _ _ (c .before .before .value .given .1) (c .from-digits .ensures)
+
+pub from-right-spec : {M : Type 1} → statement M
+from-right-spec =
+    tie.close
+    (tie.spec
+    reference-field-requires
+    enum-known-number
+    enum-known-value
+    from-digits-requires
+    returns
+    returns-2)

@@ -1,0 +1,40 @@
+-- `net_reading::gates::gate_line` meets its contract: the left field, then the rest.
+-- Assumes nothing.
+use borrow.Author.Needs.{needs}
+use native.Mathlib.Omega.{arith}
+use Rattle.net_reading.specs.Gates.{left-back, left-on, room-told, references-few, reference-small}
+use Rattle.net_reading.specs.References.{reference-below}
+use Rattle.net_reading.proofs.gates.gate_line.Statement.{statement}
+use Rattle.net_reading.proofs.gates.gate_line.Tie as tie
+
+reference-field-requires : tie.Need-reference-field-requires
+reference-field-requires c κs = (c .before .pre .held, omega (arith, room-told _ _ _ (c .before .pre) .few))
+
+enum-known-number : tie.Need-enum-known-number
+enum-known-number c = search needs
+
+enum-known-value : tie.Need-enum-known-value
+enum-known-value c = search needs
+
+from-right-requires : tie.Need-from-right-requires
+from-right-requires c κs =
+    let pre = c .before .before .before .before .before .pre in
+    let below = reference-below _ _ (c .before .before .before .before .before .args .at) _ _ _ _ _ _ (c .before .before .before .reference-field .ensures) (c .before .value .given .1) in
+    (pre, omega (arith, reference-small _ _ _ _ pre below))
+
+returns : tie.Need-returns
+returns c = left-back _ _ _ _ _ (references-few _ _ _ (c .before .before .before .before .before .pre)) _ (c .before .before .before .reference-field .ensures) _ _ (c .before .number .given .1)
+
+returns-2 : tie.Need-returns-2
+returns-2 c = left-on _ _ _ _ _ (references-few _ _ _ (c .before .before .before .before .before .before .pre)) _ (c .before .before .before .before .reference-field .ensures) _ _ _ (c .before .before .value .given .1) (c .from-right .ensures)
+
+pub gate-line-spec : {M : Type 1} → statement M
+gate-line-spec =
+    tie.close
+    (tie.spec
+    reference-field-requires
+    enum-known-number
+    enum-known-value
+    from-right-requires
+    returns
+    returns-2)

@@ -1,0 +1,66 @@
+-- `net_reading::gates::gate_lines` meets its contract. The loop's invariant: the gates from here are the gates from the start.
+-- Assumes nothing.
+use borrow.Author.Needs.{needs}
+use Prim.Native.Nat.{_-_}
+use mathlib.Core.Path.{sym, subst}
+use native.Mathlib.Omega.{arith}
+use Rattle.laws.specs.Sizes.{sized}
+use Rattle.net_reading.specs.GateLines.{Building, build-start, build-done, build-room, build-back, build-next}
+use Rattle.net_reading.proofs.gates.gate_lines.Statement.{statement}
+use Rattle.net_reading.proofs.gates.gate_lines.Tie as tie
+
+abbrev Inv-loop : tie.InvT-loop
+Inv-loop s at header inputs net₀ place₀ k₀ net place k = Building s at header net place k
+
+abbrev μ-loop : tie.MeasureT-loop
+μ-loop s at header inputs net₀ place₀ k₀ net place k = inputs - k
+
+no-gates-requires : tie.Need-no-gates-requires Inv-loop μ-loop
+no-gates-requires c κs = tt
+
+loop-holds : tie.Need-loop-holds Inv-loop μ-loop
+loop-holds c =
+    let a = c .before .before .args in
+    let size = sized _ _ (c .before .before .pre .fits) in
+    subst (λ net. Building (a .s .now) (a .at) (a .header) net (a .at) 1) (sym (c .no-gates .ensures)) (build-start _ _ _ (size .inputs-least))
+
+gate-line-requires : tie.Need-gate-line-requires Inv-loop μ-loop
+gate-line-requires c κs = build-room _ _ _ _ _ _ (c .before .loop .inv) (c .loop-test .taken) (c .before .before .before .before .pre)
+
+enum-told : tie.Need-enum-told Inv-loop μ-loop
+enum-told c = search needs
+
+returns : tie.Need-returns Inv-loop μ-loop
+returns c = build-back _ _ _ _ _ _ (c .before .before .before .before .loop .inv) (c .before .before .before .loop-test .taken) _ (c .before .before .gate-line .ensures) _ _ (c .enum-told .given .1)
+
+enum-known-step : tie.Need-enum-known-step Inv-loop μ-loop
+enum-known-step c = search needs
+
+add-k : tie.Need-add-k Inv-loop μ-loop
+add-k c = omega arith
+
+loop-less : tie.Need-loop-less Inv-loop μ-loop
+loop-less c = omega (arith, c .before .before .before .before .before .loop-test .taken)
+
+loop-again : tie.Need-loop-again Inv-loop μ-loop
+loop-again c = build-next _ _ _ _ _ _ (c .before .before .before .before .before .before .loop .inv) (c .before .before .before .before .before .loop-test .taken) _ (c .before .before .before .before .gate-line .ensures) _ _ (c .before .before .step .given .1)
+
+returns-2 : tie.Need-returns-2 Inv-loop μ-loop
+returns-2 c = build-done _ _ _ _ _ _ (c .before .loop .inv) (c .loop-test .left)
+
+pub gate-lines-spec : {M : Type 1} → statement M
+gate-lines-spec =
+    tie.close
+    (tie.spec
+    Inv-loop
+    μ-loop
+    no-gates-requires
+    loop-holds
+    gate-line-requires
+    enum-told
+    returns
+    enum-known-step
+    add-k
+    loop-less
+    loop-again
+    returns-2)

@@ -1,0 +1,29 @@
+-- `net_reading::net::from_gates` meets its contract: the gate lines, with nothing after them.
+-- Assumes nothing.
+use borrow.Author.Needs.{needs}
+use Rattle.net_reading.specs.Answers.{gates-back, gates-over, gates-closed}
+use Rattle.net_reading.proofs.net.from_gates.Statement.{statement}
+use Rattle.net_reading.proofs.net.from_gates.Tie as tie
+
+gate-lines-requires : tie.Need-gate-lines-requires
+gate-lines-requires c κs = search needs
+
+enum-known-step : tie.Need-enum-known-step
+enum-known-step c = search needs
+
+enum-known-step-2 : tie.Need-enum-known-step-2
+enum-known-step-2 c = search needs
+
+returns : tie.Need-returns
+returns c = gates-over _ _ _ (c .before .before .before .before .before .before .before .pre) _ (c .before .before .before .before .before .gate-lines .ensures) _ _ (c .before .before .step2 .given .1) (c .if1 .taken)
+
+returns-2 : tie.Need-returns-2
+returns-2 c = gates-back _ _ _ (c .before .before .before .before .before .before .pre) _ (c .before .before .before .before .gate-lines .ensures) _ _ (c .before .step .given .1)
+
+returns-3 : tie.Need-returns-3
+returns-3 c = gates-closed _ _ _ (c .before .before .before .before .before .before .before .pre) _ (c .before .before .before .before .before .gate-lines .ensures) _ _ (c .before .before .step2 .given .1) (c .if1 .left)
+
+pub from-gates-spec : {M : Type 1} → statement M
+from-gates-spec =
+    tie.close
+    (tie.spec gate-lines-requires enum-known-step enum-known-step-2 returns returns-2 returns-3)

@@ -1,0 +1,44 @@
+-- `net_reading::references::judge_reference` meets its contract: looked up (7), then held against those used (8).
+-- Assumes nothing.
+use borrow.Author.Needs.{needs}
+use mathlib.Core.Path.{sym, _∙_}
+use Rattle.net_reading.specs.References.{judged-none, judged-taken, judged-used, judged-free}
+use Rattle.net_reading.proofs.references.judge_reference.Statement.{statement}
+use Rattle.net_reading.proofs.references.judge_reference.Tie as tie
+
+reference-of-requires : tie.Need-reference-of-requires
+reference-of-requires c κs = search needs
+
+enum-told : tie.Need-enum-told
+enum-told c = search needs
+
+enum-known-r : tie.Need-enum-known-r
+enum-known-r c = search needs
+
+returns : tie.Need-returns
+returns c = judged-taken _ _ _ _ _ _ _ (c .before .before .before .before .reference-of .ensures) (c .before .before .r .given .1) (c .if1 .taken)
+
+is-used-requires : tie.Need-is-used-requires
+is-used-requires c κs = search needs
+
+returns-2 : tie.Need-returns-2
+returns-2 c = judged-used _ _ _ _ _ _ _ (c .before .before .before .before .before .before .reference-of .ensures) (c .before .before .before .before .r .given .1) (c .before .before .if1 .left) (sym (c .before .is-used .ensures) ∙ c .if2 .taken)
+
+returns-3 : tie.Need-returns-3
+returns-3 c = judged-none _ _ _ _ _ _ (c .before .before .reference-of .ensures) (c .enum-told .given .1)
+
+returns-4 : tie.Need-returns-4
+returns-4 c = judged-free _ _ _ _ _ _ _ (c .before .before .before .before .before .before .reference-of .ensures) (c .before .before .before .before .r .given .1) (c .before .before .if1 .left) (sym (c .before .is-used .ensures) ∙ c .if2 .left)
+
+pub judge-reference-spec : {M : Type 1} → statement M
+judge-reference-spec =
+    tie.close
+    (tie.spec
+    reference-of-requires
+    enum-told
+    enum-known-r
+    returns
+    is-used-requires
+    returns-2
+    returns-3
+    returns-4)

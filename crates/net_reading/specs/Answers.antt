@@ -1,0 +1,129 @@
+-- What reading a net sheet answers, in document 01's definitions.
+-- Assumes nothing.
+use Prim.Native.Nat.{ℕ, _-_, _≤_, _<_}
+use mathlib.Core.Path.{_≡_, ap, _∙_}
+use mathlib.Core.List.{List, []}
+use lib.ListN.{length, drop}
+use Rattle.rules.specs.Text.{space, newline, text}
+use Rattle.rules.specs.Fields.{Reader, then, _>>=_, give, field, theWord, closed}
+use Rattle.rules.specs.Sheets as sheets
+use Rattle.rules.specs.Sheets.{headerLines, gateLines, netSheet}
+use Rattle.rules.specs.Reading.{answered, readNet}
+use Rattle.nets.specs.Forms.{headerOf, gatesOf}
+use Rattle.nets.specs.declared.forms.Header.{Header}
+use Rattle.nets.specs.declared.forms.Net.{Net}
+use Rattle.fields.specs.Chained.{chained-back, chained-on, Answers, answers-back, answers-on, answers-over, answers-closed, then-then}
+use Rattle.fields.specs.Header.{HeaderHeld, HeaderRest}
+use Rattle.fields.specs.Steps.{stepAs, nothing, spelled}
+use Rattle.answers.specs.Answers.{outcomeAs}
+use Rattle.fields.specs.Words.{twoWords}
+use Rattle.fields.specs.declared.lines.HeaderRead.{HeaderRead}
+use Rattle.answers.specs.declared.outcome.Outcome.the-variants.{Accepted, Refused}
+use Rattle.fields.specs.declared.steps.Step.{Step}
+use Rattle.fields.specs.declared.steps.Step.the-variants.{On, Back}
+use Rattle.net_reading.specs.GateLines.{NetWhole, GatesAll}
+use Rattle.net_reading.specs.References.{namesOf}
+use Rattle.net_reading.specs.declared.gates.GatesRead.{GatesRead}
+use Rattle.net_reading.specs.declared.net.NetRead.{NetRead}
+
+-- the sheet's header and gates
+abbrev pub netIn : List ℕ → NetRead → sheets.Net
+netIn s r = record { header = headerOf s (r .header); gates = gatesOf (r .net) }
+
+-- what an accepted sheet's header and net keep
+pub record NetHeld (s : List ℕ) (r : NetRead) : Type 0 where
+  pub header : HeaderHeld s (r .header)
+  pub whole : NetWhole (r .header) (r .net)
+
+-- reading a whole net sheet
+pub record NetReads (s : List ℕ) (r : NetRead) : Type 0 where
+  pub answer : outcomeAs (netIn s r) (r .outcome) ≡ readNet s
+  pub held : r .outcome ≡ Accepted → NetHeld s r
+
+-- what is left of a net sheet is read by `reader`
+abbrev pub NetRest : List ℕ → ℕ → Reader sheets.Net → NetRead → Type 0
+NetRest s at reader r = Answers s at reader (netIn s r) (NetHeld s r) (r .outcome)
+
+unfoldable pub headingLine : Reader (Unit {0})
+headingLine = field (theWord "left") space >>= λ _. field (theWord "right") space >>= λ _. field (theWord "table") newline
+
+unfoldable pub fromGates : sheets.Header → Reader sheets.Net
+fromGates h =
+    gateLines (h .levels) (h .names) (h .inputs - 1) [] >>= λ gates. closed >>= λ _. give (record { header = h; gates = gates })
+
+unfoldable pub fromHeading : sheets.Header → Reader sheets.Net
+fromHeading h = headingLine >>= λ _. fromGates h
+
+-- ---- line 4: a word, then two more
+
+module _ (s : List ℕ) (at : ℕ) (step : Step) (reads : stepAs nothing s step ≡ field (spelled (text "left")) 32 (drop at s) at) (r : Step) where
+  pub left-back : (number place : ℕ) → step ≡ Back number place → r ≡ Back number place → stepAs nothing s r ≡ headingLine (drop at s) at
+  unfolding headingLine spelled theWord space
+  left-back number place e q = chained-back nothing (field (theWord "left") 32) _ s at step reads nothing r number place e q
+
+  pub left-on : (value next : ℕ) → step ≡ On value next → stepAs nothing s r ≡ twoWords (text "right") (text "table") (drop next s) next
+      → stepAs nothing s r ≡ headingLine (drop at s) at
+  unfolding headingLine twoWords spelled theWord space newline
+  left-on value next e onward =
+      chained-on nothing (field (theWord "left") 32) (λ _. field (theWord "right") 32 >>= λ _. field (theWord "table") 10) s at step reads nothing r value next e onward
+
+-- ---- from the gate lines back to the whole sheet
+
+module _ (s : List ℕ) (at : ℕ) (h : Header) (held : HeaderHeld s h) (r : GatesRead) (gates : GatesAll s at h r) where
+  lines : Reader (List sheets.Gate)
+  lines = gateLines (h .levels) (namesOf s h) (h .inputs - 1) []
+
+  pub gates-back : (number place : ℕ) → r .step ≡ Back number place
+      → NetRest s at (fromGates (headerOf s h)) (record { outcome = Refused number place; header = h; net = r .net })
+  unfolding fromGates headerOf lines
+  gates-back number place e = answers-back (λ _. gatesOf (r .net)) lines _ s at (r .step) (gates .reads) _ _ number place e
+
+  module _ (value next : ℕ) (e : r .step ≡ On value next) where
+    pub gates-over : next < length s → NetRest s at (fromGates (headerOf s h)) (record { outcome = Refused 1 next; header = h; net = r .net })
+    unfolding fromGates headerOf lines
+    gates-over more =
+        answers-on (λ _. gatesOf (r .net)) lines _ s at (r .step) (gates .reads) _ _ value next (Refused 1 next) e (answers-over s next _ _ more)
+
+    pub gates-closed : length s ≤ next → NetRest s at (fromGates (headerOf s h)) (record { outcome = Accepted; header = h; net = r .net })
+    unfolding fromGates headerOf lines
+    gates-closed done =
+        answers-on (λ _. gatesOf (r .net)) lines _ s at (r .step) (gates .reads) _ _ value next Accepted e
+        (answers-closed s next _ _ done (record { header = held; whole = gates .whole value next e }))
+
+module _ (s : List ℕ) (at : ℕ) (h : Header) (step : Step) (reads : stepAs nothing s step ≡ headingLine (drop at s) at) where
+  pub heading-back : (number place : ℕ) (net : Net) → step ≡ Back number place
+      → NetRest s at (fromHeading (headerOf s h)) (record { outcome = Refused number place; header = h; net = net })
+  unfolding fromHeading
+  heading-back number place net e = answers-back nothing headingLine _ s at step reads _ _ number place e
+
+  pub heading-on : (value next : ℕ) (r : NetRead) → step ≡ On value next → NetRest s next (fromGates (headerOf s h)) r
+      → NetRest s at (fromHeading (headerOf s h)) r
+  unfolding fromHeading
+  heading-on value next r e onward = answers-on nothing headingLine (λ _. fromGates (headerOf s h)) s at step reads _ _ value next _ e onward
+
+-- the whole sheet is its header, and the rest
+sheet-split : (s : List ℕ) → (headerLines newline >>= fromHeading) s 0 ≡ netSheet s 0
+unfolding netSheet fromHeading fromGates headingLine
+sheet-split s = ap (then (headerLines newline s 0)) (λ i h t at. words h t at i)
+  where
+    words : (h : sheets.Header) (t : List ℕ) (at : ℕ)
+        → then (headingLine t at) (λ _. fromGates h)
+        ≡ (field (theWord "left") space >>= λ _. field (theWord "right") space >>= λ _. field (theWord "table") newline >>= λ _. fromGates h) t at
+    words h t at =
+        then-then (field (theWord "left") space t at) _ _
+        ∙ ap (then (field (theWord "left") space t at)) (λ i _ u p. then-then (field (theWord "right") space u p) (λ _. field (theWord "table") newline) (λ _. fromGates h) i)
+
+module _ (s : List ℕ) (r : HeaderRead) (header : HeaderRest s 0 (headerLines newline) r) where
+  whole : (out : NetRead) → NetRest s 0 (headerLines newline >>= fromHeading) out → NetReads s out
+  unfolding readNet
+  whole out rest = record { answer = rest .answer ∙ ap answered (sheet-split s); held = rest .held }
+
+  pub net-back : (number place : ℕ) (net : Net) → r .step ≡ Back number place
+      → NetReads s (record { outcome = Refused number place; header = r .header; net = net })
+  net-back number place net e =
+      whole (record { outcome = Refused number place; header = r .header; net = net })
+      (answers-back (λ _. headerOf s (r .header)) (headerLines newline) fromHeading s 0 (r .step) (header .reads) _ _ number place e)
+
+  pub net-on : (value next : ℕ) (out : NetRead) → r .step ≡ On value next → NetRest s next (fromHeading (headerOf s (r .header))) out → NetReads s out
+  net-on value next out e onward =
+      whole out (answers-on (λ _. headerOf s (r .header)) (headerLines newline) fromHeading s 0 (r .step) (header .reads) _ _ value next _ e onward)

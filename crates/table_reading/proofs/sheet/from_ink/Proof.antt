@@ -1,0 +1,48 @@
+-- `table_reading::sheet::from_ink` meets its contract: a fixed word, then the rows.
+-- Assumes nothing.
+use borrow.Author.Needs.{needs}
+use Rattle.rules.specs.Text.{text}
+use Rattle.table_reading.specs.Parts.{ink-refused, ink-on}
+use Rattle.table_reading.proofs.sheet.from_ink.Statement.{statement}
+use Rattle.table_reading.proofs.sheet.from_ink.Tie as tie
+
+slice-aggregate-word-field : tie.Need-slice-aggregate-word-field
+slice-aggregate-word-field c = search needs
+
+word-field-requires : tie.Need-word-field-requires
+word-field-requires c κs = search needs
+
+enum-known-number : tie.Need-enum-known-number
+enum-known-number c = search needs
+
+enum-known-next : tie.Need-enum-known-next
+enum-known-next c = search needs
+
+from-rows-requires : tie.Need-from-rows-requires
+from-rows-requires c κs = search needs
+
+returns : tie.Need-returns
+unfolding text
+returns c = ink-refused _ _ _ _ _ (c .before .before .before .word-field .ensures) _ _ (c .before .number .given .1)
+
+same-length : tie.Need-same-length
+same-length c = search needs
+
+returns-2 : tie.Need-returns-2
+unfolding text
+returns-2 c =
+    ink-on _ _ _ _ _ (c .before .before .before .before .before .before .before .word-field .ensures) _ _ _
+    (c .before .before .before .before .before .next .given .1) (c .before .before .from-rows .ensures)
+
+pub from-ink-spec : {M : Type 1} → statement M
+from-ink-spec =
+    tie.close
+    (tie.spec
+    slice-aggregate-word-field
+    word-field-requires
+    enum-known-number
+    enum-known-next
+    from-rows-requires
+    returns
+    same-length
+    returns-2)

@@ -1,0 +1,44 @@
+-- `table_reading::sheet::read_table` meets its contract: the header, then the rest.
+-- Assumes nothing.
+use borrow.Author.Needs.{needs}
+use Rattle.rules.specs.Text.{space}
+use Rattle.table_reading.specs.Parts.{header-refused, header-on}
+use Rattle.table_reading.proofs.sheet.read_table.Statement.{statement}
+use Rattle.table_reading.proofs.sheet.read_table.Tie as tie
+
+header-lines-requires : tie.Need-header-lines-requires
+header-lines-requires c κs = search needs
+
+enum-known-step : tie.Need-enum-known-step
+enum-known-step c = search needs
+
+enum-known-step-2 : tie.Need-enum-known-step-2
+enum-known-step-2 c = search needs
+
+from-ink-requires : tie.Need-from-ink-requires
+from-ink-requires c κs = (c .before .before .before .before .before .header-lines .ensures .held _ _ (c .before .before .step2 .given .1) .fits, c .before .before .before .before .before .before .before .before .pre)
+
+returns : tie.Need-returns
+unfolding space
+returns c = header-refused _ _ _ (c .before .before .before .before .header-lines .ensures) _ _ (c .before .step .given .1)
+
+same-length : tie.Need-same-length
+same-length c = search needs
+
+returns-2 : tie.Need-returns-2
+unfolding space
+returns-2 c =
+    header-on _ _ _ (c .before .before .before .before .before .before .before .before .header-lines .ensures) _ _ _
+    (c .before .before .before .before .before .step2 .given .1) (c .before .before .from-ink .ensures)
+
+pub read-table-spec : {M : Type 1} → statement M
+read-table-spec =
+    tie.close
+    (tie.spec
+    header-lines-requires
+    enum-known-step
+    enum-known-step-2
+    from-ink-requires
+    returns
+    same-length
+    returns-2)

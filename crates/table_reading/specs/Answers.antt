@@ -1,0 +1,54 @@
+-- What reading a table sheet answers, in document 01's definitions.
+-- Assumes nothing.
+use Prim.Native.Nat.{ℕ, _^_}
+use mathlib.Core.Path.{_≡_}
+use mathlib.Core.List.{List, []}
+use lib.ListN.{take}
+use Rattle.rules.specs.Text.{newline}
+use Rattle.rules.specs.Fields.{Reader, _>>=_, give, field, theWord, closed}
+use Rattle.rules.specs.Sheets as sheets
+use Rattle.rules.specs.Sheets.{Table, rowLines}
+use Rattle.rules.specs.Reading.{readTable}
+use Rattle.laws.specs.Bounds.{Below}
+use Rattle.nets.specs.Forms.{headerOf}
+use Rattle.nets.specs.declared.forms.Header.{Header}
+use Rattle.fields.specs.Chained.{Answers}
+use Rattle.fields.specs.Header.{HeaderHeld}
+use Rattle.answers.specs.Answers.{outcomeAs}
+use Rattle.answers.specs.declared.outcome.Outcome.{Outcome}
+use Rattle.answers.specs.declared.outcome.Outcome.the-variants.{Accepted}
+use Rattle.table_reading.specs.declared.sheet.TableRead.{TableRead}
+
+-- the inks of a table under the header h, at the front of `cells`
+abbrev pub inksIn : List ℕ → Header → List ℕ
+inksIn cells h = take (h .levels ^ h .inputs) cells
+
+abbrev pub tableIn : List ℕ → List ℕ → Header → Table
+tableIn s cells h = record { header = headerOf s h; inks = inksIn cells h }
+
+-- what an accepted sheet's header and inks keep
+pub record TableHeld (s cells : List ℕ) (h : Header) : Type 0 where
+  pub header : HeaderHeld s h
+  pub inks : Below (h .levels) (inksIn cells h)
+
+-- reading a whole table sheet, with `cells` as they are afterwards
+pub record TableReads (s cells : List ℕ) (r : TableRead) : Type 0 where
+  pub answer : outcomeAs (tableIn s cells (r .header)) (r .outcome) ≡ readTable s
+  pub held : r .outcome ≡ Accepted → TableHeld s cells (r .header)
+
+-- what is left of a table sheet with the header h is read by `reader`
+abbrev pub TableRest : List ℕ → ℕ → Reader Table → Header → List ℕ → Outcome → Type 0
+TableRest s at reader h cells o = Answers s at reader (tableIn s cells h) (Below (h .levels) (inksIn cells h)) o
+
+-- the rows under a header, and the end after them
+abbrev pub allRows : sheets.Header → Reader (List ℕ)
+allRows h = rowLines (h .levels) (h .inputs) 0 (h .levels ^ h .inputs) []
+
+abbrev pub theEnd : sheets.Header → List ℕ → Reader Table
+theEnd h inks = closed >>= λ _. give (record { header = h; inks = inks })
+
+unfoldable pub fromRows : sheets.Header → Reader Table
+fromRows h = allRows h >>= theEnd h
+
+unfoldable pub fromInk : sheets.Header → Reader Table
+fromInk h = field (theWord "ink") newline >>= λ _. fromRows h

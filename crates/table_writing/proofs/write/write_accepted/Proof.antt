@@ -1,0 +1,71 @@
+-- `table_writing::write::write_accepted` meets its contract: the sheet's length, the net's table, then the sheet.
+-- Assumes nothing.
+use native.Mathlib.Omega.{arith}
+use Rattle.accepted.specs.Taken.{held-size, sound, own-most, front-given}
+use Rattle.table_writing.specs.Tables.{table-inside}
+use Rattle.table_writing.specs.Writing.{output-short, output-long, output-written}
+use borrow.Author.Needs.{needs}
+use Rattle.table_writing.proofs.write.write_accepted.Statement.{statement}
+use Rattle.table_writing.proofs.write.write_accepted.Tie as tie
+
+power-requires : tie.Need-power-requires
+power-requires c κs =
+    let size = held-size _ _ (c .before .before .pre .header) in
+    (size .levels-most, omega (arith, size .inputs-most))
+
+table-length-requires : tie.Need-table-length-requires
+table-length-requires c κs =
+    let size = held-size _ _ (c .before .before .before .pre .header) in
+    (size .inputs-most, omega (arith, size .cells-most, c .power .ensures))
+
+returns : tie.Need-returns
+returns c = output-short _ _ _ (c .before .before .before .before .before .pre) _ _ (c .before .before .power .ensures) (c .before .table-length .ensures) _ (c .if1 .taken)
+
+slice-aggregate-table : tie.Need-slice-aggregate-table
+slice-aggregate-table c = search needs
+
+table-requires : tie.Need-table-requires
+table-requires c κs =
+    let taken = c .before .before .before .before .before .before .pre in
+    (sound _ _ _ taken, own-most _ _ _ taken)
+
+sub-print-table : tie.Need-sub-print-table
+sub-print-table c = search needs
+
+part-print-table-start : tie.Need-part-print-table-start
+part-print-table-start c = search needs
+
+part-print-table-end : tie.Need-part-print-table-end
+part-print-table-end c = omega (arith, held-size _ _ (c .before .before .before .before .before .before .before .before .before .pre .header) .cells-most, c .before .before .before .before .before .before .power .ensures)
+
+print-table-requires : tie.Need-print-table-requires
+print-table-requires c κs =
+    let start = c .before .before .before .before .before .before .before .before .before .before .before in
+    let count = c .before .before .before .before .before .before .before .before .power .ensures in
+    let did = c .before .before .before .before .table .ensures in
+    (table-inside _ _ _ (front-given _ _ _ (start .pre) _ _ _ _ did count), output-long _ _ _ (start .pre) _ _ count (c .before .before .before .before .before .before .before .table-length .ensures) (start .args .out .now) (c .before .before .before .before .before .before .if1 .left) _ _ _ did)
+
+same-length : tie.Need-same-length
+same-length c = search needs
+
+returns-2 : tie.Need-returns-2
+returns-2 c =
+    let start = c .before .before .before .before .before .before .before .before .before .before .before .before .before .before in
+    output-written _ _ _ (start .pre) _ _ (c .before .before .before .before .before .before .before .before .before .before .before .power .ensures) (c .before .before .before .before .before .before .before .before .before .before .table-length .ensures) (start .args .out .now) (c .before .before .before .before .before .before .before .before .before .if1 .left) _ _ _
+    (c .before .before .before .before .before .before .before .table .ensures) _ _ (c .before .before .print-table .ensures)
+
+pub write-accepted-spec : {M : Type 1} → statement M
+write-accepted-spec =
+    tie.close
+    (tie.spec
+    power-requires
+    table-length-requires
+    returns
+    slice-aggregate-table
+    table-requires
+    sub-print-table
+    part-print-table-start
+    part-print-table-end
+    print-table-requires
+    same-length
+    returns-2)
