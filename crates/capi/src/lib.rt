@@ -8,11 +8,11 @@ ghost use Rattle.rules.specs.TableWriting.{writeTableCall};
 ghost use Rattle.answers.specs.Answers.{answerOf, namedOf};
 ghost use Rattle.rules.specs.Lister.{listing};
 ghost use Rattle.lister.specs.Calls.{listedAs};
-ghost use Rattle.comparing.specs.Answers.{verdictOf};
+ghost use Rattle.checking.specs.Answers.{verdictOf};
 ghost use Rattle.capi.specs.Flat.{flatOf, flatTurn, flatNamed, flatVerdict, FlatMarked, FlatMade, FlatWritten, FlatChecked};
 use answers::answer::Answer;
 use answers::named::Named;
-use comparing::verdict::Verdict;
+use checking::verdict::Verdict;
 use lister::calls::Listed;
 use lister::turns::Turn;
 

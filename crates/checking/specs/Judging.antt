@@ -17,7 +17,7 @@ use Rattle.nets.specs.Forms.{headerOf}
 use Rattle.nets.specs.Evaluating.{Tabled}
 use Rattle.table_reading.specs.Answers.{inksIn, tableIn}
 use Rattle.lines.specs.Names.{netIn}
-use Rattle.comparing.specs.Answers.{comparedInto}
+use Rattle.checking.specs.Answers.{comparedInto}
 use Rattle.accepted.specs.Taken.{NetTaken, TableTaken, front, inks-front, inks-given}
 
 -- sheets with the same header have as many cells

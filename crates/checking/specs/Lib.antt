@@ -1,2 +1,4 @@
 pub mod Headers
 pub mod Judging
+pub mod Answers
+pub mod Comparing

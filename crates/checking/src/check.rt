@@ -1,13 +1,13 @@
 // The check call: a net sheet against a table sheet.
 ghost use mathlib.Core.Path.{_≡_};
 ghost use Rattle.rules.specs.Checking.{checkCall};
-ghost use Rattle.comparing.specs.Answers.{checkedOf};
+ghost use Rattle.checking.specs.Answers.{checkedOf};
 ghost use Rattle.accepted.specs.Taken.{NetTaken, TableTaken};
 use crate::headers::same_header;
+use crate::verdict::Verdict;
+use crate::verdict::compare_into;
 use answers::named::Named;
 use answers::outcome::Outcome;
-use comparing::verdict::Verdict;
-use comparing::verdict::compare_into;
 use net_reading::net::read_net;
 use nets::forms::Header;
 use nets::forms::Net;

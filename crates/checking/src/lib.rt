@@ -1,3 +1,4 @@
 // A net sheet against a table sheet.
 pub mod check;
 pub mod headers;
+pub mod verdict;

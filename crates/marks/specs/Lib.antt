@@ -4,3 +4,4 @@ pub mod Parts
 pub mod Rule
 pub mod Splits
 pub mod Stored
+pub mod Place

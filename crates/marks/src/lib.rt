@@ -3,5 +3,6 @@ pub mod call;
 pub mod group;
 pub mod marking;
 pub mod parts;
+pub mod place;
 pub mod split;
 pub mod stored;

@@ -2,3 +2,4 @@
 -- Assumes nothing.
 pub mod Gates
 pub mod Kept
+pub mod Output

@@ -1,2 +1,3 @@
 // A net sheet as bytes.
 pub mod net;
+pub mod output;

@@ -29,7 +29,7 @@ use Rattle.settled.specs.Wired.{MarksIn}
 use Rattle.settled.specs.SettledNet.{SettledNet, marks-in}
 use Rattle.accepted.specs.Taken.{Given}
 use Rattle.answers.specs.Answers.{madeOf}
-use Rattle.output.specs.Place.{place-agree}
+use Rattle.marks.specs.Place.{place-agree}
 
 module _ (s : List ℕ) (h : Header) (inks : List ℕ) (given : Given s h inks) where
   pub given-size : sizeFits (h .levels) (h .inputs) ≡ true

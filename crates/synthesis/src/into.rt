@@ -10,10 +10,10 @@ ghost use Rattle.accepted.specs.Taken.{Given};
 use answers::answer::Answer;
 use lines::put::copy;
 use marks::marking;
+use marks::place;
 use marks::stored;
+use net_printing::output;
 use nets::forms::Header;
-use output::place;
-use output::sheet;
 use settled::settle;
 
 // The cells and the marks, and then refusal 16, refusal 15 or the sheet.
@@ -38,7 +38,7 @@ fn settle_marked(
             place: place::no_tree_place(inputs, marks),
         };
     }
-    sheet::write_sheet(
+    output::write_sheet(
         s,
         header,
         settle::settled_net(levels, inputs, inks, marks),

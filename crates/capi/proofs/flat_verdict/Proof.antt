@@ -1,7 +1,7 @@
 -- `capi::flat_verdict` meets its contract, in each arm. Assumes nothing.
 use mathlib.Core.Path.{sym, ap, _∙_}
-use Rattle.comparing.specs.declared.verdict.Verdict.{Verdict}
-use Rattle.comparing.specs.Answers.{verdictOf}
+use Rattle.checking.specs.declared.verdict.Verdict.{Verdict}
+use Rattle.checking.specs.Answers.{verdictOf}
 use Rattle.capi.specs.Flat.{flatVerdict}
 use borrow.Author.Needs.{needs}
 use Rattle.capi.proofs.flat_verdict.Statement.{statement}

@@ -1,0 +1,44 @@
+// What a check answers; a net's table held against a table sheet's inks.
+ghost use mathlib.Core.Path.{_≡_};
+ghost use Prim.Native.Nat.{_≤_, _<_};
+ghost use lib.ListN.{length};
+ghost use Rattle.rules.specs.Checking.{compared};
+ghost use Rattle.checking.specs.Answers.{verdictOf, checkedOf, comparedInto};
+use answers::named::Named;
+use lines::put::copy;
+
+// Agreement, or the lowest index that differs, or a refusal's number and place.
+pub enum Verdict {
+    Agree,
+    Differ(usize),
+    Refused {
+        named: Named,
+        number: usize,
+        place: usize,
+    },
+}
+
+// Holds xs against ys.
+fn compare(xs: &[u8], ys: &[u8]) -> Verdict
+    requires { ⌜ (0 < length (now xs)) × (length (now xs) ≤ length (now ys)) ⌝ }
+    ensures { λ r. ⌜ verdictOf r ≡ compared (now (xs .entry)) (now (ys .entry)) ⌝ }
+{
+    let last = xs.len() - 1;
+    let mut i: usize = 0;
+    while i <= last {
+        if xs[i] != ys[i] {
+            return Verdict::Differ(i);
+        }
+        i += 1;
+    }
+    Verdict::Agree
+}
+
+// Puts the inks in the cells buffer, and holds the net's table against them.
+pub fn compare_into(table: &[u8], inks: &[u8], cells: &mut [u8]) -> Verdict
+    requires { ⌜ (0 < length (now table)) × (length (now table) ≤ length (now inks)) × (length (now inks) ≤ length (now cells)) ⌝ }
+    ensures { λ r. ⌜ checkedOf r (now (cells .exit)) ≡ comparedInto (now (table .entry)) (now (inks .entry)) (now (cells .entry)) ⌝ }
+{
+    copy(inks, cells, 0);
+    compare(table, inks)
+}

@@ -1,0 +1,22 @@
+-- `marks::place::is_one_of` meets its contract. Assumes nothing.
+use mathlib.Core.Path.{sym, _∙_}
+use mathlib.Core.Bool.{and-true, and-false}
+use borrow.Author.Needs.{needs}
+use borrow.Author.Tests.{eq-eqb, ne-eqb}
+use Rattle.marks.proofs.place.is_one_of.Statement.{statement}
+use Rattle.marks.proofs.place.is_one_of.Tie as tie
+
+mark-at-requires : tie.Need-mark-at-requires
+mark-at-requires c κs = search needs
+
+returns : tie.Need-returns
+returns c = rw (ne-eqb _ 1 (λ e. c .if1 .taken (c .before .mark-at .ensures ∙ e)), and-false)
+
+members-requires : tie.Need-members-requires
+members-requires c κs = search needs
+
+returns-2 : tie.Need-returns-2
+returns-2 c = rw (eq-eqb _ 1 (sym (c .before .before .mark-at .ensures) ∙ c .before .if1 .left), c .members .ensures, and-true)
+
+pub is-one-of-spec : {M : Type 1} → statement M
+is-one-of-spec = tie.close (tie.spec mark-at-requires returns members-requires returns-2)

@@ -1,0 +1,46 @@
+-- `marks::place::members` meets its contract. The loop's invariant: the members so far, and those among the inputs that are
+-- left. Assumes nothing.
+use Prim.Native.Nat.{suc, _+_, _-_, _≤_}
+use mathlib.Core.Path.{_≡_, ap}
+use native.Mathlib.Nat.{sub-zero}
+use native.Mathlib.Omega.{arith}
+use Rattle.rules.specs.Groups.{size}
+use Rattle.trees.specs.Members.{size-suc, size-le}
+use Rattle.marks.proofs.place.members.Statement.{statement}
+use Rattle.marks.proofs.place.members.Tie as tie
+
+abbrev Inv-loop : tie.InvT-loop
+Inv-loop n g rest₀ count₀ i₀ rest count i = (i ≤ n) × (count ≤ i) × (count + size (n - i) rest ≡ size n g)
+
+abbrev μ-loop : tie.MeasureT-loop
+μ-loop n g rest₀ count₀ i₀ rest count i = n - i
+
+loop-holds : tie.Need-loop-holds Inv-loop μ-loop
+loop-holds c = (omega arith, omega arith, omega (arith, ap (λ k. size k (c .args .g)) (sub-zero (c .args .n))))
+
+add-count : tie.Need-add-count Inv-loop μ-loop
+add-count c = omega arith
+
+add-i : tie.Need-add-i Inv-loop μ-loop
+add-i c = omega arith
+
+loop-less : tie.Need-loop-less Inv-loop μ-loop
+loop-less c = omega arith
+
+loop-again : tie.Need-loop-again Inv-loop μ-loop
+loop-again c =
+    let n = c .before .before .args .n in
+    let l = c .before .loop in
+    let one : n - l .i ≡ suc (n - (l .i + 1)) = omega arith in
+    (omega arith, omega arith, omega (arith, ap (λ k. size k (l .rest)) one, size-suc (n - (l .i + 1)) (l .rest)))
+
+returns : tie.Need-returns Inv-loop μ-loop
+returns c =
+    let n = c .before .before .args .n in
+    let l = c .before .loop in
+    let none : n - l .i ≡ 0 = omega arith in
+    omega (arith, ap (λ k. size k (l .rest)) none, size-le 0 (l .rest))
+
+pub members-spec : {M : Type 1} → statement M
+members-spec =
+    tie.close (tie.spec Inv-loop μ-loop loop-holds add-count add-i loop-less loop-again returns)

@@ -1,0 +1,48 @@
+-- `net_printing::output::write_sheet` meets its contract. Assumes nothing.
+use native.Mathlib.Omega.{arith}
+use borrow.Author.Needs.{needs}
+use Rattle.net_printing.specs.Output.{sheet-short, sheet-copied}
+use Rattle.net_printing.proofs.output.write_sheet.Statement.{statement}
+use Rattle.net_printing.proofs.output.write_sheet.Tie as tie
+
+slice-aggregate-print-net : tie.Need-slice-aggregate-print-net
+slice-aggregate-print-net c = search needs
+
+print-net-requires : tie.Need-print-net-requires
+print-net-requires c κs = c .before .before .before .pre
+
+returns : tie.Need-returns
+returns c = sheet-short _ _ _ _ _ (c .before .before .print-net .ensures) (c .if1 .taken)
+
+sub-text : tie.Need-sub-text
+sub-text c = search needs
+
+part-text-start : tie.Need-part-text-start
+part-text-start c = search needs
+
+part-text-end : tie.Need-part-text-end
+part-text-end c = omega (arith, c .before .before .before .print-net .ensures .length, c .before .before .before .before .before .before .before .pre .2, c .before .before .before .print-net .kept)
+
+copy-requires : tie.Need-copy-requires
+copy-requires c κs = search needs
+
+same-length : tie.Need-same-length
+same-length c = search needs
+
+returns-2 : tie.Need-returns-2
+returns-2 c =
+    sheet-copied _ _ _ _ _ (c .before .before .before .before .before .before .before .before .print-net .ensures) (c .before .before .before .before .before .before .if1 .left) _ _ (c .before .before .copy .ensures)
+
+pub write-sheet-spec : {M : Type 1} → statement M
+write-sheet-spec =
+    tie.close
+    (tie.spec
+    slice-aggregate-print-net
+    print-net-requires
+    returns
+    sub-text
+    part-text-start
+    part-text-end
+    copy-requires
+    same-length
+    returns-2)
