@@ -1,8 +1,8 @@
--- `capi::sitgurp_make` meets its contract: it is the call, its answer as two numbers. Assumes nothing.
-use Rattle.capi.specs.Flat.{flat-made}
+-- `capi::make::sitgurp_make` meets its contract: it is the call, its answer as two numbers. Assumes nothing.
+use Rattle.capi.specs.Made.{flat-made}
 use borrow.Author.Needs.{needs}
-use Rattle.capi.proofs.sitgurp_make.Statement.{statement}
-use Rattle.capi.proofs.sitgurp_make.Tie as tie
+use Rattle.capi.proofs.make.sitgurp_make.Statement.{statement}
+use Rattle.capi.proofs.make.sitgurp_make.Tie as tie
 
 make-requires : tie.Need-make-requires
 make-requires c κs = search needs

@@ -1,13 +1,13 @@
--- `capi::flat_turn` meets its contract, in each arm. Assumes nothing.
+-- `capi::gate_line::flat_turn` meets its contract, in each arm. Assumes nothing.
 use mathlib.Core.Path.{sym, ap, _∙_}
 use Rattle.lister.specs.declared.calls.Listed.{Listed}
 use Rattle.lister.specs.declared.calls.Listed.the-variants.{Given}
 use Rattle.lister.specs.declared.turns.Turn.{Turn}
 use Rattle.lister.specs.Calls.{listedAs, turnAs}
-use Rattle.capi.specs.Flat.{flatTurn}
+use Rattle.capi.specs.GateLine.{flatTurn}
 use borrow.Author.Needs.{needs}
-use Rattle.capi.proofs.flat_turn.Statement.{statement}
-use Rattle.capi.proofs.flat_turn.Tie as tie
+use Rattle.capi.proofs.gate_line.flat_turn.Statement.{statement}
+use Rattle.capi.proofs.gate_line.flat_turn.Tie as tie
 
 enum-known-listed : tie.Need-enum-known-listed
 enum-known-listed c = search needs

@@ -1,9 +1,9 @@
--- `capi::sitgurp_multiplicity` meets its contract: it is the multiplicity call, its answer as two numbers. Assumes nothing.
+-- `capi::multiplicity::sitgurp_multiplicity` meets its contract: it is the multiplicity call, its answer as two numbers. Assumes nothing.
 use mathlib.Core.Path.{ap, _∙_}
 use Rattle.capi.specs.Flat.{flatOf}
 use borrow.Author.Needs.{needs}
-use Rattle.capi.proofs.sitgurp_multiplicity.Statement.{statement}
-use Rattle.capi.proofs.sitgurp_multiplicity.Tie as tie
+use Rattle.capi.proofs.multiplicity.sitgurp_multiplicity.Statement.{statement}
+use Rattle.capi.proofs.multiplicity.sitgurp_multiplicity.Tie as tie
 
 multiplicity-requires : tie.Need-multiplicity-requires
 multiplicity-requires c κs = search needs

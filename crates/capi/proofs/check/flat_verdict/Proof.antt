@@ -1,11 +1,11 @@
--- `capi::flat_verdict` meets its contract, in each arm. Assumes nothing.
+-- `capi::check::flat_verdict` meets its contract, in each arm. Assumes nothing.
 use mathlib.Core.Path.{sym, ap, _∙_}
 use Rattle.checking.specs.declared.verdict.Verdict.{Verdict}
 use Rattle.checking.specs.Answers.{verdictOf}
-use Rattle.capi.specs.Flat.{flatVerdict}
+use Rattle.capi.specs.Check.{flatVerdict}
 use borrow.Author.Needs.{needs}
-use Rattle.capi.proofs.flat_verdict.Statement.{statement}
-use Rattle.capi.proofs.flat_verdict.Tie as tie
+use Rattle.capi.proofs.check.flat_verdict.Statement.{statement}
+use Rattle.capi.proofs.check.flat_verdict.Tie as tie
 
 enum-told : tie.Need-enum-told
 enum-told c = search needs

@@ -1,11 +1,11 @@
--- `capi::flat` meets its contract, in each arm. Assumes nothing.
+-- `capi::flat::flat` meets its contract, in each arm. Assumes nothing.
 use mathlib.Core.Path.{sym, ap}
 use Rattle.answers.specs.declared.answer.Answer.{Answer}
 use Rattle.answers.specs.Answers.{answerOf}
 use Rattle.capi.specs.Flat.{flatOf}
 use borrow.Author.Needs.{needs}
-use Rattle.capi.proofs.flat.Statement.{statement}
-use Rattle.capi.proofs.flat.Tie as tie
+use Rattle.capi.proofs.flat.flat.Statement.{statement}
+use Rattle.capi.proofs.flat.flat.Tie as tie
 
 enum-known-answer : tie.Need-enum-known-answer
 enum-known-answer c = search needs

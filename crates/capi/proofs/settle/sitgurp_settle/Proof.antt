@@ -1,8 +1,8 @@
--- `capi::sitgurp_settle` meets its contract: it is the call, its answer as two numbers. Assumes nothing.
-use Rattle.capi.specs.Flat.{flat-made}
+-- `capi::settle::sitgurp_settle` meets its contract: it is the call, its answer as two numbers. Assumes nothing.
+use Rattle.capi.specs.Made.{flat-made}
 use borrow.Author.Needs.{needs}
-use Rattle.capi.proofs.sitgurp_settle.Statement.{statement}
-use Rattle.capi.proofs.sitgurp_settle.Tie as tie
+use Rattle.capi.proofs.settle.sitgurp_settle.Statement.{statement}
+use Rattle.capi.proofs.settle.sitgurp_settle.Tie as tie
 
 settle-requires : tie.Need-settle-requires
 settle-requires c κs = search needs

@@ -1,9 +1,9 @@
--- `capi::sitgurp_gate_line` meets its contract: it is the lister's turn as a kind and two numbers. Assumes nothing.
+-- `capi::gate_line::sitgurp_gate_line` meets its contract: it is the lister's turn as a kind and two numbers. Assumes nothing.
 use mathlib.Core.Path.{ap, _∙_}
-use Rattle.capi.specs.Flat.{flatTurn}
+use Rattle.capi.specs.GateLine.{flatTurn}
 use borrow.Author.Needs.{needs}
-use Rattle.capi.proofs.sitgurp_gate_line.Statement.{statement}
-use Rattle.capi.proofs.sitgurp_gate_line.Tie as tie
+use Rattle.capi.proofs.gate_line.sitgurp_gate_line.Statement.{statement}
+use Rattle.capi.proofs.gate_line.sitgurp_gate_line.Tie as tie
 
 line-requires : tie.Need-line-requires
 line-requires c κs = search needs

@@ -1,10 +1,10 @@
--- `capi::sitgurp_check` meets its contract: it is the check, its verdict as four numbers. Assumes nothing.
+-- `capi::check::sitgurp_check` meets its contract: it is the check, its verdict as four numbers. Assumes nothing.
 use mathlib.Core.Path.{ap, _∙_}
 use Rattle.rules.specs.Checking.{Checked}
-use Rattle.capi.specs.Flat.{flatVerdict}
+use Rattle.capi.specs.Check.{flatVerdict}
 use borrow.Author.Needs.{needs}
-use Rattle.capi.proofs.sitgurp_check.Statement.{statement}
-use Rattle.capi.proofs.sitgurp_check.Tie as tie
+use Rattle.capi.proofs.check.sitgurp_check.Statement.{statement}
+use Rattle.capi.proofs.check.sitgurp_check.Tie as tie
 
 check-requires : tie.Need-check-requires
 check-requires c κs = search needs

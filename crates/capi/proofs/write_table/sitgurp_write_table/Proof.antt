@@ -1,10 +1,10 @@
--- `capi::sitgurp_write_table` meets its contract: it is table writing, its answer as two numbers. Assumes nothing.
+-- `capi::write_table::sitgurp_write_table` meets its contract: it is table writing, its answer as two numbers. Assumes nothing.
 use mathlib.Core.Path.{ap, _∙_}
 use Rattle.rules.specs.TableWriting.{Written}
 use Rattle.capi.specs.Flat.{flatOf}
 use borrow.Author.Needs.{needs}
-use Rattle.capi.proofs.sitgurp_write_table.Statement.{statement}
-use Rattle.capi.proofs.sitgurp_write_table.Tie as tie
+use Rattle.capi.proofs.write_table.sitgurp_write_table.Statement.{statement}
+use Rattle.capi.proofs.write_table.sitgurp_write_table.Tie as tie
 
 write-table-requires : tie.Need-write-table-requires
 write-table-requires c κs = search needs

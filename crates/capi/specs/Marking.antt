@@ -1,0 +1,13 @@
+-- The marking call's answer as two numbers, and its buffer.
+-- Assumes nothing.
+use Prim.Native.Nat.{ℕ}
+use mathlib.Core.Path.{_≡_}
+use mathlib.Core.List.{List}
+use Rattle.rules.specs.Marking.{Marked}
+use Rattle.capi.specs.declared.flat.SitgurpAnswer.{SitgurpAnswer}
+use Rattle.capi.specs.Flat.{flatOf}
+
+-- a marking's answer, and its buffer
+pub record FlatMarked (marked : Marked) (r : SitgurpAnswer) (after : List ℕ) : Type 0 where
+  pub answer : r ≡ flatOf (marked .answer)
+  pub buffer : after ≡ marked .marks

@@ -1,0 +1,13 @@
+-- What table writing answers as two numbers, and its output.
+-- Assumes nothing.
+use Prim.Native.Nat.{ℕ}
+use mathlib.Core.Path.{_≡_}
+use mathlib.Core.List.{List}
+use Rattle.rules.specs.TableWriting.{Written}
+use Rattle.capi.specs.declared.flat.SitgurpAnswer.{SitgurpAnswer}
+use Rattle.capi.specs.Flat.{flatOf}
+
+-- what table writing answers, and its output
+pub record FlatWritten (written : Written) (r : SitgurpAnswer) (output : List ℕ) : Type 0 where
+  pub answer : r ≡ flatOf (written .answer)
+  pub output-then : output ≡ written .output

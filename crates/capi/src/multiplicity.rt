@@ -1,0 +1,19 @@
+// The multiplicity call for C.
+ghost use mathlib.Core.Path.{_≡_};
+ghost use Rattle.rules.specs.Multiplicity.{multiplicityCall};
+ghost use Rattle.capi.specs.Flat.{flatOf};
+use crate::flat::SitgurpAnswer;
+use crate::flat::flat;
+
+// The multiplicity of a group of bare cells.
+#[no_mangle]
+pub extern "C" fn sitgurp_multiplicity(
+    m: usize,
+    n: usize,
+    cells: &[u8],
+    group: usize,
+) -> SitgurpAnswer
+    ensures { λ r. ⌜ r ≡ flatOf (multiplicityCall m n (now (cells .entry)) group) ⌝ }
+{
+    flat(groups::call::multiplicity(m, n, cells, group))
+}
