@@ -25,3 +25,8 @@ inkIn cells p = getD cells p 0
 -- "Longer buffers keep their further bytes."
 unfoldable pub written : List ℕ → List ℕ → List ℕ
 written buffer bytes = bytes ++ drop (length bytes) buffer
+
+-- all of this file computes
+unfoldable pub computing : Unit {0}
+unfolding onward written
+computing = tt

@@ -17,3 +17,8 @@ bareCells m n cells =
       | false ↦ refused 9 0
       | true ↦ elim (all (λ c. ltb c m) cells) [ true ↦ accepted tt | false ↦ refused 10 (firstPlace (λ c. not (ltb c m)) cells) ]
     ]
+
+-- all of this file computes
+unfoldable pub computing : Unit {0}
+unfolding bareCells
+computing = tt

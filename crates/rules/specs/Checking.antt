@@ -60,3 +60,8 @@ checkCall net-sheet table-sheet cells =
         | accepted t ↦ checkedInto net t cells
       ]
     ]
+
+-- all of this file computes
+unfoldable pub computing : Unit {0}
+unfolding sameNames sameHeader compared checkedInto checkCall
+computing = tt

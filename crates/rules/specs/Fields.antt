@@ -89,3 +89,8 @@ theWord word w = judged (same w (text word)) tt 1
 unfoldable pub closed : Reader (Unit {0})
 closed [] at = read tt [] at
 closed (b ∷ s) at = turnedBack 1 at
+
+-- all of this file computes
+unfoldable pub computing : Unit {0}
+unfolding then isSeparator run past separator afterField fieldOf field theWord closed
+computing = tt

@@ -60,3 +60,8 @@ multiplicity m n f g = length (classes m n f g)
 -- "it answers the multiplicity if it is at most m, and otherwise m + 1"
 unfoldable pub capped : ℕ → ℕ → ℕ
 capped m k = cond (leb k m) k (m + 1)
+
+-- all of this file computes
+unfoldable pub computing : Unit {0}
+unfolding member size wholeGroup others points part alikeOver alike firsts classes multiplicity capped
+computing = tt

@@ -49,3 +49,8 @@ mostSettled = 512
 -- "at most its first 65,536 bytes, which are then the sheet"
 abbrev pub mostRead : ℕ
 mostRead = 65_536
+
+-- all of this file computes
+unfoldable pub computing : Unit {0}
+unfolding levelsFit inputsFit cellsFit sizeFits
+computing = tt

@@ -41,3 +41,8 @@ turnOf s net k =
 -- a turn on any sheet
 unfoldable pub listing : List ℕ → ℕ → Answer Turn
 listing s k = onward (readNet s) (λ net. accepted (turnOf s net k))
+
+-- all of this file computes
+unfoldable pub computing : Unit {0}
+unfolding lineLength afterLines turnOf listing
+computing = tt

@@ -48,3 +48,8 @@ same (x ∷ xs) (y ∷ ys) = elim (eqb x y) [ true ↦ same xs ys | false ↦ fa
 unfoldable pub find : {A : Type 0} → (A → Bool) → List A → Option A
 find test [] = none
 find test (x ∷ xs) = elim (test x) [ true ↦ some x | false ↦ find test xs ]
+
+-- all of this file computes
+unfoldable pub computing : Unit {0}
+unfolding range all any firstPlace those concatMap same find
+computing = tt

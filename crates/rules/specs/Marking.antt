@@ -28,3 +28,8 @@ markingCall m n cells buffer =
             record { answer = accepted (markIn marks (wholeGroup n)); marks = written buffer (storedMarks marks) }
       ]
     ]
+
+-- all of this file computes
+unfoldable pub computing : Unit {0}
+unfolding markingCall
+computing = tt

@@ -54,3 +54,8 @@ bySize n = concatMap (λ k. those (λ g. eqb (size n g) k) (range 0 (2 ^ n))) (r
 -- "no tree; place: the group of fewest members, then lowest number, with mark 1"
 unfoldable pub noTreePlace : ℕ → List ℕ → ℕ
 noTreePlace n marks = elim (find (λ g. eqb (markIn marks g) 1) (bySize n)) [ none ↦ 0 | some g ↦ g ]
+
+-- all of this file computes
+unfoldable pub computing : Unit {0}
+unfolding inside partsAt markOf marksBelow marksOf marksLength storedMarks bySize noTreePlace
+computing = tt

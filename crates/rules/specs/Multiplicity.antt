@@ -14,3 +14,8 @@ unfoldable pub multiplicityCall : ℕ → ℕ → List ℕ → ℕ → Answer �
 multiplicityCall m n cells g =
     onward (bareCells m n cells)
     (λ _. elim (eqb g 0 || leb (2 ^ n) g) [ true ↦ refused 11 0 | false ↦ accepted (capped m (multiplicity m n (inkIn cells) g)) ])
+
+-- all of this file computes
+unfoldable pub computing : Unit {0}
+unfolding multiplicityCall
+computing = tt

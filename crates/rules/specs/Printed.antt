@@ -42,3 +42,8 @@ unfoldable pub printedTable : Table → List ℕ
 printedTable t =
     firstLines (t .header) (t .header .names ++ (text "ink" ∷ []))
     ++ printedRows (t .header .levels) (t .header .inputs) 0 (t .inks)
+
+-- all of this file computes
+unfoldable pub computing : Unit {0}
+unfolding line firstLines printedGate printedNet printedRow printedRows printedTable
+computing = tt

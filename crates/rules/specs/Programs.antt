@@ -31,3 +31,8 @@ settleProgram input =
 unfoldable pub makeProgram : List ℕ → List ℕ
 makeProgram input =
     programOutput (makeCall (take mostRead input) (zeros mostCells) (zeros (marksLength mostInputs)) (zeros mostSettled))
+
+-- all of this file computes
+unfoldable pub computing : Unit {0}
+unfolding programOutput settleProgram makeProgram
+computing = tt

@@ -23,3 +23,8 @@ readTable s = answered (tableSheet s 0)
 -- the table of an accepted net sheet, under its header
 unfoldable pub tableOfNet : Net → Table
 tableOfNet net = record { header = net .header; inks = tableOf (net .header .levels) (net .header .inputs) (net .gates) }
+
+-- all of this file computes
+unfoldable pub computing : Unit {0}
+unfolding answered readNet readTable tableOfNet
+computing = tt

@@ -109,3 +109,8 @@ gateList m n f last before (gate a b) =
 -- the settled net of a table, from its marks
 unfoldable pub settledGates : ℕ → ℕ → (ℕ → ℕ) → List ℕ → List Gate
 settledGates m n f marks = gateList m n f true 0 (settledWiring n marks)
+
+-- all of this file computes
+unfoldable pub computing : Unit {0}
+unfolding groupOf firstInput splitOf wiringBy settledWiring classNumber carried digitAt gateDigits gatesIn referenceTo gateList settledGates
+computing = tt

@@ -80,3 +80,8 @@ makeCall sheet cells marks output =
       | refused number place ↦ record { answer = refused number place; cells = cells; marks = marks; output = output }
       | accepted t ↦ settledInto t cells marks output
     ]
+
+-- all of this file computes
+unfoldable pub computing : Unit {0}
+unfolding settledNet writtenSheet afterMarks settledInto settleCall makeCall
+computing = tt

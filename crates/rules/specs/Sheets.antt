@@ -173,3 +173,8 @@ tableSheet = do
   inks ← rowLines (h .levels) (h .inputs) 0 (h .levels ^ h .inputs) []
   _ ← closed
   give (record { header = h; inks = inks })
+
+-- all of this file computes
+unfoldable pub computing : Unit {0}
+unfolding levelsField inputsOf inputsField isLetter letterFirst isName nameField nameFields headerLines referenceText referenceOf referenceField digitsField usedBy gateLine gateLines netSheet level levelsAt levelField inkField levelFields rowLines tableSheet
+computing = tt

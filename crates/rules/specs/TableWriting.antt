@@ -26,3 +26,8 @@ writeTableCall sheet output =
             | false ↦ record { answer = accepted (length table); output = written output table }
           ]
     ]
+
+-- all of this file computes
+unfoldable pub computing : Unit {0}
+unfolding writeTableCall
+computing = tt

@@ -37,3 +37,8 @@ decimalF (suc fuel) n =
 -- a number as a decimal value: it has at most n + 1 digits
 unfoldable pub decimal : ℕ → List ℕ
 decimal n = decimalF n n
+
+-- all of this file computes
+unfoldable pub computing : Unit {0}
+unfolding space newline text digitByte isDigit decimalF decimal
+computing = tt

@@ -22,3 +22,8 @@ value m n gates p = getD (withGates m (levelsAt m n p) gates) (n + length gates 
 -- "Its table lists the values over all assignments in index order, and that table is the one it computes."
 unfoldable pub tableOf : ℕ → ℕ → List Gate → List ℕ
 tableOf m n gates = map (value m n gates) (range 0 (m ^ n))
+
+-- all of this file computes
+unfoldable pub computing : Unit {0}
+unfolding gateValue withGates value tableOf
+computing = tt
