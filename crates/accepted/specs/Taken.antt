@@ -16,7 +16,7 @@ use Rattle.laws.specs.Sizes.{Size, sized}
 use Rattle.trees.specs.Uniqueness.{table-length}
 use Rattle.nets.specs.declared.forms.Header.{Header}
 use Rattle.nets.specs.declared.forms.Net.{Net}
-use Rattle.nets.specs.Forms.{headerOf, gatesOf}
+use Rattle.nets.specs.Forms.{headerOf, gatesOf, netIn, tableIn}
 use Rattle.nets.specs.Sound.{Sound}
 use Rattle.nets.specs.Evaluating.{Tabled}
 use Rattle.fields.specs.Header.{HeaderHeld}
@@ -24,10 +24,9 @@ use Rattle.answers.specs.Answers.{outcomeAs}
 use Rattle.answers.specs.declared.outcome.Outcome.the-variants.{Accepted, Refused}
 use Rattle.net_reading.specs.Answers.{NetReads}
 use Rattle.net_reading.specs.declared.net.NetRead.{NetRead}
-use Rattle.table_reading.specs.Answers as tables
 use Rattle.table_reading.specs.Answers.{TableReads, inksIn}
 use Rattle.table_reading.specs.declared.sheet.TableRead.{TableRead}
-use Rattle.lines.specs.Names.{NamesInside, netIn, tableIn}
+use Rattle.lines.specs.Names.{NamesInside}
 use Rattle.readback.specs.ReadBack.{net-accepted, table-accepted}
 use Rattle.trees.specs.NetTables.{kept-table}
 
@@ -40,7 +39,7 @@ pub record NetTaken (s : List ℕ) (h : Header) (net : Net) : Type 0 where
 
 -- the header of an accepted table sheet, whose inks stand at the front of `cells`
 pub record TableTaken (s : List ℕ) (h : Header) (cells : List ℕ) : Type 0 where
-  pub reads : readTable s ≡ accepted (tables.tableIn s cells h)
+  pub reads : readTable s ≡ accepted (tableIn s h (inksIn cells h))
   pub header : HeaderHeld s h
 
 -- the table that the header's names in the sheet s and the inks make keeps the rules, and the names are in the sheet
@@ -66,10 +65,10 @@ module _ (s : List ℕ) (r : NetRead) (read : NetReads s r) where
 
 module _ (s cells : List ℕ) (r : TableRead) (read : TableReads s cells r) where
   pub table-taken : r .outcome ≡ Accepted → TableTaken s (r .header) cells
-  table-taken e = record { reads = sym (read .answer) ∙ ap (outcomeAs (tables.tableIn s cells (r .header))) e; header = read .held e .header }
+  table-taken e = record { reads = sym (read .answer) ∙ ap (outcomeAs (tableIn s (r .header) (inksIn cells (r .header)))) e; header = read .held e .header }
 
   pub table-refused : (number place : ℕ) → r .outcome ≡ Refused number place → readTable s ≡ refused number place
-  table-refused number place e = sym (read .answer) ∙ ap (outcomeAs (tables.tableIn s cells (r .header))) e
+  table-refused number place e = sym (read .answer) ∙ ap (outcomeAs (tableIn s (r .header) (inksIn cells (r .header)))) e
 
 -- ---- what the calls ask
 
@@ -129,9 +128,9 @@ module _ (s : List ℕ) (h : Header) (cells : List ℕ) (taken : TableTaken s h 
   pub inks-front : take (count - 0) cells ≡ inksIn cells h
   inks-front = ap (λ (k : ℕ). take k cells) (sub-zero count ∙ is)
 
-  pub inks-table : tableIn s h (take (count - 0) cells) ≡ tables.tableIn s cells h
+  pub inks-table : tableIn s h (take (count - 0) cells) ≡ tableIn s h (inksIn cells h)
   inks-table = ap (tableIn s h) inks-front
 
   pub inks-given : Given s h (take (count - 0) cells)
   inks-given =
-      record { names = names-inside s h (taken .header); kept = subst⁻¹ KeptTable inks-table (table-accepted s (tables.tableIn s cells h) (taken .reads) .1) }
+      record { names = names-inside s h (taken .header); kept = subst⁻¹ KeptTable inks-table (table-accepted s (tableIn s h (inksIn cells h)) (taken .reads) .1) }

@@ -13,10 +13,9 @@ use Rattle.rules.specs.Answers.{neither}
 use Rattle.laws.specs.Checking.{check-accepted, check-12, check-13, check-compared}
 use Rattle.nets.specs.declared.forms.Header.{Header}
 use Rattle.nets.specs.declared.forms.Net.{Net}
-use Rattle.nets.specs.Forms.{headerOf}
+use Rattle.nets.specs.Forms.{headerOf, tableIn, netIn}
 use Rattle.nets.specs.Evaluating.{Tabled}
-use Rattle.table_reading.specs.Answers.{inksIn, tableIn}
-use Rattle.lines.specs.Names.{netIn}
+use Rattle.table_reading.specs.Answers.{inksIn}
 use Rattle.checking.specs.Answers.{comparedInto}
 use Rattle.accepted.specs.Taken.{NetTaken, TableTaken, front, inks-front, inks-given}
 
@@ -30,13 +29,13 @@ same-cells s h t k e =
     ap₂ _^_ (eqb-true _ _ levels) (eqb-true _ _ inputs)
 
 module _ (s : List ℕ) (h : Header) (net : Net) (taken : NetTaken s h net) (t : List ℕ) (k : Header) (inks : List ℕ) (other : TableTaken t k inks) (cells : List ℕ) where
-  both-accepted : checkCall s t cells ≡ checkedInto (netIn s h net) (tableIn t inks k) cells
-  both-accepted = check-accepted s t cells (netIn s h net) (taken .reads) (tableIn t inks k) (other .reads)
+  both-accepted : checkCall s t cells ≡ checkedInto (netIn s h net) (tableIn t k (inksIn inks k)) cells
+  both-accepted = check-accepted s t cells (netIn s h net) (taken .reads) (tableIn t k (inksIn inks k)) (other .reads)
 
   -- the headers compared, and the test of the answer
   module _ (same : Bool) (told : same ≡ sameHeader (headerOf s h) (headerOf t k)) where
     pub headers-differ : not same ≡ true → record { answer = turnedDown neither 12 0; cells = cells } ≡ checkCall s t cells
-    headers-differ other = sym (both-accepted ∙ check-12 (netIn s h net) (tableIn t inks k) cells (sym told ∙ not-true same other))
+    headers-differ other = sym (both-accepted ∙ check-12 (netIn s h net) (tableIn t k (inksIn inks k)) cells (sym told ∙ not-true same other))
 
     module _ (alike : not same ≡ false) (count : ℕ) (is : count ≡ h .levels ^ h .inputs) where
       agreed : sameHeader (headerOf s h) (headerOf t k) ≡ true
@@ -56,11 +55,11 @@ module _ (s : List ℕ) (h : Header) (net : Net) (taken : NetTaken s h net) (t :
       pub cells-short : length cells < count → record { answer = turnedDown neither 13 count; cells = cells } ≡ checkCall s t cells
       cells-short short =
           (λ i. record { answer = turnedDown neither 13 (sym inks-length i); cells = cells })
-          ∙ sym (both-accepted ∙ check-13 (netIn s h net) (tableIn t inks k) cells agreed (subst⁻¹ (λ (n : ℕ). length cells < n) inks-length short))
+          ∙ sym (both-accepted ∙ check-13 (netIn s h net) (tableIn t k (inksIn inks k)) cells agreed (subst⁻¹ (λ (n : ℕ). length cells < n) inks-length short))
 
       pub cells-long : count ≤ length cells → (before after : List ℕ) (all : ℕ) → Tabled net before after all → (r : Checked)
           → r ≡ comparedInto (take (count - 0) after) (take (count - 0) inks) cells → r ≡ checkCall s t cells
       cells-long long before after all did r e =
           let fits : length (inksIn inks k) ≤ length cells = omega (arith, inks-length) in
           e ∙ ap₂ (λ (xs ys : List ℕ). comparedInto xs ys cells) (front s h net taken before after all count did is) (inks-front t k inks other count count-is)
-          ∙ sym (both-accepted ∙ check-compared (netIn s h net) (tableIn t inks k) cells agreed fits)
+          ∙ sym (both-accepted ∙ check-compared (netIn s h net) (tableIn t k (inksIn inks k)) cells agreed fits)

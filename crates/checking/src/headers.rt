@@ -5,12 +5,11 @@ ghost use Prim.Native.Nat.{_≤_};
 ghost use Rattle.rules.specs.Lists.{range};
 ghost use Rattle.rules.specs.Limits.{mostInputs};
 ghost use Rattle.rules.specs.Checking.{sameNames, sameHeader};
-ghost use Rattle.nets.specs.Forms.{nameIn, headerOf};
-ghost use Rattle.fields.specs.Names.{NamesHeld};
+ghost use Rattle.nets.specs.Forms.{nameIn, headerOf, NamesHeld};
 ghost use Rattle.fields.specs.Header.{HeaderHeld};
-use fields::names::name_of;
 use fields::same::same_bytes;
 use nets::forms::Header;
+use nets::names::name_of;
 
 // Have both the same first n names?
 fn same_names(s: &[u8], h: Header, t: &[u8], k: Header, n: usize) -> bool

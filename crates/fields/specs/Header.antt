@@ -11,10 +11,9 @@ use Rattle.rules.specs.Limits.{levelsFit, inputsFit, cellsFit, sizeFits, fewest
 use Rattle.rules.specs.Fields.{Reader, _>>=_, give, field, theWord}
 use Rattle.rules.specs.Sheets as sheets
 use Rattle.rules.specs.Sheets.{levelsField, inputsField, nameFields, headerLines}
-use Rattle.nets.specs.Forms.{headerOf}
+use Rattle.nets.specs.Forms.{headerOf, NamesHeld}
 use Rattle.nets.specs.declared.forms.Header.{Header}
 use Rattle.fields.specs.Chained.{chained-back, chained-on, then-then, never-both}
-use Rattle.fields.specs.Names.{NamesHeld}
 use Rattle.fields.specs.Lines.{NamesRead}
 use Rattle.fields.specs.Steps.{stepAs, spelled}
 use Rattle.fields.specs.Words.{twoWords}

@@ -19,11 +19,11 @@ use Rattle.rules.specs.Text.{space}
 use Rattle.rules.specs.Fields.{good, then, give, field, run}
 use Rattle.rules.specs.Sheets.{nameField, nameFields}
 use Rattle.rules.specs.Limits.{mostInputs}
-use Rattle.nets.specs.Forms.{noNames, nameIn, headerOf}
+use Rattle.nets.specs.Forms.{noNames, nameIn, headerOf, NamesHeld}
 use Rattle.nets.specs.declared.forms.Header.{Header}
 use Rattle.fields.specs.Chained.{never-both}
 use Rattle.fields.specs.Judging.{field-tested}
-use Rattle.fields.specs.Names.{isNew, new-short, NamesHeld}
+use Rattle.fields.specs.Names.{isNew, new-short}
 use Rattle.fields.specs.Steps.{tested, judgedAs, judgedField, stepAs, itself}
 use Rattle.fields.specs.Taken.{Taken, field-on}
 use Rattle.fields.specs.declared.steps.Step.{Step}

@@ -1,4 +1,4 @@
--- A name's bytes; the names that were read before.
+-- A name's bytes, one by one; a name that is new.
 -- Assumes nothing.
 use Prim.Native.Nat.{ℕ, _+_, _≤_, _<_}
 use mathlib.Core.Path.{_≡_, refl, _∙_}
@@ -11,7 +11,6 @@ use borrow.Author.Tests.{le-leb, lt-leb}
 use Rattle.rules.specs.Lists.{all, any, same}
 use Rattle.rules.specs.Text.{isDigit, text}
 use Rattle.rules.specs.Sheets.{isLetter, letterFirst, isName}
-use Rattle.nets.specs.declared.forms.Header.{Header}
 
 abbrev pub isNameByte : ℕ → Bool
 isNameByte b = isLetter b || isDigit 10 b
@@ -19,14 +18,6 @@ isNameByte b = isLetter b || isDigit 10 b
 -- the test that the name field makes
 abbrev pub isNew : List (List ℕ) → List ℕ → Bool
 isNew earlier w = isName w && not (any (same w) earlier)
-
--- name i lies in the sheet
-abbrev pub NameHeld : List ℕ → Header → ℕ → Type 0
-NameHeld s h i = getD (h .starts) i 0 + getD (h .lens) i 0 ≤ length s
-
--- the first `count` names do
-abbrev pub NamesHeld : List ℕ → Header → ℕ → Type 0
-NamesHeld s h count = (i : ℕ) → i < count → NameHeld s h i
 
 pub letter-low : (b : ℕ) → b < 97 → false ≡ isLetter b
 unfolding isLetter

@@ -5,10 +5,11 @@ ghost use Prim.Native.Nat.{_≤_, _<_};
 ghost use Rattle.rules.specs.Lists.{range, all, any, same};
 ghost use Rattle.rules.specs.Limits.{mostInputs};
 ghost use Rattle.rules.specs.Sheets.{isLetter, isName};
-ghost use Rattle.nets.specs.Forms.{nameIn};
-ghost use Rattle.fields.specs.Names.{isNameByte, NameHeld, NamesHeld, isNew};
+ghost use Rattle.nets.specs.Forms.{nameIn, NameHeld, NamesHeld};
+ghost use Rattle.fields.specs.Names.{isNameByte, isNew};
 use crate::same::same_bytes;
 use nets::forms::Header;
+use nets::names::name_of;
 
 // Is b a lowercase letter?
 pub fn is_letter(b: u8) -> bool
@@ -62,16 +63,6 @@ pub fn is_name(w: &[u8]) -> bool
         return false;
     }
     !same_bytes(w, b"ink")
-}
-
-// The name of input i, as a part of the sheet.
-pub fn name_of(s: &[u8], header: Header, i: usize) -> &[u8]
-    requires { ⌜ (i < mostInputs) × NameHeld (now s) header i ⌝ }
-    ensures { λ r. ⌜ now r ≡ nameIn (now (s .entry)) header i ⌝ }
-{
-    let start = header.starts[i] as usize;
-    let end = start + header.lens[i] as usize;
-    &s[start..end]
 }
 
 // Is w the name of one of the first `count` inputs?

@@ -3,16 +3,15 @@ ghost use Prim.Native.Nat.{_≤_, _<_};
 ghost use mathlib.Core.List.{[], _∷_, _++_};
 ghost use Rattle.rules.specs.Text.{decimal};
 ghost use Rattle.rules.specs.Printed.{line};
-ghost use Rattle.nets.specs.Forms.{nameIn};
+ghost use Rattle.nets.specs.Forms.{nameIn, namesIn};
 ghost use Rattle.lines.specs.Put.{Put, Room};
 ghost use Rattle.lines.specs.Lines.{spacedFrom};
-ghost use Rattle.lines.specs.Names.{NamesInside, namesIn};
+ghost use Rattle.lines.specs.Names.{NamesInside};
 use crate::decimals::print_decimal;
 use crate::put::copy;
 use crate::put::put;
-use crate::wide::wide;
-use crate::wide::wide16;
 use nets::forms::Header;
+use nets::names::name_of;
 
 // A line, and then a line of two decimal values.
 pub fn print_pair(head: &[u8], a: usize, b: usize, out: &mut [u8], at: usize) -> usize
@@ -31,11 +30,7 @@ pub fn print_name(s: &[u8], h: Header, i: usize, out: &mut [u8], at: usize) -> u
     requires { ⌜ NamesInside (now s) h × (i < h .inputs) × Room (now out) at (nameIn (now s) h i) ⌝ }
     ensures { λ r. ⌜ Put (now (out .entry)) at (nameIn (now (s .entry)) h i) (now (out .exit)) r ⌝ }
 {
-    let starts = h.starts;
-    let lens = h.lens;
-    let a = wide16(starts[i]);
-    let e = a + wide(lens[i]);
-    copy(&s[a..e], out, at)
+    copy(name_of(s, h, i), out, at)
 }
 
 // The first `count` names, each with a space behind it.

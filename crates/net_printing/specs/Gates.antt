@@ -16,9 +16,8 @@ use Rattle.rules.specs.Sheets.{referenceText}
 use Rattle.nets.specs.declared.forms.Header.{Header}
 use Rattle.nets.specs.declared.forms.Net.{Net}
 use Rattle.nets.specs.Room.{mostDigits}
-use Rattle.nets.specs.Forms.{nameIn, headerOf, gateOf, gatesOf}
-use Rattle.laws.specs.Ranges.{range-next, range-none, map-range-length, map-range-at}
-use Rattle.lines.specs.Names.{namesIn, netIn}
+use Rattle.nets.specs.Forms.{nameIn, headerOf, gateOf, gatesOf, namesIn, netIn, names-count}
+use Rattle.laws.specs.Ranges.{range-next, range-none, map-range-at}
 
 -- what a reference is printed as
 abbrev pub referenceIn : List ℕ → Header → ℕ → List ℕ
@@ -75,19 +74,15 @@ unfolding printedNet firstLines headerOf
 net-parts s h net = simp append-assoc
 
 module _ (s : List ℕ) (h : Header) where
-  names-length : length (namesIn s h) ≡ h .inputs
-  unfolding headerOf
-  names-length = map-range-length (nameIn s h) 0 (h .inputs)
-
   -- a reference is printed as a name, or as a gate's number
   pub reference-name : (r : ℕ) → r < h .inputs → referenceIn s h r ≡ nameIn s h r
   unfolding referenceText headerOf
   reference-name r l =
-      rw (names-length, lt-ltb r (h .inputs) l, referenceText)
+      rw (names-count s h, lt-ltb r (h .inputs) l, referenceText)
       (map-range-at (nameIn s h) 0 (h .inputs) r [] l ∙ ap (nameIn s h) (zero-add r))
 
   pub reference-gate : (r : ℕ) → h .inputs ≤ r → referenceIn s h r ≡ decimal (r - h .inputs + 1)
   unfolding referenceText
   reference-gate r l =
       let e : r + 1 - h .inputs ≡ r - h .inputs + 1 = omega arith in
-      rw (names-length, le-ltb r (h .inputs) l, referenceText, names-length) (ap decimal e)
+      rw (names-count s h, le-ltb r (h .inputs) l, referenceText, names-count s h) (ap decimal e)

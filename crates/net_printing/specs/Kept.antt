@@ -11,12 +11,11 @@ use Rattle.rules.specs.Sheets as sheets
 use Rattle.rules.specs.Kept.{KeptNet, GateTable, Tables}
 use Rattle.nets.specs.declared.forms.Header.{Header}
 use Rattle.nets.specs.declared.forms.Net.{Net}
-use Rattle.nets.specs.Forms.{headerOf, gateOf, gatesOf}
+use Rattle.nets.specs.Forms.{headerOf, gateOf, gatesOf, netIn}
 use Rattle.nets.specs.Sound.{gates-length}
 use Rattle.nets.specs.Room.{digits-room}
 use Rattle.laws.specs.Sizes.{levels-fit, inputs-fit, kept-fits}
 use Rattle.laws.specs.Ranges.{map-range-at}
-use Rattle.lines.specs.Names.{netIn}
 use Rattle.net_printing.specs.Gates.{GatesInside}
 
 -- the digit at any place is a gate's

@@ -9,7 +9,7 @@ use Rattle.rules.specs.Fields.{Reader, then, _>>=_, give, field, theWord, close
 use Rattle.rules.specs.Sheets as sheets
 use Rattle.rules.specs.Sheets.{headerLines, gateLines, netSheet}
 use Rattle.rules.specs.Reading.{answered, readNet}
-use Rattle.nets.specs.Forms.{headerOf, gatesOf}
+use Rattle.nets.specs.Forms.{headerOf, namesIn, gatesOf, netIn}
 use Rattle.nets.specs.declared.forms.Header.{Header}
 use Rattle.nets.specs.declared.forms.Net.{Net}
 use Rattle.fields.specs.Chained.{chained-back, chained-on, Answers, answers-back, answers-on, answers-over, answers-closed, then-then}
@@ -22,13 +22,8 @@ use Rattle.answers.specs.declared.outcome.Outcome.the-variants.{Accepted, Refus
 use Rattle.fields.specs.declared.steps.Step.{Step}
 use Rattle.fields.specs.declared.steps.Step.the-variants.{On, Back}
 use Rattle.net_reading.specs.GateLines.{NetWhole, GatesAll}
-use Rattle.net_reading.specs.References.{namesOf}
 use Rattle.net_reading.specs.declared.gates.GatesRead.{GatesRead}
 use Rattle.net_reading.specs.declared.net.NetRead.{NetRead}
-
--- the sheet's header and gates
-abbrev pub netIn : List ℕ → NetRead → sheets.Net
-netIn s r = record { header = headerOf s (r .header); gates = gatesOf (r .net) }
 
 -- what an accepted sheet's header and net keep
 pub record NetHeld (s : List ℕ) (r : NetRead) : Type 0 where
@@ -37,12 +32,12 @@ pub record NetHeld (s : List ℕ) (r : NetRead) : Type 0 where
 
 -- reading a whole net sheet
 pub record NetReads (s : List ℕ) (r : NetRead) : Type 0 where
-  pub answer : outcomeAs (netIn s r) (r .outcome) ≡ readNet s
+  pub answer : outcomeAs (netIn s (r .header) (r .net)) (r .outcome) ≡ readNet s
   pub held : r .outcome ≡ Accepted → NetHeld s r
 
 -- what is left of a net sheet is read by `reader`
 abbrev pub NetRest : List ℕ → ℕ → Reader sheets.Net → NetRead → Type 0
-NetRest s at reader r = Answers s at reader (netIn s r) (NetHeld s r) (r .outcome)
+NetRest s at reader r = Answers s at reader (netIn s (r .header) (r .net)) (NetHeld s r) (r .outcome)
 
 unfoldable pub headingLine : Reader (Unit {0})
 headingLine = field (theWord "left") space >>= λ _. field (theWord "right") space >>= λ _. field (theWord "table") newline
@@ -71,7 +66,7 @@ module _ (s : List ℕ) (at : ℕ) (step : Step) (reads : stepAs nothing s step 
 
 module _ (s : List ℕ) (at : ℕ) (h : Header) (held : HeaderHeld s h) (r : GatesRead) (gates : GatesAll s at h r) where
   lines : Reader (List sheets.Gate)
-  lines = gateLines (h .levels) (namesOf s h) (h .inputs - 1) []
+  lines = gateLines (h .levels) (namesIn s h) (h .inputs - 1) []
 
   pub gates-back : (number place : ℕ) → r .step ≡ Back number place
       → NetRest s at (fromGates (headerOf s h)) (record { outcome = Refused number place; header = h; net = r .net })

@@ -13,11 +13,10 @@ use Rattle.fields.specs.Chained.{never-both}
 use Rattle.fields.specs.Header.{HeaderHeld}
 use Rattle.fields.specs.Steps.{stepAs}
 use Rattle.fields.specs.declared.steps.Step.the-variants.{On, Back}
-use Rattle.nets.specs.Forms.{gatesOf, noGates}
+use Rattle.nets.specs.Forms.{gatesOf, noGates, namesIn}
 use Rattle.nets.specs.declared.forms.Header.{Header}
 use Rattle.nets.specs.declared.forms.Net.{Net}
 use Rattle.net_reading.specs.Gates.{NetForm, GateRest, GateRoom, oneGate}
-use Rattle.net_reading.specs.References.{namesOf}
 use Rattle.net_reading.specs.declared.gates.GatesRead.{GatesRead}
 
 -- a net that has all the gates that a sheet's header asks for
@@ -29,7 +28,7 @@ pub record NetWhole (h : Header) (net : Net) : Type 0 where
 
 -- reading the gate lines under a header
 pub record GatesAll (s : List ℕ) (at : ℕ) (h : Header) (r : GatesRead) : Type 0 where
-  pub reads : stepAs (λ _. gatesOf (r .net)) s (r .step) ≡ gateLines (h .levels) (namesOf s h) (h .inputs - 1) [] (drop at s) at
+  pub reads : stepAs (λ _. gatesOf (r .net)) s (r .step) ≡ gateLines (h .levels) (namesIn s h) (h .inputs - 1) [] (drop at s) at
   pub whole : (value next : ℕ) → r .step ≡ On value next → NetWhole h (r .net)
 
 -- one gate line, then the others
@@ -49,8 +48,8 @@ pub record Building (s : List ℕ) (at : ℕ) (h : Header) (net : Net) (place k 
   pub inputs : net .inputs ≡ h .inputs
   pub count : net .gates + 1 ≡ k
   pub most : k ≤ h .inputs
-  pub reads : gateLines (h .levels) (namesOf s h) (h .inputs - 1) [] (drop at s) at
-      ≡ gateLines (h .levels) (namesOf s h) (h .inputs - k) (gatesOf net) (drop place s) place
+  pub reads : gateLines (h .levels) (namesIn s h) (h .inputs - 1) [] (drop at s) at
+      ≡ gateLines (h .levels) (namesIn s h) (h .inputs - k) (gatesOf net) (drop place s) place
 
 pub build-start : (s : List ℕ) (at : ℕ) (h : Header) → 2 ≤ h .inputs → Building s at h (noGates (h .levels) (h .inputs)) at 1
 unfolding gatesOf range noGates
@@ -82,15 +81,15 @@ module _ (s : List ℕ) (at : ℕ) (h : Header) (net : Net) (place k : ℕ) (bui
     build-room held =
         record { held = held; form = building .form; levels = building .levels; inputs = building .inputs; room = omega (arith, building .count) }
 
-    module _ (r : GatesRead) (line : GateRest s place (oneGate (net .levels) (namesOf s h) (gatesOf net)) net r) where
-      onward : gateLines (h .levels) (namesOf s h) (h .inputs - 1) [] (drop at s) at
-          ≡ then (stepAs (λ _. gatesOf (r .net)) s (r .step)) (gateLines (h .levels) (namesOf s h) (h .inputs - (k + 1)))
+    module _ (r : GatesRead) (line : GateRest s place (oneGate (net .levels) (namesIn s h) (gatesOf net)) net r) where
+      onward : gateLines (h .levels) (namesIn s h) (h .inputs - 1) [] (drop at s) at
+          ≡ then (stepAs (λ _. gatesOf (r .net)) s (r .step)) (gateLines (h .levels) (namesIn s h) (h .inputs - (k + 1)))
       onward =
           building .reads
-          ∙ (ap (λ c. gateLines (h .levels) (namesOf s h) c (gatesOf net) (drop place s) place) counted
-          ∙ (gates-more (h .levels) (namesOf s h) (h .inputs - (k + 1)) (gatesOf net) (drop place s) place
-          ∙ ap (λ x. then x (gateLines (h .levels) (namesOf s h) (h .inputs - (k + 1))))
-          (ap (λ m. oneGate m (namesOf s h) (gatesOf net) (drop place s) place) (sym (building .levels)) ∙ sym (line .reads))))
+          ∙ (ap (λ c. gateLines (h .levels) (namesIn s h) c (gatesOf net) (drop place s) place) counted
+          ∙ (gates-more (h .levels) (namesIn s h) (h .inputs - (k + 1)) (gatesOf net) (drop place s) place
+          ∙ ap (λ x. then x (gateLines (h .levels) (namesIn s h) (h .inputs - (k + 1))))
+          (ap (λ m. oneGate m (namesIn s h) (gatesOf net) (drop place s) place) (sym (building .levels)) ∙ sym (line .reads))))
         where
           counted : h .inputs - k ≡ suc (h .inputs - (k + 1))
           counted = omega arith

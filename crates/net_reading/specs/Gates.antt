@@ -16,13 +16,13 @@ use Rattle.fields.specs.Steps.{stepAs, itself}
 use Rattle.laws.specs.Sizes.{sized}
 use Rattle.fields.specs.declared.steps.Step.{Step}
 use Rattle.fields.specs.declared.steps.Step.the-variants.{On, Back}
-use Rattle.nets.specs.Forms.{gatesOf}
+use Rattle.nets.specs.Forms.{gatesOf, namesIn, names-count}
 use Rattle.nets.specs.Growing.{grown, gates-grown}
 use Rattle.nets.specs.Sound.{gates-length}
 use Rattle.nets.specs.declared.forms.Header.{Header}
 use Rattle.nets.specs.declared.forms.Net.{Net}
 use Rattle.net_reading.specs.Digits.{digitsAt, DigitsRead}
-use Rattle.net_reading.specs.References.{namesOf, names-count, spare}
+use Rattle.net_reading.specs.References.{spare}
 use Rattle.nets.specs.Room.{mostGates, mostDigits, gate-room}
 use Rattle.net_reading.specs.declared.gates.GatesRead.{GatesRead}
 
@@ -143,23 +143,23 @@ digits-back s at net left right step number place digits e =
     (digits .reads) number place step e e
 
 module _ (s : List ℕ) (at : ℕ) (h : Header) (net : Net) (left : ℕ) (step : Step)
-    (reads : stepAs itself s step ≡ field (referenceField (namesOf s h) (net .gates) (left ∷ usedBy (gatesOf net))) 32 (drop at s) at) where
+    (reads : stepAs itself s step ≡ field (referenceField (namesIn s h) (net .gates) (left ∷ usedBy (gatesOf net))) 32 (drop at s) at) where
   right-field : Reader ℕ
-  right-field = field (referenceField (namesOf s h) (length (gatesOf net)) (left ∷ usedBy (gatesOf net))) 32
+  right-field = field (referenceField (namesIn s h) (length (gatesOf net)) (left ∷ usedBy (gatesOf net))) 32
 
   right-reads : stepAs itself s step ≡ right-field (drop at s) at
   unfolding right-field
   right-reads = rw (gates-length net) reads
 
   pub right-back : (number place : ℕ) → step ≡ Back number place
-      → GateRest s at (fromRight (net .levels) (namesOf s h) (gatesOf net) left) net (record { step = Back number place; net = net })
+      → GateRest s at (fromRight (net .levels) (namesIn s h) (gatesOf net) left) net (record { step = Back number place; net = net })
   unfolding right-field fromRight space
   right-back number place e =
       gate-back s at net itself right-field (fromDigits (net .levels) (gatesOf net) left) step right-reads number place (Back number place) e refl
 
   pub right-on : (value next : ℕ) (r : GatesRead) → step ≡ On value next
       → GateRest s next (fromDigits (net .levels) (gatesOf net) left value) net r
-      → GateRest s at (fromRight (net .levels) (namesOf s h) (gatesOf net) left) net r
+      → GateRest s at (fromRight (net .levels) (namesIn s h) (gatesOf net) left) net r
   unfolding right-field fromRight space
   right-on value next r e onward =
       gate-on s at net itself right-field (fromDigits (net .levels) (gatesOf net) left) step right-reads value next r e onward
@@ -194,34 +194,34 @@ module _ (m : ℕ) (names : List (List ℕ)) (earlier : List sheets.Gate) where
       (then-then (field (referenceField names (length earlier) (usedBy earlier)) space t at) rightOnly after
       ∙ ap (then (field (referenceField names (length earlier) (usedBy earlier)) space t at)) (λ i left s p. right-after left s p i))
 
-module _ (s : List ℕ) (at : ℕ) (h : Header) (net : Net) (nowhere : ℕ) (beyond : length (namesOf s h) + net .gates ≤ nowhere) (step : Step)
-    (reads : stepAs itself s step ≡ field (referenceField (namesOf s h) (net .gates) (nowhere ∷ usedBy (gatesOf net))) 32 (drop at s) at) where
+module _ (s : List ℕ) (at : ℕ) (h : Header) (net : Net) (nowhere : ℕ) (beyond : length (namesIn s h) + net .gates ≤ nowhere) (step : Step)
+    (reads : stepAs itself s step ≡ field (referenceField (namesIn s h) (net .gates) (nowhere ∷ usedBy (gatesOf net))) 32 (drop at s) at) where
   left-field : Reader ℕ
-  left-field = field (referenceField (namesOf s h) (length (gatesOf net)) (usedBy (gatesOf net))) 32
+  left-field = field (referenceField (namesIn s h) (length (gatesOf net)) (usedBy (gatesOf net))) 32
 
   left-reads : stepAs itself s step ≡ left-field (drop at s) at
   unfolding left-field
   left-reads =
       rw (gates-length net)
-      (reads ∙ ap (λ judge. field judge 32 (drop at s) at) (spare (namesOf s h) (net .gates) (usedBy (gatesOf net)) nowhere beyond))
+      (reads ∙ ap (λ judge. field judge 32 (drop at s) at) (spare (namesIn s h) (net .gates) (usedBy (gatesOf net)) nowhere beyond))
 
-  whole-line : (r : GatesRead) → GateRest s at (left-field >>= fromRight (net .levels) (namesOf s h) (gatesOf net)) net r
-      → GateRest s at (oneGate (net .levels) (namesOf s h) (gatesOf net)) net r
+  whole-line : (r : GatesRead) → GateRest s at (left-field >>= fromRight (net .levels) (namesIn s h) (gatesOf net)) net r
+      → GateRest s at (oneGate (net .levels) (namesIn s h) (gatesOf net)) net r
   unfolding left-field space
   whole-line r rest =
-      record { reads = rest .reads ∙ gate-line (net .levels) (namesOf s h) (gatesOf net) (drop at s) at; more = rest .more }
+      record { reads = rest .reads ∙ gate-line (net .levels) (namesIn s h) (gatesOf net) (drop at s) at; more = rest .more }
 
   pub left-back : (number place : ℕ) → step ≡ Back number place
-      → GateRest s at (oneGate (net .levels) (namesOf s h) (gatesOf net)) net (record { step = Back number place; net = net })
+      → GateRest s at (oneGate (net .levels) (namesIn s h) (gatesOf net)) net (record { step = Back number place; net = net })
   left-back number place e =
       whole-line (record { step = Back number place; net = net })
-      (gate-back s at net itself left-field (fromRight (net .levels) (namesOf s h) (gatesOf net)) step left-reads number place (Back number place) e refl)
+      (gate-back s at net itself left-field (fromRight (net .levels) (namesIn s h) (gatesOf net)) step left-reads number place (Back number place) e refl)
 
   pub left-on : (value next : ℕ) (r : GatesRead) → step ≡ On value next
-      → GateRest s next (fromRight (net .levels) (namesOf s h) (gatesOf net) value) net r
-      → GateRest s at (oneGate (net .levels) (namesOf s h) (gatesOf net)) net r
+      → GateRest s next (fromRight (net .levels) (namesIn s h) (gatesOf net) value) net r
+      → GateRest s at (oneGate (net .levels) (namesIn s h) (gatesOf net)) net r
   left-on value next r e onward =
-      whole-line r (gate-on s at net itself left-field (fromRight (net .levels) (namesOf s h) (gatesOf net)) step left-reads value next r e onward)
+      whole-line r (gate-on s at net itself left-field (fromRight (net .levels) (namesIn s h) (gatesOf net)) step left-reads value next r e onward)
 
 -- ---- room for one gate more
 
@@ -240,12 +240,12 @@ room-told s h net given =
     }
 
 -- every reference of a line is far below 256
-pub reference-small : (s : List ℕ) (h : Header) (net : Net) (value : ℕ) → GateRoom s h net → value < length (namesOf s h) + net .gates → value < 255
+pub reference-small : (s : List ℕ) (h : Header) (net : Net) (value : ℕ) → GateRoom s h net → value < length (namesIn s h) + net .gates → value < 255
 reference-small s h net value given below =
     let size = sized (h .levels) (h .inputs) (given .held .fits) in
     omega (arith, below, names-count s h, given .room, size .inputs-most)
 
-pub references-few : (s : List ℕ) (h : Header) (net : Net) → GateRoom s h net → length (namesOf s h) + net .gates ≤ 255
+pub references-few : (s : List ℕ) (h : Header) (net : Net) → GateRoom s h net → length (namesIn s h) + net .gates ≤ 255
 references-few s h net given =
     let size = sized (h .levels) (h .inputs) (given .held .fits) in
     omega (arith, names-count s h, given .room, size .inputs-most)

@@ -22,30 +22,23 @@ use Rattle.fields.specs.declared.steps.Step.the-variants.{On}
 use Rattle.fields.specs.declared.steps.Found.{Found}
 use Rattle.fields.specs.declared.steps.Found.the-variants.{At, Nowhere}
 use Rattle.rules.specs.Sheets.{referenceText, referenceOf, referenceField, usedBy}
-use Rattle.nets.specs.Forms.{nameIn, gateOf}
+use Rattle.nets.specs.Forms.{nameIn, gateOf, namesIn, names-count, headerOf}
 use Rattle.nets.specs.declared.forms.Header.{Header}
 use Rattle.nets.specs.declared.forms.Net.{Net}
 
--- the names of a sheet's header
-abbrev pub namesOf : List ℕ → Header → List (List ℕ)
-namesOf s h = map (nameIn s h) (range 0 (h .inputs))
-
 -- ---- what is referred to
 
-pub names-count : (s : List ℕ) (h : Header) → length (namesOf s h) ≡ h .inputs
-names-count s h = length-map (range 0 (h .inputs)) (nameIn s h) ∙ range-length 0 (h .inputs)
-
 module _ (s : List ℕ) (h : Header) (w : List ℕ) (r : ℕ) where
-  pub refers-input : r < h .inputs → same w (nameIn s h r) ≡ same w (referenceText (namesOf s h) r)
-  unfolding referenceText
+  pub refers-input : r < h .inputs → same w (nameIn s h r) ≡ same w (referenceText (namesIn s h) r)
+  unfolding referenceText headerOf
   refers-input below =
       sym
       (ap (same w)
       (rw (names-count s h, lt-ltb r (h .inputs) below, referenceText)
       (map-range-at (nameIn s h) 0 (h .inputs) r [] below ∙ ap (nameIn s h) (zero-add r))))
 
-  pub refers-gate : h .inputs ≤ r → same w (decimal (r + 1 - h .inputs)) ≡ same w (referenceText (namesOf s h) r)
-  unfolding referenceText
+  pub refers-gate : h .inputs ≤ r → same w (decimal (r + 1 - h .inputs)) ≡ same w (referenceText (namesIn s h) r)
+  unfolding referenceText headerOf
   refers-gate above = sym (ap (same w) (rw (names-count s h, le-ltb r (h .inputs) above, referenceText) (ap (λ k. decimal (r + 1 - k)) (names-count s h))))
 
 -- ---- what is used

@@ -5,10 +5,9 @@ ghost use Rattle.rules.specs.Limits.{mostLevels};
 ghost use Rattle.nets.specs.Room.{mostGates, mostDigits};
 ghost use Rattle.fields.specs.Header.{HeaderHeld};
 ghost use Rattle.net_reading.specs.Digits.{areDigits, digitsAt};
-ghost use Rattle.nets.specs.Forms.{gatesOf};
+ghost use Rattle.nets.specs.Forms.{gatesOf, namesIn};
 ghost use Rattle.net_reading.specs.Gates.{NetForm, Grown, GateRest, GateRoom, Room, fromDigits, fromRight, oneGate};
 ghost use Rattle.net_reading.specs.GateLines.{GatesAll};
-ghost use Rattle.net_reading.specs.References.{namesOf};
 use crate::digits::copy_digits;
 use crate::digits::digits_field;
 use crate::references::reference_field;
@@ -70,7 +69,7 @@ pub fn from_digits(s: &[u8], at: usize, net: Net, left: usize, right: usize) -> 
 // From a gate's right field on.
 pub fn from_right(s: &[u8], at: usize, header: Header, net: Net, left: usize) -> GatesRead
     requires { ⌜ GateRoom (now s) header net × (left < 256) ⌝ }
-    ensures { λ r. ⌜ GateRest (now (s .entry)) at (fromRight (net .levels) (namesOf (now (s .entry)) header) (gatesOf net) left) net r ⌝ }
+    ensures { λ r. ⌜ GateRest (now (s .entry)) at (fromRight (net .levels) (namesIn (now (s .entry)) header) (gatesOf net) left) net r ⌝ }
 {
     match reference_field(s, at, header, net, left) {
         Step::Back { number, place } => GatesRead {
@@ -84,7 +83,7 @@ pub fn from_right(s: &[u8], at: usize, header: Header, net: Net, left: usize) ->
 // One gate line.
 pub fn gate_line(s: &[u8], at: usize, header: Header, net: Net) -> GatesRead
     requires { ⌜ GateRoom (now s) header net ⌝ }
-    ensures { λ r. ⌜ GateRest (now (s .entry)) at (oneGate (net .levels) (namesOf (now (s .entry)) header) (gatesOf net)) net r ⌝ }
+    ensures { λ r. ⌜ GateRest (now (s .entry)) at (oneGate (net .levels) (namesIn (now (s .entry)) header) (gatesOf net)) net r ⌝ }
 {
     match reference_field(s, at, header, net, NO_REFERENCE) {
         Step::Back { number, place } => GatesRead {

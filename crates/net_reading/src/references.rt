@@ -7,13 +7,11 @@ ghost use mathlib.Core.List.{_∷_};
 ghost use Rattle.rules.specs.Lists.{any, same};
 ghost use Rattle.rules.specs.Fields.{field};
 ghost use Rattle.rules.specs.Sheets.{referenceText, referenceOf, referenceField, usedBy};
-ghost use Rattle.nets.specs.Forms.{gatesOf};
+ghost use Rattle.nets.specs.Forms.{gatesOf, namesIn};
 ghost use Rattle.nets.specs.Room.{mostGates};
 ghost use Rattle.fields.specs.Header.{HeaderHeld};
 ghost use Rattle.fields.specs.Steps.{judgedAs, stepAs, itself, optionOf};
-ghost use Rattle.net_reading.specs.References.{namesOf};
 use fields::ends::after_field;
-use fields::names::name_of;
 use fields::numbers::is_decimal;
 use fields::runs::SPACE;
 use fields::runs::field_at;
@@ -23,11 +21,12 @@ use fields::steps::Step;
 use fields::steps::Verdict;
 use nets::forms::Header;
 use nets::forms::Net;
+use nets::names::name_of;
 
 // Does w refer to r?
 pub fn refers(s: &[u8], header: Header, w: &[u8], r: usize) -> bool
     requires { ⌜ HeaderHeld (now s) header × (r < header .inputs + mostGates) ⌝ }
-    ensures { λ yes. ⌜ yes ≡ same (now (w .entry)) (referenceText (namesOf (now (s .entry)) header) r) ⌝ }
+    ensures { λ yes. ⌜ yes ≡ same (now (w .entry)) (referenceText (namesIn (now (s .entry)) header) r) ⌝ }
 {
     let inputs = header.inputs;
     if r < inputs {
@@ -39,7 +38,7 @@ pub fn refers(s: &[u8], header: Header, w: &[u8], r: usize) -> bool
 // What w refers to, with `earlier` gates before its line.
 pub fn reference_of(s: &[u8], header: Header, earlier: usize, w: &[u8]) -> Found
     requires { ⌜ HeaderHeld (now s) header × (earlier ≤ mostGates) ⌝ }
-    ensures { λ r. ⌜ optionOf r ≡ referenceOf (namesOf (now (s .entry)) header) earlier (now (w .entry)) ⌝ }
+    ensures { λ r. ⌜ optionOf r ≡ referenceOf (namesIn (now (s .entry)) header) earlier (now (w .entry)) ⌝ }
 {
     let end = header.inputs + earlier;
     let mut r: usize = 0;
@@ -74,7 +73,7 @@ pub fn is_used(net: Net, r: usize) -> bool
 // A reference after the gates of `net`; `taken` counts as used too.
 pub fn judge_reference(s: &[u8], header: Header, net: Net, taken: usize, w: &[u8]) -> Verdict
     requires { ⌜ HeaderHeld (now s) header × (net .gates ≤ mostGates) ⌝ }
-    ensures { λ r. ⌜ judgedAs itself r ≡ referenceField (namesOf (now (s .entry)) header) (net .gates) (taken ∷ usedBy (gatesOf net)) (now (w .entry)) ⌝ }
+    ensures { λ r. ⌜ judgedAs itself r ≡ referenceField (namesIn (now (s .entry)) header) (net .gates) (taken ∷ usedBy (gatesOf net)) (now (w .entry)) ⌝ }
 {
     match reference_of(s, header, net.gates, w) {
         Found::Nowhere => Verdict::Bad(7),
@@ -92,7 +91,7 @@ pub fn judge_reference(s: &[u8], header: Header, net: Net, taken: usize, w: &[u8
 
 pub fn reference_field(s: &[u8], at: usize, header: Header, net: Net, taken: usize) -> Step
     requires { ⌜ HeaderHeld (now s) header × (net .gates ≤ mostGates) ⌝ }
-    ensures { λ r. ⌜ stepAs itself (now (s .entry)) r ≡ field (referenceField (namesOf (now (s .entry)) header) (net .gates) (taken ∷ usedBy (gatesOf net))) 32 (drop at (now (s .entry))) at ⌝ }
+    ensures { λ r. ⌜ stepAs itself (now (s .entry)) r ≡ field (referenceField (namesIn (now (s .entry)) header) (net .gates) (taken ∷ usedBy (gatesOf net))) 32 (drop at (now (s .entry))) at ⌝ }
 {
     let w = field_at(s, at);
     let verdict = judge_reference(s, header, net, taken, w);

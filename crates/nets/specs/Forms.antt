@@ -1,11 +1,13 @@
 -- What the code's forms stand for in document 01's definitions.
 -- Assumes nothing.
-use Prim.Native.Nat.{ℕ, _*_}
+use Prim.Native.Nat.{ℕ, _+_, _*_, _≤_, _<_}
+use mathlib.Core.Path.{_≡_}
 use mathlib.Core.List.{List, map}
-use lib.ListN.{getD, take, drop, replicate}
+use lib.ListN.{length, getD, take, drop, replicate}
 use Rattle.rules.specs.Lists.{range}
 use Rattle.rules.specs.Sheets as sheets
 use Rattle.rules.specs.Limits.{mostInputs}
+use Rattle.laws.specs.Ranges.{map-range-length}
 use Rattle.nets.specs.Room.{mostGates, mostDigits}
 use Rattle.nets.specs.declared.forms.Header.{Header}
 use Rattle.nets.specs.declared.forms.Net.{Net}
@@ -14,8 +16,27 @@ use Rattle.nets.specs.declared.forms.Net.{Net}
 unfoldable pub nameIn : List ℕ → Header → ℕ → List ℕ
 nameIn s h i = take (getD (h .lens) i 0) (drop (getD (h .starts) i 0) s)
 
+-- it lies in the sheet
+abbrev pub NameHeld : List ℕ → Header → ℕ → Type 0
+NameHeld s h i = getD (h .starts) i 0 + getD (h .lens) i 0 ≤ length s
+
+-- the first `count` names do
+abbrev pub NamesHeld : List ℕ → Header → ℕ → Type 0
+NamesHeld s h count = (i : ℕ) → i < count → NameHeld s h i
+
 unfoldable pub headerOf : List ℕ → Header → sheets.Header
 headerOf s h = record { levels = h .levels; inputs = h .inputs; names = map (nameIn s h) (range 0 (h .inputs)) }
+
+-- all names of a header, and the table of these names
+abbrev pub namesIn : List ℕ → Header → List (List ℕ)
+namesIn s h = headerOf s h .names
+
+pub names-count : (s : List ℕ) (h : Header) → length (namesIn s h) ≡ h .inputs
+unfolding headerOf
+names-count s h = map-range-length (nameIn s h) 0 (h .inputs)
+
+abbrev pub tableIn : List ℕ → Header → List ℕ → sheets.Table
+tableIn s h inks = record { header = headerOf s h; inks = inks }
 
 -- the gate with k gates before it
 unfoldable pub gateOf : Net → ℕ → sheets.Gate
@@ -28,6 +49,10 @@ gateOf net k =
 
 unfoldable pub gatesOf : Net → List sheets.Gate
 gatesOf net = map (gateOf net) (range 0 (net .gates))
+
+-- the net of a header's names and these gates
+abbrev pub netIn : List ℕ → Header → Net → sheets.Net
+netIn s h net = record { header = headerOf s h; gates = gatesOf net }
 
 -- a header with no name yet
 unfoldable pub noNames : ℕ → ℕ → Header

@@ -9,7 +9,7 @@ use Rattle.laws.specs.Settling.{settle-accepted, make-accepted}
 use Rattle.nets.specs.declared.forms.Header.{Header}
 use Rattle.nets.specs.declared.forms.Net.{Net}
 use Rattle.nets.specs.Evaluating.{Tabled}
-use Rattle.lines.specs.Names.{tableIn}
+use Rattle.nets.specs.Forms.{tableIn}
 use Rattle.accepted.specs.Taken.{NetTaken, TableTaken, Given, own-cells, front-table, front-given, inks-table}
 
 -- a net, and its table as `table` wrote it

@@ -16,12 +16,11 @@ use Rattle.rules.specs.Settling.{settledNet, writtenSheet, afterMarks, settledI
 use Rattle.laws.specs.Settling.{marksOfTable, into-13, into-14, into-marked, marked-16, marked-tree}
 use Rattle.nets.specs.declared.forms.Header.{Header}
 use Rattle.nets.specs.declared.forms.Net.{Net}
-use Rattle.nets.specs.Forms.{headerOf}
+use Rattle.nets.specs.Forms.{headerOf, netIn, tableIn}
 use Rattle.laws.specs.Sizes.{sized, kept-fits}
 use Rattle.answers.specs.declared.answer.Answer.{Answer}
 use Rattle.marks.specs.Stored.{held}
 use Rattle.marks.specs.Marking.{Marking}
-use Rattle.lines.specs.Names.{netIn, tableIn}
 use Rattle.net_printing.specs.Gates.{GatesInside}
 use Rattle.net_printing.specs.Kept.{gates-inside}
 use Rattle.readback.specs.Length.{net-length}

@@ -4,7 +4,7 @@ ghost use Prim.Native.Nat.{_≤_};
 ghost use lib.ListN.{length};
 ghost use Rattle.rules.specs.Marks.{marksLength};
 ghost use Rattle.rules.specs.Settling.{afterMarks, settledInto};
-ghost use Rattle.lines.specs.Names.{tableIn};
+ghost use Rattle.nets.specs.Forms.{tableIn};
 ghost use Rattle.answers.specs.Answers.{madeOf};
 ghost use Rattle.accepted.specs.Taken.{Given};
 use answers::answer::Answer;

@@ -10,7 +10,7 @@ use Rattle.rules.specs.Sheets as sheets
 use Rattle.rules.specs.Sheets.{Table, rowLines}
 use Rattle.rules.specs.Reading.{readTable}
 use Rattle.laws.specs.Bounds.{Below}
-use Rattle.nets.specs.Forms.{headerOf}
+use Rattle.nets.specs.Forms.{headerOf, tableIn}
 use Rattle.nets.specs.declared.forms.Header.{Header}
 use Rattle.fields.specs.Chained.{Answers}
 use Rattle.fields.specs.Header.{HeaderHeld}
@@ -23,9 +23,6 @@ use Rattle.table_reading.specs.declared.sheet.TableRead.{TableRead}
 abbrev pub inksIn : List ℕ → Header → List ℕ
 inksIn cells h = take (h .levels ^ h .inputs) cells
 
-abbrev pub tableIn : List ℕ → List ℕ → Header → Table
-tableIn s cells h = record { header = headerOf s h; inks = inksIn cells h }
-
 -- what an accepted sheet's header and inks keep
 pub record TableHeld (s cells : List ℕ) (h : Header) : Type 0 where
   pub header : HeaderHeld s h
@@ -33,12 +30,12 @@ pub record TableHeld (s cells : List ℕ) (h : Header) : Type 0 where
 
 -- reading a whole table sheet, with `cells` as they are afterwards
 pub record TableReads (s cells : List ℕ) (r : TableRead) : Type 0 where
-  pub answer : outcomeAs (tableIn s cells (r .header)) (r .outcome) ≡ readTable s
+  pub answer : outcomeAs (tableIn s (r .header) (inksIn cells (r .header))) (r .outcome) ≡ readTable s
   pub held : r .outcome ≡ Accepted → TableHeld s cells (r .header)
 
 -- what is left of a table sheet with the header h is read by `reader`
 abbrev pub TableRest : List ℕ → ℕ → Reader Table → Header → List ℕ → Outcome → Type 0
-TableRest s at reader h cells o = Answers s at reader (tableIn s cells h) (Below (h .levels) (inksIn cells h)) o
+TableRest s at reader h cells o = Answers s at reader (tableIn s h (inksIn cells h)) (Below (h .levels) (inksIn cells h)) o
 
 -- the rows under a header, and the end after them
 abbrev pub allRows : sheets.Header → Reader (List ℕ)

@@ -8,14 +8,14 @@ use Rattle.rules.specs.Text.{space, newline, text}
 use Rattle.rules.specs.Fields.{field, theWord}
 use Rattle.rules.specs.Sheets.{headerLines, tableSheet}
 use Rattle.rules.specs.Reading.{readTable}
-use Rattle.nets.specs.Forms.{headerOf}
+use Rattle.nets.specs.Forms.{headerOf, tableIn}
 use Rattle.nets.specs.declared.forms.Header.{Header}
 use Rattle.fields.specs.Header.{HeaderRest}
 use Rattle.fields.specs.Steps.{stepAs, nothing, spelled}
 use Rattle.fields.specs.declared.steps.Step.{Step}
 use Rattle.fields.specs.declared.steps.Step.the-variants.{On, Back}
 use Rattle.fields.specs.declared.lines.HeaderRead.{HeaderRead}
-use Rattle.table_reading.specs.Answers.{tableIn, inksIn, TableHeld, TableReads, TableRest, allRows, theEnd, fromRows, fromInk}
+use Rattle.table_reading.specs.Answers.{inksIn, TableHeld, TableReads, TableRest, allRows, theEnd, fromRows, fromInk}
 use Rattle.fields.specs.Chained.{answers-back, answers-on, answers-over, answers-closed}
 use Rattle.table_reading.specs.Rows.{RowsRead}
 use Rattle.answers.specs.declared.outcome.Outcome.{Outcome}
@@ -62,7 +62,7 @@ module _ (s cells : List ℕ) (read : HeaderRead) (lines : HeaderRest s 0 (heade
       → TableReads s cells (record { outcome = Refused number place; header = read .header })
   unfolding readTable tableSheet fromInk fromRows
   header-refused number place e =
-      let rest = answers-back _ (headerLines space) fromInk s 0 (read .step) (lines .reads) (tableIn s cells (read .header)) (TableHeld s cells (read .header)) number place e in
+      let rest = answers-back _ (headerLines space) fromInk s 0 (read .step) (lines .reads) (tableIn s (read .header) (inksIn cells (read .header))) (TableHeld s cells (read .header)) number place e in
       record { answer = rest .answer; held = rest .held }
 
   pub header-on : (value next : ℕ) (r : Outcome) → read .step ≡ On value next

@@ -12,9 +12,9 @@ use Rattle.rules.specs.Sheets.{levelsAt}
 use Rattle.rules.specs.Printed.{line, printedRow, printedRows, printedTable}
 use Rattle.laws.specs.Levels.{levels-length}
 use Rattle.nets.specs.declared.forms.Header.{Header}
-use Rattle.nets.specs.Forms.{nameIn}
+use Rattle.nets.specs.Forms.{nameIn, tableIn}
 use Rattle.lines.specs.Lines.{spaced, spacedFrom, spaced-more}
-use Rattle.lines.specs.Names.{NamesInside, tableIn}
+use Rattle.lines.specs.Names.{NamesInside}
 use Rattle.table_writing.specs.Rows.{row-text, row-length}
 use Rattle.table_writing.specs.Tables.{table-parts}
 

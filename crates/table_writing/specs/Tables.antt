@@ -11,10 +11,10 @@ use Rattle.rules.specs.Lists.{range}
 use Rattle.rules.specs.Printed.{line, firstLines, printedRows, printedTable}
 use Rattle.laws.specs.Sizes.{levels-fit}
 use Rattle.nets.specs.declared.forms.Header.{Header}
-use Rattle.nets.specs.Forms.{nameIn, headerOf}
+use Rattle.nets.specs.Forms.{nameIn, headerOf, tableIn}
 use Rattle.accepted.specs.Taken.{Given}
 use Rattle.lines.specs.Lines.{spacedFrom, line-last, spaced-all}
-use Rattle.lines.specs.Names.{NamesInside, tableIn}
+use Rattle.lines.specs.Names.{NamesInside}
 
 -- levels and inks are digits
 pub record TableInside (s : List ℕ) (h : Header) (inks : List ℕ) : Type 0 where

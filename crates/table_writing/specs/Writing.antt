@@ -15,7 +15,8 @@ use Rattle.answers.specs.declared.answer.Answer.{Answer}
 use Rattle.nets.specs.declared.forms.Header.{Header}
 use Rattle.nets.specs.declared.forms.Net.{Net}
 use Rattle.nets.specs.Evaluating.{Tabled}
-use Rattle.lines.specs.Names.{netIn, NamesInside, tableIn}
+use Rattle.nets.specs.Forms.{netIn, tableIn}
+use Rattle.lines.specs.Names.{NamesInside}
 use Rattle.lines.specs.Put.{Wrote}
 use Rattle.accepted.specs.Taken.{NetTaken, names-inside, own-length, front-length, front-table}
 

@@ -5,7 +5,7 @@ ghost use Rattle.rules.specs.Limits.{mostLevels, mostInputs};
 ghost use Rattle.rules.specs.Printed.{printedRows, printedTable};
 ghost use Rattle.lines.specs.Put.{Put, Room, Wrote};
 ghost use Rattle.table_writing.specs.Rows.{rowText};
-ghost use Rattle.lines.specs.Names.{tableIn};
+ghost use Rattle.nets.specs.Forms.{tableIn};
 ghost use Rattle.table_writing.specs.Tables.{TableInside};
 use lines::header::print_names;
 use lines::header::print_pair;

@@ -1,80 +1,27 @@
--- `lines::header::print_name` meets its contract.
+-- `lines::header::print_name` meets its contract: what is copied is the name.
 -- Assumes nothing.
-use Prim.Native.Nat.{ℕ, _+_, _-_, _≤_, _<_}
-use mathlib.Core.Path.{_≡_}
-use mathlib.Core.List.{List}
 use native.Mathlib.Omega.{arith}
 use borrow.Author.Needs.{needs}
-use lib.ListN.{getD, take, drop, length}
-use Rattle.nets.specs.declared.forms.Header.{Header}
-use Rattle.rules.specs.Limits.{mostInputs}
-use Rattle.nets.specs.Forms.{nameIn}
-use Rattle.lines.specs.Names.{NamesInside}
 use Rattle.lines.proofs.header.print_name.Statement.{statement}
 use Rattle.lines.proofs.header.print_name.Tie as tie
 
-room : {s : List ℕ} {h : Header} → NamesInside s h → {i : ℕ} → i < h .inputs → i < mostInputs
-room n l = omega (arith, n .count)
+-- the function's entry, from the call of `name_of`
+abbrev start : tie.After-name-of → tie.Start
+start c = c .before .before .before
 
--- the part of the sheet that the code takes
-part : (s : List ℕ) (h : Header) (i a l : ℕ) → a ≡ getD (h .starts) i 0 → l ≡ getD (h .lens) i 0 → take (a + l - a) (drop a s) ≡ nameIn s h i
-unfolding nameIn
-part s h i a l p q =
-    let e : a + l - a ≡ l = omega arith in
-    rw (e, p, q)
-
-inside : (c : tie.After-wide) → c .before .wide16 .result + c .wide .result ≤ length (c .before .before .before .before .before .before .args .s .now)
-inside c = omega (arith, c .before .wide16 .ensures, c .wide .ensures .0, c .before .before .before .before .before .before .pre .0 .inside (c .before .before .before .before .before .before .args .i) (c .before .before .before .before .before .before .pre .1))
-
-mul-wide16 : tie.Need-mul-wide16
-mul-wide16 c = omega (arith, room (c .before .before .before .before .pre .0) (c .before .before .before .before .pre .1))
-
-array-read-wide16 : tie.Need-array-read-wide16
-array-read-wide16 c = room (c .before .before .before .before .pre .0) (c .before .before .before .before .pre .1)
-
-wide16-requires : tie.Need-wide16-requires
-wide16-requires c κs = search needs
-
-array-read-wide : tie.Need-array-read-wide
-array-read-wide c = room (c .before .before .before .before .before .pre .0) (c .before .before .before .before .before .pre .1)
-
-wide-requires : tie.Need-wide-requires
-wide-requires c κs = search needs
-
-add-e : tie.Need-add-e
-add-e c = omega (arith, inside c)
-
-sub-copy : tie.Need-sub-copy
-sub-copy c = search needs
-
-part-copy-start : tie.Need-part-copy-start
-part-copy-start c = search needs
-
-part-copy-end : tie.Need-part-copy-end
-part-copy-end c = inside c
+name-of-requires : tie.Need-name-of-requires
+name-of-requires c κs =
+    let entry = c .before .before in
+    (omega (arith, entry .pre .0 .count), entry .pre .0 .inside (entry .args .i) (entry .pre .1))
 
 copy-requires : tie.Need-copy-requires
-copy-requires c κs = rw (part (c .before .before .before .before .before .before .before .before .args .s .now) (c .before .before .before .before .before .before .before .before .args .h) (c .before .before .before .before .before .before .before .before .args .i) (c .before .before .before .wide16 .result) (c .before .before .wide .result) (c .before .before .before .wide16 .ensures) (c .before .before .wide .ensures .0)) (c .before .before .before .before .before .before .before .before .pre .2)
+copy-requires c κs = rw (c .before .name-of .ensures) (start (c .before) .pre .2)
 
 same-length : tie.Need-same-length
 same-length c = search needs
 
 returns : tie.Need-returns
-returns c = rw (part (c .before .before .before .before .before .before .before .before .before .before .before .args .s .now) (c .before .before .before .before .before .before .before .before .before .before .before .args .h) (c .before .before .before .before .before .before .before .before .before .before .before .args .i) (c .before .before .before .before .before .before .wide16 .result) (c .before .before .before .before .before .wide .result) (c .before .before .before .before .before .before .wide16 .ensures) (c .before .before .before .before .before .wide .ensures .0)) at (c .before .before .copy .ensures)
+returns c = let named = c .before .before .before .before in rw (named .name-of .ensures) at (c .before .before .copy .ensures)
 
 pub print-name-spec : {M : Type 1} → statement M
-print-name-spec =
-    tie.close
-    (tie.spec
-    mul-wide16
-    array-read-wide16
-    wide16-requires
-    array-read-wide
-    wide-requires
-    add-e
-    sub-copy
-    part-copy-start
-    part-copy-end
-    copy-requires
-    same-length
-    returns)
+print-name-spec = tie.close (tie.spec name-of-requires copy-requires same-length returns)

@@ -6,10 +6,10 @@ use native.Mathlib.Omega.{arith}
 use borrow.Author.Needs.{needs}
 use Rattle.rules.specs.Text.{newline}
 use Rattle.rules.specs.Printed.{line}
-use Rattle.nets.specs.Forms.{nameIn}
+use Rattle.nets.specs.Forms.{nameIn, namesIn}
 use Rattle.lines.specs.Put.{Left, parts-left, put-left, room-for, room-byte, last-put}
 use Rattle.lines.specs.Lines.{spacedFrom}
-use Rattle.lines.specs.Names.{namesIn, names-line}
+use Rattle.lines.specs.Names.{names-line}
 use Rattle.lines.proofs.header.print_names_line.Statement.{statement}
 use Rattle.lines.proofs.header.print_names_line.Tie as tie
 

@@ -7,7 +7,7 @@ use borrow.Author.Needs.{needs}
 use Rattle.rules.specs.Text.{space, newline, text, decimal}
 use Rattle.rules.specs.Printed.{line, printedNet}
 use Rattle.lines.specs.Put.{Left, parts-left, put-left, room-for, last-put, put-wrote}
-use Rattle.lines.specs.Names.{namesIn, netIn}
+use Rattle.nets.specs.Forms.{namesIn, netIn}
 use Rattle.net_printing.specs.Gates.{gateLines, net-parts}
 use Rattle.net_printing.proofs.net.print_net.Statement.{statement}
 use Rattle.net_printing.proofs.net.print_net.Tie as tie

@@ -8,12 +8,12 @@ use Rattle.rules.specs.Lists.{range, find, same}
 use Rattle.rules.specs.Sheets.{referenceText, referenceOf}
 use Rattle.laws.specs.Sizes.{sized}
 use Rattle.laws.specs.Walks.{find-next, find-stop, find-end}
-use Rattle.net_reading.specs.References.{namesOf, names-count}
+use Rattle.nets.specs.Forms.{namesIn, names-count}
 use Rattle.net_reading.proofs.references.reference_of.Statement.{statement}
 use Rattle.net_reading.proofs.references.reference_of.Tie as tie
 
 abbrev Inv-loop : tie.InvT-loop
-Inv-loop s header earlier w end r₀ r = find (λ k. same w (referenceText (namesOf s header) k)) (range r (end - r)) ≡ referenceOf (namesOf s header) earlier w
+Inv-loop s header earlier w end r₀ r = find (λ k. same w (referenceText (namesIn s header) k)) (range r (end - r)) ≡ referenceOf (namesIn s header) earlier w
 
 abbrev μ-loop : tie.MeasureT-loop
 μ-loop s header earlier w end r₀ r = end - r

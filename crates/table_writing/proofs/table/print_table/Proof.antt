@@ -6,10 +6,9 @@ use native.Mathlib.Omega.{arith}
 use borrow.Author.Needs.{needs}
 use Rattle.rules.specs.Text.{space, newline, text, decimal}
 use Rattle.rules.specs.Printed.{line, printedRows, printedTable}
-use Rattle.nets.specs.Forms.{nameIn}
+use Rattle.nets.specs.Forms.{nameIn, tableIn}
 use Rattle.lines.specs.Put.{Left, parts-left, put-left, room-for, last-put, put-wrote}
 use Rattle.lines.specs.Lines.{spacedFrom}
-use Rattle.lines.specs.Names.{tableIn}
 use Rattle.table_writing.specs.Tables.{table-parts}
 use Rattle.table_writing.proofs.table.print_table.Statement.{statement}
 use Rattle.table_writing.proofs.table.print_table.Tie as tie

@@ -1,10 +1,10 @@
--- `fields::names::name_of` meets its contract: the part of the sheet is the name.
+-- `nets::names::name_of` meets its contract: the part of the sheet is the name.
 -- Assumes nothing.
 use borrow.Author.Needs.{needs}
 use native.Mathlib.Nat.{add-sub-cancel-left}
 use Rattle.nets.specs.Forms.{nameIn}
-use Rattle.fields.proofs.names.name_of.Statement.{statement}
-use Rattle.fields.proofs.names.name_of.Tie as tie
+use Rattle.nets.proofs.names.name_of.Statement.{statement}
+use Rattle.nets.proofs.names.name_of.Tie as tie
 
 mul-start : tie.Need-mul-start
 mul-start c = search needs
