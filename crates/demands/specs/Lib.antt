@@ -15,3 +15,4 @@ pub mod NeverZero
 pub mod Makes
 pub mod Checks
 pub mod Programs
+pub mod Lengths

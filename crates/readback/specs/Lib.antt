@@ -1,7 +1,7 @@
--- Theorems about sheets: what was printed is read back, what was accepted is what would be printed (`ReadBack`), and how long a net
--- sheet is (`Length`). The way there: what a reader reads is said once for both directions (`Spells`, `Collects`); then field by field
--- (`Fields`, `Decimals`, `Judges`, `References`), line by line (`Names`, `Header`, `Gates`), sheet by sheet (`NetSheets`, `TableSheets`).
--- `Fresh` serves the names and the gates.
+-- Theorems about sheets: what was printed is read back, what was accepted is what would be printed (`ReadBack`), how long a sheet is (`Length`,
+-- `TableLength`), with which numbers (`Numbers`), where and by which bytes (`Fronts`, `Refused`) a sheet is refused. The way to the first: what
+-- a reader reads is said once for both directions (`Spells`, `Collects`); then field by field (`Fields`, `Decimals`, `Judges`, `References`),
+-- line by line (`Names`, `Header`, `Gates`), sheet by sheet (`NetSheets`, `TableSheets`). `Fresh` serves the names and the gates.
 -- Assumes nothing.
 pub mod Spells
 pub mod Collects
@@ -16,5 +16,8 @@ pub mod Gates
 pub mod NetSheets
 pub mod TableSheets
 pub mod Numbers
+pub mod Fronts
+pub mod Refused
 pub mod ReadBack
 pub mod Length
+pub mod TableLength

@@ -46,6 +46,10 @@ sizeFits m n = levelsFit m && inputsFit n && cellsFit m n
 abbrev pub mostSettled : ℕ
 mostSettled = 512
 
+-- the length that include/sitgurp.h calls enough for a table sheet, which is never over it
+abbrev pub mostTableSheet : ℕ
+mostTableSheet = 49_274
+
 -- "at most its first 65,536 bytes, which are then the sheet"
 abbrev pub mostRead : ℕ
 mostRead = 65_536

@@ -1,0 +1,238 @@
+-- The lengths of which include/sitgurp.h says "Buffers that always suffice: cells, marks, a net sheet, a table sheet." Each is at least what
+-- any accepted sheet needs, so with buffers of these lengths no call refuses with 13, 14 or 15.
+-- Assumes nothing.
+use Prim.Native.Nat.{ℕ, _^_, _≤_}
+use mathlib.Core.Path.{_≡_, refl, sym, ap, _∙_, subst₂}
+use mathlib.Core.Bool.{Bool, true, false, _&&_}
+use mathlib.Core.List.{List, [], _∷_}
+use native.Mathlib.Nat.{le-trans}
+use native.Mathlib.Omega.{arith}
+use lib.ListN.{length}
+use lib.Dec.{eqb, leb, ltb}
+use borrow.Author.Tests.{leb-true, le-ltb}
+use Rattle.rules.specs.Lists.{range, all, any}
+use Rattle.rules.specs.Limits.{mostCells, mostSettled, mostTableSheet, sizeFits}
+use Rattle.rules.specs.Sheets.{Header, Net, Table}
+use Rattle.rules.specs.Printed.{printedTable}
+use Rattle.rules.specs.Marks.{markIn, marksOf, marksLength, storedMarks}
+use Rattle.rules.specs.Groups.{wholeGroup}
+use Rattle.rules.specs.Kept.{KeptHeader}
+use Rattle.rules.specs.Answers.{Answer, accepted, refused, inkIn, written, Named, netNamed, tableNamed, neither}
+use Rattle.rules.specs.Reading.{readNet, readTable, tableOfNet}
+use Rattle.rules.specs.BareCells.{bareCells}
+use Rattle.rules.specs.Marking.{Marked, markingCall}
+use Rattle.rules.specs.Settling.{Made, settleCall, makeCall}
+use Rattle.rules.specs.Checking.{turnedDown, sameHeader, compared, Checked, checkedInto, checkCall}
+use Rattle.rules.specs.TableWriting.{Written, writeTableCall}
+use Rattle.laws.specs.Distinct.{In}
+use Rattle.laws.specs.Sizes.{Size, sized, kept-size, everySize, at-size}
+use Rattle.laws.specs.Settling.{settle-refused, make-refused}
+use Rattle.laws.specs.Checking.{check-net-refused, check-table-refused, check-accepted, check-12, check-compared, Compared, all-agree, first-differs, comparison}
+use Rattle.laws.specs.TableWriting.{table-refused, table-written}
+use Rattle.readback.specs.Numbers.{netNumbers, tableNumbers, net-refusal, table-refusal}
+use Rattle.readback.specs.ReadBack.{net-accepted, table-accepted}
+use Rattle.readback.specs.Length.{net-length}
+use Rattle.readback.specs.TableLength.{table-length}
+use Rattle.demands.specs.Settles.{sheetIn, sheetOf, Long, settles, settled-short}
+use Rattle.laws.specs.Answers.{not-refused}
+use Rattle.trees.specs.NetTables.{kept-table}
+use Rattle.demands.specs.Numbers.{Gives, refuses, wider, by-test}
+use Rattle.demands.specs.Makes.{Making, no-tree, some-tree, made-short, make-either}
+
+-- ---- what is needed
+
+-- SITGURP_MOST_MARKS; the other three are `mostCells`, `mostSettled` and `mostTableSheet`
+abbrev pub mostMarks : ℕ
+mostMarks = 2_048
+
+marksTest : ℕ → ℕ → Bool
+marksTest m n = leb (marksLength n) mostMarks
+
+marks-tested : everySize marksTest ≡ true
+unfolding everySize all range marksTest marksLength
+marks-tested = refl
+
+-- enough marks at every size that a sheet, or bare cells, may have
+pub size-marks : (m n : ℕ) → Size m n → marksLength n ≤ mostMarks
+unfolding marksTest
+size-marks m n size = leb-true (marksLength n) mostMarks (at-size marksTest marks-tested m n size)
+
+-- "Needed: m to the n bytes, 2 to the n bytes": enough cells and marks for each accepted sheet
+module _ (h : Header) (kept : KeptHeader h) where
+  pub kept-cells : h .levels ^ h .inputs ≤ mostCells
+  kept-cells = kept-size h kept .cells-most
+
+  pub kept-marks : marksLength (h .inputs) ≤ mostMarks
+  kept-marks = size-marks (h .levels) (h .inputs) (kept-size h kept)
+
+-- An accepted net sheet, and the table sheet that is written from it. (Its settled sheet: `settled-short`.)
+module _ (s : List ℕ) (net : Net) (reads : readNet s ≡ accepted net) where
+  pub net-sheet-short : length s ≤ mostSettled
+  net-sheet-short =
+      let (e, kept) = net-accepted s net reads in
+      rw e (net-length net kept)
+
+  pub written-table-short : length (printedTable (tableOfNet net)) ≤ mostTableSheet
+  written-table-short = table-length (tableOfNet net) (kept-table net (net-accepted s net reads .1))
+
+-- An accepted table sheet. (The sheet that is made of it: `made-short`.)
+pub table-sheet-short : (s : List ℕ) (t : Table) → readTable s ≡ accepted t → length s ≤ mostTableSheet
+table-sheet-short s t reads =
+    let (e, kept) = table-accepted s t reads in
+    rw e (table-length t kept)
+
+-- ---- buffers that always suffice
+
+-- settling's and making's
+pub record Ample (cells marks output : List ℕ) : Type 0 where
+  pub cells-most : mostCells ≤ length cells
+  pub marks-most : mostMarks ≤ length marks
+  pub output-most : mostSettled ≤ length output
+
+-- a call that left a sheet did not refuse
+no-refusal : (made : Made) (sheet : List ℕ) (number place : ℕ) → sheetOf made ≡ accepted sheet → made .answer ≡ refused number place → ⊥
+unfolding sheetIn
+no-refusal made sheet number place e d = not-refused sheet number place (sym e ∙ ap (λ (a : Answer ℕ). sheetIn a (made .output)) d)
+
+-- making's numbers without 13, 14 and 15
+abbrev pub tableOrTree : List ℕ
+tableOrTree = 1 ∷ 2 ∷ 3 ∷ 4 ∷ 5 ∷ 6 ∷ 16 ∷ []
+
+module _ (s cells marks output : List ℕ) (ample : Ample cells marks output) where
+  -- they are long enough for every accepted net sheet, ..
+  pub settle-ample : (net : Net) → readNet s ≡ accepted net → Long (tableOfNet net) cells marks output
+  unfolding tableOfNet
+  settle-ample net reads =
+      let kept = net-accepted s net reads .1 .header in
+      record {
+        cells-fit = le-trans (kept-cells (net .header) kept) (ample .cells-most);
+        marks-fit = le-trans (kept-marks (net .header) kept) (ample .marks-most);
+        output-fits = le-trans (settled-short s net reads) (ample .output-most);
+      }
+
+  -- .. and for every accepted table sheet
+  pub make-ample : (t : Table) → readTable s ≡ accepted t → Making t (makeCall s cells marks output)
+  make-ample t reads =
+      let kept = table-accepted s t reads .1 .header in
+      make-either s t reads cells marks output (le-trans (kept-cells (t .header) kept) (ample .cells-most)) (le-trans (kept-marks (t .header) kept) (ample .marks-most))
+      (λ tree. le-trans (made-short s t reads tree) (ample .output-most))
+
+  -- settling refuses with the numbers of its sheet alone, ..
+  pub settle-ample-numbers : Gives netNumbers (settleCall s cells marks output .answer)
+  settle-ample-numbers number place e = go (readNet s) refl
+    where
+      go : (a : Answer Net) → readNet s ≡ a → In number netNumbers
+      go (accepted net) d = absurd (no-refusal (settleCall s cells marks output) _ number place (settles s net d cells marks output (settle-ample net d)) e)
+      go (refused k at) d =
+          refuses netNumbers k at (net-refusal s k at d) number place
+          (sym (ap (λ (made : Made). made .answer) (settle-refused s cells marks output k at d)) ∙ e)
+
+  -- .. and making with those and 16
+  pub make-ample-numbers : Gives tableOrTree (makeCall s cells marks output .answer)
+  unfolding any all
+  make-ample-numbers number place e = go (readTable s) refl
+    where
+      made : (t : Table) → Making t (makeCall s cells marks output) → In number tableOrTree
+      made t (no-tree _ answer) = refuses tableOrTree 16 _ refl number place (sym answer ∙ e)
+      made t (some-tree _ sheet) = absurd (no-refusal (makeCall s cells marks output) _ number place sheet e)
+
+      go : (a : Answer Table) → readTable s ≡ a → In number tableOrTree
+      go (accepted t) d = made t (make-ample t d)
+      go (refused k at) d =
+          refuses tableOrTree k at (wider tableNumbers tableOrTree refl k (table-refusal s k at d)) number place
+          (sym (ap (λ (made : Made). made .answer) (make-refused s cells marks output k at d)) ∙ e)
+
+-- table writing refuses with the numbers of its sheet alone
+pub write-table-ample-numbers : (s output : List ℕ) → mostTableSheet ≤ length output → Gives netNumbers (writeTableCall s output .answer)
+write-table-ample-numbers s output ample number place e = go (readNet s) refl
+  where
+    answer : (made : Written) → writeTableCall s output ≡ made → made .answer ≡ refused number place
+    answer made d = sym (ap (λ (w : Written). w .answer) d) ∙ e
+
+    go : (a : Answer Net) → readNet s ≡ a → In number netNumbers
+    go (accepted net) d =
+        absurd (not-refused _ number place (answer _ (table-written s output net d (le-trans (written-table-short s net d) ample))))
+    go (refused k at) d = refuses netNumbers k at (net-refusal s k at d) number place (answer _ (table-refused s output k at d))
+
+-- ---- checking
+
+-- checking's numbers without 13
+abbrev pub checkAmpleNumbers : Named → List ℕ
+checkAmpleNumbers netNamed = netNumbers
+checkAmpleNumbers tableNamed = tableNumbers
+checkAmpleNumbers neither = 12 ∷ []
+
+module _ (s r cells : List ℕ) (ample : mostCells ≤ length cells) where
+  -- checking refuses with the numbers of its two sheets and 12
+  pub check-ample-numbers : (named : Named) (number place : ℕ) → checkCall s r cells .answer ≡ turnedDown named number place → In number (checkAmpleNumbers named)
+  unfolding any
+  check-ample-numbers named number place e = go (readNet s) refl (readTable r) refl
+    where
+      answer : (made : Checked) → checkCall s r cells ≡ made → made .answer ≡ turnedDown named number place
+      answer made d = sym (ap (λ (c : Checked). c .answer) d) ∙ e
+
+      turned : (named' : Named) (k at : ℕ) → In k (checkAmpleNumbers named') → turnedDown named' k at ≡ turnedDown named number place → In number (checkAmpleNumbers named)
+      turned named' k at h d =
+          subst₂ (λ (w : Named) (j : ℕ). In j (checkAmpleNumbers w)) (let z : named' ≡ named = cc in z) (let z : k ≡ number = cc in z) h
+
+      inks : (xs ys : List ℕ) → Compared xs ys → compared xs ys ≡ turnedDown named number place → ⊥
+      inks xs ys (all-agree a _) d = let z : _≡_ {A = ℕ} 0 1 = cc in omega arith
+      inks xs ys (first-differs k a _ _ _) d = let z : _≡_ {A = ℕ} 0 1 = cc in omega arith
+
+      go : (a : Answer Net) → readNet s ≡ a → (b : Answer Table) → readTable r ≡ b → In number (checkAmpleNumbers named)
+      go (refused k at) d b f = turned netNamed k at (net-refusal s k at d) (answer _ (check-net-refused s r cells k at d))
+      go (accepted net) d (refused k at) f = turned tableNamed k at (table-refusal r k at f) (answer _ (check-table-refused s r cells net d k at f))
+      go (accepted net) d (accepted t) f = headers (sameHeader (net .header) (t .header)) refl
+        where
+          fits : length (t .inks) ≤ length cells
+          fits =
+              let kept = table-accepted r t f .1 in
+              rw (kept .count) (le-trans (kept-cells (t .header) (kept .header)) ample)
+
+          both : checkCall s r cells ≡ checkedInto net t cells
+          both = check-accepted s r cells net d t f
+
+          headers : (same : Bool) → sameHeader (net .header) (t .header) ≡ same → In number (checkAmpleNumbers named)
+          headers false h = turned neither 12 0 refl (answer _ (both ∙ check-12 net t cells h))
+          headers true h = absurd (inks _ (t .inks) (comparison _ (t .inks)) (answer _ (both ∙ check-compared net t cells h fits)))
+
+-- ---- marking
+
+-- marking's numbers without 14
+abbrev pub bareNumbers : List ℕ
+bareNumbers = 9 ∷ 10 ∷ []
+
+module _ (m n : ℕ) (cells marks : List ℕ) (ample : mostMarks ≤ length marks) where
+  bare-numbers : Gives bareNumbers (bareCells m n cells)
+  unfolding bareCells any
+  bare-numbers =
+      by-test (Gives bareNumbers) (sizeFits m n && eqb (length cells) (m ^ n)) _ _
+      (by-test (Gives bareNumbers) (all (λ c. ltb c m) cells) _ _ (λ number place e. absurd (not-refused tt number place e)) (refuses bareNumbers 10 _ refl))
+      (refuses bareNumbers 9 0 refl)
+
+  marks-refused : (k at : ℕ) → bareCells m n cells ≡ refused k at → markingCall m n cells marks ≡ record { answer = refused k at; marks = marks }
+  unfolding markingCall
+  marks-refused k at d = rw (d, markingCall)
+
+  bare-size : bareCells m n cells ≡ accepted tt → Size m n
+  unfolding bareCells
+  bare-size d = sized m n (go (sizeFits m n) refl)
+    where
+      go : (u : Bool) → sizeFits m n ≡ u → sizeFits m n ≡ true
+      go true e = e
+      go false e = absurd (not-refused tt 9 0 (sym d ∙ rw (e, bareCells)))
+
+  marks-written : bareCells m n cells ≡ accepted tt
+      → markingCall m n cells marks
+      ≡ record { answer = accepted (markIn (marksOf m n (inkIn cells)) (wholeGroup n)); marks = written marks (storedMarks (marksOf m n (inkIn cells))) }
+  unfolding markingCall
+  marks-written d = rw (d, le-ltb (length marks) (marksLength n) (le-trans (size-marks m n (bare-size d)) ample), markingCall)
+
+  -- marking refuses with the numbers of its cells alone
+  pub marking-ample-numbers : Gives bareNumbers (markingCall m n cells marks .answer)
+  unfolding markingCall
+  marking-ample-numbers number place e = go (bareCells m n cells) refl
+    where
+      go : (a : Answer (Unit {0})) → bareCells m n cells ≡ a → In number bareNumbers
+      go (accepted _) d = absurd (not-refused _ number place (sym (ap (λ (made : Marked). made .answer) (marks-written d)) ∙ e))
+      go (refused k at) d = refuses bareNumbers k at (bare-numbers k at d) number place (sym (ap (λ (made : Marked). made .answer) (marks-refused k at d)) ∙ e)

@@ -1,0 +1,88 @@
+-- How long an accepted table sheet can be.
+-- Assumes nothing.
+use Prim.Native.Nat.{ℕ, suc, _+_, _*_, _^_, _≤_}
+use mathlib.Core.Path.{_≡_, refl, sym, ap, _∙_}
+use mathlib.Core.Bool.{Bool, true, not, _||_}
+use mathlib.Core.List.{List, [], _∷_, _++_, map}
+use native.Mathlib.Nat.{le-trans, zero-mul, suc-mul}
+use native.Mathlib.Omega.{arith}
+use lib.ListN.{length, length-append}
+use lib.Dec.{leb}
+use borrow.Author.Tests.{leb-true}
+use Rattle.rules.specs.Lists.{range, all}
+use Rattle.rules.specs.Text.{text, digitByte}
+use Rattle.rules.specs.Limits.{cellsFit, mostTableSheet}
+use Rattle.rules.specs.Sheets.{Table, levelsAt}
+use Rattle.rules.specs.Printed.{line, firstLines, printedRow, printedRows, printedTable}
+use Rattle.rules.specs.Kept.{GoodNames, KeptTable}
+use Rattle.laws.specs.Decimals.{decimal-length}
+use Rattle.laws.specs.Levels.{levels-length}
+use Rattle.laws.specs.Sizes.{Size, kept-size, everySize, at-size}
+use Rattle.readback.specs.Judges.{name-parts}
+
+-- ---- the parts of a sheet
+
+-- the line of the names and `ink`: at most 8 bytes and a separator for each name
+third-length : (names : List (List ℕ)) → GoodNames names → length (line (names ++ (text "ink" ∷ []))) ≤ 9 * length names + 4
+unfolding line text
+third-length [] g = omega arith
+third-length (w ∷ []) g =
+    let (l, _, _) = name-parts w (g .0) in
+    simp length-append (omega arith)
+third-length (w ∷ v ∷ names) g =
+    let (l, _, _) = name-parts w (g .0) in
+    let i = third-length (v ∷ names) (g .2) in
+    rw length-append (omega arith)
+
+-- a row's line: two bytes for each level, and two for the ink
+digits-length : (levels : List ℕ) (ink : ℕ) → length (line (map (λ d. digitByte d ∷ []) (levels ++ (ink ∷ [])))) ≡ 2 * length levels + 2
+unfolding line
+digits-length [] ink = refl
+digits-length (l ∷ []) ink = refl
+digits-length (l ∷ k ∷ levels) ink = omega (arith, digits-length (k ∷ levels) ink)
+
+row-length : (m n p ink : ℕ) → length (printedRow m n p ink) ≡ 2 * n + 2
+unfolding printedRow
+row-length m n p ink = digits-length (levelsAt m n p) ink ∙ ap (λ k. 2 * k + 2) (levels-length m n p)
+
+-- all rows
+rows-length : (m n p : ℕ) (inks : List ℕ) → length (printedRows m n p inks) ≡ length inks * (2 * n + 2)
+unfolding printedRows
+rows-length m n p [] = sym (zero-mul (2 * n + 2))
+rows-length m n p (ink ∷ inks) = rw length-append (omega (arith, rows-length m n (suc p) inks, row-length m n p ink, suc-mul (length inks) (2 * n + 2)))
+
+-- ---- the bound
+
+-- no table sheet of m levels and n inputs is longer: a fixed line (14), two values (5), the names and `ink`, the rows
+bound : ℕ → ℕ → ℕ
+bound m n = 23 + 9 * n + m ^ n * (2 * n + 2)
+
+-- it is the sum of the parts
+sheet-length : (t : Table) → KeptTable t → length (printedTable t) ≤ bound (t .header .levels) (t .header .inputs)
+unfolding printedTable firstLines line bound text
+sheet-length t k =
+    let h = t .header in
+    let z = kept-size h (k .header) in
+    let a = decimal-length 0 (h .levels) (omega arith) in
+    let b = decimal-length 1 (h .inputs) (omega arith) in
+    let c = third-length (h .names) (k .header .names) in
+    simp (length-append, rows-length, k .count) (omega (arith, k .header .count))
+
+-- there are too many cells, or the bound is small
+boundTest : ℕ → ℕ → Bool
+boundTest m n = not (cellsFit m n) || leb (bound m n) mostTableSheet
+
+bound-tested : everySize boundTest ≡ true
+unfolding everySize all range boundTest bound cellsFit
+bound-tested = refl
+
+-- so the bound is small for all sizes that a sheet may have
+size-bound : (m n : ℕ) → Size m n → cellsFit m n ≡ true → bound m n ≤ mostTableSheet
+unfolding boundTest
+size-bound m n size fits = leb-true (bound m n) mostTableSheet (rw fits at (at-size boundTest bound-tested m n size))
+
+-- no table sheet is longer than 49,274 bytes
+pub table-length : (t : Table) → KeptTable t → length (printedTable t) ≤ mostTableSheet
+table-length t kept =
+    let h = t .header in
+    le-trans (sheet-length t kept) (size-bound (h .levels) (h .inputs) (kept-size h (kept .header)) (kept .header .cells))
