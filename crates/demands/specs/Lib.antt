@@ -14,5 +14,7 @@ pub mod ListingNumbers
 pub mod NeverZero
 pub mod Makes
 pub mod Checks
+pub mod Assignments
+pub mod TreeClause
 pub mod Programs
 pub mod Lengths

@@ -80,7 +80,7 @@ unfolding levelsAt level
 levels-below m n p k pos h = rw (map-range-at (level m n p) 0 n k 0) (mod-lt _ pos)
 
 -- so the levels are those of the index over m, and the lowest digit
-levels-suc : (m n p : ℕ) → levelsAt m (suc n) p ≡ levelsAt m n (p / m) ++ (p % m ∷ [])
+pub levels-suc : (m n p : ℕ) → levelsAt m (suc n) p ≡ levelsAt m n (p / m) ++ (p % m ∷ [])
 unfolding levelsAt
 levels-suc m n p =
     rw (range-suc, map-append, zero-add, level-last)

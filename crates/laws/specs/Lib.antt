@@ -1,3 +1,4 @@
+pub mod Assignments
 pub mod Bounds
 pub mod Concat
 pub mod Counts

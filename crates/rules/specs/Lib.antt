@@ -1,8 +1,8 @@
 -- Document 01 ("Shade nets: tables, groups and settled trees") as definitions that compute, in the document's own order.
 -- Each definition's comment quotes the sentence that it states, or says what the definition is for. `Lists`, `Text` and
 -- `Fields` are the means; the rest follows the document's sections: Sheets (`Limits`, `Sheets`, `Printed`, `Kept`),
--- `Value`, `Groups`, `Marks`, `Settled`, then the calls with what they turn back (`Calls`, `Lister`), and the starred cases
--- (`Cases`).
+-- `Value`, `Groups`, `Marks`, `Settled` (with `SettledLaws`, which hold its choices to the document's words), then the calls with
+-- what they turn back (`Calls`, `Lister`), and the starred cases (`Cases`).
 -- Assumes nothing.
 pub mod Lists
 pub mod Text
@@ -15,6 +15,7 @@ pub mod Value
 pub mod Groups
 pub mod Marks
 pub mod Settled
+pub mod SettledLaws
 pub mod Answers
 pub mod Reading
 pub mod BareCells

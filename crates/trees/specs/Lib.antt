@@ -16,10 +16,13 @@ pub mod Joins
 pub mod Wirings
 pub mod JoinedLists
 pub mod GateLists
+pub mod TreeLists
 pub mod MarkRule
 pub mod MarkTwo
+pub mod SettledRules
 pub mod NoTree
 pub mod Existence
+pub mod TreeExistence
 pub mod Uniqueness
 pub mod DistinctInks
 pub mod NetTables
