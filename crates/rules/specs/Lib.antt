@@ -2,7 +2,8 @@
 -- Each definition's comment quotes the sentence that it states, or says what the definition is for. `Lists`, `Text` and
 -- `Fields` are the means; the rest follows the document's sections: Sheets (`Limits`, `Sheets`, `Printed`, `Kept`),
 -- `Value`, `Groups`, `Marks`, `Settled` (with `SettledLaws`, which hold its choices to the document's words), then the calls with
--- what they turn back (`Calls`, `Lister`), and the starred cases (`Cases`).
+-- what they turn back (`Answers`, `Reading` and `BareCells` are what they share; a file for each call or pair of calls follows), the starred
+-- cases (`Cases`), and every refusal by examples (`Refusals`). `Evaluation` lets all of it compute.
 -- Assumes nothing.
 pub mod Lists
 pub mod Text
@@ -28,3 +29,4 @@ pub mod Programs
 pub mod Lister
 pub mod Evaluation
 pub mod Cases
+pub mod Refusals

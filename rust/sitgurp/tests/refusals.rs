@@ -1,37 +1,68 @@
-//! Every example of docs/REFUSALS.md: the number, the place, and that the mark under the sheet stands at the place.
+//! The examples of docs/REFUSALS.md: they are the list of crates/rules/specs/Refusals.antt, in its order; the library gives each its
+//! number, its place and its buffers; and the mark in the document stands at the place.
 
-use sitgurp::Refusal;
+use sitgurp::{Lister, Named, Refusal};
 use std::collections::BTreeSet;
 use std::path::Path;
 
-/// An example: what is called, number and place, the lines without the mark, and the byte that is marked.
+/// An example as the list has it: what it is of, its quoted texts, and its numbers, of which the last two are the refusal's number
+/// and place.
+#[derive(Debug, PartialEq)]
 struct Example {
     kind: String,
-    number: usize,
-    place: usize,
-    text: String,
+    texts: Vec<String>,
+    numbers: Vec<usize>,
+}
+
+impl Example {
+    fn number_and_place(&self) -> (usize, usize) {
+        let (numbers, count) = (&self.numbers, self.numbers.len());
+        (numbers[count - 2], numbers[count - 1])
+    }
+}
+
+/// An example of the document: besides, its lines without the mark, and the byte of them that is marked.
+struct Shown {
+    example: Example,
+    body: String,
     marked: Option<usize>,
 }
 
-/// The fenced examples of the document, whose heading is a kind, a number and a place.
-fn examples(document: &str) -> Vec<Example> {
+fn file(path: &str) -> String {
+    let path = Path::new(env!("CARGO_MANIFEST_DIR"))
+        .join("../..")
+        .join(path);
+    std::fs::read_to_string(&path).unwrap_or_else(|error| panic!("{}: {error}", path.display()))
+}
+
+// ---- the document
+
+/// The fenced examples of the document. A fence has what the example is of, number and place; then `crlf` where lines end in a carriage
+/// return too, or `cut` where the last line feed is missing.
+fn shown() -> Vec<Shown> {
+    let document = file("docs/REFUSALS.md");
     let mut lines = document.lines();
     let mut examples = Vec::new();
     while let Some(line) = lines.next() {
-        let Some(heading) = line.strip_prefix("```") else {
+        let Some(fence) = line.strip_prefix("```") else {
             continue;
         };
-        let words: Vec<&str> = heading.split(' ').collect();
+        let words: Vec<&str> = fence.split(' ').collect();
         let body: Vec<&str> = lines.by_ref().take_while(|line| *line != "```").collect();
-        let [kind, number, place] = words[..] else {
-            panic!("heading {heading:?}")
+        let (end, cut) = match words[3..] {
+            [] => ("\n", false),
+            ["crlf"] => ("\r\n", false),
+            ["cut"] => ("\n", true),
+            _ => panic!("fence {fence:?}"),
         };
-        let (text, marked) = without_mark(&body);
-        examples.push(Example {
-            kind: kind.into(),
-            number: number.parse().expect("a number"),
-            place: place.parse().expect("a place"),
-            text,
+        let (mut body, marked) = without_mark(&body, end);
+        if cut {
+            body.pop();
+        }
+        let refusal = [words[1], words[2]].map(|word| word.parse().expect("a number"));
+        examples.push(Shown {
+            example: example(words[0], &body, refusal),
+            body,
             marked,
         });
     }
@@ -39,109 +70,290 @@ fn examples(document: &str) -> Vec<Example> {
 }
 
 /// The lines without the one that holds the mark, and the byte above the mark.
-fn without_mark(body: &[&str]) -> (String, Option<usize>) {
-    let mut text = String::new();
+fn without_mark(lines: &[&str], end: &str) -> (String, Option<usize>) {
+    let mut body = String::new();
     let mut marked = None;
     let mut line_start = 0;
-    for line in body {
+    for line in lines {
         if let Some(column) = line
             .strip_suffix('^')
             .filter(|spaces| spaces.trim().is_empty())
         {
             marked = Some(line_start + column.len());
         } else {
-            line_start = text.len();
-            text.push_str(line);
-            text.push('\n');
+            line_start = body.len();
+            body.push_str(line);
+            body.push_str(end);
         }
     }
-    (text, marked)
+    (body, marked)
 }
 
-/// The three numbers of a line `word number word number word number`.
-fn three(line: &str) -> [usize; 3] {
+/// What the document's lines say, as the list has it. All but a sheet alone begin with a line of words and numbers; an empty line parts two
+/// sheets, or a sheet from the buffers that the call changed.
+fn example(kind: &str, body: &str, [number, place]: [usize; 2]) -> Example {
+    let words = match kind {
+        "net" | "table" => &[][..],
+        "bare" => &["levels", "inputs"],
+        "group" => &["levels", "inputs", "group"],
+        "marking" => &["levels", "inputs", "marks"],
+        "check" => &["cells"],
+        "settle" | "make" => &["cells", "marks", "output"],
+        "write" => &["output"],
+        other => panic!("an example of {other:?}"),
+    };
+    let (mut numbers, rest) = match words {
+        [] => (Vec::new(), body),
+        _ => {
+            let (first, rest) = body.split_once('\n').expect("a first line");
+            (numbers_after(words, first), rest)
+        }
+    };
+    let (sheet, after) = match rest.split_once("\n\n") {
+        Some((sheet, after)) => (format!("{sheet}\n"), after),
+        None => (rest.to_string(), ""),
+    };
+    let texts = match kind {
+        "bare" | "group" | "marking" => vec![digits(&sheet)],
+        "check" => vec![sheet, after.to_string()],
+        "settle" | "make" => {
+            let mut then = [numbers[0], numbers[1]].map(|length| "9".repeat(length));
+            for line in after.lines() {
+                match line.split_once(' ') {
+                    Some(("cells", bytes)) => then[0] = digits(bytes),
+                    Some(("marks", bytes)) => then[1] = digits(bytes),
+                    _ => panic!("a buffer {line:?}"),
+                }
+            }
+            let [cells, marks] = then;
+            vec![sheet, cells, marks]
+        }
+        _ => vec![sheet],
+    };
+    numbers.extend([number, place]);
+    Example {
+        kind: kind.into(),
+        texts,
+        numbers,
+    }
+}
+
+/// The numbers of a line in which one stands after each of the words.
+fn numbers_after(words: &[&str], line: &str) -> Vec<usize> {
     let fields: Vec<&str> = line.split(' ').collect();
-    [1, 3, 5].map(|place| fields[place].parse().expect("a number"))
+    let found: Vec<&str> = fields.iter().copied().step_by(2).collect();
+    assert_eq!(found, words, "{line:?}");
+    let numbers = fields.iter().skip(1).step_by(2);
+    numbers
+        .map(|field| field.parse().expect("a number"))
+        .collect()
 }
 
-fn refusal(kind: &str, text: &str) -> Option<Refusal> {
-    let (first, rest) = text.split_once('\n').expect("lines");
-    match kind {
-        "net" => sitgurp::settled(text.as_bytes()).err(),
-        "table" => sitgurp::made(text.as_bytes()).err(),
-        "cells" => {
-            let [m, n, group] = three(first);
-            let cells: Vec<u8> = rest
-                .split_whitespace()
-                .map(|cell| cell.parse().expect("a cell"))
-                .collect();
-            sitgurp::multiplicity(m, n, &cells, group).err()
+/// Single digits, without what parts them.
+fn digits(text: &str) -> String {
+    text.split_whitespace().collect()
+}
+
+// ---- the list
+
+/// The examples of the list `refusals`.
+fn listed() -> Vec<Example> {
+    let specs = file("crates/rules/specs/Refusals.antt");
+    let (_, list) = specs.split_once("\nrefusals =\n").expect("the list");
+    let (list, _) = list.split_once("∷ []\n").expect("the list's end");
+    let list: String = list
+        .lines()
+        .filter(|line| !line.trim_start().starts_with("--"))
+        .map(|line| format!("{line}\n"))
+        .collect();
+    list.split('∷').map(listed_example).collect()
+}
+
+/// One example of the list: a word, then quoted texts, with `/` for the line feed, and numbers.
+fn listed_example(words: &str) -> Example {
+    let (kind, words) = words.trim().split_once(char::is_whitespace).expect("words");
+    let (mut texts, mut numbers) = (Vec::new(), Vec::new());
+    // a quote begins or ends a text, so every second part is one
+    for (part, words) in words.split('"').enumerate() {
+        if part % 2 == 1 {
+            texts.push(words.replace("\\r", "\r").replace('/', "\n"));
+        } else {
+            let words = words.split_whitespace();
+            numbers.extend(words.map(|word| word.parse::<usize>().expect("a number")));
+        }
+    }
+    Example {
+        kind: kind.into(),
+        texts,
+        numbers,
+    }
+}
+
+// ---- the library
+
+const NET: &str = "levels inputs\n2 2\na b\nleft right table\na b 0001\n";
+
+fn nines(length: usize) -> Vec<u8> {
+    vec![9; length]
+}
+
+/// Digits as the bytes 0 to 9.
+fn bytes(digits: &str) -> Vec<u8> {
+    digits.bytes().map(|digit| digit - b'0').collect()
+}
+
+/// What a call answers, which must be a refusal: its number, its place and the sheet that it names.
+fn refused<T: std::fmt::Debug>(answer: Result<T, Refusal>) -> (usize, usize, Named) {
+    let refusal = answer.expect_err("an example is refused");
+    (refusal.number, refusal.place, refusal.named)
+}
+
+/// The library gives what the example says, and leaves the buffers as it says.
+fn holds(example: &Example) {
+    let texts: Vec<&[u8]> = example.texts.iter().map(|text| text.as_bytes()).collect();
+    let numbers = &example.numbers;
+    let (number, place) = example.number_and_place();
+    let due = |named| (number, place, named);
+    let (mut cells, mut marks, mut output) = (nines(100), nines(100), nines(600));
+    match &example.kind[..] {
+        "net" => {
+            let settled = sitgurp::settle(texts[0], &mut cells, &mut marks, &mut output);
+            assert_eq!(refused(settled), due(Named::Net));
+            let checked = sitgurp::check(texts[0], b"", &mut cells);
+            assert_eq!(refused(checked), due(Named::Net));
+            let written = sitgurp::write_table(texts[0], &mut output);
+            assert_eq!(refused(written), due(Named::Net));
+            assert_eq!(refused(Lister::start(texts[0])), due(Named::Net));
+        }
+        "table" => {
+            let made = sitgurp::make(texts[0], &mut cells, &mut marks, &mut output);
+            assert_eq!(refused(made), due(Named::Table));
+            let checked = sitgurp::check(NET.as_bytes(), texts[0], &mut cells);
+            assert_eq!(refused(checked), due(Named::Table));
+        }
+        "bare" => {
+            let bare = bytes(&example.texts[0]);
+            for group in 0..5 {
+                let answer = sitgurp::multiplicity(numbers[0], numbers[1], &bare, group);
+                assert_eq!(refused(answer), due(Named::Neither));
+            }
+            for length in [0, 100] {
+                let answer = sitgurp::marking(numbers[0], numbers[1], &bare, &mut marks[..length]);
+                assert_eq!(refused(answer), due(Named::Neither));
+            }
+        }
+        "group" => {
+            let bare = bytes(&example.texts[0]);
+            let answer = sitgurp::multiplicity(numbers[0], numbers[1], &bare, numbers[2]);
+            assert_eq!(refused(answer), due(Named::Neither));
+        }
+        "marking" => {
+            marks = nines(numbers[2]);
+            let bare = bytes(&example.texts[0]);
+            let answer = sitgurp::marking(numbers[0], numbers[1], &bare, &mut marks);
+            assert_eq!(refused(answer), due(Named::Neither));
         }
         "check" => {
-            let (net, table) = text.split_once("\n\n").expect("two sheets");
-            sitgurp::check(
-                format!("{net}\n").as_bytes(),
-                table.as_bytes(),
-                &mut [0; sitgurp::MOST_CELLS],
-            )
-            .err()
+            cells = nines(numbers[0]);
+            let checked = sitgurp::check(texts[0], texts[1], &mut cells);
+            assert_eq!(refused(checked), due(Named::Neither));
         }
-        "settle" => {
-            let [cells, marks, output] = three(first).map(|length| vec![0; length]);
-            let (mut cells, mut marks, mut output) = (cells, marks, output);
-            sitgurp::settle(rest.as_bytes(), &mut cells, &mut marks, &mut output).err()
+        "write" => {
+            output = nines(numbers[0]);
+            let written = sitgurp::write_table(texts[0], &mut output);
+            assert_eq!(refused(written), due(Named::Neither));
         }
-        other => panic!("kind {other:?}"),
+        kind => {
+            let call = match kind {
+                "settle" => sitgurp::settle,
+                "make" => sitgurp::make,
+                other => panic!("an example of {other:?}"),
+            };
+            (cells, marks, output) = (nines(numbers[0]), nines(numbers[1]), nines(numbers[2]));
+            let answer = call(texts[0], &mut cells, &mut marks, &mut output);
+            assert_eq!(refused(answer), due(Named::Neither));
+            assert_eq!(cells, bytes(&example.texts[1]));
+            assert_eq!(marks, bytes(&example.texts[2]));
+            (cells, marks) = (nines(0), nines(0));
+        }
+    }
+    for buffer in [cells, marks, output] {
+        assert_eq!(buffer, nines(buffer.len()), "a buffer has changed");
     }
 }
 
 #[test]
-fn every_example_is_refused_at_its_mark() {
-    let path = Path::new(env!("CARGO_MANIFEST_DIR")).join("../../docs/REFUSALS.md");
-    let examples = examples(&std::fs::read_to_string(path).expect("docs/REFUSALS.md"));
-    let numbers: BTreeSet<usize> = examples.iter().map(|example| example.number).collect();
+fn the_document_has_the_listed_examples() {
+    let shown: Vec<Example> = shown().into_iter().map(|shown| shown.example).collect();
+    let listed = listed();
+    for (shown, listed) in shown.iter().zip(&listed) {
+        assert_eq!(shown, listed, "document and list, in their order");
+    }
+    assert_eq!(shown.len(), listed.len());
+    let numbers: BTreeSet<usize> = listed.iter().map(|e| e.number_and_place().0).collect();
     assert_eq!(numbers, (1..=16).collect(), "each number has an example");
-    for example in examples {
-        let refusal = refusal(&example.kind, &example.text).expect("an example is refused");
-        let (number, place) = (refusal.number, refusal.place);
-        assert_eq!((number, place), (example.number, example.place));
+}
+
+#[test]
+fn every_example_is_refused_as_it_says() {
+    for shown in shown() {
+        holds(&shown.example);
+    }
+}
+
+#[test]
+fn every_mark_stands_at_its_place() {
+    for Shown {
+        example,
+        body,
+        marked,
+    } in shown()
+    {
+        let (number, place) = example.number_and_place();
         match number {
-            // the sheet's end is marked at the start of the line after it
-            1..=8 if place < example.text.len() => assert_eq!(example.marked, Some(place)),
-            1..=8 => {
-                let last_line = example.text.trim_end().rfind('\n').expect("lines") + 1;
-                assert_eq!(example.marked, Some(last_line));
+            // the end of a sheet, after a line feed, is marked in the line after it
+            1..=8 if place == body.len() && body.ends_with('\n') => {
+                let last_line = body.trim_end().rfind('\n').map_or(0, |feed| feed + 1);
+                assert_eq!(marked, Some(last_line));
             }
+            1..=8 => assert_eq!(marked, Some(place), "{example:?}"),
             // a cell and the space after it are two bytes of the line after the first
             10 => {
-                let start = example.text.find('\n').expect("two lines") + 1;
-                assert_eq!(example.marked, Some(start + 2 * place));
+                let start = body.find('\n').expect("two lines") + 1;
+                assert_eq!(marked, Some(start + 2 * place));
             }
-            _ => assert_eq!(example.marked, None, "{number} at {place} has a mark"),
+            _ => assert_eq!(marked, None, "{example:?}"),
         }
     }
 }
 
 #[test]
 fn a_refusal_in_words() {
-    let said = |kind: &str, text: &str| refusal(kind, text).expect("refused").to_string();
+    fn said<T: std::fmt::Debug>(answer: Result<T, Refusal>) -> String {
+        answer.expect_err("refused").to_string()
+    }
     assert_eq!(
-        said("net", "levels inputs\n2 12\n"),
+        said(sitgurp::settled(b"levels inputs\n2 12\n")),
         "net sheet: inputs is not a number from 2 to 11, or there are over 2,187 cells (refusal 3 at byte 16, line 2, column 3)"
     );
     assert_eq!(
-        said("cells", "levels 2 inputs 2 group 1\n0 1 1 2\n"),
+        said(sitgurp::multiplicity(2, 2, &[0, 1, 1, 2], 1)),
         "a cell is not below levels (refusal 10 at index 3)"
     );
+    let (mut cells, mut marks, mut output) = (nines(4), nines(3), nines(512));
     assert_eq!(
-        said(
-            "settle",
-            "cells 4 marks 3 output 512\nlevels inputs\n2 2\na b\nleft right table\na b 0001\n"
-        ),
+        said(sitgurp::settle(
+            NET.as_bytes(),
+            &mut cells,
+            &mut marks,
+            &mut output
+        )),
         "the marks buffer is too short (refusal 14; 4 bytes are needed)"
     );
     assert_eq!(
-        said("table", include_str!("../../../examples/majority.table")),
+        said(sitgurp::made(include_bytes!(
+            "../../../examples/majority.table"
+        ))),
         "no tree of two-input gates computes this table (refusal 16 at group 7: a, b, c)"
     );
 }

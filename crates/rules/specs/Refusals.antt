@@ -1,0 +1,201 @@
+-- The examples of docs/REFUSALS.md as one theorem, `refusals-hold`: every refusal, 1 to 16, by calls that give it, with its number, its
+-- place, and what each buffer lent to the call holds afterwards. They compute, so that a reader who believes nothing sees each number
+-- come out. The document's examples are these and no others (rust/sitgurp/tests/refusals.rs).
+-- Assumes nothing.
+use Prim.Native.Nat.{ℕ}
+use Prim.Native.String.{String}
+use mathlib.Core.Path.{_≡_, refl}
+use mathlib.Core.List.{List, [], _∷_}
+use lib.ListN.{replicate}
+use Rattle.rules.specs.Text.{text}
+use Rattle.rules.specs.Sheets.{Net}
+use Rattle.rules.specs.Answers.{accepted, refused, onward, netNamed, tableNamed, neither}
+use Rattle.rules.specs.Reading.{readNet, readTable}
+use Rattle.rules.specs.BareCells.{bareCells}
+use Rattle.rules.specs.Multiplicity.{multiplicityCall}
+use Rattle.rules.specs.Marking.{markingCall}
+use Rattle.rules.specs.Settling.{settleCall, makeCall}
+use Rattle.rules.specs.Checking.{turnedDown, checkCall}
+use Rattle.rules.specs.TableWriting.{writeTableCall}
+use Rattle.rules.specs.Lister.{listing}
+use Rattle.rules.specs.Evaluation.{computing}
+use Rattle.rules.specs.Cases.{lineEnds, paper, digits}
+
+-- ---- what an example says
+
+-- A net sheet that is turned back: each call that takes one gives that refusal and changes no buffer, whatever else is lent to it.
+pub record NetBack (sheet : List ℕ) (number place : ℕ) : Type 0 where
+  pub settling : (cells marks output : List ℕ)
+      → settleCall sheet cells marks output ≡ record { answer = refused number place; cells = cells; marks = marks; output = output }
+  pub checking : (table-sheet cells : List ℕ)
+      → checkCall sheet table-sheet cells ≡ record { answer = turnedDown netNamed number place; cells = cells }
+  pub writing : (output : List ℕ) → writeTableCall sheet output ≡ record { answer = refused number place; output = output }
+  pub turn : (k : ℕ) → listing sheet k ≡ refused number place
+
+-- A table sheet that is turned back: the same, in a check behind every accepted net sheet.
+pub record TableBack (sheet : List ℕ) (number place : ℕ) : Type 0 where
+  pub making : (cells marks output : List ℕ)
+      → makeCall sheet cells marks output ≡ record { answer = refused number place; cells = cells; marks = marks; output = output }
+  pub checking : (net-sheet cells : List ℕ) (net : Net) → readNet net-sheet ≡ accepted net
+      → checkCall net-sheet sheet cells ≡ record { answer = turnedDown tableNamed number place; cells = cells }
+
+-- Bare cells that are turned back: the same for every group and every marks buffer.
+pub record CellsBack (m n : ℕ) (cells : List ℕ) (number place : ℕ) : Type 0 where
+  pub counting : (g : ℕ) → multiplicityCall m n cells g ≡ refused number place
+  pub marking : (marks : List ℕ) → markingCall m n cells marks ≡ record { answer = refused number place; marks = marks }
+
+-- What is read decides all of these.
+pub net-back : {sheet : List ℕ} {number place : ℕ} → readNet sheet ≡ refused number place → NetBack sheet number place
+unfolding settleCall checkCall writeTableCall listing onward
+net-back e =
+    record {
+      settling = λ cells marks output. rw (e, settleCall);
+      checking = λ table-sheet cells. rw (e, checkCall);
+      writing = λ output. rw (e, writeTableCall);
+      turn = λ k. rw (e, listing);
+    }
+
+pub table-back : {sheet : List ℕ} {number place : ℕ} → readTable sheet ≡ refused number place → TableBack sheet number place
+unfolding makeCall checkCall
+table-back e =
+    record { making = λ cells marks output. rw (e, makeCall); checking = λ net-sheet cells net a. rw (a, e, checkCall) }
+
+pub cells-back : {m n : ℕ} {cells : List ℕ} {number place : ℕ} → bareCells m n cells ≡ refused number place → CellsBack m n cells number place
+unfolding multiplicityCall markingCall onward
+cells-back e = record { counting = λ g. rw (e, multiplicityCall); marking = λ marks. rw (e, markingCall) }
+
+-- A buffer before the call: so many nines, a byte that no call writes.
+unfoldable pub nines : ℕ → List ℕ
+nines k = replicate k 9
+
+-- An example, by what it is of. Buffers are given by their lengths, and cells and buffers afterwards by their digits.
+pub data Example : Type 0 where
+  net : (sheet : String) (number place : ℕ) → Example
+  table : (sheet : String) (number place : ℕ) → Example
+  bare : (m n : ℕ) (cells : String) (number place : ℕ) → Example
+  group : (m n : ℕ) (cells : String) (g number place : ℕ) → Example
+  marking : (m n : ℕ) (cells : String) (marks number place : ℕ) → Example
+  check : (net-sheet table-sheet : String) (cells number place : ℕ) → Example
+  settle : (sheet : String) (cells marks output number place : ℕ) (cells-then marks-then : String) → Example
+  make : (sheet : String) (cells marks output number place : ℕ) (cells-then marks-then : String) → Example
+  write : (sheet : String) (output number place : ℕ) → Example
+
+-- The common statement: a call's whole result, its answer and every buffer lent to it.
+abbrev pub Comes : Example → Type 0
+-- a sheet or bare cells, turned back by every call that takes them
+Comes (net sheet number place) = NetBack (paper sheet) number place
+Comes (table sheet number place) = TableBack (paper sheet) number place
+Comes (bare m n inks number place) = CellsBack m n (digits (text inks)) number place
+-- multiplicity, which has no buffer, of a group; marking
+Comes (group m n inks g number place) = multiplicityCall m n (digits (text inks)) g ≡ refused number place
+Comes (marking m n inks marks number place) =
+    markingCall m n (digits (text inks)) (nines marks) ≡ record { answer = refused number place; marks = nines marks }
+-- a check of two accepted sheets, which names neither
+Comes (check net-sheet table-sheet cells number place) =
+    checkCall (paper net-sheet) (paper table-sheet) (nines cells)
+    ≡ record { answer = turnedDown neither number place; cells = nines cells }
+-- settling and making: cells and marks as said, the output as it was
+Comes (settle sheet cells marks output number place cells-then marks-then) =
+    settleCall (paper sheet) (nines cells) (nines marks) (nines output)
+    ≡ record {
+      answer = refused number place;
+      cells = digits (text cells-then);
+      marks = digits (text marks-then);
+      output = nines output;
+    }
+Comes (make sheet cells marks output number place cells-then marks-then) =
+    makeCall (paper sheet) (nines cells) (nines marks) (nines output)
+    ≡ record {
+      answer = refused number place;
+      cells = digits (text cells-then);
+      marks = digits (text marks-then);
+      output = nines output;
+    }
+-- table writing
+Comes (write sheet output number place) =
+    writeTableCall (paper sheet) (nines output) ≡ record { answer = refused number place; output = nines output }
+
+-- every example of a list
+infixr 5 _and_
+pub data AllCome : List Example → Type 0 where
+  none : AllCome []
+  _and_ : {e : Example} {examples : List Example} → Comes e → AllCome examples → AllCome (e ∷ examples)
+
+-- ---- the examples of docs/REFUSALS.md, in its order
+
+abbrev pub refusals : List Example
+refusals =
+    -- 1: a fixed word; an empty field; a separator; a missing end; bytes after the last line
+    net "levels input/" 1 7
+    ∷ net "levels inputs\r/2 2\r/" 1 7
+    ∷ table "levels inputs/2 2/a b c ink/" 1 22
+    ∷ net "levels inputs/2  2/" 1 16
+    ∷ net "levels inputs/2 2/a/" 1 19
+    ∷ net "levels inputs/2 2/a b c/" 1 21
+    ∷ net "" 1 0
+    ∷ net "levels inputs/2 2/" 1 18
+    ∷ net "levels inputs/2 2/a b/left right table/a b 0001" 1 47
+    ∷ net "levels inputs/2 2/a b/left right table/a b 0001/a b 0001/" 1 48
+    ∷ table "levels inputs/2 2/a b ink/0 0 0/0 1 0/1 0 0/1 1 1/1 1 1/" 1 50
+    -- 2: levels
+    ∷ net "levels inputs/1 2/" 2 14
+    -- 3: inputs; the number of cells
+    ∷ net "levels inputs/2 1/" 3 16
+    ∷ table "levels inputs/3 8/" 3 16
+    -- 4: a name that is malformed; repeated; `ink`
+    ∷ net "levels inputs/2 2/a B/" 4 20
+    ∷ net "levels inputs/2 2/a a/" 4 20
+    ∷ table "levels inputs/2 2/a ink/" 4 20
+    -- 5: a row's input level
+    ∷ table "levels inputs/2 2/a b ink/0 0 1/1 0 0/" 5 32
+    -- 6: an ink; a gate's table
+    ∷ table "levels inputs/2 2/a b ink/0 0 2/" 6 30
+    ∷ net "levels inputs/2 2/a b/left right table/a b 000/" 6 43
+    ∷ net "levels inputs/2 2/a b/left right table/a b 0002/" 6 43
+    -- 7: a gate that is not earlier; no input
+    ∷ net "levels inputs/2 2/a b/left right table/1 a 0001/" 7 39
+    ∷ net "levels inputs/2 2/a b/left right table/a c 0001/" 7 41
+    -- 8: an input used before; a gate used before
+    ∷ net "levels inputs/2 2/a b/left right table/a a 0001/" 8 41
+    ∷ net "levels inputs/2 3/a b c/left right table/a b 0001/1 1 0001/" 8 52
+    -- 9: the number of cells; levels; inputs
+    ∷ bare 2 2 "011" 9 0
+    ∷ bare 1 2 "0" 9 0
+    ∷ bare 2 1 "01" 9 0
+    -- 10: a cell
+    ∷ bare 2 2 "0112" 10 3
+    -- 11: the group
+    ∷ group 2 2 "0111" 4 11 0
+    ∷ group 2 2 "0111" 0 11 0
+    -- 12: names, inputs, levels that differ
+    ∷ check "levels inputs/2 2/a b/left right table/a b 0001/" "levels inputs/2 2/b a ink/0 0 0/0 1 0/1 0 0/1 1 1/" 4 12 0
+    ∷ check "levels inputs/2 3/a b c/left right table/a b 0001/1 c 0001/" "levels inputs/2 2/a b ink/0 0 0/0 1 0/1 0 0/1 1 1/" 4 12 0
+    ∷ check "levels inputs/3 2/a b/left right table/a b 000011012/" "levels inputs/2 2/a b ink/0 0 0/0 1 0/1 0 0/1 1 1/" 0 12 0
+    -- 13: the cells buffer
+    ∷ settle "levels inputs/2 2/a b/left right table/a b 0001/" 3 4 48 13 4 "999" "9999"
+    ∷ make "levels inputs/2 2/a b ink/0 0 0/0 1 0/1 0 0/1 1 1/" 3 3 0 13 4 "999" "999"
+    ∷ check "levels inputs/2 2/a b/left right table/a b 0001/" "levels inputs/2 2/a b ink/0 0 0/0 1 0/1 0 0/1 1 1/" 3 13 4
+    -- 14: the marks buffer
+    ∷ settle "levels inputs/2 2/a b/left right table/a b 0001/" 4 3 48 14 4 "9999" "999"
+    ∷ marking 2 2 "0001" 3 14 4
+    -- 15: the output
+    ∷ settle "levels inputs/2 2/a b/left right table/a b 0001/" 5 6 47 15 48 "00019" "022299"
+    ∷ write "levels inputs/2 2/a b/left right table/a b 0001/" 49 15 50
+    -- 16: no tree, whatever the output; the whole group has mark 1 too, but more members
+    ∷ make "levels inputs/2 3/a b c ink/0 0 0 0/0 0 1 0/0 1 0 0/0 1 1 1/1 0 0 0/1 0 1 1/1 1 0 1/1 1 1 1/" 9 9 0 16 7 "000101119" "022020019"
+    ∷ make
+    "levels inputs/2 4/a b c d ink/0 0 0 0 0/0 0 0 1 1/0 0 1 0 0/0 0 1 1 1/0 1 0 0 0/0 1 0 1 1/0 1 1 0 1/0 1 1 1 0/1 0 0 0 0/1 0 0 1 1/1 0 1 0 1/1 0 1 1 0/1 1 0 0 1/1 1 0 1 0/1 1 1 0 1/1 1 1 1 0/"
+    16 16 70 16 7 "0101011001101010" "0220200120000001"
+    ∷ []
+
+pub refusals-hold : AllCome refusals
+unfolding computing lineEnds paper digits nines
+refusals-hold =
+    net-back refl and net-back refl and table-back refl and net-back refl and net-back refl and net-back refl and net-back refl
+    and net-back refl and net-back refl and net-back refl and table-back refl and net-back refl and net-back refl and table-back refl
+    and net-back refl and net-back refl and table-back refl and table-back refl and table-back refl and net-back refl and net-back refl
+    and net-back refl and net-back refl and net-back refl and net-back refl and cells-back refl and cells-back refl and cells-back refl
+    and cells-back refl and refl and refl and refl and refl and refl and refl
+    and refl and refl and refl and refl and refl and refl and refl
+    and refl
+    and none
