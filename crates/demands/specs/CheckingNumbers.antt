@@ -13,7 +13,8 @@ use Rattle.rules.specs.Reading.{readNet, readTable}
 use Rattle.rules.specs.Checking.{Verdict, turnedDown, sameHeader, compared, Checked, checkedInto, checkCall}
 use Rattle.laws.specs.Distinct.{In}
 use Rattle.readback.specs.Numbers.{netNumbers, tableNumbers, net-refusal, table-refusal}
-use Rattle.demands.specs.Numbers.{by-answer, by-test}
+use Rattle.demands.specs.Numbers.{by-answer}
+use Rattle.laws.specs.Tests.{by-test}
 
 -- checking: "A call that refuses either of two sheets .. names the sheet it refuses; 12 names neither", nor does 13
 abbrev pub checkNumbers : Named → List ℕ

@@ -24,7 +24,7 @@ use Rattle.rules.specs.Marking.{Marked, markingCall}
 use Rattle.rules.specs.Settling.{Made, settleCall, makeCall}
 use Rattle.rules.specs.Checking.{turnedDown, sameHeader, compared, Checked, checkedInto, checkCall}
 use Rattle.rules.specs.TableWriting.{Written, writeTableCall}
-use Rattle.laws.specs.Distinct.{In}
+use Rattle.laws.specs.Distinct.{In, wider}
 use Rattle.laws.specs.Sizes.{Size, sized, kept-size, everySize, at-size}
 use Rattle.laws.specs.Settling.{settle-refused, make-refused}
 use Rattle.laws.specs.Checking.{check-net-refused, check-table-refused, check-accepted, check-12, check-compared, Compared, all-agree, first-differs, comparison}
@@ -36,7 +36,8 @@ use Rattle.readback.specs.TableLength.{table-length}
 use Rattle.demands.specs.Settles.{sheetIn, sheetOf, Long, settles, settled-short}
 use Rattle.laws.specs.Answers.{not-refused}
 use Rattle.trees.specs.NetTables.{kept-table}
-use Rattle.demands.specs.Numbers.{Gives, refuses, wider, by-test}
+use Rattle.demands.specs.Numbers.{Gives, refuses}
+use Rattle.laws.specs.Tests.{by-test}
 use Rattle.demands.specs.Makes.{Making, no-tree, some-tree, made-short, make-either}
 
 -- ---- what is needed

@@ -27,7 +27,8 @@ use Rattle.readback.specs.Length.{net-length}
 use Rattle.readback.specs.ReadBack.{net-read-back, net-accepted, table-accepted}
 use Rattle.demands.specs.Settles.{sheetIn, sheetOf, Long, settled-written, settles, table-path}
 use Rattle.laws.specs.Answers.{accepted-inj, not-refused, written-front}
-use Rattle.demands.specs.Numbers.{not-given, by-test}
+use Rattle.demands.specs.Numbers.{not-given}
+use Rattle.laws.specs.Tests.{by-test}
 use Rattle.demands.specs.SettlingNumbers.{sheet-numbers}
 
 -- some gate list, whatever its wiring and digits, is a net of the table's levels and inputs and computes its inks

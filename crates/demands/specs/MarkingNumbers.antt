@@ -9,7 +9,8 @@ use Rattle.rules.specs.Lists.{any}
 use Rattle.rules.specs.Marks.{marksLength}
 use Rattle.rules.specs.BareCells.{bareCells}
 use Rattle.rules.specs.Marking.{Marked, markingCall}
-use Rattle.demands.specs.Numbers.{Gives, accepts, bare-numbers, by-answer, by-test, refuses}
+use Rattle.demands.specs.Numbers.{Gives, accepts, bare-numbers, by-answer, refuses}
+use Rattle.laws.specs.Tests.{by-test}
 
 abbrev pub markingNumbers : List ℕ
 markingNumbers = 9 ∷ 10 ∷ 14 ∷ []

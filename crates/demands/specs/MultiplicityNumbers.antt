@@ -8,7 +8,8 @@ use lib.Dec.{eqb, leb}
 use Rattle.rules.specs.Lists.{any}
 use Rattle.rules.specs.BareCells.{bareCells}
 use Rattle.rules.specs.Multiplicity.{multiplicityCall}
-use Rattle.demands.specs.Numbers.{Gives, accepts, bare-numbers, by-onward, by-test, refuses}
+use Rattle.demands.specs.Numbers.{Gives, accepts, bare-numbers, by-onward, refuses}
+use Rattle.laws.specs.Tests.{by-test}
 
 abbrev pub multiplicityNumbers : List ℕ
 multiplicityNumbers = 9 ∷ 10 ∷ 11 ∷ []

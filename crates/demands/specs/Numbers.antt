@@ -2,35 +2,22 @@
 -- fixes the number. Here: what it is that a call gives certain numbers only, for all inputs and buffers, and how that is shown of its cases.
 -- Assumes nothing.
 use Prim.Native.Nat.{ℕ, _^_}
-use mathlib.Core.Path.{_≡_, refl, sym, _∙_, subst, subst⁻¹}
-use mathlib.Core.Bool.{Bool, true, false, _&&_, _||_, true≢false}
-use mathlib.Core.List.{List, [], _∷_}
+use mathlib.Core.Path.{_≡_, refl, sym, _∙_, subst}
+use mathlib.Core.Bool.{_&&_, true≢false}
+use mathlib.Core.List.{List}
 use lib.ListN.{length}
 use lib.Dec.{eqb, ltb}
-use borrow.Author.Tests.{eqb-true}
-use Rattle.rules.specs.Lists.{all, any}
+use Rattle.rules.specs.Lists.{all}
 use Rattle.rules.specs.Limits.{sizeFits}
 use Rattle.rules.specs.Answers.{Answer, accepted, refused, onward}
 use Rattle.rules.specs.BareCells.{bareCells}
 use Rattle.laws.specs.Distinct.{In, NotIn}
-use Rattle.laws.specs.Tests.{all-iff, any-cons}
 use Rattle.laws.specs.Answers.{not-refused}
+use Rattle.laws.specs.Tests.{by-test}
 
 -- every number with which it refuses is one of these
 abbrev pub Gives : {A : Type 0} → List ℕ → Answer A → Type 0
 Gives numbers a = (number place : ℕ) → a ≡ refused number place → In number numbers
-
--- a number of a list is one of every list that has all of it
-pub wider : (fewer more : List ℕ) → all (λ k. any (eqb k) more) fewer ≡ true → (number : ℕ) → In number fewer → In number more
-unfolding any
-wider [] more h number i = absurd (true≢false (sym i))
-wider (k ∷ fewer) more h number i =
-    let (first, others) = all-iff (λ j. any (eqb j) more) k fewer .0 h in
-    go (eqb number k) refl (sym (any-cons (eqb number) k fewer) ∙ i) first (wider fewer more others number)
-  where
-    go : (t : Bool) → eqb number k ≡ t → (t || any (eqb number) fewer) ≡ true → In k more → (In number fewer → In number more) → In number more
-    go true e i first later = subst⁻¹ (λ (k : ℕ). In k more) (eqb-true number k e) first
-    go false e i first later = later i
 
 -- a number that is not listed is not given
 pub not-given : {A : Type 0} (numbers : List ℕ) (a : Answer A) → Gives numbers a → (number place : ℕ) → NotIn number numbers → a ≡ refused number place → ⊥
@@ -41,11 +28,6 @@ accepts numbers a number place e = absurd (not-refused a number place e)
 
 pub refuses : {A : Type 0} (numbers : List ℕ) (k at : ℕ) → In k numbers → Gives {A = A} numbers (refused k at)
 refuses numbers k at h number place e = subst (λ (k : ℕ). In k numbers) (let z : k ≡ number = cc in z) h
-
--- what holds in both arms of a test
-pub by-test : {X : Type 0} (P : X → Type 0) (t : Bool) (a b : X) → P a → P b → P (elim t [ true ↦ a | false ↦ b ])
-by-test P true a b h k = h
-by-test P false a b h k = k
 
 -- what holds of an accepted input and of a refusal
 pub by-answer : {A X : Type 0} (P : X → Type 0) (a : Answer A) (f : A → X) (g : ℕ → ℕ → X) → ((x : A) → a ≡ accepted x → P (f x))

@@ -18,14 +18,14 @@ use Rattle.rules.specs.Answers.{Answer, accepted, refused}
 use Rattle.rules.specs.Settling.{Made, settledNet, settleCall, makeCall}
 use Rattle.rules.specs.Reading.{readNet, readTable, tableOfNet}
 use Rattle.rules.specs.Programs.{programOutput, zeros, settleProgram, makeProgram}
-use Rattle.laws.specs.Distinct.{In}
+use Rattle.laws.specs.Distinct.{In, wider}
 use Rattle.laws.specs.Sizes.{kept-size}
 use Rattle.laws.specs.Settling.{marksOfTable, settle-refused, make-refused}
 use Rattle.readback.specs.Numbers.{netNumbers, tableNumbers, net-refusal, table-refusal}
 use Rattle.readback.specs.ReadBack.{net-accepted, table-accepted}
 use Rattle.demands.specs.Settles.{sheetIn, sheetOf, settles, settled-short}
 use Rattle.laws.specs.Answers.{accepted-inj, not-refused}
-use Rattle.demands.specs.Numbers.{Gives, refuses, wider}
+use Rattle.demands.specs.Numbers.{Gives, refuses}
 use Rattle.demands.specs.Makes.{HasTree, Making, no-tree, some-tree, made-short, make-either}
 
 -- the two lines of a refusal

@@ -12,12 +12,13 @@ use Rattle.rules.specs.Marks.{marksLength}
 use Rattle.rules.specs.Answers.{refused}
 use Rattle.rules.specs.Reading.{readNet, readTable, tableOfNet}
 use Rattle.rules.specs.Settling.{Made, writtenSheet, afterMarks, settledInto, settleCall, makeCall}
-use Rattle.laws.specs.Distinct.{In}
+use Rattle.laws.specs.Distinct.{In, wider}
 use Rattle.laws.specs.Settling.{WholeTwo, marked-16, marked-tree}
 use Rattle.readback.specs.Numbers.{netNumbers, tableNumbers, net-refusal, table-refusal}
 use Rattle.readback.specs.ReadBack.{net-accepted}
 use Rattle.trees.specs.NetTables.{net-whole-two}
-use Rattle.demands.specs.Numbers.{Gives, accepts, by-answer, by-test, not-given, refuses, wider}
+use Rattle.demands.specs.Numbers.{Gives, accepts, by-answer, not-given, refuses}
+use Rattle.laws.specs.Tests.{by-test}
 
 abbrev pub settleNumbers : List ℕ
 settleNumbers = 1 ∷ 2 ∷ 3 ∷ 4 ∷ 6 ∷ 7 ∷ 8 ∷ 13 ∷ 14 ∷ 15 ∷ []

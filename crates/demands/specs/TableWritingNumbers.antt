@@ -10,7 +10,9 @@ use Rattle.rules.specs.Printed.{printedTable}
 use Rattle.rules.specs.Reading.{readNet, tableOfNet}
 use Rattle.rules.specs.TableWriting.{Written, writeTableCall}
 use Rattle.readback.specs.Numbers.{netNumbers, net-refusal}
-use Rattle.demands.specs.Numbers.{Gives, accepts, by-answer, by-test, refuses, wider}
+use Rattle.demands.specs.Numbers.{Gives, accepts, by-answer, refuses}
+use Rattle.laws.specs.Tests.{by-test}
+use Rattle.laws.specs.Distinct.{wider}
 
 abbrev pub writeTableNumbers : List ℕ
 writeTableNumbers = 1 ∷ 2 ∷ 3 ∷ 4 ∷ 6 ∷ 7 ∷ 8 ∷ 15 ∷ []

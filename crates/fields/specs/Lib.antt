@@ -1,5 +1,4 @@
 pub mod Chained
-pub mod Compared
 pub mod Decimals
 pub mod Header
 pub mod Judging

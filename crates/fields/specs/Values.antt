@@ -16,18 +16,13 @@ use Rattle.laws.specs.Finds.{found-is, first-in-range}
 use Rattle.fields.specs.Steps.{optionOf}
 use Rattle.fields.specs.declared.steps.Found.{Found}
 use Rattle.fields.specs.declared.steps.Found.the-variants.{At, Nowhere}
+use Rattle.laws.specs.Places.{one-byte}
 
 pub levels-long : (w : List ℕ) → (length w ≡ 1 → ⊥) → bad 2 ≡ levelsField w
 unfolding levelsField
 levels-long [] h = refl
 levels-long (b ∷ []) h = absurd (h refl)
 levels-long (b ∷ d ∷ w) h = refl
-
--- a field of one byte
-pub one-byte : (w : List ℕ) → length w ≡ 1 → w ≡ getD w 0 0 ∷ []
-one-byte [] e = absurd (omega arith)
-one-byte (b ∷ []) e = refl
-one-byte (b ∷ d ∷ w) e = absurd (omega arith)
 
 module _ (w : List ℕ) (e : length w ≡ 1) where
   pub levels-low : getD w 0 0 < 50 → bad 2 ≡ levelsField w

@@ -1,20 +1,21 @@
 -- What the code's answers stand for, and what follows of bare cells that are accepted.
 -- Assumes nothing.
-use Prim.Native.Nat.{ℕ, zero, suc, _^_, _≤_, _<_}
-use mathlib.Core.Path.{_≡_, refl, sym, ap, _∙_}
+use Prim.Native.Nat.{ℕ, _^_, _≤_, _<_}
+use mathlib.Core.Path.{_≡_, refl, ap}
 use mathlib.Core.Bool.{Bool, true, false, not, _||_, and-false, or-true}
-use mathlib.Core.List.{List, [], _∷_}
+use mathlib.Core.List.{List}
 use native.Mathlib.Omega.{arith}
-use lib.Dec.{eqb, leb, ltb, leb·suc-suc}
+use lib.Dec.{eqb, leb, ltb}
 use lib.ListN.{length}
 use borrow.Author.Tests.{eqb-true, eqb-false, eq-eqb, ne-eqb, lt-ltb, le-ltb, le-leb, lt-leb}
-use Rattle.rules.specs.Lists.{all, firstPlace}
+use Rattle.rules.specs.Lists.{firstPlace}
 use Rattle.rules.specs.Limits.{sizeFits}
 use Rattle.rules.specs.Groups.{multiplicity, capped}
 use Rattle.rules.specs.Answers as answers
 use Rattle.rules.specs.Answers.{inkIn}
 use Rattle.rules.specs.BareCells.{bareCells}
 use Rattle.rules.specs.Multiplicity.{multiplicityCall}
+use Rattle.laws.specs.FirstPlaces.{all-place}
 
 -- the multiplicity call once the bare cells are accepted
 unfoldable pub groupAnswer : ℕ → ℕ → List ℕ → ℕ → answers.Answer ℕ
@@ -25,21 +26,6 @@ groupAnswer m n cells g =
     ]
 
 -- ---- bare cells
-
--- every element passes exactly when none is the first that does not
-all-place : (test : ℕ → Bool) (xs : List ℕ) → all test xs ≡ not (ltb (firstPlace (λ x. not (test x)) xs) (length xs))
-unfolding all firstPlace
-all-place test [] = refl
-all-place test (x ∷ xs) = go (test x) (all-place test xs)
-  where
-    rest : ℕ
-    rest = firstPlace (λ x. not (test x)) xs
-
-    go : (b : Bool) → all test xs ≡ not (ltb rest (length xs))
-        → elim b as (λ _. Bool) [ true ↦ all test xs | false ↦ false ]
-        ≡ not (ltb (elim (not b) as (λ _. ℕ) [ true ↦ zero | false ↦ suc rest ]) (suc (length xs)))
-    go true later = later ∙ ap not (sym (leb·suc-suc (suc rest) (length xs)))
-    go false later = ap not (sym (lt-ltb zero (suc (length xs)) (omega arith)))
 
 module _ (m n : ℕ) (cells : List ℕ) where
   pub bare-size : sizeFits m n ≡ false → answers.refused 9 0 ≡ bareCells m n cells

@@ -1,15 +1,15 @@
 -- The first of each class, found one assignment at a time, and what a search of them that stops at m + 1 answers.
 -- Assumes nothing.
-use Prim.Native.Nat.{ℕ, zero, suc, _+_, _≤_, _<_}
-use mathlib.Core.Path.{_≡_, refl, sym, _∙_}
+use Prim.Native.Nat.{ℕ, _+_, _≤_, _<_}
+use mathlib.Core.Path.{_≡_, _∙_}
 use mathlib.Core.Bool.{Bool, true, false}
 use mathlib.Core.List.{List, [], _∷_, _++_}
 use native.Mathlib.Omega.{arith}
-use lib.Dec.{ltb, leb·suc-suc}
 use lib.ListN.{length, take, length-append}
 use borrow.Author.Tests.{le-leb, lt-leb, lt-ltb, le-ltb}
 use Rattle.rules.specs.Lists.{any, firstPlace}
 use Rattle.rules.specs.Groups.{alikeOver, firsts, capped}
+use Rattle.laws.specs.FirstPlaces.{any-place}
 
 -- the first of each class of the assignments xs, where ys are those of the other inputs
 unfoldable pub classesOver : (ℕ → ℕ) → List ℕ → List ℕ → List ℕ
@@ -19,18 +19,6 @@ classesOver f ys xs = firsts (alikeOver f ys) [] xs
 pub record Counted (m : ℕ) (classes : List ℕ) (count : ℕ) (kept : List ℕ) : Type 0 where
   pub answer : count ≡ capped m (length classes)
   pub found : count ≤ m → take count kept ≡ classes
-
--- some element passes exactly when the first that does has a place before the end
-pub any-place : (test : ℕ → Bool) (xs : List ℕ) → any test xs ≡ ltb (firstPlace test xs) (length xs)
-unfolding any firstPlace
-any-place test [] = refl
-any-place test (x ∷ xs) = go (test x) (any-place test xs)
-  where
-    go : (b : Bool) → any test xs ≡ ltb (firstPlace test xs) (length xs)
-        → elim b as (λ _. Bool) [ true ↦ true | false ↦ any test xs ]
-        ≡ ltb (elim b as (λ _. ℕ) [ true ↦ zero | false ↦ suc (firstPlace test xs) ]) (suc (length xs))
-    go true later = sym (lt-ltb zero (suc (length xs)) (omega arith))
-    go false later = later ∙ sym (leb·suc-suc (suc (firstPlace test xs)) (length xs))
 
 module _ (same : ℕ → ℕ → Bool) where
   -- one of a class that is kept

@@ -4,6 +4,12 @@ use Prim.Native.Nat.{ℕ, zero, suc, _≤_, _<_}
 use mathlib.Core.List.{List, [], _∷_, _++_, map}
 use native.Mathlib.Omega.{arith}
 use lib.ListN.{length, getD}
+use mathlib.Core.Path.{_≡_}
+use mathlib.Core.Bool.{true}
+use lib.Dec.{ltb}
+use borrow.Author.Tests.{ltb-true}
+use Rattle.rules.specs.Lists.{all}
+use Rattle.laws.specs.Tests.{all-iff}
 
 abbrev pub Below : ℕ → List ℕ → Type 0
 Below b [] = Unit {0}
@@ -29,3 +35,9 @@ below-map b c f e (x ∷ xs) h = (e x (h .0), below-map b c f e xs (h .1))
 pub below-more : (b c : ℕ) → b ≤ c → (xs : List ℕ) → Below b xs → Below c xs
 below-more b c e [] h = tt
 below-more b c e (x ∷ xs) h = (omega arith, below-more b c e xs (h .1))
+
+-- inks that pass the test are below m
+pub inks-below : (m : ℕ) → 0 < m → (inks : List ℕ) → all (λ k. ltb k m) inks ≡ true → (p : ℕ) → getD inks p 0 < m
+inks-below m pos [] h p = pos
+inks-below m pos (k ∷ inks) h zero = ltb-true k m (all-iff (λ k. ltb k m) k inks .0 h .0)
+inks-below m pos (k ∷ inks) h (suc p) = inks-below m pos inks (all-iff (λ k. ltb k m) k inks .0 h .1) p

@@ -1,18 +1,18 @@
 -- Lists of which no element stands twice.
 -- Assumes nothing.
 use Prim.Native.Nat.{ℕ, zero, suc, _≤_, _<_}
-use mathlib.Core.Path.{_≡_, refl, sym, _∙_, ap}
+use mathlib.Core.Path.{_≡_, refl, sym, _∙_, ap, subst⁻¹}
 use mathlib.Core.Logic.{_↔_, by-cases}
-use mathlib.Core.Bool.{Bool, true, false, true≢false}
+use mathlib.Core.Bool.{Bool, true, false, true≢false, _||_}
 use mathlib.Core.List.{List, [], _∷_, _++_}
 use native.Mathlib.Omega.{arith}
 use native.Mathlib.Decide.{decLt}
 use lib.ListN.{length, getD}
 use lib.Dec.{eqb}
-use borrow.Author.Tests.{eqb-false, eq-eqb, ne-eqb}
-use Rattle.rules.specs.Lists.{any}
+use borrow.Author.Tests.{eqb-false, eq-eqb, ne-eqb, eqb-true}
+use Rattle.rules.specs.Lists.{any, all}
 use Rattle.rules.specs.Kept.{Distinct}
-use Rattle.laws.specs.Tests.{not-false-true, none-iff, none-append, none-mem}
+use Rattle.laws.specs.Tests.{not-false-true, none-iff, none-append, none-mem, all-iff, any-cons}
 use Rattle.laws.specs.Places.{mem-getD}
 use Rattle.laws.specs.Counts.{count-cons, count-none, times}
 use Rattle.laws.specs.Pigeonhole.{Differ, pigeonhole}
@@ -100,3 +100,15 @@ all-stand k xs d small enough x x< =
         by-cases (decLt (getD xs i 0) k) (λ l. l) λ l.
         let not-there = small (getD xs i 0) (omega arith) in
         absurd (eqb-false (getD xs i 0) (getD xs i 0) (none-mem (eqb (getD xs i 0)) (mem-getD xs i 0 (omega arith)) not-there) refl)
+
+-- a number of a list is one of every list that has all of it
+pub wider : (fewer more : List ℕ) → all (λ k. any (eqb k) more) fewer ≡ true → (number : ℕ) → In number fewer → In number more
+unfolding any
+wider [] more h number i = absurd (true≢false (sym i))
+wider (k ∷ fewer) more h number i =
+    let (first, others) = all-iff (λ j. any (eqb j) more) k fewer .0 h in
+    go (eqb number k) refl (sym (any-cons (eqb number) k fewer) ∙ i) first (wider fewer more others number)
+  where
+    go : (t : Bool) → eqb number k ≡ t → (t || any (eqb number) fewer) ≡ true → In k more → (In number fewer → In number more) → In number more
+    go true e i first later = subst⁻¹ (λ (k : ℕ). In k more) (eqb-true number k e) first
+    go false e i first later = later i

@@ -5,7 +5,7 @@ use mathlib.Core.Path.{_≡_, refl, sym, _∙_, ap, subst}
 use mathlib.Core.Logic.{_≢_, _↔_, _⊎_, inl, inr, ⊎-elim}
 use mathlib.Core.Bool.{Bool, true, false, _&&_, true≢false}
 use mathlib.Core.Option.{Option, none, some, Option·some-injective, Option·none-ne-some}
-use mathlib.Core.List.{List, [], _∷_, _++_}
+use mathlib.Core.List.{List, [], _∷_, _++_, List·Memᴰ, List·Memᴰ·head, List·Memᴰ·tail, List·Memᴰ·cases-cons}
 use native.Mathlib.Omega.{arith}
 use Rattle.rules.specs.Lists.{range, those, find}
 
@@ -95,3 +95,19 @@ first-in-range t from (suc count) = go (t from) refl (first-in-range t (suc from
     go true here later = found from (omega arith, omega arith, here) (λ h p. p .0)
     go false here later =
         first-same later (λ h. (λ p. (omega arith, omega arith, p .2), next here h)) (λ g h p q r. r)
+
+pub find-same : (t u : ℕ → Bool) (xs : List ℕ) → ((x : ℕ) → List·Memᴰ x xs → t x ≡ u x) → find t xs ≡ find u xs
+unfolding find
+find-same t u [] e = refl
+find-same t u (x ∷ xs) e =
+    rw (e x (List·Memᴰ·head refl), find)
+    (ap (λ (o : Option ℕ). elim (u x) as (λ _. Option ℕ) [ true ↦ some x | false ↦ o ]) (find-same t u xs (λ y m. e y (List·Memᴰ·tail m))))
+
+pub those-mem : (t : ℕ → Bool) (xs : List ℕ) (x : ℕ) → List·Memᴰ x (those t xs) → List·Memᴰ x xs
+unfolding those
+those-mem t [] x m = m
+those-mem t (y ∷ xs) x m = go (t y) (those-mem t xs x) m
+  where
+    go : (b : Bool) → (List·Memᴰ x (those t xs) → List·Memᴰ x xs) → List·Memᴰ x (elim b [ true ↦ y ∷ those t xs | false ↦ those t xs ]) → List·Memᴰ x (y ∷ xs)
+    go true later m = ⊎-elim (λ e. List·Memᴰ·head e) (λ r. List·Memᴰ·tail (later r)) (List·Memᴰ·cases-cons m)
+    go false later m = List·Memᴰ·tail (later m)

@@ -1,14 +1,18 @@
 -- The place of the first element that passes a test.
 -- Assumes nothing.
-use Prim.Native.Nat.{ℕ, zero, suc, _+_, _<_}
+use Prim.Native.Nat.{ℕ, zero, suc, _+_, _<_, _-_, _≤_}
 use mathlib.Core.Path.{_≡_, refl, sym, ap, _∙_}
-use mathlib.Core.Bool.{Bool, true, false, cond, _||_, false≢true}
+use mathlib.Core.Bool.{Bool, true, false, cond, _||_, false≢true, not}
 use mathlib.Core.List.{List, [], _∷_, map}
 use native.Mathlib.Omega.{arith}
 use lib.ListN.{length, getD}
-use Rattle.rules.specs.Lists.{range, any, firstPlace}
+use Rattle.rules.specs.Lists.{range, any, firstPlace, all}
 use Rattle.laws.specs.Tests.{any-cons}
 use Rattle.laws.specs.Ranges.{range-length, range-at}
+use lib.Dec.{ltb, leb·suc-suc}
+use borrow.Author.Tests.{lt-ltb}
+use Rattle.rules.specs.Answers as answers
+use native.Mathlib.Nat.{zero-add, add-zero, suc-add}
 
 -- by the first element's test
 pub first-cons : {A : Type 0} (test : A → Bool) (x : A) (xs : List A) → firstPlace test (x ∷ xs) ≡ cond (test x) zero (suc (firstPlace test xs))
@@ -73,3 +77,58 @@ first-passes test from count h =
     let (l, passes) = first-passing test 0 (range from count) h in
     let below : firstPlace test (range from count) < count = rw range-length at l in
     (below, rw (range-at from count (firstPlace test (range from count)) 0 below) at passes)
+
+-- every element passes exactly when none is the first that does not
+pub all-place : (test : ℕ → Bool) (xs : List ℕ) → all test xs ≡ not (ltb (firstPlace (λ x. not (test x)) xs) (length xs))
+unfolding all firstPlace
+all-place test [] = refl
+all-place test (x ∷ xs) = go (test x) (all-place test xs)
+  where
+    rest : ℕ
+    rest = firstPlace (λ x. not (test x)) xs
+
+    go : (b : Bool) → all test xs ≡ not (ltb rest (length xs))
+        → elim b as (λ _. Bool) [ true ↦ all test xs | false ↦ false ]
+        ≡ not (ltb (elim (not b) as (λ _. ℕ) [ true ↦ zero | false ↦ suc rest ]) (suc (length xs)))
+    go true later = later ∙ ap not (sym (leb·suc-suc (suc rest) (length xs)))
+    go false later = ap not (sym (lt-ltb zero (suc (length xs)) (omega arith)))
+
+-- some element passes exactly when the first that does has a place before the end
+pub any-place : (test : ℕ → Bool) (xs : List ℕ) → any test xs ≡ ltb (firstPlace test xs) (length xs)
+unfolding any firstPlace
+any-place test [] = refl
+any-place test (x ∷ xs) = go (test x) (any-place test xs)
+  where
+    go : (b : Bool) → any test xs ≡ ltb (firstPlace test xs) (length xs)
+        → elim b as (λ _. Bool) [ true ↦ true | false ↦ any test xs ]
+        ≡ ltb (elim b as (λ _. ℕ) [ true ↦ zero | false ↦ suc (firstPlace test xs) ]) (suc (length xs))
+    go true later = sym (lt-ltb zero (suc (length xs)) (omega arith))
+    go false later = later ∙ sym (leb·suc-suc (suc (firstPlace test xs)) (length xs))
+
+-- tests that agree over the range have the same first place
+pub place-agree : (test other : ℕ → Bool) (a count : ℕ) → ((u : ℕ) → a ≤ u → u < a + count → test u ≡ other u)
+    → firstPlace test (range a count) ≡ firstPlace other (range a count)
+unfolding firstPlace range
+place-agree test other a zero e = refl
+place-agree test other a (suc count) e =
+    let here = e a (omega arith) (omega arith) in
+    let later = place-agree test other (suc a) count (λ u low high. e u (omega arith) (omega arith)) in
+    λ i. elim (here i) as (λ _. ℕ) [ true ↦ zero | false ↦ suc (later i) ]
+
+-- numbers that do not pass are skipped
+pub skip : (test : ℕ → Bool) (a count more : ℕ) → ((u : ℕ) → a ≤ u → u < a + count → test u ≡ false)
+    → a + firstPlace test (range a (count + more)) ≡ a + count + firstPlace test (range (a + count) more)
+unfolding firstPlace range
+skip test a zero more none = rw (zero-add, add-zero)
+skip test a (suc count) more none =
+    let later = skip test (suc a) count more (λ u low high. none u (omega arith) (omega arith)) in
+    let here : test a ≡ false = none a (omega arith) (omega arith) in
+    let end : a + suc count ≡ suc a + count = omega arith in
+    rw (end, suc-add, here, firstPlace) (omega (arith, later))
+
+-- and ends at b where b passes
+pub stop-at : (test : ℕ → Bool) (b c : ℕ) → b < c → test b ≡ true → b + firstPlace test (range b (c - b)) ≡ b
+unfolding firstPlace range
+stop-at test b c h e =
+    let count : c - b ≡ suc (c - b - 1) = omega arith in
+    rw (count, e, firstPlace) (add-zero b)

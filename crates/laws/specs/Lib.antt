@@ -21,3 +21,4 @@ pub mod Sizes
 pub mod Tests
 pub mod Walks
 pub mod Answers
+pub mod Fresh

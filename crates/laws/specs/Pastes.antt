@@ -1,11 +1,13 @@
 -- A part of a list that something was pasted into.
 -- Assumes nothing.
-use Prim.Native.Nat.{ℕ, _+_, _≤_}
+use Prim.Native.Nat.{ℕ, _+_, _≤_, suc}
 use mathlib.Core.Path.{_≡_, sym, ap, _∙_}
-use mathlib.Core.List.{List, _++_, append-assoc}
+use mathlib.Core.List.{List, _++_, append-assoc, [], _∷_}
 use native.Mathlib.Omega.{arith}
-use lib.ListN.{length, take, drop, length-drop, take-append-drop}
-use lib.Seq.{paste, length-take-le, take-all, take-at, drop-at, take-append-le, drop-append-le}
+use lib.ListN.{length, take, drop, length-drop, take-append-drop, set}
+use lib.Seq.{paste, length-take-le, take-all, take-at, drop-at, take-append-le, drop-append-le, sets}
+use native.Mathlib.Nat.{add-zero, add-suc, suc-add}
+use lib.ListN
 
 module _ {A : Type 0} (d : List A) (from : ℕ) (v : List A) (n : ℕ) (fits : from + n ≤ length d) (long : length v ≡ n) where
   front : length (take from d) ≡ from
@@ -31,3 +33,10 @@ module _ {A : Type 0} (d : List A) (from : ℕ) (v : List A) (n : ℕ) (fits : f
       ∙ ap (take n) (drop-at (take from d) (take n v ++ drop (from + n) d) from front)
       ∙ ap (λ l. take n (l ++ drop (from + n) d)) (take-all n v (omega arith))
       ∙ take-at v (drop (from + n) d) n long
+
+-- to write t and then u behind it is to write t ++ u
+pub sets-append : (t u l : List ℕ) (at : ℕ) → sets l at (t ++ u) ≡ sets (sets l at t) (at + length t) u
+sets-append [] u l at = ap (λ (k : ℕ). sets l k u) (sym (add-zero at))
+sets-append (b ∷ t) u l at =
+    sets-append t u (set l at b) (suc at)
+    ∙ ap (λ (k : ℕ). sets (sets (set l at b) (suc at) t) k u) (suc-add at (length t) ∙ sym (add-suc at (length t)))

@@ -1,11 +1,12 @@
 -- Lists read by place.
 -- Assumes nothing.
 use Prim.Native.Nat.{ℕ, zero, suc, _<_}
-use mathlib.Core.Path.{_≡_, refl}
-use mathlib.Core.List.{List, [], _∷_, _++_, map, List·Memᴰ, List·Memᴰ·head, List·Memᴰ·tail}
+use mathlib.Core.Path.{_≡_, refl, sym}
+use mathlib.Core.List.{List, [], _∷_, _++_, map, List·Memᴰ, List·Memᴰ·head, List·Memᴰ·tail, List·Memᴰ·not-nil, List·Memᴰ·cases-cons}
 use native.Mathlib.Nat.{not-suc-le-zero, le-of-suc-le-suc}
 use native.Mathlib.Omega.{arith}
 use lib.ListN.{length, getD, length-append}
+use mathlib.Core.Logic.{_⊎_, inl, inr}
 
 -- the element at a place is listed
 pub mem-getD {ℓ} : {A : Type ℓ} (xs : List A) (i : ℕ) (d : A) → i < length xs → List·Memᴰ (getD xs i d) xs
@@ -32,3 +33,19 @@ module _ {A : Type 0} where
   each-snoc P d (y ∷ xs) x each new zero h = each zero (omega arith)
   each-snoc P d (y ∷ xs) x each new (suc i) h =
       each-snoc P d xs x (λ j k. each (suc j) (omega arith)) new i (le-of-suc-le-suc h)
+
+-- a field of one byte
+pub one-byte : (w : List ℕ) → length w ≡ 1 → w ≡ getD w 0 0 ∷ []
+one-byte [] e = absurd (omega arith)
+one-byte (b ∷ []) e = refl
+one-byte (b ∷ d ∷ w) e = absurd (omega arith)
+
+-- an element that is listed stands at a place
+pub mem-place : (x : ℕ) (xs : List ℕ) → List·Memᴰ x xs → (k : ℕ) × (k < length xs) × (getD xs k 0 ≡ x)
+mem-place x [] is = absurd (List·Memᴰ·not-nil is)
+mem-place x (y ∷ xs) is = go (List·Memᴰ·cases-cons is) (mem-place x xs)
+  where
+    go : (x ≡ y) ⊎ List·Memᴰ x xs → (List·Memᴰ x xs → (k : ℕ) × (k < length xs) × (getD xs k 0 ≡ x))
+        → (k : ℕ) × (k < suc (length xs)) × (getD (y ∷ xs) k 0 ≡ x)
+    go (inl e) later = (zero, omega arith, sym e)
+    go (inr is) later = let at = later is in (suc (at .0), omega (arith, at .1), at .2)

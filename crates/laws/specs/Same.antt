@@ -1,13 +1,16 @@
 -- Laws of `same`: the same numbers in the same order.
 -- Assumes nothing.
-use Prim.Native.Nat.{ℕ}
-use mathlib.Core.Path.{_≡_, refl, sym, _∙_, ap₂}
-use mathlib.Core.Bool.{true, false, _&&_, and-eq-true-iff, false≢true}
+use Prim.Native.Nat.{ℕ, suc, _+_, _≤_, _<_}
+use mathlib.Core.Path.{_≡_, refl, sym, _∙_, ap₂, ap}
+use mathlib.Core.Bool.{true, false, _&&_, and-eq-true-iff, false≢true, Bool}
 use mathlib.Core.List.{List, [], _∷_}
 use lib.Dec.{eqb}
-use borrow.Author.Tests.{eqb-true, eq-eqb}
+use borrow.Author.Tests.{eqb-true, eq-eqb, ne-eqb}
 use Rattle.rules.specs.Lists.{same}
 use Rattle.laws.specs.Tests.{two-ways}
+use native.Mathlib.Numerals.{add-one}
+use lib.ListN.{length, drop, getD, drop-of-length-le}
+use lib.Seq.{drop-cons}
 
 -- the same first number, and the same others
 same-cons : (x y : ℕ) (xs ys : List ℕ) → same (x ∷ xs) (y ∷ ys) ≡ (eqb x y && same xs ys)
@@ -43,3 +46,23 @@ eqb-comm x y = two-ways (eqb x y) (eqb y x) (turn x y) (turn y x)
   where
     turn : (x y : ℕ) → eqb x y ≡ true → eqb y x ≡ true
     turn x y e = eq-eqb y x (sym (eqb-true x y e))
+
+pub same-length : (a b : List ℕ) → (length a ≡ length b → ⊥) → same a b ≡ false
+unfolding same
+same-length [] [] h = absurd (h refl)
+same-length [] (y ∷ b) h = refl
+same-length (x ∷ a) [] h = refl
+same-length (x ∷ a) (y ∷ b) h = elim (eqb x y) as (λ t. elim t as (λ _. Bool) [ true ↦ same a b | false ↦ false ] ≡ false) [ true ↦ same-length a b (λ e. h (ap suc e)) | false ↦ refl ]
+
+module _ (a b : List ℕ) (i : ℕ) (ha : i < length a) (hb : i < length b) where
+  pub same-next : getD a i 0 ≡ getD b i 0 → same (drop i a) (drop i b) ≡ same (drop (i + 1) a) (drop (i + 1) b)
+  unfolding same
+  same-next e = rw (add-one, drop-cons a i 0, drop-cons b i 0, eq-eqb _ _ e, same)
+
+  pub same-differs : (getD a i 0 ≡ getD b i 0 → ⊥) → same (drop i a) (drop i b) ≡ false
+  unfolding same
+  same-differs e = rw (drop-cons a i 0, drop-cons b i 0, ne-eqb _ _ e, same)
+
+pub same-end : (a b : List ℕ) (i : ℕ) → length a ≤ i → length b ≤ i → same (drop i a) (drop i b) ≡ true
+unfolding same
+same-end a b i ha hb = rw (drop-of-length-le a ha, drop-of-length-le b hb)

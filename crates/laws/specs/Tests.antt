@@ -152,3 +152,8 @@ pub any-map : {A B : Type 0} (f : A → B) (t : B → Bool) (xs : List A) → an
 unfolding any
 any-map f t [] = refl
 any-map f t (x ∷ xs) = any-cons t (f x) (map f xs) ∙ ap (λ b. t (f x) || b) (any-map f t xs) ∙ sym (any-cons (λ x. t (f x)) x xs)
+
+-- what holds in both arms of a test
+pub by-test : {X : Type 0} (P : X → Type 0) (t : Bool) (a b : X) → P a → P b → P (elim t [ true ↦ a | false ↦ b ])
+by-test P true a b h k = h
+by-test P false a b h k = k

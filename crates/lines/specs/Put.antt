@@ -1,15 +1,16 @@
 -- Text written into a buffer at a place, and what is left of a text while its parts are written one after the other.
 -- Assumes nothing.
-use Prim.Native.Nat.{ℕ, suc, _+_, _≤_, _<_}
+use Prim.Native.Nat.{ℕ, _+_, _≤_, _<_}
 use mathlib.Core.Path.{_≡_, refl, sym, ap, subst, _∙_}
 use mathlib.Core.List.{List, [], _∷_, _++_}
-use native.Mathlib.Nat.{zero-add, add-zero, add-suc, suc-add}
+use native.Mathlib.Nat.{zero-add, add-zero}
 use native.Mathlib.Numerals.{add-one}
 use native.Mathlib.Omega.{arith}
 use lib.ListN
 use lib.ListN.{length, getD, drop, set, length-append, length-set, drop-of-length-le}
 use lib.Seq.{drop-cons, sets, length-sets, sets-eq}
 use Rattle.rules.specs.Answers.{written}
+use Rattle.laws.specs.Pastes.{sets-append}
 
 -- the text t fits into the buffer from `at` on
 abbrev pub Room : List ℕ → ℕ → List ℕ → Type 0
@@ -26,13 +27,6 @@ pub record Left (out : List ℕ) (at : ℕ) (t : List ℕ) (out₀ : List ℕ) (
   pub end : at + length t ≡ at₀ + length t₀
   pub room : Room out at t
   pub kept : length out ≡ length out₀
-
--- to write t and then u behind it is to write t ++ u
-sets-append : (t u l : List ℕ) (at : ℕ) → sets l at (t ++ u) ≡ sets (sets l at t) (at + length t) u
-sets-append [] u l at = ap (λ (k : ℕ). sets l k u) (sym (add-zero at))
-sets-append (b ∷ t) u l at =
-    sets-append t u (set l at b) (suc at)
-    ∙ ap (λ (k : ℕ). sets (sets (set l at b) (suc at) t) k u) (suc-add at (length t) ∙ sym (add-suc at (length t)))
 
 put-length : {before t after : List ℕ} {at next : ℕ} → Put before at t after next → length after ≡ length before
 put-length {before} {t} {after} {at} p = ap length (p .text) ∙ length-sets before at t

@@ -17,7 +17,8 @@ use Rattle.rules.specs.Settled.{firstInput, splitOf}
 use Rattle.trees.specs.MarkTwo.{isA}
 use Rattle.trees.specs.MarkRule.{parts-at-holds}
 use Rattle.marks.specs.Parts.{Part, Next, without-first}
-use Rattle.marks.specs.Splits.{holds-part, part-holds, skip-to, stop-at}
+use Rattle.marks.specs.Splits.{holds-part, part-holds, skip-to}
+use Rattle.laws.specs.FirstPlaces.{stop-at}
 
 -- the search from A on is the search, where A is the first-listed input and the part `part` of the others
 pub record Sought (marks : List ℕ) (g rest part : ℕ) : Type 0 where

@@ -1,11 +1,10 @@
 -- The place of refusal 16 as the code looks for it: size by size, and in each by rising number.
 -- Assumes nothing.
 use Prim.Native.Nat.{ℕ, _+_, _-_, _^_, _≤_, _<_}
-use mathlib.Core.Path.{_≡_, refl, sym, ap, _∙_}
+use mathlib.Core.Path.{_≡_, sym, ap, _∙_}
 use mathlib.Core.Bool.{Bool, true, false, _&&_}
 use mathlib.Core.Option.{Option, none, some}
-use mathlib.Core.Logic.{⊎-elim}
-use mathlib.Core.List.{List, [], _∷_, List·Memᴰ, List·Memᴰ·head, List·Memᴰ·tail, List·Memᴰ·cases-cons}
+use mathlib.Core.List.{List, List·Memᴰ}
 use native.Mathlib.Nat.{sub-zero}
 use native.Mathlib.Omega.{arith}
 use lib.Dec.{eqb, ltb}
@@ -14,7 +13,7 @@ use Rattle.rules.specs.Lists.{range, those, concatMap, find}
 use Rattle.rules.specs.Groups.{size}
 use Rattle.rules.specs.Marks.{markIn, bySize, noTreePlace}
 use Rattle.laws.specs.Concat.{concat-mem}
-use Rattle.laws.specs.Finds.{or-else, find-append, find-those}
+use Rattle.laws.specs.Finds.{or-else, find-append, find-those, find-same, those-mem}
 use Rattle.laws.specs.Ranges.{range-mem, range-next, range-none}
 
 abbrev pub isOne : List ℕ → ℕ → Bool
@@ -94,22 +93,6 @@ module _ (n : ℕ) (marks : List ℕ) where
   place-missing e = sym (ap (λ o. elim o as (λ _. ℕ) [ none ↦ 0 | some g ↦ g ]) e) ∙ place-from
 
 -- ---- marks that agree on every group have one place
-
-find-same : (t u : ℕ → Bool) (xs : List ℕ) → ((x : ℕ) → List·Memᴰ x xs → t x ≡ u x) → find t xs ≡ find u xs
-unfolding find
-find-same t u [] e = refl
-find-same t u (x ∷ xs) e =
-    rw (e x (List·Memᴰ·head refl), find)
-    (ap (λ (o : Option ℕ). elim (u x) as (λ _. Option ℕ) [ true ↦ some x | false ↦ o ]) (find-same t u xs (λ y m. e y (List·Memᴰ·tail m))))
-
-those-mem : (t : ℕ → Bool) (xs : List ℕ) (x : ℕ) → List·Memᴰ x (those t xs) → List·Memᴰ x xs
-unfolding those
-those-mem t [] x m = m
-those-mem t (y ∷ xs) x m = go (t y) (those-mem t xs x) m
-  where
-    go : (b : Bool) → (List·Memᴰ x (those t xs) → List·Memᴰ x xs) → List·Memᴰ x (elim b [ true ↦ y ∷ those t xs | false ↦ those t xs ]) → List·Memᴰ x (y ∷ xs)
-    go true later m = ⊎-elim (λ e. List·Memᴰ·head e) (λ r. List·Memᴰ·tail (later r)) (List·Memᴰ·cases-cons m)
-    go false later m = List·Memᴰ·tail (later m)
 
 pub place-agree : (n : ℕ) (marks other : List ℕ) → ((g : ℕ) → g < 2 ^ n → markIn marks g ≡ markIn other g) → noTreePlace n marks ≡ noTreePlace n other
 unfolding noTreePlace bySize

@@ -1,10 +1,9 @@
 -- The search for document 01's A among the parts of a group that hold its first-listed input.
 -- Assumes nothing.
-use Prim.Native.Nat.{ℕ, zero, suc, _+_, _-_, _^_, _≤_, _<_}
+use Prim.Native.Nat.{ℕ, suc, _+_, _-_, _^_, _≤_, _<_}
 use mathlib.Core.Path.{_≡_, refl, sym, ap, ap₂, _∙_}
 use mathlib.Core.Bool.{Bool, true, false, not, _&&_, _||_, and-eq-true-iff, false≢true}
 use mathlib.Core.List.{List}
-use native.Mathlib.Nat.{zero-add, add-zero, suc-add}
 use native.Mathlib.Omega.{arith}
 use lib.Bits.{and-le-r}
 use lib.Dec.{eqb, ltb, leb·suc-suc}
@@ -15,13 +14,11 @@ use Rattle.rules.specs.Marks.{inside, markIn, partsAt}
 use Rattle.rules.specs.Settled.{firstInput, splitOf}
 use Rattle.trees.specs.Trees.{Apart}
 use Rattle.trees.specs.Members.{member-single, single-below, member-join, inside-member, member-inside, inside-le, member-rest, first-member}
-use Rattle.laws.specs.FirstPlaces.{first-passes}
-use Rattle.laws.specs.Ranges.{mem-range}
+use Rattle.laws.specs.FirstPlaces.{first-passes, any-place, place-agree, skip}
+use Rattle.laws.specs.Ranges.{mem-range, range-length}
 use Rattle.laws.specs.Tests.{two-ways, mem-any}
 use Rattle.trees.specs.MarkRule.{search-parts}
 use Rattle.trees.specs.MarkTwo.{isA, some-A}
-use Rattle.groups.specs.Firsts.{any-place}
-use Rattle.laws.specs.Ranges.{range-length}
 use Rattle.marks.specs.Parts.{Part, inside-part, part-inside}
 
 -- ---- parts that hold the first-listed input
@@ -101,27 +98,6 @@ module _ (n g : ℕ) (some : 0 < g) (g< : g < 2 ^ n) where
 
 -- ---- the search
 
--- tests that agree over the range have the same first place
-place-agree : (test other : ℕ → Bool) (a count : ℕ) → ((u : ℕ) → a ≤ u → u < a + count → test u ≡ other u)
-    → firstPlace test (range a count) ≡ firstPlace other (range a count)
-unfolding firstPlace range
-place-agree test other a zero e = refl
-place-agree test other a (suc count) e =
-    let here = e a (omega arith) (omega arith) in
-    let later = place-agree test other (suc a) count (λ u low high. e u (omega arith) (omega arith)) in
-    λ i. elim (here i) as (λ _. ℕ) [ true ↦ zero | false ↦ suc (later i) ]
-
--- numbers that do not pass are skipped
-skip : (test : ℕ → Bool) (a count more : ℕ) → ((u : ℕ) → a ≤ u → u < a + count → test u ≡ false)
-    → a + firstPlace test (range a (count + more)) ≡ a + count + firstPlace test (range (a + count) more)
-unfolding firstPlace range
-skip test a zero more none = rw (zero-add, add-zero)
-skip test a (suc count) more none =
-    let later = skip test (suc a) count more (λ u low high. none u (omega arith) (omega arith)) in
-    let here : test a ≡ false = none a (omega arith) (omega arith) in
-    let end : a + suc count ≡ suc a + count = omega arith in
-    rw (end, suc-add, here, firstPlace) (omega (arith, later))
-
 -- so a search below c may go on from b
 pub skip-to : (test : ℕ → Bool) (a b c : ℕ) → a ≤ b → b ≤ c → ((u : ℕ) → a ≤ u → u < b → test u ≡ false)
     → a + firstPlace test (range a (c - a)) ≡ b + firstPlace test (range b (c - b))
@@ -131,13 +107,6 @@ skip-to test a b c ab bc none =
     ap (λ (k : ℕ). a + firstPlace test (range a k)) count
     ∙ skip test a (b - a) (c - b) (λ u low high. none u low (omega arith))
     ∙ ap (λ (k : ℕ). k + firstPlace test (range k (c - b))) start
-
--- and ends at b where b passes
-pub stop-at : (test : ℕ → Bool) (b c : ℕ) → b < c → test b ≡ true → b + firstPlace test (range b (c - b)) ≡ b
-unfolding firstPlace range
-stop-at test b c h e =
-    let count : c - b ≡ suc (c - b - 1) = omega arith in
-    rw (count, e, firstPlace) (add-zero b)
 
 module _ (n : ℕ) (marks : List ℕ) (g : ℕ) (some : 0 < g) (g< : g < 2 ^ n) where
   -- some split has mark 2 at both parts exactly when some A has

@@ -17,7 +17,8 @@ use Rattle.rules.specs.Cases.{named, byRule, abcd, oneIf, seven}
 use Rattle.rules.specs.Evaluation.{computing}
 use Rattle.trees.specs.Members.{others-below}
 use Rattle.paper.specs.Decompositions.{Complex, Labels, class-labels, class-complex, columns-simple, simple-tells}
-use Rattle.paper.specs.FanoutFree.{FanoutFree, fanout-free-mark, classes-fanout-free, marked-few, inks-below}
+use Rattle.paper.specs.FanoutFree.{FanoutFree, fanout-free-mark, classes-fanout-free, marked-few}
+use Rattle.laws.specs.Bounds.{inks-below}
 
 -- which CDD's are meant
 abbrev pub Kind : Type 1

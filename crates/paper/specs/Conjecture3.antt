@@ -16,7 +16,8 @@ use Rattle.trees.specs.Members.{inside-member}
 use Rattle.trees.specs.Levels.{level-part-in, part-ext}
 use Rattle.trees.specs.MarkRule.{marked}
 use Rattle.paper.specs.Decompositions.{Simple, Labels, class-labels, class-simple}
-use Rattle.paper.specs.FanoutFree.{FanoutFree, ink-fanout-free, own-ink-mark, inks-below}
+use Rattle.paper.specs.FanoutFree.{FanoutFree, ink-fanout-free, own-ink-mark}
+use Rattle.laws.specs.Bounds.{inks-below}
 
 -- H, a function of a wire in place of inputs i and j and of the other inputs, as one of all inputs but j: input i stands for the wire
 abbrev pub withWire : ℕ → ℕ → ℕ → ℕ → (ℕ → ℕ → ℕ) → ℕ → ℕ

@@ -1,20 +1,15 @@
 -- Document 003 (Butler), sections I to III: fanout-free functions, and how marks decide them. A function of a group's levels that tells
 -- the ink is fanout-free only where the group has mark 2; where it has, the group's classes are fanout-free, and so is the ink.
 -- Assumes nothing.
-use Prim.Native.Nat.{ℕ, zero, suc, _+_, _^_, _≤_, _<_}
+use Prim.Native.Nat.{ℕ, _+_, _^_, _≤_, _<_}
 use mathlib.Core.Path.{_≡_, refl, sym, ap, ap₂, _∙_}
 use mathlib.Core.Logic.{_≢_, _⊎_, inl, inr}
 use mathlib.Core.Bool.{Bool, true, false}
 use native.Mathlib.Omega.{arith}
-use mathlib.Core.List.{List, [], _∷_}
-use lib.ListN.{getD}
-use lib.Dec.{ltb}
-use borrow.Author.Tests.{ltb-true}
-use Rattle.rules.specs.Lists.{all}
 use Rattle.rules.specs.Groups.{part, size, multiplicity}
 use Rattle.rules.specs.Marks.{marksOf}
 use Rattle.rules.specs.Settled.{Wiring, input, gate, groupOf, classNumber, carried, wiringBy}
-use Rattle.laws.specs.Tests.{not-both, all-iff}
+use Rattle.laws.specs.Tests.{not-both}
 use Rattle.trees.specs.Trees.{Tree, wiringIn, treeValue, Filled, fill, WiringOf, EachGate, Apart, Tells, mix}
 use Rattle.trees.specs.Members.{member-single, single-below, join-below, size-single, size-le}
 use Rattle.trees.specs.Levels.{part-below, part-part, part-mix}
@@ -149,9 +144,3 @@ pair-fanout-free m n pos i j i< j< differ g below =
         inr (record { tree = r .tree; wired = r .wired; filled = r .filled; has = λ p h. r .has p h ∙ ap g (part-part m n pos x p) })
 
 -- ---- tables given by their list of inks
-
--- inks that pass the test are below m
-pub inks-below : (m : ℕ) → 0 < m → (inks : List ℕ) → all (λ k. ltb k m) inks ≡ true → (p : ℕ) → getD inks p 0 < m
-inks-below m pos [] h p = pos
-inks-below m pos (k ∷ inks) h zero = ltb-true k m (all-iff (λ k. ltb k m) k inks .0 h .0)
-inks-below m pos (k ∷ inks) h (suc p) = inks-below m pos inks (all-iff (λ k. ltb k m) k inks .0 h .1) p

@@ -19,7 +19,7 @@ use Rattle.readback.specs.Spells.{Spells, spells-give, spells-then, spel
 use Rattle.readback.specs.Collects.{Collects, collects-none, collects-more}
 use Rattle.readback.specs.Fields.{parts-space, parts-newline, spells-field}
 use Rattle.readback.specs.Judges.{judges-digits}
-use Rattle.readback.specs.Fresh.{Fresh, fresh-last}
+use Rattle.laws.specs.Fresh.{Fresh, fresh-last}
 use Rattle.readback.specs.References.{judges-reference}
 
 -- ---- the rules of a gate line and of all that follow it

@@ -13,7 +13,7 @@ use Rattle.rules.specs.Kept.{KeptHeader}
 use Rattle.readback.specs.Spells.{Spells, spells-give, spells-then, spells-as}
 use Rattle.readback.specs.Fields.{plain, isWord, spells-field, judges-word}
 use Rattle.readback.specs.Judges.{judges-levels, judges-inputs}
-use Rattle.readback.specs.Fresh.{fresh-first}
+use Rattle.laws.specs.Fresh.{fresh-first}
 use Rattle.readback.specs.Names.{ended, spells-names}
 
 -- two lines, and the names with `last` after the last one

@@ -8,7 +8,6 @@ pub mod Collects
 pub mod Fields
 pub mod Decimals
 pub mod Judges
-pub mod Fresh
 pub mod Names
 pub mod References
 pub mod Header

@@ -17,7 +17,7 @@ use Rattle.laws.specs.Distinct.{Unlike, unlike-differ}
 use Rattle.readback.specs.Collects.{Collects, collects-none, collects-more}
 use Rattle.readback.specs.Fields.{parts-space, spells-field}
 use Rattle.readback.specs.Judges.{judges-name}
-use Rattle.readback.specs.Fresh.{Fresh, fresh-last}
+use Rattle.laws.specs.Fresh.{Fresh, fresh-last}
 
 -- ---- good names
 

@@ -15,7 +15,7 @@ use Rattle.rules.specs.Printed.{line, firstLines, printedGate, printedNet}
 use Rattle.rules.specs.Kept.{KeptHeader, IsNet, KeptNet}
 use Rattle.readback.specs.Spells.{SpellsTo, spells-then, spells-as}
 use Rattle.readback.specs.Fields.{plain, isWord, spells-field, judges-word, Ended, spells-end}
-use Rattle.readback.specs.Fresh.{fresh-first}
+use Rattle.laws.specs.Fresh.{fresh-first}
 use Rattle.readback.specs.Names.{ended}
 use Rattle.laws.specs.Sizes.{kept-size}
 use Rattle.readback.specs.Header.{headText, spells-header}

@@ -12,7 +12,7 @@ use Rattle.rules.specs.Text.{isDigit}
 use Rattle.rules.specs.Fields.{read, good, bad, field, run}
 use Rattle.rules.specs.Sheets.{inkField}
 use Rattle.fields.specs.Taken.{field-read, judged-good}
-use Rattle.fields.specs.Values.{one-byte}
+use Rattle.laws.specs.Places.{one-byte}
 
 pub ink-long : (m : ℕ) (w : List ℕ) → (length w ≡ 1 → ⊥) → bad 6 ≡ inkField m w
 unfolding inkField

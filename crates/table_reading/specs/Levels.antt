@@ -11,11 +11,10 @@ use Rattle.rules.specs.Lists.{same}
 use Rattle.rules.specs.Text.{digitByte}
 use Rattle.rules.specs.Fields.{Read, read, good, run, past, separator, afterField, fieldOf, field}
 use Rattle.rules.specs.Sheets.{levelField}
-use Rattle.laws.specs.Same.{same-refl}
+use Rattle.laws.specs.Same.{same-refl, same-length}
 use Rattle.laws.specs.Walks.{rest}
-use Rattle.fields.specs.Compared.{same-length}
 use Rattle.fields.specs.Runs.{is-neither, is-space}
-use Rattle.fields.specs.Values.{one-byte}
+use Rattle.laws.specs.Places.{one-byte}
 
 -- at `at` stands the digit of `due`, with a space after it
 pub record PlainLevel (s : List ℕ) (at due : ℕ) : Type 0 where

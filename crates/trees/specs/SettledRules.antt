@@ -2,11 +2,11 @@
 -- (A, B), both of mark 2, A holding its first-listed input, A of lowest number."; classes are "numbered from 0 in the order in which
 -- they first appear as the group's assignments are counted, first-listed member slowest".
 -- Assumes nothing.
-use Prim.Native.Nat.{ℕ, zero, suc, _-_, _^_, _≤_, _<_}
+use Prim.Native.Nat.{ℕ, _-_, _^_, _≤_, _<_}
 use mathlib.Core.Path.{_≡_, sym, ap, _∙_}
-use mathlib.Core.Logic.{_≢_, _⊎_, inl, inr, ⊎-elim}
+use mathlib.Core.Logic.{_≢_, ⊎-elim}
 use mathlib.Core.Bool.{true, and-eq-true-iff, true≢false}
-use mathlib.Core.List.{List, [], _∷_, List·Memᴰ, List·Memᴰ·not-nil, List·Memᴰ·cases-cons}
+use mathlib.Core.List.{List·Memᴰ}
 use native.Mathlib.Nat.{le-of-lt, le-of-eq}
 use native.Mathlib.Decide.{decLt}
 use native.Mathlib.Omega.{arith}
@@ -23,16 +23,7 @@ use Rattle.trees.specs.Alike.{alike-tested}
 use Rattle.trees.specs.Classes.{classes-are-points}
 use Rattle.trees.specs.MarkRule.{marked, parts-at-holds}
 use Rattle.trees.specs.MarkTwo.{two-says, some-A}
-
--- an element that is listed stands at a place
-mem-place : (x : ℕ) (xs : List ℕ) → List·Memᴰ x xs → (k : ℕ) × (k < length xs) × (getD xs k 0 ≡ x)
-mem-place x [] is = absurd (List·Memᴰ·not-nil is)
-mem-place x (y ∷ xs) is = go (List·Memᴰ·cases-cons is) (mem-place x xs)
-  where
-    go : (x ≡ y) ⊎ List·Memᴰ x xs → (List·Memᴰ x xs → (k : ℕ) × (k < length xs) × (getD xs k 0 ≡ x))
-        → (k : ℕ) × (k < suc (length xs)) × (getD (y ∷ xs) k 0 ≡ x)
-    go (inl e) later = (zero, omega arith, sym e)
-    go (inr is) later = let at = later is in (suc (at .0), omega (arith, at .1), at .2)
+use Rattle.laws.specs.Places.{mem-place}
 
 module _ (m n : ℕ) (pos : 0 < m) (f : ℕ → ℕ) (g : ℕ) (g< : g < 2 ^ n) where
   -- ---- "A of lowest number"

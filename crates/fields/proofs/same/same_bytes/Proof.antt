@@ -5,7 +5,7 @@ use mathlib.Core.Path.{_≡_, refl, sym, _∙_}
 use native.Mathlib.Omega.{arith}
 use lib.ListN.{length, drop}
 use Rattle.rules.specs.Lists.{same}
-use Rattle.fields.specs.Compared.{same-length, same-next, same-differs, same-end}
+use Rattle.laws.specs.Same.{same-length, same-next, same-differs, same-end}
 use Rattle.fields.proofs.same.same_bytes.Statement.{statement}
 use Rattle.fields.proofs.same.same_bytes.Tie as tie
 

@@ -1,11 +1,11 @@
--- Things that are read one after another, each unlike those before it.
+-- Things that come one after another, each unlike those before it.
 -- Assumes nothing.
 use mathlib.Core.Path.{_≡_, refl, _∙_}
 use mathlib.Core.Bool.{Bool, false}
 use mathlib.Core.Logic.{_↔_}
 use mathlib.Core.List.{List, [], _∷_, _++_}
 use Rattle.rules.specs.Lists.{any}
 use Rattle.laws.specs.Tests.{none-iff, none-snoc}
 
 module _ {A : Type 0} (alike : A → A → Bool) where
   -- none of the later is like one of the earlier
