@@ -1,8 +1,8 @@
 -- Document 01 ("Shade nets: tables, groups and settled trees") as definitions that compute, in the document's own order.
 -- Each definition's comment quotes the sentence that it states, or says what the definition is for. `Lists`, `Text` and
 -- `Fields` are the means; the rest follows the document's sections: Sheets (`Limits`, `Sheets`, `Printed`, `Kept`),
--- `Value`, `Groups`, `Marks`, `Settled`, then the calls with what they turn back (`Calls`, `Lister`), and the starred cases
--- (`Cases`).
+-- `Value`, `Groups`, `Marks`, the settled net (`Wirings`, `Filling`, `Settled`), then the calls with what they turn back
+-- (`Calls`, `Lister`), and the starred cases (`Cases`).
 -- Assumes nothing.
 pub mod Lists
 pub mod Text
@@ -14,6 +14,8 @@ pub mod Kept
 pub mod Value
 pub mod Groups
 pub mod Marks
+pub mod Wirings
+pub mod Filling
 pub mod Settled
 pub mod Answers
 pub mod Reading
