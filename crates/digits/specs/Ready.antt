@@ -1,4 +1,4 @@
--- What stands inside the cells, and what is asked of the two parts that a gate joins.
+-- What stands inside the cells where a gate's digits are made.
 -- Assumes nothing.
 use Prim.Native.Nat.{ℕ, _+_, _^_, _≤_, _<_}
 use mathlib.Core.Path.{_≡_, sym, subst, subst₂}
@@ -8,25 +8,13 @@ use native.Mathlib.Omega.{arith}
 use lib.ListN.{length, getD}
 use Rattle.rules.specs.Groups.{part, points, others, classes, multiplicity}
 use Rattle.groups.specs.Within.{Within, part-within}
-use Rattle.trees.specs.Trees.{Apart}
 use Rattle.trees.specs.Levels.{part-below}
 use Rattle.trees.specs.Points.{points-are-parts}
-use Rattle.trees.specs.Classes.{classes-are-points}
-use Rattle.trees.specs.Wirings.{Few}
+use Rattle.trees.specs.Classes.{Few, classes-are-points}
+use Rattle.trees.specs.DigitRule.{Parts}
 use Rattle.digits.specs.Samples.{samples, samples-own}
 use Rattle.digits.specs.Sums.{sum-own}
 use Rattle.digits.specs.Sized.{Sized}
-
--- two groups that share no input, each and both together with at most m classes
-pub record Parts (m n : ℕ) (f : ℕ → ℕ) (a b : ℕ) : Type 0 where
-  pub some-a : 0 < a
-  pub some-b : 0 < b
-  pub a-below : a < 2 ^ n
-  pub b-below : b < 2 ^ n
-  pub apart : Apart n a b
-  pub few-a : Few m n f a
-  pub few-b : Few m n f b
-  pub few : Few m n f (a + b)
 
 -- the sum of one of the left list and one of the right is an assignment of group g
 abbrev pub Sums : ℕ → ℕ → ℕ → List ℕ → List ℕ → Type 0

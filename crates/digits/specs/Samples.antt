@@ -3,31 +3,30 @@
 -- Assumes nothing.
 use Prim.Native.Nat.{ℕ, zero, suc, _+_, _-_, _*_, _/_, _%_, _^_, _≤_, _<_}
 use mathlib.Core.Path.{_≡_, refl, sym, ap, _∙_, subst⁻¹}
+use mathlib.Core.Logic.{_≢_}
 use mathlib.Core.Bool.{Bool, true, false}
 use mathlib.Core.List.{List, [], _∷_, map, map-map, append-nil}
 use native.Mathlib.Nat.{zero-mul, zero-add, mul-one, pow-zero, pow-suc, le-refl, le-step, mul-assoc, mul-div-cancel, mul-comm, mod-eq-of-lt, one-le-pow, pow-le-pow-right}
 use native.Mathlib.Decide.{decLt}
 use native.Mathlib.Omega.{arith}
-use borrow.Author.Tests.{eq-eqb, ne-eqb, eqb-true}
+use borrow.Author.Tests.{eq-eqb, ne-eqb, eqb-true, eqb-false}
 use lib.ListN.{length, getD, take}
 use lib.Dec.{eqb}
 use Rattle.rules.specs.Lists.{range, concatMap}
 use Rattle.rules.specs.Sheets.{level}
 use Rattle.rules.specs.Groups.{member, points, part, size, classes, multiplicity}
-use Rattle.rules.specs.Settled.{Wiring, input, gate, groupOf, carried, classNumber, gatesIn, firstInput}
+use Rattle.rules.specs.Wirings.{firstInput}
+use Rattle.rules.specs.Filling.{carried, classNumber}
 use Rattle.laws.specs.Concat.{map-same}
 use Rattle.laws.specs.Ranges.{map-range-length, map-range-at}
 use Rattle.radix.specs.Fronts.{Front}
 use Rattle.groups.specs.Firsts.{Counted, capped-few}
-use Rattle.marks.specs.Parts.{without-first}
 use Rattle.laws.specs.Places.{mem-getD}
-use Rattle.trees.specs.Members.{member-single, size-single, size-one, first-member}
+use Rattle.trees.specs.Members.{member-single, size-one}
 use Rattle.trees.specs.Levels.{level-below, level-part-in}
 use Rattle.trees.specs.Points.{points-are-parts}
 use Rattle.trees.specs.Classes.{classes-are-points, class-below, class-part, class-listed, listed-once}
-use Rattle.trees.specs.Trees.{EachOnce}
-use Rattle.trees.specs.Wirings.{group-below}
-use Rattle.trees.specs.GateLists.{gates-in-size}
+use Rattle.trees.specs.Carried.{carried-several, carried-input}
 
 -- ---- the assignments of a group of one input
 
@@ -85,19 +84,6 @@ counted-all m list count out few found =
     let e : count ≡ length list = found .answer ∙ capped-few m (length list) few in
     record { count = e; is = found .found (omega arith) }
 
--- one member: the first-listed is all
-pub single-test : (n g : ℕ) → 0 < g → g < 2 ^ n → (r : ℕ) → r ≡ g - 2 ^ firstInput n g → eqb r 0 ≡ eqb (size n g) 1
-single-test n g some g< r e = go (decLt 0 r)
-  where
-    go : Dec (0 < r) → eqb r 0 ≡ eqb (size n g) 1
-    go (yes more) =
-        ne-eqb r 0 (λ none. omega arith)
-        ∙ sym (ne-eqb (size n g) 1 (λ one. omega (arith, size-one n g g< one .1)))
-    go (no none) =
-        let first = first-member n g g< some .0 in
-        let all : g ≡ 2 ^ firstInput n g = omega (arith, without-first n g some g< .0) in
-        eq-eqb r 0 (omega arith) ∙ sym (eq-eqb (size n g) 1 (ap (size n) all ∙ size-single (firstInput n g) n first))
-
 module _ (m n : ℕ) (f : ℕ → ℕ) (g : ℕ) (g< : g < 2 ^ n) where
   -- a group of one member
   samples-single : eqb (size n g) 1 ≡ true → samples m n f g ≡ levelPoints m (m ^ (n - 1 - firstInput n g))
@@ -130,46 +116,51 @@ module _ (m n : ℕ) (f : ℕ → ℕ) (g : ℕ) (g< : g < 2 ^ n) where
 
 -- what they are for a wire: all that it carries is below their number, and where what an index gives the wire's group is sample u,
 -- the wire carries u
-pub record Sampled (m n : ℕ) (f : ℕ → ℕ) (w : Wiring) (xs : List ℕ) : Type 0 where
-  pub all : (p : ℕ) → carried m n f false w p < length xs
-  pub carries : (u p : ℕ) → u < length xs → part m n (groupOf w) p ≡ getD xs u 0 → carried m n f false w p ≡ u
+pub record Sampled (m n : ℕ) (f : ℕ → ℕ) (g : ℕ) (xs : List ℕ) : Type 0 where
+  pub all : (p : ℕ) → carried m n f g p < length xs
+  pub carries : (u p : ℕ) → u < length xs → part m n g p ≡ getD xs u 0 → carried m n f g p ≡ u
 
 module _ (m n : ℕ) (pos : 0 < m) (f : ℕ → ℕ) where
   -- an input's
-  sampled-input : (i : ℕ) → i < n → Sampled m n f (input i) (points m n (2 ^ i))
-  unfolding carried groupOf level
+  sampled-input : (i : ℕ) → i < n → Sampled m n f (2 ^ i) (points m n (2 ^ i))
+  unfolding level
   sampled-input i h =
       let w = m ^ (n - 1 - i) in
       let count : length (points m n (2 ^ i)) ≡ m = ap length (points-single m n i h) ∙ level-points-length m w in
       let at : (u : ℕ) → u < m → getD (points m n (2 ^ i)) u 0 ≡ u * w =
       λ u u<. rw (points-single m n i h, map-range-at (λ l. l * w) 0 m u 0 u<, zero-add) in
       record {
-        all = λ p. rw count (level-below m n pos p i);
+        all = λ p. rw (count, carried-input m n f i h p) (level-below m n pos p i);
         carries = λ u p u< e.
-            sym (level-part-in m n pos (2 ^ i) p i h (member-single i i ∙ eq-eqb i i refl))
+            carried-input m n f i h p
+            ∙ sym (level-part-in m n pos (2 ^ i) p i h (member-single i i ∙ eq-eqb i i refl))
             ∙ ap (λ (q : ℕ). q / w % m) (e ∙ at u (rw count at u<))
             ∙ ap (λ (q : ℕ). q % m) (mul-div-cancel u (one-le-pow (n - 1 - i) m pos))
             ∙ mod-eq-of-lt (rw count at u<);
       }
 
-  -- a gate's
-  sampled-gate : (a b : Wiring) → EachOnce n (gate a b) → Sampled m n f (gate a b) (classes m n f (groupOf (gate a b)))
-  unfolding carried multiplicity
-  sampled-gate a b once =
-      let g = groupOf (gate a b) in
-      let g< = group-below n (gate a b) once in
-      record {
-        all = class-below m n pos f g g<;
-        carries = λ u p u< e.
-            sym (class-part m n pos f g g< p)
-            ∙ ap (classNumber m n f g) e
-            ∙ sym (listed-once m n pos f g g< u _ u< (class-below m n pos f g g< _) (class-listed m n pos f g g< (getD (classes m n f g) u 0)));
-      }
+  module _ (g : ℕ) (g< : g < 2 ^ n) where
+    -- a gate's
+    sampled-gate : size n g ≢ 1 → Sampled m n f g (classes m n f g)
+    unfolding multiplicity
+    sampled-gate several =
+        record {
+          all = λ p. rw (carried-several m n f g several p) (class-below m n pos f g g< p);
+          carries = λ u p u< e.
+              carried-several m n f g several p
+              ∙ sym (class-part m n pos f g g< p)
+              ∙ ap (classNumber m n f g) e
+              ∙ sym (listed-once m n pos f g g< u _ u< (class-below m n pos f g g< _) (class-listed m n pos f g g< (getD (classes m n f g) u 0)));
+        }
 
-  -- a wire's samples are such a list
-  pub sampled : (w : Wiring) → EachOnce n w → Sampled m n f w (samples m n f (groupOf w))
-  unfolding samples groupOf gatesIn
-  sampled (input i) once = rw (samples, eq-eqb (size n (2 ^ i)) 1 (size-single i n once)) (sampled-input i once)
-  sampled (gate a b) once =
-      rw (samples, ne-eqb (size n (groupOf (gate a b))) 1 (λ e. omega (arith, gates-in-size m n f (gate a b) once)))
-      (sampled-gate a b once)
+    -- a wire's samples are such a list
+    pub sampled : Sampled m n f g (samples m n f g)
+    unfolding samples
+    sampled = go (eqb (size n g) 1) refl
+      where
+        go : (b : Bool) → eqb (size n g) 1 ≡ b → Sampled m n f g (samples m n f g)
+        go true is =
+            let first = size-one n g g< (eqb-true (size n g) 1 is) in
+            rw (samples, is)
+            (subst⁻¹ (λ (h : ℕ). Sampled m n f h (points m n h)) (first .1) (sampled-input (firstInput n g) (first .0)))
+        go false is = rw (samples, is) (sampled-gate (eqb-false (size n g) 1 is))

@@ -4,12 +4,14 @@ ghost use mathlib.Core.Path.{_≡_};
 ghost use Prim.Native.Nat.{ℕ, _+_, _*_, _^_, _≤_, _<_};
 ghost use lib.ListN.{length, getD};
 ghost use lib.Seq.{paste};
+ghost use Rattle.rules.specs.Filling.{gateDigits};
 ghost use Rattle.rules.specs.Answers.{inkIn};
 ghost use Rattle.groups.specs.Within.{Within};
-ghost use Rattle.trees.specs.Wirings.{Few};
-ghost use Rattle.digits.specs.GateDigits.{given, givenBy, sampledDigit, sampledDigits, DigitsAt};
+ghost use Rattle.trees.specs.Classes.{Few};
+ghost use Rattle.trees.specs.DigitRule.{Parts};
+ghost use Rattle.digits.specs.GateDigits.{givenFrom, givenBy, sampledDigit, sampledDigits};
 ghost use Rattle.digits.specs.Sized.{Sized};
-ghost use Rattle.digits.specs.Ready.{Parts, Sums, Ready};
+ghost use Rattle.digits.specs.Ready.{Sums, Ready};
 use crate::samples;
 use groups::alike;
 use radix::limits;
@@ -20,7 +22,7 @@ use radix::offsets;
 fn given(cells: &[u8], ys: &[u16], firsts: &[u16], last: bool, p: usize) -> u8
     requires { ⌜ (length (now firsts) ≤ 255) × (p < length (now cells)) × (Within (length (now cells)) (now ys) p)
         × ((j : ℕ) → j < length (now firsts) → Within (length (now cells)) (now ys) (getD (now firsts) j 0)) ⌝ }
-    ensures { λ r. ⌜ r ≡ given (inkIn (now (cells .entry))) (now (ys .entry)) (now (firsts .entry)) last p ⌝ }
+    ensures { λ r. ⌜ r ≡ givenFrom (inkIn (now (cells .entry))) (now (ys .entry)) (now (firsts .entry)) last p ⌝ }
 {
     if last {
         cells[p]
@@ -41,7 +43,7 @@ fn digit(
     v: usize,
 ) -> u8
     requires { ⌜ Ready (now cells) (now ys) (now firsts) (now left) (now right) ⌝ }
-    ensures { λ r. ⌜ r ≡ sampledDigit (now (left .entry)) (now (right .entry)) (given (inkIn (now (cells .entry))) (now (ys .entry)) (now (firsts .entry)) last) u v ⌝ }
+    ensures { λ r. ⌜ r ≡ sampledDigit (now (left .entry)) (now (right .entry)) (givenFrom (inkIn (now (cells .entry))) (now (ys .entry)) (now (firsts .entry)) last) u v ⌝ }
 {
     if u < left.len() {
         if v < right.len() {
@@ -74,7 +76,7 @@ fn write_digits(
 )
     requires { ⌜ (0 < m) × (Ready (now cells) (now ys) (now firsts) (now left) (now right)) × (at + m * m ≤ length (now digits)) ⌝ }
     ensures { λ _. ⌜ now (digits .exit) ≡ paste (now (digits .entry)) at
-        (sampledDigits m (now (left .entry)) (now (right .entry)) (given (inkIn (now (cells .entry))) (now (ys .entry)) (now (firsts .entry)) last)) (m * m) ⌝ }
+        (sampledDigits m (now (left .entry)) (now (right .entry)) (givenFrom (inkIn (now (cells .entry))) (now (ys .entry)) (now (firsts .entry)) last)) (m * m) ⌝ }
 {
     let end = m * m;
     let mut k: usize = 0;
@@ -129,7 +131,7 @@ pub fn gate_digits(
     digits: &mut [u8],
 )
     requires { ⌜ (Sized m n (now cells)) × (Parts m n (inkIn (now cells)) a b) × (at + m * m ≤ length (now digits)) ⌝ }
-    ensures { λ _. ⌜ DigitsAt m n (inkIn (now (cells .entry))) last a b at (now (digits .entry)) (now (digits .exit)) ⌝ }
+    ensures { λ _. ⌜ now (digits .exit) ≡ paste (now (digits .entry)) at (gateDigits m n (inkIn (now (cells .entry))) last a b) (m * m) ⌝ }
 {
     let mut left = [0u16; limits::MOST_LEVELS];
     let mut right = [0u16; limits::MOST_LEVELS];

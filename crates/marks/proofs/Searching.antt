@@ -13,7 +13,8 @@ use lib.Pow.{pow-pos}
 use Rattle.rules.specs.Lists.{range, firstPlace}
 use Rattle.rules.specs.Groups.{member}
 use Rattle.rules.specs.Marks.{inside, markIn, partsAt}
-use Rattle.rules.specs.Settled.{firstInput, splitOf}
+use Rattle.rules.specs.Wirings.{firstInput}
+use Rattle.rules.specs.Settled.{splitOf}
 use Rattle.trees.specs.MarkTwo.{isA}
 use Rattle.trees.specs.MarkRule.{parts-at-holds}
 use Rattle.marks.specs.Parts.{Part, Next, without-first}

@@ -1,6 +1,7 @@
 pub mod Answers
 pub mod Marking
 pub mod Parts
+pub mod Members
 pub mod Rule
 pub mod Splits
 pub mod Stored

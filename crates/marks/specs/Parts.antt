@@ -7,7 +7,7 @@ use native.Mathlib.Decide.{decLt}
 use native.Mathlib.Omega.{arith}
 use lib.Bits.{bitAnd, and-step, and-zero-r, and-le-l, and-self}
 use Rattle.rules.specs.Groups.{member}
-use Rattle.rules.specs.Settled.{firstInput}
+use Rattle.rules.specs.Wirings.{firstInput}
 use Rattle.rules.specs.Marks.{inside}
 use Rattle.trees.specs.Members.{low-bit, low-member, member-suc, member-ext, inside-member, member-inside, first-odd, first-even}
 

@@ -10,7 +10,8 @@ use borrow.Author.Tests.{leb-false, le-leb, lt-leb, eq-eqb, ne-eqb, lt-ltb, le-l
 use Rattle.rules.specs.Lists.{range, any}
 use Rattle.rules.specs.Groups.{size, multiplicity, capped}
 use Rattle.rules.specs.Marks.{partsAt, markOf}
-use Rattle.rules.specs.Settled.{firstInput, splitOf}
+use Rattle.rules.specs.Wirings.{firstInput}
+use Rattle.rules.specs.Settled.{splitOf}
 use Rattle.trees.specs.Members.{size-one, size-single, first-member}
 use Rattle.marks.specs.Parts.{without-first}
 use Rattle.marks.specs.Splits.{split-found}

@@ -11,7 +11,8 @@ use borrow.Author.Tests.{eqb-true, eq-eqb}
 use Rattle.rules.specs.Lists.{range, any, firstPlace}
 use Rattle.rules.specs.Groups.{member}
 use Rattle.rules.specs.Marks.{inside, markIn, partsAt}
-use Rattle.rules.specs.Settled.{firstInput, splitOf}
+use Rattle.rules.specs.Wirings.{firstInput}
+use Rattle.rules.specs.Settled.{splitOf}
 use Rattle.trees.specs.Trees.{Apart}
 use Rattle.trees.specs.Members.{member-single, single-below, member-join, inside-member, member-inside, inside-le, member-rest, first-member}
 use Rattle.laws.specs.FirstPlaces.{first-passes, any-place, place-agree, skip}

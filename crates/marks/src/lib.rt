@@ -2,6 +2,7 @@
 pub mod call;
 pub mod group;
 pub mod marking;
+pub mod members;
 pub mod parts;
 pub mod place;
 pub mod split;

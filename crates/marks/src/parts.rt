@@ -1,7 +1,7 @@
 // A group's parts, as bit patterns.
 ghost use mathlib.Core.Path.{_≡_};
 ghost use Prim.Native.Nat.{ℕ, _-_, _^_, _<_};
-ghost use Rattle.rules.specs.Settled.{firstInput};
+ghost use Rattle.rules.specs.Wirings.{firstInput};
 ghost use Rattle.marks.specs.Parts.{Part, Next};
 
 // 2 to the power 16: past every group.

@@ -10,7 +10,7 @@ use native.Mathlib.Omega.{arith}
 use lib.Dec.{eqb, lit<}
 use Rattle.rules.specs.Lists.{range, those}
 use Rattle.rules.specs.Groups.{member, others, wholeGroup, size}
-use Rattle.rules.specs.Settled.{classNumber}
+use Rattle.rules.specs.Filling.{classNumber}
 use Rattle.rules.specs.Marks.{markIn, marksOf}
 use Rattle.rules.specs.Answers.{inkIn}
 use Rattle.rules.specs.Cases.{named, byRule, abcd, oneIf, seven}

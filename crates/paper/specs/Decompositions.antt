@@ -8,7 +8,7 @@ use mathlib.Core.Bool.{Bool, true, false, cond}
 use native.Mathlib.Nat.{add-comm, lt-of-lt-of-le}
 use lib.ListN.{getD}
 use Rattle.rules.specs.Groups.{member, part, others, classes, multiplicity}
-use Rattle.rules.specs.Settled.{classNumber}
+use Rattle.rules.specs.Filling.{classNumber}
 use Rattle.trees.specs.Trees.{mix, Alike, Tells}
 use Rattle.trees.specs.Members.{others-below}
 use Rattle.trees.specs.Levels.{part-mix, level-ext, mix-below, level-mix}

@@ -8,15 +8,17 @@ use mathlib.Core.Bool.{Bool, true, false}
 use native.Mathlib.Omega.{arith}
 use Rattle.rules.specs.Groups.{part, size, multiplicity}
 use Rattle.rules.specs.Marks.{marksOf}
-use Rattle.rules.specs.Settled.{Wiring, input, gate, groupOf, classNumber, carried, wiringBy}
+use Rattle.rules.specs.Wirings.{Wiring, input, gate, groupOf}
+use Rattle.rules.specs.Filling.{classNumber, given}
+use Rattle.rules.specs.Settled.{settledWiring}
 use Rattle.laws.specs.Tests.{not-both}
 use Rattle.trees.specs.Trees.{Tree, wiringIn, treeValue, Filled, fill, WiringOf, EachGate, Apart, Tells, mix}
-use Rattle.trees.specs.Members.{member-single, single-below, join-below, size-single, size-le}
+use Rattle.trees.specs.Members.{member-single, single-below, join-below, size-single}
 use Rattle.trees.specs.Levels.{part-below, part-part, part-mix}
-use Rattle.trees.specs.Classes.{class-part, few-classes}
-use Rattle.trees.specs.Wirings.{Few, tree-part, necessity, sufficiency, fill-filled}
+use Rattle.trees.specs.Classes.{Few, class-part, few-classes}
+use Rattle.trees.specs.Wirings.{tree-part, necessity, gate-sufficiency, fill-filled}
 use Rattle.trees.specs.MarkRule.{Way, to-none, to-two, to-one, way, marked, three-way}
-use Rattle.trees.specs.MarkTwo.{wiring-mark, wiring-of}
+use Rattle.trees.specs.MarkTwo.{wiring-mark, settled-wiring-of}
 
 -- A network of 2-input gates over the inputs of X, each used once, that has the values of g. "Thus, the structure is a tree whose
 -- root node is a gate supplying the (single) network output."
@@ -73,19 +75,18 @@ fill-wiring m n f last (gate a b) = ap₂ gate (fill-wiring m n f false a) (fill
 
 module _ (m n : ℕ) (pos : 0 < m) (f : ℕ → ℕ) (inks : (p : ℕ) → p < m ^ n → f p < m) (x : ℕ) (x< : x < 2 ^ n) where
   -- what the last gate of a wiring of X gives: the ink, or the class
-  abbrev given : Bool → ℕ → ℕ
-  given true p = f p
-  given false p = classNumber m n f x p
+  abbrev function : Bool → ℕ → ℕ
+  function true p = f p
+  function false p = classNumber m n f x p
 
-  -- so it carries
-  carried-given : (a b : Wiring) → groupOf (gate a b) ≡ x → (last : Bool) (p : ℕ)
-      → carried m n f last (gate a b) p ≡ given last (part m n x p)
-  unfolding carried
-  carried-given a b e true p = rw e
-  carried-given a b e false p = rw e (sym (class-part m n pos f x x< p))
+  -- as a function of X's levels
+  given-function : (last : Bool) (p : ℕ) → given m n f last x p ≡ function last (part m n x p)
+  unfolding given
+  given-function true p = refl
+  given-function false p = sym (class-part m n pos f x x< p)
 
   -- a wiring of X with few classes at each gate makes both fanout-free
-  wired-free : (last : Bool) (w : Wiring) → WiringOf n x w → EachGate (Few m n f) w → FanoutFree m n x (given last)
+  wired-free : (last : Bool) (w : Wiring) → WiringOf n x w → EachGate (Few m n f) w → FanoutFree m n x (function last)
   unfolding groupOf
   wired-free last (input i) of few = inl (rw (← (of .1)) (size-single i n (of .0)))
   wired-free last (gate a b) of few =
@@ -93,14 +94,14 @@ module _ (m n : ℕ) (pos : 0 < m) (f : ℕ → ℕ) (inks : (p : ℕ) → p < m
         tree = fill m n f last (gate a b);
         wired = rw (fill-wiring m n f last (gate a b)) of;
         filled = fill-filled m n pos f (gate a b) (of .0) few inks last;
-        has = λ p h. sufficiency m n pos f (gate a b) (of .0) few last p ∙ carried-given a b (of .1) last p;
+        has = λ p h. gate-sufficiency m n pos f a b (of .0) few last p ∙ ap (λ (g : ℕ). given m n f last g p) (of .1) ∙ given-function last p;
       })
 
   -- and mark 2 has one
-  marked-free : (last : Bool) → marked m n pos f x ≡ 2 → FanoutFree m n x (given last)
+  marked-free : (last : Bool) → marked m n pos f x ≡ 2 → FanoutFree m n x (function last)
   marked-free last two =
-      let w = wiring-of m n pos f n x x< (size-le n x) two in
-      wired-free last (wiringBy n (marksOf m n f) n x) (w .0) (w .1)
+      let w = settled-wiring-of m n pos f x x< two in
+      wired-free last (settledWiring n (marksOf m n f) x) (w .0) (w .1)
 
   -- the classes of a group of mark 2 are fanout-free, ..
   pub classes-fanout-free : marked m n pos f x ≡ 2 → FanoutFree m n x (classNumber m n f x)

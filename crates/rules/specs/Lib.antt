@@ -1,8 +1,8 @@
 -- Document 01 ("Shade nets: tables, groups and settled trees") as definitions that compute, in the document's own order.
 -- Each definition's comment quotes the sentence that it states, or says what the definition is for. `Lists`, `Text` and
 -- `Fields` are the means; the rest follows the document's sections: Sheets (`Limits`, `Sheets`, `Printed`, `Kept`),
--- `Value`, `Groups`, `Marks`, `Settled` (with `SettledLaws`, which hold its choices to the document's words), then the calls with
--- what they turn back (`Answers`, `Reading` and `BareCells` are what they share; a file for each call or pair of calls follows), the starred
+-- `Value`, `Groups`, `Marks`, the settled net (`Wirings`, `Filling`, `Settled`; `SettledLaws` hold its choices to the document's words), then
+-- the calls with what they turn back (`Answers`, `Reading` and `BareCells` are what they share; a file for each call or pair of calls follows), the starred
 -- cases (`Cases`), and every refusal by examples (`Refusals`). `Evaluation` lets all of it compute.
 -- Assumes nothing.
 pub mod Lists
@@ -15,6 +15,8 @@ pub mod Kept
 pub mod Value
 pub mod Groups
 pub mod Marks
+pub mod Wirings
+pub mod Filling
 pub mod Settled
 pub mod SettledLaws
 pub mod Answers

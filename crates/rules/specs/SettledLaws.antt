@@ -15,7 +15,8 @@ use borrow.Author.Tests.{eqb-true, eqb-false}
 use Rattle.rules.specs.Lists.{range, all, any, firstPlace}
 use Rattle.rules.specs.Groups.{member, others, points, alikeOver, alike, firsts, classes}
 use Rattle.rules.specs.Marks.{inside, markIn, partsAt}
-use Rattle.rules.specs.Settled.{firstInput, splitOf}
+use Rattle.rules.specs.Wirings.{firstInput}
+use Rattle.rules.specs.Settled.{splitOf}
 
 -- ---- "A of lowest number"
 

@@ -24,8 +24,7 @@ use Rattle.marks.specs.Marking.{Marking}
 use Rattle.net_printing.specs.Gates.{GatesInside}
 use Rattle.net_printing.specs.Kept.{gates-inside}
 use Rattle.readback.specs.Length.{net-length}
-use Rattle.settled.specs.Wired.{MarksIn}
-use Rattle.settled.specs.SettledNet.{SettledNet, marks-in}
+use Rattle.filling.specs.SettledNet.{MarksIn, SettledNet, marks-in}
 use Rattle.accepted.specs.Taken.{Given}
 use Rattle.answers.specs.Answers.{madeOf}
 use Rattle.marks.specs.Place.{place-agree}

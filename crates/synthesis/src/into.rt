@@ -8,13 +8,13 @@ ghost use Rattle.nets.specs.Forms.{tableIn};
 ghost use Rattle.answers.specs.Answers.{madeOf};
 ghost use Rattle.accepted.specs.Taken.{Given};
 use answers::answer::Answer;
+use filling::settled;
 use lines::put::copy;
 use marks::marking;
 use marks::place;
 use marks::stored;
 use net_printing::output;
 use nets::forms::Header;
-use settled::settle;
 
 // The cells and the marks, and then refusal 16, refusal 15 or the sheet.
 fn settle_marked(
@@ -41,7 +41,7 @@ fn settle_marked(
     output::write_sheet(
         s,
         header,
-        settle::settled_net(levels, inputs, inks, marks),
+        settled::settled_net(levels, inputs, inks, marks),
         out,
     )
 }

@@ -11,7 +11,7 @@ use native.Mathlib.Decide.{decLt}
 use native.Mathlib.Omega.{arith}
 use borrow.Author.Tests.{eq-eqb}
 use Rattle.rules.specs.Groups.{part, points, others, alike, alikeOver, classes, multiplicity}
-use Rattle.rules.specs.Settled.{classNumber}
+use Rattle.rules.specs.Filling.{classNumber}
 use Rattle.laws.specs.Tests.{mem-all}
 use Rattle.laws.specs.Places.{mem-getD}
 use Rattle.laws.specs.FirstPlaces.{first-passing}
@@ -21,6 +21,10 @@ use Rattle.trees.specs.Levels.{part-part}
 use Rattle.trees.specs.Points.{part-in-points, points-are-parts}
 use Rattle.trees.specs.Alike.{alike-holds, alike-tested, alike-part, alike-sym, alike-trans}
 use Rattle.trees.specs.Firsts.{Keeps, firsts-keep}
+
+-- at most m classes
+abbrev pub Few : ℕ → ℕ → (ℕ → ℕ) → ℕ → Type 0
+Few m n f g = multiplicity m n f g ≤ m
 
 module _ (m n : ℕ) (pos : 0 < m) (f : ℕ → ℕ) (g : ℕ) (g< : g < 2 ^ n) where
   -- an assignment passes the test against itself

@@ -1,4 +1,4 @@
--- The digits of a gate by the class rule, over any wiring: how many, and what each is.
+-- The digits of a gate by the class rule, over any two groups: how many, and what each is.
 -- Assumes nothing.
 use Prim.Native.Nat.{ℕ, _+_, _*_, _/_, _%_, _<_}
 use mathlib.Core.Path.{_≡_, refl, sym, _∙_, ap, subst}
@@ -10,7 +10,7 @@ use lib.Dec.{eqb}
 use lib.ListN.{length, getD}
 use Rattle.rules.specs.Lists.{find}
 use Rattle.rules.specs.Groups.{points}
-use Rattle.rules.specs.Settled.{Wiring, gate, groupOf, carried, Reached, digitAt, gateDigits}
+use Rattle.rules.specs.Filling.{carried, given, Reached, digitAt, gateDigits}
 use Rattle.laws.specs.Tests.{both-eqb}
 use Rattle.laws.specs.Rows.{grid-length, grid-at}
 
@@ -45,7 +45,7 @@ module _ (left right : ℕ → ℕ) (u v : ℕ) where
         step true e rest = let b = both-eqb (left x) u (right x) v .0 e in rw (e, digitAt, find) (gives x (b .0) (b .1))
         step false e rest = rw (e, digitAt, find) (rest (λ none. unreached (λ q r. none q (reached-later x q ps e r))))
 
-module _ (m n : ℕ) (f : ℕ → ℕ) (last : Bool) (a b : Wiring) where
+module _ (m n : ℕ) (f : ℕ → ℕ) (last : Bool) (a b : ℕ) where
   -- there are m·m
   pub digits-count : length (gateDigits m n f last a b) ≡ m * m
   unfolding gateDigits
@@ -53,15 +53,15 @@ module _ (m n : ℕ) (f : ℕ → ℕ) (last : Bool) (a b : Wiring) where
 
   -- what holds of all that the gate has to give at (u, v), and of 0 where that is nothing, holds of its digit there
   pub digits-have : (P : ℕ → Type 0) (u v : ℕ) → u < m → v < m
-      → ((q : ℕ) → carried m n f false a q ≡ u → carried m n f false b q ≡ v → P (carried m n f last (gate a b) q))
-      → (((q : ℕ) → Reaches (carried m n f false a) (carried m n f false b) u v (points m n (groupOf (gate a b))) q → ⊥) → P 0)
+      → ((q : ℕ) → carried m n f a q ≡ u → carried m n f b q ≡ v → P (given m n f last (a + b) q))
+      → (((q : ℕ) → Reaches (carried m n f a) (carried m n f b) u v (points m n (a + b)) q → ⊥) → P 0)
       → P (getD (gateDigits m n f last a b) (u * m + v) 0)
   unfolding gateDigits
   digits-have P u v u< v< gives unreached =
-      subst P (sym (grid-at _ m u v u< v<)) (digit-has _ _ u v _ P gives (points m n (groupOf (gate a b))) unreached)
+      subst P (sym (grid-at _ m u v u< v<)) (digit-has _ _ u v _ P gives (points m n (a + b)) unreached)
 
 -- the digits are below m where all that the gate has to give is
-pub digits-below : (m n : ℕ) → 0 < m → (f : ℕ → ℕ) (last : Bool) (a b : Wiring) → ((p : ℕ) → carried m n f last (gate a b) p < m)
+pub digits-below : (m n : ℕ) → 0 < m → (f : ℕ → ℕ) (last : Bool) (a b : ℕ) → ((p : ℕ) → given m n f last (a + b) p < m)
     → (k : ℕ) → k < m * m → getD (gateDigits m n f last a b) k 0 < m
 digits-below m n pos f last a b small k h =
     subst (λ i. getD (gateDigits m n f last a b) i 0 < m) (div-add-mod' k m)

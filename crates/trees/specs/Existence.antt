@@ -6,21 +6,23 @@ use mathlib.Core.Path.{_≡_, sym, ap, _∙_, subst}
 use mathlib.Core.Logic.{_↔_}
 use mathlib.Core.Bool.{true}
 use mathlib.Core.List.{List}
-use native.Mathlib.Nat.{le-of-eq}
 use native.Mathlib.Omega.{arith}
 use Rattle.rules.specs.Sheets.{Gate}
 use Rattle.rules.specs.Groups.{part, size, wholeGroup}
 use Rattle.rules.specs.Marks.{markIn, marksOf}
-use Rattle.rules.specs.Settled.{Wiring, input, gate, groupOf, gateList, settledWiring, settledGates, wiringBy}
+use Rattle.rules.specs.Wirings.{Wiring, input, gate, groupOf, linksOf}
+use Rattle.rules.specs.Filling.{filled}
+use Rattle.rules.specs.Settled.{settledWiring, settledGates}
 use Rattle.rules.specs.Kept.{IsNet}
 use Rattle.trees.specs.Trees.{Tree, wiringIn, treeValue, mix, Tells, EachOnce, EachGate, WiringOf, Computes}
 use Rattle.trees.specs.Members.{whole-below, size-single, size-whole}
 use Rattle.trees.specs.Levels.{mix-below, part-mix}
 use Rattle.trees.specs.NetTree.{TreeOf, net-tree, net-whole}
-use Rattle.trees.specs.Wirings.{Few, tree-part, necessity, fill-filled, fill-computes}
-use Rattle.trees.specs.GateLists.{gate-list-net, gate-list-value}
+use Rattle.trees.specs.Classes.{Few}
+use Rattle.trees.specs.Wirings.{tree-part, necessity, fill-filled, fill-computes}
+use Rattle.trees.specs.Fillings.{filled-net, filled-value}
 use Rattle.trees.specs.MarkRule.{marked}
-use Rattle.trees.specs.MarkTwo.{wiring-mark, wiring-of}
+use Rattle.trees.specs.MarkTwo.{wiring-mark, settled-wiring-of}
 
 -- some net of m levels and n inputs has the table
 abbrev pub TreeExists : ℕ → ℕ → (ℕ → ℕ) → Type 0
@@ -51,22 +53,23 @@ module _ (m n : ℕ) (pos : 0 < m) (several : 1 < n) (f : ℕ → ℕ) where
       (subst (λ (g : ℕ). Tells m n f g (treeValue m n (t .tree))) (sym whole)
       (tells-whole (t .tree) (t .once) whole (λ p h. sym (t .same p) ∙ has p h)))))
 
-  -- Mark 2 at the whole group: the settled net is a net, and has the table.
-  settled-of : (w : Wiring) → WiringOf n (wholeGroup n) w → EachGate (Few m n f) w → ((p : ℕ) → p < m ^ n → f p < m)
-      → IsNet m n (gateList m n f true 0 w) × Computes m n (gateList m n f true 0 w) f
+  -- a wiring of all inputs with few classes at each gate: its filling is a net, and has the table
+  pub filled-computes : (w : Wiring) → WiringOf n (wholeGroup n) w → EachGate (Few m n f) w → ((p : ℕ) → p < m ^ n → f p < m)
+      → IsNet m n (filled m n f (linksOf n 0 w)) × Computes m n (filled m n f (linksOf n 0 w)) f
   unfolding groupOf
-  settled-of (input i) of few inks = absurd (omega (arith, size-single i n (of .0), size-whole n, ap (size n) (of .1)))
-  settled-of (gate a b) of few inks = (
-    gate-list-net m n f (gate a b) (of .0) (of .1) (fill-filled m n pos f (gate a b) (of .0) few inks true),
-    λ p h. gate-list-value m n f a b (of .0) p ∙ fill-computes m n pos f a b (of .0) (of .1) few p h,
+  filled-computes (input i) of few inks = absurd (omega (arith, size-single i n (of .0), size-whole n, ap (size n) (of .1)))
+  filled-computes (gate a b) of few inks = (
+    filled-net m n f (gate a b) (of .0) (of .1) (fill-filled m n pos f (gate a b) (of .0) few inks true),
+    λ p h. filled-value m n f a b (of .0) p ∙ fill-computes m n pos f a b (of .0) (of .1) few p h,
   )
 
+  -- Mark 2 at the whole group: the settled net is a net, and has the table.
   pub settled-net : ((p : ℕ) → p < m ^ n → f p < m) → marked m n pos f (wholeGroup n) ≡ 2
       → IsNet m n (settledGates m n f (marksOf m n f)) × Computes m n (settledGates m n f (marksOf m n f)) f
-  unfolding settledGates settledWiring
+  unfolding settledGates
   settled-net inks two =
-      let w = wiring-of m n pos f n (wholeGroup n) (whole-below n) (le-of-eq (size-whole n)) two in
-      settled-of (wiringBy n (marksOf m n f) n (wholeGroup n)) (w .0) (w .1) inks
+      let w = settled-wiring-of m n pos f (wholeGroup n) (whole-below n) two in
+      filled-computes (settledWiring n (marksOf m n f) (wholeGroup n)) (w .0) (w .1) inks
 
   -- "A tree exists exactly when the whole group has mark 2."
   pub tree-exists : ((p : ℕ) → p < m ^ n → f p < m) → TreeExists m n f ↔ (markIn (marksOf m n f) (wholeGroup n) ≡ 2)

@@ -1,6 +1,7 @@
--- A wiring's gate list ("A's, then B's, then the group's own") keeps every rule of a net sheet and has the tree's value.
+-- A wiring's gate list by the class rule ("A's, then B's, then the group's own") keeps every rule of a net sheet and has the tree's value.
+-- That it is the filling of the wiring's links is in `Fillings`.
 -- Assumes nothing.
-use Prim.Native.Nat.{ℕ, suc, _+_, _-_, _*_, _≤_, _<_}
+use Prim.Native.Nat.{ℕ, _+_, _-_, _*_, _≤_, _<_}
 use native.Mathlib.Nat.{add-zero, zero-add, add-assoc}
 use native.Mathlib.Decide.{decLt}
 use native.Mathlib.Omega.{arith}
@@ -14,7 +15,8 @@ use Rattle.rules.specs.Lists.{range, those}
 use Rattle.rules.specs.Sheets.{Gate, usedBy, level, levelsAt}
 use Rattle.rules.specs.Value.{value, gateValue, withGates}
 use Rattle.rules.specs.Groups.{member, size, wholeGroup}
-use Rattle.rules.specs.Settled.{Wiring, input, gate, groupOf, gatesIn, referenceTo, gateList, gateDigits}
+use Rattle.rules.specs.Wirings.{Wiring, input, gate, groupOf, gatesIn, referenceTo}
+use Rattle.rules.specs.Filling.{gateDigits}
 use Rattle.rules.specs.Kept.{RefersBack, Tables, GateRules, IsNet}
 use Rattle.laws.specs.Levels.{levels-length}
 use Rattle.laws.specs.Tests.{oneIf, one-if-le, one-if-or}
@@ -22,12 +24,25 @@ use Rattle.laws.specs.Ranges.{range-append, map-range-at}
 use Rattle.laws.specs.Counts.{count-cons, count-append, times, not-one, times-range}
 use Rattle.laws.specs.Distinct.{times-distinct}
 use Rattle.trees.specs.Trees.{EachOnce, Filled, treeValue, fill}
-use Rattle.trees.specs.Members.{member-single, member-join, size-single, size-join, size-whole}
-use Rattle.trees.specs.Wirings.{group-below}
+use Rattle.trees.specs.Members.{member-single, member-join, size-whole}
+use Rattle.trees.specs.Wirings.{group-below, gates-in-size}
 use Rattle.trees.specs.JoinedLists.{used-append, refers-append, tables-append, with-gates-append, with-gates-length, with-gates-earlier, with-gates-last}
 
+-- the lines of a wiring after `before` others, with the class rule's digits
+unfoldable pub gateList : ℕ → ℕ → (ℕ → ℕ) → Bool → ℕ → Wiring → List Gate
+gateList m n f last before (input i) = []
+gateList m n f last before (gate a b) =
+    gateList m n f false before a
+    ++ gateList m n f false (before + gatesIn a) b
+    ++ (record {
+      left = referenceTo n before a;
+      right = referenceTo n (before + gatesIn a) b;
+      digits = gateDigits m n f last (groupOf a) (groupOf b);
+    }
+    ∷ [])
+
 -- the reference to a wiring is to an input, or to the last of its own lines
-reference-below : (n before : ℕ) (w : Wiring) → EachOnce n w → referenceTo n before w < n + before + gatesIn w
+pub reference-below : (n before : ℕ) (w : Wiring) → EachOnce n w → referenceTo n before w < n + before + gatesIn w
 unfolding referenceTo gatesIn
 reference-below n before (input i) once = omega arith
 reference-below n before (gate a b) once = omega arith
@@ -47,7 +62,7 @@ module _ (m n : ℕ) (f : ℕ → ℕ) where
       record {
         left = referenceTo n before a;
         right = referenceTo n (before + gatesIn a) b;
-        digits = gateDigits m n f last a b;
+        digits = gateDigits m n f last (groupOf a) (groupOf b);
       }
 
   -- ---- how many lines
@@ -61,18 +76,6 @@ module _ (m n : ℕ) (f : ℕ → ℕ) where
   -- below a gate stand its two wirings' lines
   below-length : (before : ℕ) (a b : Wiring) → length (below before a b) ≡ gatesIn a + gatesIn b
   below-length before a b = simp (length-append, gate-list-length false before a, gate-list-length false (before + gatesIn a) b)
-
-  -- a wiring of k inputs has k − 1 gates
-  pub gates-in-size : (w : Wiring) → EachOnce n w → suc (gatesIn w) ≡ size n (groupOf w)
-  unfolding gatesIn groupOf
-  gates-in-size (input i) once = sym (size-single i n once)
-  gates-in-size (gate a b) once =
-      omega (
-        arith,
-        gates-in-size a (once .1),
-        gates-in-size b (once .2),
-        size-join n (groupOf a) (groupOf b) (group-below n a (once .1)) (group-below n b (once .2)) (once .0),
-      )
 
   -- ---- references back
 
@@ -163,7 +166,7 @@ module _ (m n : ℕ) (f : ℕ → ℕ) where
       → IsNet m n (gateList m n f true 0 w)
   gate-list-net w once whole filled =
       record {
-        count = omega (arith, gate-list-length true 0 w, gates-in-size w once, size-whole n, ap (size n) whole);
+        count = omega (arith, gate-list-length true 0 w, gates-in-size n w once, size-whole n, ap (size n) whole);
         rules = gate-list-rules w once filled;
       }
 
@@ -198,7 +201,7 @@ module _ (m n : ℕ) (f : ℕ → ℕ) where
       → getD (valuesBelow vs before a b) (referenceTo n before a) 0 ≡ x
       → getD (valuesBelow vs before a b) (referenceTo n (before + gatesIn a) b) 0 ≡ y
       → getD (withGates m vs (gateList m n f last before (gate a b))) (referenceTo n before (gate a b)) 0
-      ≡ getD (gateDigits m n f last a b) (x * m + y) 0
+      ≡ getD (gateDigits m n f last (groupOf a) (groupOf b)) (x * m + y) 0
   unfolding gateList referenceTo gateValue
   value-of-gate last before vs a b x y e left right =
       let own = n + before + gatesIn a + gatesIn b in

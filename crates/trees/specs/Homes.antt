@@ -14,7 +14,7 @@ use borrow.Author.Tests.{eqb-true, eqb-false, eq-eqb, ne-eqb}
 use Rattle.rules.specs.Lists.{any}
 use Rattle.rules.specs.Sheets.{Gate, usedBy}
 use Rattle.rules.specs.Groups.{member}
-use Rattle.rules.specs.Settled.{groupOf}
+use Rattle.rules.specs.Wirings.{groupOf}
 use Rattle.rules.specs.Kept.{GateTable, RefersBack, Distinct, Tables}
 use Rattle.laws.specs.Tests.{or-false-iff, not-both, none-append}
 use Rattle.laws.specs.Places.{length-snoc, each-snoc}

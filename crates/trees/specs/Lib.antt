@@ -13,10 +13,13 @@ pub mod Homes
 pub mod NetTree
 pub mod Digits
 pub mod Joins
+pub mod Carried
+pub mod DigitRule
 pub mod Wirings
 pub mod JoinedLists
 pub mod GateLists
 pub mod TreeLists
+pub mod Fillings
 pub mod MarkRule
 pub mod MarkTwo
 pub mod SettledRules

@@ -16,7 +16,7 @@ use Rattle.rules.specs.Lists.{range, any}
 use Rattle.rules.specs.Sheets.{level}
 use Rattle.rules.specs.Groups.{member, size, multiplicity}
 use Rattle.rules.specs.Marks.{inside, markIn, partsAt, markOf, marksBelow, marksOf}
-use Rattle.rules.specs.Settled.{firstInput}
+use Rattle.rules.specs.Wirings.{firstInput}
 use Rattle.laws.specs.Tests.{mem-any, any-same}
 use Rattle.laws.specs.Ranges.{mem-range, range-mem}
 use Rattle.laws.specs.FirstPlaces.{first-passes}

@@ -10,7 +10,7 @@ use lib.Pow.{pow-pos, pow-lt}
 use Rattle.rules.specs.Lists.{range, those}
 use Rattle.rules.specs.Groups.{member, size, wholeGroup, others}
 use Rattle.rules.specs.Marks.{inside}
-use Rattle.rules.specs.Settled.{firstInput}
+use Rattle.rules.specs.Wirings.{firstInput}
 use Rattle.laws.specs.Tests.{all-mem, mem-all, oneIf, one-if-le, one-if-or}
 use Rattle.laws.specs.Ranges.{range-shift, mem-range, range-mem}
 use Rattle.laws.specs.Counts.{count-cons, count-map}

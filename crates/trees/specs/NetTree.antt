@@ -14,7 +14,7 @@ use Rattle.rules.specs.Lists.{any}
 use Rattle.rules.specs.Sheets.{Gate, usedBy}
 use Rattle.rules.specs.Value.{value}
 use Rattle.rules.specs.Groups.{member, wholeGroup}
-use Rattle.rules.specs.Settled.{groupOf}
+use Rattle.rules.specs.Wirings.{groupOf}
 use Rattle.rules.specs.Kept.{RefersBack, GateRules, EarlierUsed, IsNet}
 use Rattle.laws.specs.Tests.{not-false-true}
 use Rattle.laws.specs.Distinct.{In, NotIn, not-in-cons, all-stand}

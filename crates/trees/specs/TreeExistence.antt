@@ -10,7 +10,7 @@ use lib.ListN.{getD}
 use Rattle.rules.specs.Sheets.{Gate, levelsAt}
 use Rattle.rules.specs.Value.{value}
 use Rattle.rules.specs.Groups.{size, wholeGroup}
-use Rattle.rules.specs.Settled.{groupOf}
+use Rattle.rules.specs.Wirings.{groupOf}
 use Rattle.rules.specs.Kept.{IsNet}
 use Rattle.trees.specs.Trees.{Tree, leaf, node, wiringIn, EachOnce, Filled, treeValue}
 use Rattle.trees.specs.Members.{size-single, size-whole}

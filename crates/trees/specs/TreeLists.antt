@@ -14,7 +14,7 @@ use Rattle.rules.specs.Lists.{range, those}
 use Rattle.rules.specs.Sheets.{Gate, usedBy, level, levelsAt}
 use Rattle.rules.specs.Value.{value, gateValue, withGates}
 use Rattle.rules.specs.Groups.{member, size, wholeGroup}
-use Rattle.rules.specs.Settled.{Wiring, input, gate, groupOf, gatesIn, referenceTo}
+use Rattle.rules.specs.Wirings.{Wiring, input, gate, groupOf, gatesIn, referenceTo}
 use Rattle.rules.specs.Kept.{RefersBack, Tables, IsNet}
 use Rattle.laws.specs.Levels.{levels-length}
 use Rattle.laws.specs.Tests.{oneIf, one-if-le, one-if-or}

@@ -9,7 +9,8 @@ use Rattle.rules.specs.Sheets.{Gate, level}
 use Rattle.rules.specs.Kept.{GateTable}
 use Rattle.rules.specs.Value.{value}
 use Rattle.rules.specs.Groups.{member, part, others}
-use Rattle.rules.specs.Settled.{Wiring, input, gate, groupOf, gateDigits}
+use Rattle.rules.specs.Wirings.{Wiring, input, gate, groupOf}
+use Rattle.rules.specs.Filling.{gateDigits}
 
 -- ---- wirings
 
@@ -54,7 +55,7 @@ Filled m (node digits a b) = GateTable m digits × Filled m a × Filled m b
 -- the class rule's filling of a wiring
 unfoldable pub fill : ℕ → ℕ → (ℕ → ℕ) → Bool → Wiring → Tree
 fill m n f last (input i) = leaf i
-fill m n f last (gate a b) = node (gateDigits m n f last a b) (fill m n f false a) (fill m n f false b)
+fill m n f last (gate a b) = node (gateDigits m n f last (groupOf a) (groupOf b)) (fill m n f false a) (fill m n f false b)
 
 -- ---- alike, as a statement
 

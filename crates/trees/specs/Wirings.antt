@@ -1,26 +1,24 @@
 -- For any group and any wiring of it: some filling lets the ink be told exactly when every gate's group has at most m classes,
 -- and then the class rule's filling does.
 -- Assumes nothing.
-use Prim.Native.Nat.{ℕ, _+_, _*_, _^_, _≤_, _<_}
-use mathlib.Core.Path.{_≡_, refl, sym, _∙_, ap, ap₂}
+use Prim.Native.Nat.{ℕ, suc, _+_, _*_, _^_, _<_}
+use mathlib.Core.Path.{_≡_, sym, _∙_, ap, ap₂}
 use mathlib.Core.Bool.{Bool, true, false}
 use mathlib.Core.List.{List}
-use native.Mathlib.Nat.{lt-of-lt-of-le}
-use borrow.Author.Tests.{eqb-true, eq-eqb}
+use native.Mathlib.Omega.{arith}
 use lib.Arith.{digits-lt}
+use lib.Pow.{pow-pos}
 use lib.ListN.{getD}
-use Rattle.rules.specs.Groups.{part, points, multiplicity, wholeGroup}
-use Rattle.rules.specs.Sheets.{level}
-use Rattle.rules.specs.Settled.{Wiring, input, gate, groupOf, carried, gateDigits}
-use Rattle.rules.specs.Kept.{GateTable}
-use Rattle.trees.specs.Trees.{Tree, leaf, node, wiringIn, treeValue, EachOnce, EachGate, Filled, Alike, Tells, fill}
-use Rattle.trees.specs.Members.{member-single, single-below, join-below}
-use Rattle.trees.specs.Levels.{level-below, part-below, level-part-in, part-part, part-whole, part-ext, mix-zero}
-use Rattle.trees.specs.Points.{part-in-points}
-use Rattle.trees.specs.Alike.{alike-part, alike-join}
-use Rattle.trees.specs.Classes.{class-below, class-alike, alike-class, few-classes}
+use Rattle.rules.specs.Groups.{size, part, wholeGroup}
+use Rattle.rules.specs.Wirings.{Wiring, input, gate, groupOf, gatesIn}
+use Rattle.rules.specs.Filling.{carried, given}
+use Rattle.trees.specs.Trees.{Tree, leaf, node, wiringIn, treeValue, EachOnce, EachGate, Filled, Tells, fill}
+use Rattle.trees.specs.Members.{single-below, join-below, size-single, size-join}
+use Rattle.trees.specs.Levels.{level-below, part-whole}
+use Rattle.trees.specs.Classes.{Few, few-classes}
 use Rattle.trees.specs.Joins.{part-left, part-right, tells-left, tells-right}
-use Rattle.trees.specs.Digits.{Reaches, digits-count, digits-have, digits-below}
+use Rattle.trees.specs.Carried.{single-level, single-few, carried-several, carried-input}
+use Rattle.trees.specs.DigitRule.{Parts, join-several, gate-digit, gate-table}
 
 -- a wiring of inputs below n is of a group below 2 to the n
 pub group-below : (n : ℕ) (w : Wiring) → EachOnce n w → groupOf w < 2 ^ n
@@ -29,23 +27,25 @@ group-below n (input i) h = single-below i n h
 group-below n (gate a b) (apart, a-once, b-once) =
     join-below n (groupOf a) (groupOf b) (group-below n a a-once) (group-below n b b-once) apart
 
--- at most m classes
-abbrev pub Few : ℕ → ℕ → (ℕ → ℕ) → ℕ → Type 0
-Few m n f g = multiplicity m n f g ≤ m
+-- and of some input
+pub group-some : (w : Wiring) → 0 < groupOf w
+unfolding groupOf
+group-some (input i) = pow-pos i
+group-some (gate a b) = omega (arith, group-some a)
+
+-- a wiring of k inputs has k − 1 gates
+pub gates-in-size : (n : ℕ) (w : Wiring) → EachOnce n w → suc (gatesIn w) ≡ size n (groupOf w)
+unfolding gatesIn groupOf
+gates-in-size n (input i) once = sym (size-single i n once)
+gates-in-size n (gate a b) once =
+    omega (
+      arith,
+      gates-in-size n a (once .1),
+      gates-in-size n b (once .2),
+      size-join n (groupOf a) (groupOf b) (group-below n a (once .1)) (group-below n b (once .2)) (once .0),
+    )
 
 module _ (m n : ℕ) (pos : 0 < m) where
-  -- what a group of one input is given is that input's level
-  single-level : (i p q : ℕ) → i < n → part m n (2 ^ i) p ≡ part m n (2 ^ i) q → level m n p i ≡ level m n q i
-  single-level i p q h e = sym (given p) ∙ ap (λ r. level m n r i) e ∙ given q
-    where
-      given : (r : ℕ) → level m n (part m n (2 ^ i) r) i ≡ level m n r i
-      given r = level-part-in m n pos (2 ^ i) r i h (member-single i i ∙ eq-eqb i i refl)
-
-  -- and the level settles it
-  level-single : (i p q : ℕ) → level m n p i ≡ level m n q i → part m n (2 ^ i) p ≡ part m n (2 ^ i) q
-  level-single i p q e =
-      part-ext m n pos (2 ^ i) p q (λ j h k. rw (eqb-true j i (sym (member-single j i) ∙ k)) e)
-
   module _ (a b : Wiring) (once : EachOnce n (gate a b)) (p q : ℕ) (e : part m n (groupOf (gate a b)) p ≡ part m n (groupOf (gate a b)) q) where
     -- what a gate's group is given settles what its left side's group is given
     left-given : part m n (groupOf a) p ≡ part m n (groupOf a) q
@@ -106,96 +106,71 @@ module _ (m n : ℕ) (pos : 0 < m) (f : ℕ → ℕ) where
         necessity b (once .2) (filled .2) (sides .1),
       )
 
-  -- what a wire below the last carries is below m, and tells the classes of its group
-  carried-below : (w : Wiring) → EachOnce n w → EachGate (Few m n f) w → (p : ℕ) → carried m n f false w p < m
-  unfolding carried
-  carried-below (input i) once few p = level-below m n pos p i
-  carried-below (gate a b) once few p = lt-of-lt-of-le (class-below m n pos f (groupOf (gate a b)) (group-below n (gate a b) once) p) (few .0)
+  -- ---- the class rule's filling
 
-  carried-tells : (w : Wiring) → EachOnce n w → Tells m n f (groupOf w) (carried m n f false w)
-  unfolding carried groupOf
-  carried-tells (input i) once p q e = alike-part m n pos f (2 ^ i) p q (level-single m n pos i p q e)
-  carried-tells (gate a b) once p q e = class-alike m n pos f (groupOf (gate a b)) (group-below n (gate a b) once) p q e
+  -- a wiring's group, and that of an input, has at most m classes
+  wiring-few : (w : Wiring) → EachOnce n w → EachGate (Few m n f) w → Few m n f (groupOf w)
+  unfolding groupOf
+  wiring-few (input i) once few = single-few m n pos f i once
+  wiring-few (gate a b) once few = few .0
 
-  -- what a wire below the last carries depends on what its group is given alone
-  carried-part : (w : Wiring) → EachOnce n w → (p q : ℕ) → part m n (groupOf w) p ≡ part m n (groupOf w) q
-      → carried m n f false w p ≡ carried m n f false w q
-  unfolding carried groupOf
-  carried-part (input i) once p q e = single-level m n pos i p q once e
-  carried-part (gate a b) once p q e = alike-class m n pos f g (group-below n (gate a b) once) p q (alike-part m n pos f g p q e)
-    where
-      g : ℕ
-      g = groupOf (gate a b)
-
-  module _ (a b : Wiring) (once : EachOnce n (gate a b)) where
-    -- where both sides carry the same, what the gate's group is given is alike
-    sides-alike : (p q : ℕ) → carried m n f false a p ≡ carried m n f false a q → carried m n f false b p ≡ carried m n f false b q
-        → Alike m n f (groupOf (gate a b)) p q
+  module _ (a b : Wiring) (once : EachOnce n (gate a b)) (few : EachGate (Few m n f) (gate a b)) where
+    -- what a gate joins are two groups that it may join
+    pub gate-parts : Parts m n f (groupOf a) (groupOf b)
     unfolding groupOf
-    sides-alike p q d e =
-        alike-join m n pos f (groupOf a) (groupOf b) p q (group-below n a (once .1)) (group-below n b (once .2)) (once .0)
-        (carried-tells a (once .1) p q d) (carried-tells b (once .2) p q e)
+    gate-parts =
+        record {
+          some-a = group-some a;
+          some-b = group-some b;
+          a-below = group-below n a (once .1);
+          b-below = group-below n b (once .2);
+          apart = once .0;
+          few-a = wiring-few a (once .1) (few .1);
+          few-b = wiring-few b (once .2) (few .2);
+          few = few .0;
+        }
 
-    -- and then the gate gives the same
-    gate-alike : (last : Bool) (p q : ℕ) → Alike m n f (groupOf (gate a b)) p q
-        → carried m n f last (gate a b) p ≡ carried m n f last (gate a b) q
-    unfolding carried
-    gate-alike true p q h = sym (ap f (mix-zero m n pos _ p)) ∙ h 0 ∙ ap f (mix-zero m n pos _ q)
-    gate-alike false p q h = alike-class m n pos f (groupOf (gate a b)) (group-below n (gate a b) once) p q h
+    -- where both sides have what their wires carry, the gate gives what it has to
+    gate-gives : (p : ℕ) → treeValue m n (fill m n f false a) p ≡ carried m n f (groupOf a) p
+        → treeValue m n (fill m n f false b) p ≡ carried m n f (groupOf b) p
+        → (last : Bool) → treeValue m n (fill m n f last (gate a b)) p ≡ given m n f last (groupOf (gate a b)) p
+    unfolding treeValue fill groupOf
+    gate-gives p left right last = rw (left, right) (gate-digit m n pos f (groupOf a) (groupOf b) gate-parts last p)
 
-    -- some assignment of the gate's group has both sides carry what p has them carry
-    some-reaches : (p : ℕ)
-        → Reaches (carried m n f false a) (carried m n f false b) (carried m n f false a p) (carried m n f false b p)
-        (points m n (groupOf (gate a b))) (part m n (groupOf (gate a b)) p)
-    some-reaches p =
-        let e = part-part m n pos (groupOf (gate a b)) p in (
-          part-in-points m n pos (groupOf (gate a b)) p,
-          carried-part a (once .1) _ p (left-given m n pos a b once _ p e),
-          carried-part b (once .2) _ p (right-given m n pos a b once _ p e),
-        )
+    -- a gate's wire carries its group's class
+    gate-carries : (p : ℕ) → given m n f false (groupOf (gate a b)) p ≡ carried m n f (groupOf (gate a b)) p
+    unfolding given groupOf
+    gate-carries p = sym (carried-several m n f (groupOf a + groupOf b) (join-several m n pos f (groupOf a) (groupOf b) gate-parts) p)
 
-    -- the class rule's digit for what the two sides carry is what the gate has to give
-    gate-digit : EachGate (Few m n f) (gate a b) → (last : Bool) (p : ℕ)
-        → getD (gateDigits m n f last a b) (carried m n f false a p * m + carried m n f false b p) 0 ≡ carried m n f last (gate a b) p
-    gate-digit few last p =
-        digits-have m n f last a b (λ x. x ≡ carried m n f last (gate a b) p) _ _
-        (carried-below a (once .1) (few .1) p) (carried-below b (once .2) (few .2) p)
-        (λ q d e. gate-alike last q p (sides-alike q p d e))
-        (λ none. absurd (none _ (some-reaches p)))
+  -- Sufficiency: where every gate's group has at most m classes, the class rule's filling has each wire carry its input's level or
+  -- its group's class, ..
+  pub sufficiency : (w : Wiring) → EachOnce n w → EachGate (Few m n f) w → (p : ℕ)
+      → treeValue m n (fill m n f false w) p ≡ carried m n f (groupOf w) p
+  unfolding treeValue fill groupOf
+  sufficiency (input i) once few p = sym (carried-input m n f i once p)
+  sufficiency (gate a b) once few p =
+      gate-gives a b once few p (sufficiency a (once .1) (few .1) p) (sufficiency b (once .2) (few .2) p) false ∙ gate-carries a b once few p
 
-    -- what the gate has to give is below m
-    gate-below : EachGate (Few m n f) (gate a b) → ((p : ℕ) → p < m ^ n → f p < m) → (last : Bool) (p : ℕ)
-        → carried m n f last (gate a b) p < m
-    unfolding carried
-    gate-below few inks true p = inks _ (part-below m n pos (groupOf (gate a b)) p)
-    gate-below few inks false p = carried-below (gate a b) once few p
-
-    -- so its digits are a table
-    gate-table : EachGate (Few m n f) (gate a b) → ((p : ℕ) → p < m ^ n → f p < m) → (last : Bool) → GateTable m (gateDigits m n f last a b)
-    gate-table few inks last =
-        let count = digits-count m n f last a b in
-        record { count = count; below = λ k h. digits-below m n pos f last a b (gate-below few inks last) k (rw count at h) }
-
-  -- Sufficiency: where every gate's group has at most m classes, the class rule's filling carries at each gate the class of its
-  -- group, and at the last the ink.
-  pub sufficiency : (w : Wiring) → EachOnce n w → EachGate (Few m n f) w → (last : Bool) (p : ℕ)
-      → treeValue m n (fill m n f last w) p ≡ carried m n f last w p
-  unfolding treeValue fill carried
-  sufficiency (input i) once few last p = refl
-  sufficiency (gate a b) once few last p =
-      rw (sufficiency a (once .1) (few .1) false p, sufficiency b (once .2) (few .2) false p) (gate-digit a b once few last p)
+  -- .. and the last gate give the ink
+  pub gate-sufficiency : (a b : Wiring) → EachOnce n (gate a b) → EachGate (Few m n f) (gate a b) → (last : Bool) (p : ℕ)
+      → treeValue m n (fill m n f last (gate a b)) p ≡ given m n f last (groupOf (gate a b)) p
+  gate-sufficiency a b once few last p =
+      gate-gives a b once few p (sufficiency a (once .1) (few .1) p) (sufficiency b (once .2) (few .2) p) last
 
   -- the class rule's tables are tables of m·m digits below m, where the inks are below m
   pub fill-filled : (w : Wiring) → EachOnce n w → EachGate (Few m n f) w → ((p : ℕ) → p < m ^ n → f p < m) → (last : Bool)
       → Filled m (fill m n f last w)
   unfolding fill
   fill-filled (input i) once few inks last = tt
-  fill-filled (gate a b) once few inks last =
-      (gate-table a b once few inks last, fill-filled a (once .1) (few .1) inks false, fill-filled b (once .2) (few .2) inks false)
+  fill-filled (gate a b) once few inks last = (
+    gate-table m n pos f (groupOf a) (groupOf b) (gate-parts a b once few) inks last,
+    fill-filled a (once .1) (few .1) inks false,
+    fill-filled b (once .2) (few .2) inks false,
+  )
 
   -- a wiring of all inputs: the class rule's filling has the table
   pub fill-computes : (a b : Wiring) → EachOnce n (gate a b) → groupOf (gate a b) ≡ wholeGroup n → EachGate (Few m n f) (gate a b)
       → (p : ℕ) → p < m ^ n → treeValue m n (fill m n f true (gate a b)) p ≡ f p
-  unfolding carried
+  unfolding given
   fill-computes a b once whole few p h =
-      sufficiency (gate a b) once few true p ∙ ap (λ g. f (part m n g p)) whole ∙ ap f (part-whole m n pos p h)
+      gate-sufficiency a b once few true p ∙ ap (λ g. f (part m n g p)) whole ∙ ap f (part-whole m n pos p h)

@@ -3,7 +3,7 @@ use mathlib.Core.Path.{sym, _∙_}
 use native.Mathlib.Omega.{arith}
 use borrow.Author.Needs.{needs}
 use Rattle.rules.specs.Answers.{inkIn}
-use Rattle.digits.specs.GateDigits.{given, digit-sum, no-left, no-right}
+use Rattle.digits.specs.GateDigits.{givenFrom, digit-sum, no-left, no-right}
 use Rattle.digits.proofs.gate.digit.Statement.{statement}
 use Rattle.digits.proofs.gate.digit.Tie as tie
 
@@ -40,7 +40,7 @@ returns : tie.Need-returns
 returns c =
     let a = c .before .before .before .before .before .before .before .before .before .before .args in
     c .given .ensures
-    ∙ sym (digit-sum (a .left .now) (a .right .now) (given (inkIn (a .cells .now)) (a .ys .now) (a .firsts .now) (a .last)) (a .u) (a .v) (c .before .before .before .before .if1 .taken) (c .before .before .before .if2 .taken))
+    ∙ sym (digit-sum (a .left .now) (a .right .now) (givenFrom (inkIn (a .cells .now)) (a .ys .now) (a .firsts .now) (a .last)) (a .u) (a .v) (c .before .before .before .before .if1 .taken) (c .before .before .before .if2 .taken))
 
 returns-2 : tie.Need-returns-2
 returns-2 c = let a = c .before .before .before .before .before .before .before .args in sym (no-right (a .left .now) (a .right .now) _ (a .u) (a .v) (c .if2 .left))

@@ -71,7 +71,7 @@ returns : tie.Need-returns
 returns c =
     let start = c .before .before .before .before .before .before .before .before .before .before .before .before .before .before .before .before in
     let a = start .args in
-    written-digits (a .m) (a .n) (inkIn (a .cells .now)) (a .last) (a .at) (a .digits .now) _ (start .pre .0 .some) (a .a) (a .b) _ _
+    written-digits (a .m) (a .n) (inkIn (a .cells .now)) (a .last) (a .at) (a .digits .now) _ (start .pre .0 .some) (a .a) (a .b) (start .pre .1) _ _
     (part-is (c .before .before .before .before .before .before .before .before .before .before .before .before .samples .ensures)) (part-is (c .before .before .before .before .before .before .before .before .before .samples2 .ensures)) (c .before .before .group-digits .ensures)
 
 pub gate-digits-spec : {M : Type 1} → statement M

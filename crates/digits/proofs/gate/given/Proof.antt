@@ -7,7 +7,7 @@ use lib.Seq.{take-length}
 use Rattle.rules.specs.Lists.{firstPlace}
 use Rattle.rules.specs.Groups.{alikeOver}
 use Rattle.rules.specs.Answers.{inkIn}
-use Rattle.digits.specs.GateDigits.{given, given-at-most}
+use Rattle.digits.specs.GateDigits.{givenFrom, given-at-most}
 use Rattle.digits.proofs.gate.given.Statement.{statement}
 use Rattle.digits.proofs.gate.given.Tie as tie
 
@@ -20,8 +20,8 @@ class-of-requires c κs = search needs
 -- what the call says is the class's number
 class : (c : tie.After-class-of) →
     let a = c .before .before .before .before .before .args in
-    c .class-of .result ≡ given (inkIn (a .cells .now)) (a .ys .now) (a .firsts .now) false (a .p)
-unfolding given
+    c .class-of .result ≡ givenFrom (inkIn (a .cells .now)) (a .ys .now) (a .firsts .now) false (a .p)
+unfolding givenFrom
 class c =
     let a = c .before .before .before .before .before .args in
     c .class-of .ensures ∙ ap (firstPlace (alikeOver (inkIn (a .cells .now)) (a .ys .now) (a .p))) (take-length (a .firsts .now))
@@ -32,7 +32,7 @@ cast-result c =
     omega (arith, class c, given-at-most (inkIn (a .cells .now)) (a .ys .now) (a .firsts .now) (a .p))
 
 returns : tie.Need-returns
-unfolding given
+unfolding givenFrom
 returns c = rw (c .before .if1 .taken)
 
 returns-2 : tie.Need-returns-2

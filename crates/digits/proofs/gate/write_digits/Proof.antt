@@ -7,13 +7,13 @@ use native.Mathlib.Numerals.{add-one}
 use lib.ListN.{length, set, length-set}
 use lib.Seq.{paste, paste-zero, paste-suc}
 use Rattle.rules.specs.Answers.{inkIn}
-use Rattle.digits.specs.GateDigits.{given, sampledDigit, sampledDigits, sampled-length, sampled-at}
+use Rattle.digits.specs.GateDigits.{givenFrom, sampledDigit, sampledDigits, sampled-length, sampled-at}
 use Rattle.digits.proofs.gate.write_digits.Statement.{statement}
 use Rattle.digits.proofs.gate.write_digits.Tie as tie
 
 abbrev Inv-loop : tie.InvT-loop
 Inv-loop m cells ys firsts last left right at digits₀ end k₀ digits k =
-    (k ≤ m * m) × (length digits ≡ length digits₀) × (digits ≡ paste digits₀ at (sampledDigits m left right (given (inkIn cells) ys firsts last)) k)
+    (k ≤ m * m) × (length digits ≡ length digits₀) × (digits ≡ paste digits₀ at (sampledDigits m left right (givenFrom (inkIn cells) ys firsts last)) k)
 
 abbrev μ-loop : tie.MeasureT-loop
 μ-loop m cells ys firsts last left right at digits₀ end k₀ digits k = end - k
@@ -59,7 +59,7 @@ loop-again : tie.Need-loop-again Inv-loop μ-loop
 loop-again c =
     let a = c .before .before .before .before .before .before .before .before .before .args in
     let l = c .before .before .loop in
-    let own = given (inkIn (a .cells .now)) (a .ys .now) (a .firsts .now) (a .last) in
+    let own = givenFrom (inkIn (a .cells .now)) (a .ys .now) (a .firsts .now) (a .last) in
     let k< = c .before .loop-test .taken in (
       omega arith,
       length-set (l .digits) (a .at + l .k) _ ∙ l .inv .1,

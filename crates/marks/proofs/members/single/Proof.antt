@@ -1,0 +1,14 @@
+-- `marks::members::single` meets its contract: a group of one member is nothing without its first-listed. Assumes nothing.
+use borrow.Author.Needs.{needs}
+use Rattle.marks.specs.Members.{single-test}
+use Rattle.marks.proofs.members.single.Statement.{statement}
+use Rattle.marks.proofs.members.single.Tie as tie
+
+without-first-requires : tie.Need-without-first-requires
+without-first-requires c κs = search needs
+
+returns : tie.Need-returns
+returns c n g< = single-test n (c .before .args .g) (c .before .pre) g< (c .without-first .result) (c .without-first .ensures n g<)
+
+pub single-spec : {M : Type 1} → statement M
+single-spec = tie.close (tie.spec without-first-requires returns)

@@ -1,2 +1,0 @@
-// The settled net of a table, from its cells and marks.
-pub mod settle;

@@ -1,0 +1,30 @@
+-- `wirings::forms::link` meets its contract: one more gate is added. Assumes nothing.
+use Prim.Native.Nat.{_-_}
+use mathlib.Core.Path.{_≡_}
+use native.Mathlib.Omega.{arith}
+use borrow.Author.Needs.{needs}
+use lib.ListN.{length}
+use Rattle.rules.specs.Limits.{mostInputs}
+use Rattle.wirings.specs.Links.{linked}
+use Rattle.wirings.proofs.forms.link.Statement.{statement}
+use Rattle.wirings.proofs.forms.link.Tie as tie
+
+array-write-lefts : tie.Need-array-write-lefts
+array-write-lefts c = search needs
+
+array-write-rights : tie.Need-array-write-rights
+array-write-rights c = search needs
+
+add-t11 : tie.Need-add-t11
+add-t11 c = search needs
+
+returns : tie.Need-returns
+returns c =
+    let start = c .before .before in
+    let a = start .args in
+    let lefts : length (a .wiring .left) ≡ mostInputs - 1 = search needs in
+    let rights : length (a .wiring .right) ≡ mostInputs - 1 = search needs in
+    linked (a .wiring) (a .left) (a .right) (omega (arith, start .pre)) (omega (arith, start .pre))
+
+pub link-spec : {M : Type 1} → statement M
+link-spec = tie.close (tie.spec array-write-lefts array-write-rights add-t11 returns)
