@@ -1,7 +1,7 @@
 -- Theorems about sheets: what was printed is read back, what was accepted is what would be printed (`ReadBack`), and how long a net
 -- sheet is (`Length`). The way there: what a reader reads is said once for both directions (`Spells`, `Collects`); then field by field
 -- (`Fields`, `Decimals`, `Judges`, `References`), line by line (`Names`, `Header`, `Gates`), sheet by sheet (`NetSheets`, `TableSheets`).
--- `Fresh` serves the names and the gates.
+-- `Fresh` serves the names and the gates. `Lines` and `GateLines` take an accepted sheet as lines.
 -- Assumes nothing.
 pub mod Spells
 pub mod Collects
@@ -18,3 +18,5 @@ pub mod TableSheets
 pub mod Numbers
 pub mod ReadBack
 pub mod Length
+pub mod Lines
+pub mod GateLines

@@ -2,7 +2,7 @@
 -- Each definition's comment quotes the sentence that it states, or says what the definition is for. `Lists`, `Text` and
 -- `Fields` are the means; the rest follows the document's sections: Sheets (`Limits`, `Sheets`, `Printed`, `Kept`),
 -- `Value`, `Groups`, `Marks`, `Settled`, then the calls with what they turn back (`Calls`, `Lister`), and the starred cases
--- (`Cases`).
+-- (`Cases`) and what is judged first (`Orders`).
 -- Assumes nothing.
 pub mod Lists
 pub mod Text
@@ -27,3 +27,4 @@ pub mod Programs
 pub mod Lister
 pub mod Evaluation
 pub mod Cases
+pub mod Orders
