@@ -14,9 +14,9 @@ use Rattle.rules.specs.Kept.{KeptHeader, KeptNet}
 use Rattle.rules.specs.Answers.{accepted}
 use Rattle.rules.specs.Reading.{readNet}
 use Rattle.trees.specs.NetTables.{inputs-several}
-use Rattle.demands.specs.Lines.{linesOf, lines-first, headLines, head-fed, head-unbroken}
 use Rattle.readback.specs.Fields.{parts-newline}
 use Rattle.readback.specs.Header.{headText, spells-header}
+use Rattle.readback.specs.Lines.{linesOf, lines-first, headLines, head-fed, head-unbroken}
 use Rattle.readback.specs.NetSheets.{line-ended}
 use Rattle.readback.specs.ReadBack.{net-accepted}
 

@@ -1,4 +1,4 @@
--- What a lister gives at a place is what turn k gives, where k turns on an accepted sheet brought it there.
+-- What a lister gives at a place, and so at turn k where k turns brought it there.
 -- Assumes nothing.
 use Prim.Native.Nat.{ℕ, _+_, _-_, _≤_, _<_}
 use mathlib.Core.Path.{_≡_, ap, _∙_}
@@ -10,32 +10,15 @@ use lib.ListN.{length, take, drop}
 use lib.Dec.{leb}
 use denote.Ref.{RefT, now}
 use borrow.Author.Tests.{lt-ltb, le-ltb, lt-leb, le-leb}
-use Rattle.rules.specs.Sheets.{Net}
-use Rattle.rules.specs.Answers.{accepted}
-use Rattle.rules.specs.Reading.{readNet}
-use Rattle.rules.specs.Lister.{lineLength, afterLines, Turn, gateAt, noneLeft, turnOf}
-use Rattle.demands.specs.Listing.{partOf, lineAt, gate-inside, gates-end}
-use Rattle.lister.specs.Places.{lineStart, standsAt}
+use Rattle.rules.specs.Lister.{lineLength, Turn, gateAt, noneLeft}
+use Rattle.readback.specs.GateLines.{partOf}
 use Rattle.lister.specs.Turns.{turnAt, isNone, partIn, turnNumbers, Says}
+use Rattle.lister.specs.Standing.{turn-stands}
 use Rattle.lister.specs.declared.turns.Turn.the-variants.{Line, NoneLeft}
-use Rattle.lister.proofs.Steps.{line-within, stays}
-
-turn-stands : (s : List ℕ) (net : Net) (k : ℕ) → readNet s ≡ accepted net → turnAt s (standsAt s k) ≡ turnOf s net k
-unfolding turnAt lineStart turnOf lineAt
-turn-stands s net k reads = go (decLt k (length (net .gates)))
-  where
-    go : Dec (k < length (net .gates)) → turnAt s (standsAt s k) ≡ turnOf s net k
-    go (yes h) =
-        let inside = gate-inside s net reads k h in
-        let e : standsAt s k ≡ afterLines s (4 + k) = omega arith in
-        rw (lt-ltb k (length (net .gates)) h, turnOf) (ap (turnAt s) e ∙ rw (lt-ltb (afterLines s (4 + k)) (length s) (omega arith), turnAt))
-    go (no h) =
-        let end = gates-end s net reads in
-        let e : length s ≤ standsAt s k = omega (arith, stays s (length (net .gates)) k (omega arith) (omega arith)) in
-        rw (le-ltb (standsAt s k) (length s) e, le-ltb k (length (net .gates)) (omega arith), turnAt, turnOf)
+use Rattle.lister.proofs.Steps.{line-within}
 
 pub says : {A : Type 0} (s : List ℕ) (at : ℕ) (f : Turn → A) (r : A) → r ≡ f (turnAt s at) → Says s at f r
-says s at f r e = record { here = e; turn = λ net k reads d. e ∙ ap f (ap (turnAt s) d ∙ turn-stands s net k reads) }
+says s at f r e = record { here = e; turn = λ k d. e ∙ ap f (ap (turnAt s) d ∙ turn-stands s k) }
 
 -- ---- each answer at its place
 

@@ -4,21 +4,23 @@ use Prim.Native.Nat.{ℕ}
 use mathlib.Core.Path.{_≡_, refl, sym, ap, _∙_}
 use mathlib.Core.List.{List}
 use native.Mathlib.Omega.{arith}
+use lib.ListN.{length}
 use Rattle.rules.specs.Sheets.{Net}
 use Rattle.rules.specs.Answers.{Answer, accepted, refused, onward}
 use Rattle.rules.specs.Reading.{readNet}
-use Rattle.rules.specs.Lister.{Turn, gateAt, noneLeft, listing}
+use Rattle.rules.specs.Lister.{Turn, gateAt, noneLeft, turnOf, listing}
 use Rattle.answers.specs.Answers.{outcomeAs}
 use Rattle.answers.specs.declared.outcome.Outcome.the-variants.{Accepted, Refused as NotAccepted}
 use Rattle.net_reading.specs.Answers.{NetReads}
 use Rattle.net_reading.specs.declared.net.NetRead.{NetRead}
-use Rattle.demands.specs.Listing.{turn-refused}
+use Rattle.readback.specs.GateLines.{turn-refused}
 use Rattle.lister.specs.declared.turns.Turn as code
 use Rattle.lister.specs.declared.calls.Opened.{Opened}
 use Rattle.lister.specs.declared.calls.Opened.the-variants.{At, Refused as NotOpened}
 use Rattle.lister.specs.declared.calls.Listed.the-variants.{Given, Refused as NotListed}
-use Rattle.lister.specs.Places.{standsAt}
-use Rattle.lister.specs.Turns.{turnNumbers, Says}
+use Rattle.lister.specs.Places.{lineStart, standsAt}
+use Rattle.lister.specs.Turns.{turnIn, turnNumbers, Says}
+use Rattle.lister.specs.Standing.{stands-accepted, stands-refused}
 use Rattle.lister.specs.Calls.{openedAs, opening, turnAs, listedAs}
 
 differ : {A : Type 0} (a : A) (number place : ℕ) → _≡_ {A = Answer A} (accepted a) (refused number place) → ⊥
@@ -43,8 +45,10 @@ module _ (s : List ℕ) where
 
 -- the same by what reading the sheet comes to
 module _ (s : List ℕ) (r : NetRead) (reads : NetReads s r) where
-  pub read-accepted : (at : ℕ) → r .outcome ≡ Accepted → at ≡ standsAt s 0 → openedAs (At at) ≡ opening s
-  read-accepted at d e = open-accepted s _ at (sym (reads .answer) ∙ ap (outcomeAs _) d) e
+  pub read-accepted : (at : ℕ) → r .outcome ≡ Accepted → at ≡ lineStart s 4 → openedAs (At at) ≡ opening s
+  read-accepted at d e =
+      let a = sym (reads .answer) ∙ ap (outcomeAs _) d in
+      open-accepted s _ at a (e ∙ sym (stands-accepted s _ 0 a))
 
   pub read-refused : (number place : ℕ) → r .outcome ≡ NotAccepted number place → openedAs (NotOpened number place) ≡ opening s
   read-refused number place d = open-refused s number place (sym (reads .answer) ∙ ap (outcomeAs _) d)
@@ -68,6 +72,10 @@ module _ (s : List ℕ) (o : Opened) (e : openedAs o ≡ opening s) where
       go (accepted net) r = absurd (differ _ _ _ (open-accepted s net (standsAt s 0) r refl ∙ sym e ∙ ap openedAs d))
       go (refused m p) r = r ∙ same-refused {B = Net} _ _ _ _ (open-refused s m p r ∙ sym e ∙ ap openedAs d)
 
+  -- a lister starts at the end of one that was not opened
+  pub not-opened-at : (number place : ℕ) → o ≡ NotOpened number place → length s ≡ standsAt s 0
+  not-opened-at number place d = sym (stands-refused s number place 0 (not-opened number place d))
+
   pub listed-refused : (number place k : ℕ) → o ≡ NotOpened number place → listedAs (NotListed number place) ≡ listing s k
   unfolding listedAs
   listed-refused number place k d = sym (turn-refused s number place k (not-opened number place d))
@@ -79,7 +87,8 @@ module _ (s : List ℕ) (o : Opened) (e : openedAs o ≡ opening s) where
   turn-as noneLeft = refl
 
   pub listed-given : (first at k : ℕ) (turn : code.Turn) → o ≡ At first → at ≡ standsAt s k → Says s at turnNumbers turn → listedAs (Given turn) ≡ listing s k
-  unfolding listedAs listing onward
+  unfolding listedAs listing onward turnIn
   listed-given first at k turn d stands says =
       let (net, reads, _) = opened-at first d in
-      rw (reads, listing) (ap accepted (ap turnAs (says .turn net k reads stands) ∙ turn-as _))
+      let same : turnIn (listing s k) ≡ turnOf s net k = rw (reads, listing) in
+      rw (reads, listing) (ap accepted (ap turnAs (says .turn k stands ∙ ap turnNumbers same) ∙ turn-as _))

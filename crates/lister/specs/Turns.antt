@@ -1,4 +1,4 @@
--- What a lister gives at a place, and at its k-th turn on an accepted sheet.
+-- What a lister gives at a place, and at its k-th turn.
 -- Assumes nothing.
 use Prim.Native.Nat.{ℕ, _+_}
 use mathlib.Core.Path.{_≡_}
@@ -7,11 +7,9 @@ use mathlib.Core.List.{List, []}
 use lib.ListN.{length, drop}
 use lib.Dec.{ltb}
 use denote.Ref.{RefT, now}
-use Rattle.rules.specs.Sheets.{Net}
-use Rattle.rules.specs.Answers.{accepted}
-use Rattle.rules.specs.Reading.{readNet}
-use Rattle.rules.specs.Lister.{lineLength, Turn, gateAt, noneLeft, turnOf}
-use Rattle.demands.specs.Listing.{partOf}
+use Rattle.rules.specs.Answers.{Answer, accepted, refused}
+use Rattle.rules.specs.Lister.{lineLength, Turn, gateAt, noneLeft, listing}
+use Rattle.readback.specs.GateLines.{partOf}
 use Rattle.lister.specs.declared.turns.Turn as code
 use Rattle.lister.specs.declared.turns.Turn.the-variants.{Line, NoneLeft}
 use Rattle.lister.specs.Places.{standsAt}
@@ -19,6 +17,12 @@ use Rattle.lister.specs.Places.{standsAt}
 -- the turn of a lister that stands at `at`
 unfoldable pub turnAt : List ℕ → ℕ → Turn
 turnAt s at = elim (ltb at (length s)) [ true ↦ gateAt (record { start = at; count = lineLength (drop at s) }) | false ↦ noneLeft ]
+
+-- What a lister gives of an answer of `listing`: the turn. On a sheet that is not accepted it gives nothing but that none is left; the
+-- refusal is `open`'s to give.
+unfoldable pub turnIn : Answer Turn → Turn
+turnIn (accepted t) = t
+turnIn (refused number place) = noneLeft
 
 -- is none left?
 unfoldable pub isNone : Turn → Bool
@@ -35,7 +39,7 @@ unfoldable pub turnNumbers : Turn → code.Turn
 turnNumbers (gateAt p) = Line (p .start) (p .count)
 turnNumbers noneLeft = NoneLeft
 
--- `r` is `f` of the turn of a lister at `at`; where k turns on an accepted sheet brought it there, of turn k.
+-- `r` is `f` of the turn of a lister at `at`; where k turns from its start brought it there, on any sheet, of turn k of `listing`.
 pub record Says {A : Type 0} (s : List ℕ) (at : ℕ) (f : Turn → A) (r : A) : Type 0 where
   pub here : r ≡ f (turnAt s at)
-  pub turn : (net : Net) (k : ℕ) → readNet s ≡ accepted net → at ≡ standsAt s k → r ≡ f (turnOf s net k)
+  pub turn : (k : ℕ) → at ≡ standsAt s k → r ≡ f (turnIn (listing s k))

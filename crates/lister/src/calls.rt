@@ -34,6 +34,19 @@ pub fn open(s: &[u8]) -> Opened
     }
 }
 
+// Where a lister starts, on any sheet: where none is left, at the end, if the sheet is not accepted.
+pub fn first_place(s: &[u8]) -> usize
+    ensures { λ r. ⌜ r ≡ standsAt (now (s .entry)) 0 ⌝ }
+{
+    match open(s) {
+        Opened::At(first) => first,
+        Opened::Refused {
+            number: _,
+            place: _,
+        } => s.len(),
+    }
+}
+
 // Where a lister stands after `count` turns from its start. At the sheet's end it stays.
 fn turns_on(s: &[u8], first: usize, count: usize) -> usize
     requires { ⌜ first ≡ standsAt (now s) 0 ⌝ }

@@ -3,7 +3,7 @@ ghost use mathlib.Core.Path.{_≡_};
 ghost use Prim.Native.Nat.{_+_, min};
 ghost use lib.ListN.{length, drop};
 ghost use Rattle.rules.specs.Lister.{lineLength};
-ghost use Rattle.lister.specs.Places.{standsAt, Onward};
+ghost use Rattle.lister.specs.Places.{lineStart, Onward};
 use fields::runs::NEWLINE;
 
 // The place of the next line feed from `at` on, or the sheet's length.
@@ -34,9 +34,9 @@ pub fn line_after(s: &[u8], at: usize) -> usize
     past_feed(s, line_end(s, at))
 }
 
-// The place after the first four lines: where a lister starts.
+// The place after the first four lines, where the gate lines begin.
 pub fn first_gate(s: &[u8]) -> usize
-    ensures { λ r. ⌜ r ≡ standsAt (now (s .entry)) 0 ⌝ }
+    ensures { λ r. ⌜ r ≡ lineStart (now (s .entry)) 4 ⌝ }
 {
     let second = line_after(s, 0);
     let third = line_after(s, second);

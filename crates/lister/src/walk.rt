@@ -1,24 +1,25 @@
 // The lister as a struct, and thin functions over it: each takes it apart and calls a function of the sheet and the place. Their
 // proofs are walks by hand (proofs/walk/Lister).
-ghost use mathlib.Core.Path.{_≡_};
 ghost use denote.Ref.{ptr};
-ghost use Rattle.lister.specs.Places.{Onward};
+ghost use Rattle.lister.specs.Reached.{Started, TurnedOn};
 ghost use Rattle.lister.specs.Turns.{Says, isNone, partIn};
+use crate::calls::first_place;
 use crate::places::line_after;
 use crate::turns::line_at;
 use crate::turns::none_left;
 
 // The sheet that it has borrowed, and where it stands in it.
 pub struct Lister<'a> {
-    pub sheet: &'a [u8],
-    pub at: usize,
+    sheet: &'a [u8],
+    at: usize,
 }
 
 impl<'a> Lister<'a> {
-    // A lister that stands at a place.
-    pub fn start(sheet: &'a [u8], at: usize) -> Lister<'a>
-        ensures { λ r. ⌜ (r .sheet ≡ sheet .entry) × (r .at ≡ at) ⌝ }
+    // Reads the sheet. On one that is not accepted none is left from the start, and `open` has its refusal.
+    pub fn start(sheet: &'a [u8]) -> Lister<'a>
+        ensures { λ r. ⌜ Started (sheet .entry) r ⌝ }
     {
+        let at = first_place(sheet);
         Lister { sheet, at }
     }
 
@@ -38,7 +39,7 @@ impl<'a> Lister<'a> {
 
     // The lister a turn on.
     pub fn next(self) -> Lister<'a>
-        ensures { λ r. ⌜ (r .sheet ≡ self .entry .sheet) × Onward (now (self .entry .sheet)) (self .entry .at) (r .at) ⌝ }
+        ensures { λ r. ⌜ TurnedOn (self .entry) r ⌝ }
     {
         let at = line_after(self.sheet, self.at);
         Lister {

@@ -1,7 +1,8 @@
 -- Theorems about sheets: what was printed is read back, what was accepted is what would be printed (`ReadBack`), how long a sheet is (`Length`,
 -- `TableLength`), with which numbers (`Numbers`), where and by which bytes (`Fronts`, `Refused`) a sheet is refused. The way to the first: what
 -- a reader reads is said once for both directions (`Spells`, `Collects`); then field by field (`Fields`, `Decimals`, `Judges`, `References`),
--- line by line (`Names`, `Header`, `Gates`), sheet by sheet (`NetSheets`, `TableSheets`). `Fresh` serves the names and the gates.
+-- line by line (`Names`, `Header`, `Gates`), sheet by sheet (`NetSheets`, `TableSheets`). `Lines` and `GateLines` take
+-- an accepted sheet as lines.
 -- Assumes nothing.
 pub mod Spells
 pub mod Collects
@@ -20,3 +21,5 @@ pub mod Refused
 pub mod ReadBack
 pub mod Length
 pub mod TableLength
+pub mod Lines
+pub mod GateLines

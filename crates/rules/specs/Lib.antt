@@ -3,7 +3,7 @@
 -- `Fields` are the means; the rest follows the document's sections: Sheets (`Limits`, `Sheets`, `Printed`, `Kept`),
 -- `Value`, `Groups`, `Marks`, the settled net (`Wirings`, `Filling`, `Settled`; `SettledLaws` hold its choices to the document's words), then
 -- the calls with what they turn back (`Answers`, `Reading` and `BareCells` are what they share; a file for each call or pair of calls follows), the starred
--- cases (`Cases`), and every refusal by examples (`Refusals`). `Evaluation` lets all of it compute.
+-- cases (`Cases`), every refusal by examples (`Refusals`), and what is judged first (`Orders`). `Evaluation` lets all of it compute.
 -- Assumes nothing.
 pub mod Lists
 pub mod Text
@@ -32,3 +32,4 @@ pub mod Lister
 pub mod Evaluation
 pub mod Cases
 pub mod Refusals
+pub mod Orders

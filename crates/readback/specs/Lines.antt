@@ -5,6 +5,7 @@ use Prim.Native.Nat.{ℕ, zero, suc, _<_}
 use mathlib.Core.Path.{_≡_, refl, sym, ap, _∙_}
 use mathlib.Core.Bool.{Bool, true, false, not, _||_, false≢true}
 use mathlib.Core.List.{List, [], _∷_, _++_, map, append-assoc, append-nil}
+use native.Mathlib.Omega.{arith}
 use lib.ListN.{length}
 use lib.Seq.{append-snoc}
 use lib.Dec.{eqb}
@@ -16,12 +17,12 @@ use Rattle.rules.specs.Sheets.{Header, Gate, Net, referenceText}
 use Rattle.rules.specs.Printed.{line, firstLines, printedGate, printedNet}
 use Rattle.rules.specs.Kept.{GoodNames, Tables, KeptHeader, KeptNet}
 use Rattle.laws.specs.Concat.{concat-append, concat-map, concat-same}
+use Rattle.laws.specs.Sizes.{levels-fit}
 use Rattle.laws.specs.Tests.{all-iff}
 use Rattle.readback.specs.Fields.{plain, isWord}
 use Rattle.readback.specs.Decimals.{decimal-word}
 use Rattle.readback.specs.Judges.{name-word, judges-digits}
 use Rattle.readback.specs.References.{reference-word}
-use Rattle.trees.specs.NetTables.{levels-pos}
 
 -- ---- lines and their line feeds
 
@@ -188,5 +189,5 @@ pub net-unbroken : (net : Net) → KeptNet net → Unbroken (netLines net)
 unfolding netLines
 net-unbroken net kept =
     unbroken-append (fourLines (net .header)) (map (gateBody (net .header .names)) (net .gates)) (four-unbroken (net .header) (kept .header))
-    (gates-unbroken (net .header .names) (kept .header .names) (net .header .levels) (levels-pos (net .header .levels) (kept .header .levels)) (net .gates)
+    (gates-unbroken (net .header .names) (kept .header .names) (net .header .levels) (omega (arith, levels-fit (net .header .levels) .0 (kept .header .levels) .0)) (net .gates)
     (kept .gates .rules .tables))

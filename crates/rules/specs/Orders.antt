@@ -1,0 +1,87 @@
+-- What is judged first: inputs with several faults at once, and the one refusal that each is given.
+-- Assumes nothing.
+use Prim.Native.Nat.{ℕ}
+use mathlib.Core.Path.{_≡_, refl}
+use mathlib.Core.List.{List, [], _∷_, _++_}
+use lib.ListN.{replicate}
+use Rattle.rules.specs.Text.{newline, text}
+use Rattle.rules.specs.Sheets.{Net, Table}
+use Rattle.rules.specs.Printed.{printedNet, printedTable}
+use Rattle.rules.specs.Answers.{refused, netNamed, tableNamed, neither}
+use Rattle.rules.specs.Reading.{readNet}
+use Rattle.rules.specs.Multiplicity.{multiplicityCall}
+use Rattle.rules.specs.Settling.{settleCall, makeCall}
+use Rattle.rules.specs.Checking.{turnedDown, checkCall}
+use Rattle.rules.specs.Evaluation.{computing}
+
+-- ---- a sheet
+
+-- "Otherwise the field is judged, then the byte after it.": a malformed name, with a line feed where a space is due
+pub field-before-byte : readNet (text "levels inputs" ++ newline ∷ (text "2 2" ++ newline ∷ (text "A" ++ newline ∷ []))) ≡ refused 4 18
+unfolding computing
+field-before-byte = refl
+
+-- ---- bare cells
+
+-- 9 before 10 and 11: one cell where four are due, not below m, and group 0
+pub length-before-cell : multiplicityCall 2 2 (2 ∷ []) 0 ≡ refused 9 0
+unfolding computing
+length-before-cell = refl
+
+-- 10 before 11: a cell that is not below m, and group 0
+pub cell-before-group : multiplicityCall 2 2 (0 ∷ 2 ∷ 0 ∷ 0 ∷ []) 0 ≡ refused 10 1
+unfolding computing
+cell-before-group = refl
+
+-- ---- settling and making: "Judged in this order after the input": 13, 14, 16, 15
+
+-- the ink is 1 when at least two of a, b and c are 1: no tree
+unfoldable pub noTree : Table
+noTree =
+    record { header = record { levels = 2; inputs = 3; names = text "a" ∷ text "b" ∷ text "c" ∷ [] }; inks = 0 ∷ 0 ∷ 0 ∷ 1 ∷ 0 ∷ 1 ∷ 1 ∷ 1 ∷ [] }
+
+-- one gate
+unfoldable pub oneGate : Net
+oneGate =
+    record { header = record { levels = 2; inputs = 2; names = text "a" ∷ text "b" ∷ [] }; gates = record { left = 0; right = 1; digits = 0 ∷ 0 ∷ 0 ∷ 1 ∷ [] } ∷ [] }
+
+unfoldable pub nines : ℕ → List ℕ
+nines k = replicate k 9
+
+-- all three buffers empty, and no tree
+pub cells-before-marks : makeCall (printedTable noTree) [] [] [] ≡ record { answer = refused 13 8; cells = []; marks = []; output = [] }
+unfolding computing noTree
+cells-before-marks = refl
+
+-- marks and output empty, and no tree
+pub marks-before-tree : makeCall (printedTable noTree) (nines 8) [] [] ≡ record { answer = refused 14 8; cells = nines 8; marks = []; output = [] }
+unfolding computing noTree nines
+marks-before-tree = refl
+
+-- the output empty, and no tree
+pub tree-before-output : makeCall (printedTable noTree) (nines 8) (nines 8) []
+    ≡ record { answer = refused 16 7; cells = noTree .inks; marks = 0 ∷ 2 ∷ 2 ∷ 0 ∷ 2 ∷ 0 ∷ 0 ∷ 1 ∷ []; output = [] }
+unfolding computing noTree nines
+tree-before-output = refl
+
+-- marks and output empty, with a tree
+pub marks-before-output : settleCall (printedNet oneGate) (nines 4) [] [] ≡ record { answer = refused 14 4; cells = nines 4; marks = []; output = [] }
+unfolding computing oneGate nines
+marks-before-output = refl
+
+-- ---- checking
+
+-- "judges the net first": neither sheet has a byte
+pub net-before-table : checkCall [] [] [] ≡ record { answer = turnedDown netNamed 1 0; cells = [] }
+unfolding computing
+net-before-table = refl
+
+-- the table sheet before 12 and 13
+pub table-before-headers : checkCall (printedNet oneGate) [] [] ≡ record { answer = turnedDown tableNamed 1 0; cells = [] }
+unfolding computing oneGate
+table-before-headers = refl
+
+-- 12 before 13: two headers, and no cells
+pub headers-before-cells : checkCall (printedNet oneGate) (printedTable noTree) [] ≡ record { answer = turnedDown neither 12 0; cells = [] }
+unfolding computing oneGate noTree
+headers-before-cells = refl
