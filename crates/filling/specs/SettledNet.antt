@@ -1,7 +1,7 @@
 -- The settled net by value: its gates are document 01's, and they keep the rules of a net sheet.
 -- Assumes nothing.
 use Prim.Native.Nat.{ℕ, _+_, _^_, _≤_, _<_}
-use mathlib.Core.Path.{_≡_, sym, ap, _∙_, subst, subst⁻¹}
+use mathlib.Core.Path.{_≡_, sym, ap, _∙_, subst⁻¹}
 use mathlib.Core.Logic.{_≢_}
 use mathlib.Core.Bool.{true}
 use mathlib.Core.List.{List}
@@ -22,7 +22,7 @@ use Rattle.marks.specs.Stored.{held, held-room, held-written}
 use Rattle.marks.specs.Splits.{split-agree}
 use Rattle.trees.specs.Members.{member-inside, whole-below, size-whole}
 use Rattle.trees.specs.MarkRule.{marked, marks-length}
-use Rattle.trees.specs.MarkTwo.{Split, Splits, split-two, settled-splits, settled-wiring-of, wiring-agree}
+use Rattle.trees.specs.MarkTwo.{Split, split-two, settled-splits, settled-wiring-of, wiring-agree}
 use Rattle.trees.specs.Fillings.{Fillable, wiring-fillable}
 use Rattle.trees.specs.Existence.{settled-net}
 use Rattle.wirings.specs.declared.forms.Wiring.{Wiring}

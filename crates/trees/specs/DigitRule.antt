@@ -1,14 +1,15 @@
 -- The rule for a gate's digits, of document 01, section 'The settled net': "A gate below the last gives its group's classes .. The last
 -- gate gives the ink. A digit that no assignment reaches is 0." For any two groups that a gate may join.
 -- Assumes nothing.
-use Prim.Native.Nat.{ℕ, _+_, _*_, _^_, _<_}
-use mathlib.Core.Path.{_≡_, refl, sym, _∙_, ap, ap₂}
+use Prim.Native.Nat.{ℕ, _+_, _*_, _/_, _%_, _^_, _<_}
+use mathlib.Core.Path.{_≡_, refl, sym, _∙_, ap, ap₂, subst}
 use mathlib.Core.Logic.{_≢_}
 use mathlib.Core.Bool.{Bool, true, false}
 use mathlib.Core.List.{List}
-use native.Mathlib.Nat.{lt-of-lt-of-le}
+use native.Mathlib.Nat.{lt-of-lt-of-le, mod-lt, div-add-mod', div-lt-iff-lt-mul}
 use native.Mathlib.Omega.{arith}
 use lib.ListN.{length, getD}
+use lib.Seq.{ext-getD}
 use Rattle.rules.specs.Groups.{part, points, size}
 use Rattle.rules.specs.Filling.{carried, given, gateDigits}
 use Rattle.rules.specs.Kept.{GateTable}
@@ -99,6 +100,21 @@ module _ (m n : ℕ) (pos : 0 < m) (f : ℕ → ℕ) (a b : ℕ) (parts : Parts 
             absurd (none (part m n (a + b) q) (part-below m n pos (a + b) q) (left-carries _ q own ∙ d) (right-carries _ q own ∙ e)))
             (λ _. refl);
       }
+
+  -- and no other digits keep the rule
+  pub digit-rule-only : (last : Bool) (digits : List ℕ) → DigitRule m n f last a b digits → digits ≡ gateDigits m n f last a b
+  digit-rule-only last digits rule =
+      ext-getD 0 digits (gateDigits m n f last a b) (rule .count ∙ sym (digits-count m n f last a b))
+      (λ k h.
+      let k< : k < m * m = rw (rule .count) at h in
+      let same = at (k / m) (k % m) (div-lt-iff-lt-mul pos .1 k<) (mod-lt k pos) in
+      subst (λ (i : ℕ). getD digits i 0 ≡ getD (gateDigits m n f last a b) i 0) (div-add-mod' k m) same)
+    where
+      at : (u v : ℕ) → u < m → v < m → getD digits (u * m + v) 0 ≡ getD (gateDigits m n f last a b) (u * m + v) 0
+      at u v u< v< =
+          digits-have m n f last a b (λ x. getD digits (u * m + v) 0 ≡ x) u v u< v<
+          (rule .reached u v)
+          (λ none. rule .free u v u< v< (λ p p< d e. let r = some-reaches p in none _ (r .0, r .1 ∙ d, r .2 ∙ e)))
 
   -- what the gate has to give is below m
   gate-below : ((p : ℕ) → p < m ^ n → f p < m) → (last : Bool) (p : ℕ) → given m n f last (a + b) p < m

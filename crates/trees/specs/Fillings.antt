@@ -48,7 +48,7 @@ groups-length groups (l ∷ links) =
     omega (arith, groups-length (groups ++ (linkGroup groups l ∷ [])) links, length-snoc groups (linkGroup groups l))
 
 -- the groups before stay
-groups-earlier : (groups : List ℕ) (links : List Link) (r : ℕ) → r < length groups → getD (withGroups groups links) r 0 ≡ getD groups r 0
+pub groups-earlier : (groups : List ℕ) (links : List Link) (r : ℕ) → r < length groups → getD (withGroups groups links) r 0 ≡ getD groups r 0
 unfolding withGroups
 groups-earlier groups [] r h = refl
 groups-earlier groups (l ∷ links) r h =

@@ -88,7 +88,7 @@ module _ (m n : ℕ) (used : List ℕ) (forest : List Tree) (grown : Grown m n u
   forest⁺ = forest ++ (joined forest g ∷ [])
 
   -- the two have no input in common
-  sides-apart : Apart n (groupAt forest (g .left)) (groupAt forest (g .right))
+  pub sides-apart : Apart n (groupAt forest (g .left)) (groupAt forest (g .right))
   sides-apart i i< =
       let home = grown .home i i< in
       rw (home .sole (g .left) left< left-unused, home .sole (g .right) right< right-unused)
@@ -155,7 +155,7 @@ module _ (m n : ℕ) (used : List ℕ) (forest : List Tree) (grown : Grown m n u
         }
 
   -- the gate keeps all that `Grown` says
-  grown-snoc : GateTable m (g .digits) → Grown m n used⁺ forest⁺
+  pub grown-snoc : GateTable m (g .digits) → Grown m n used⁺ forest⁺
   grown-snoc table = record {
     enough = omega (arith, length-snoc forest (joined forest g), grown .enough);
     inputs = λ i h. List·getD-append forest (joined forest g ∷ []) (leaf 0) i (omega (arith, grown .enough)) ∙ grown .inputs i h;
@@ -170,7 +170,7 @@ module _ (m n : ℕ) (used : List ℕ) (forest : List Tree) (grown : Grown m n u
 -- ---- all gates
 
 -- in a list without repetition two neighbours differ, and neither stands before them
-heads-unused : (used : List ℕ) (a b : ℕ) (rest : List ℕ) → Distinct (used ++ (a ∷ b ∷ rest)) → NotIn a used × NotIn b used × (a ≡ b → ⊥)
+pub heads-unused : (used : List ℕ) (a b : ℕ) (rest : List ℕ) → Distinct (used ++ (a ∷ b ∷ rest)) → NotIn a used × NotIn b used × (a ≡ b → ⊥)
 heads-unused used a b rest distinct =
     let second = none-append (eqb b) used (a ∷ []) .0 (distinct-before (used ++ (a ∷ [])) b rest (rw append-assoc distinct)) in
     (distinct-before used a (b ∷ rest) distinct, second .0, λ e. not-in-cons b a [] .0 (second .1) .0 (sym e))

@@ -20,6 +20,7 @@ pub mod JoinedLists
 pub mod GateLists
 pub mod TreeLists
 pub mod Fillings
+pub mod GateLinks
 pub mod MarkRule
 pub mod MarkTwo
 pub mod SettledRules

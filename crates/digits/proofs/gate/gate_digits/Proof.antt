@@ -11,6 +11,16 @@ use Rattle.digits.specs.Ready.{samples-sum}
 use Rattle.digits.proofs.gate.gate_digits.Statement.{statement}
 use Rattle.digits.proofs.gate.gate_digits.Tie as tie
 
+-- the function's entry, from left's samples; that place, from right's; that one, from both lists lent
+abbrev start : tie.After-samples → tie.Start
+start c = c .before .before .before .before
+
+abbrev lefts : tie.After-samples2 → tie.After-samples
+lefts c = c .before .before .before
+
+abbrev rights : tie.After-group-digits-arg3 → tie.After-samples2
+rights c = c .before .before .before .before .before .before
+
 slice-aggregate-samples : tie.Need-slice-aggregate-samples
 slice-aggregate-samples c = search needs
 
@@ -25,12 +35,12 @@ samples-requires-2 c κs = search needs
 
 add-group-digits : tie.Need-add-group-digits
 add-group-digits c =
-    let start = c .before .before .before .before .before .before .before .before in
-    let a = start .args in
-    let parts = start .pre .1 in
+    let s = start (lefts (c .before)) in
+    let a = s .args in
+    let parts = s .pre .1 in
     record {
       fits = lt-of-lt-of-le (join-below (a .n) (a .a) (a .b) (parts .a-below) (parts .b-below) (parts .apart))
-          (pow-mono {i = a .n} {j = 64} (omega (arith, start .pre .0 .inputs)));
+          (pow-mono {i = a .n} {j = 64} (omega (arith, s .pre .0 .inputs)));
     }
 
 sub-group-digits : tie.Need-sub-group-digits
@@ -40,7 +50,7 @@ part-group-digits-start : tie.Need-part-group-digits-start
 part-group-digits-start c = search needs
 
 part-group-digits-end : tie.Need-part-group-digits-end
-part-group-digits-end c = fits-in (c .before .before .before .before .before .samples .ensures)
+part-group-digits-end c = fits-in (lefts (c .before .before) .samples .ensures)
 
 sub-group-digits-2 : tie.Need-sub-group-digits-2
 sub-group-digits-2 c = search needs
@@ -53,15 +63,17 @@ part-group-digits-end-2 c = fits-in (c .before .before .before .before .samples2
 
 group-digits-requires : tie.Need-group-digits-requires
 group-digits-requires c κs =
-    let start = c .before .before .before .before .before .before .before .before .before .before .before .before .before in
-    let a = start .args in
-    let sized = start .pre .0 in
-    let parts = start .pre .1 in (
+    let right = rights c in
+    let left = lefts right in
+    let s = start left in
+    let a = s .args in
+    let sized = s .pre .0 in
+    let parts = s .pre .1 in (
       sized,
       join-below (a .n) (a .a) (a .b) (parts .a-below) (parts .b-below) (parts .apart),
       parts .few,
-      samples-sum (a .m) (a .n) (inkIn (a .cells .now)) (a .a) (a .b) (sized .some) parts _ _ (part-is (c .before .before .before .before .before .before .before .before .before .samples .ensures)) (part-is (c .before .before .before .before .before .before .samples2 .ensures)),
-      start .pre .2,
+      samples-sum (a .m) (a .n) (inkIn (a .cells .now)) (a .a) (a .b) (sized .some) parts _ _ (part-is (left .samples .ensures)) (part-is (right .samples2 .ensures)),
+      s .pre .2,
     )
 
 same-length : tie.Need-same-length
@@ -69,10 +81,12 @@ same-length c = search needs
 
 returns : tie.Need-returns
 returns c =
-    let start = c .before .before .before .before .before .before .before .before .before .before .before .before .before .before .before .before in
-    let a = start .args in
-    written-digits (a .m) (a .n) (inkIn (a .cells .now)) (a .last) (a .at) (a .digits .now) _ (start .pre .0 .some) (a .a) (a .b) (start .pre .1) _ _
-    (part-is (c .before .before .before .before .before .before .before .before .before .before .before .before .samples .ensures)) (part-is (c .before .before .before .before .before .before .before .before .before .samples2 .ensures)) (c .before .before .group-digits .ensures)
+    let right = rights (c .before .before .before) in
+    let left = lefts right in
+    let s = start left in
+    let a = s .args in
+    written-digits (a .m) (a .n) (inkIn (a .cells .now)) (a .last) (a .at) (a .digits .now) _ (s .pre .0 .some) (a .a) (a .b) (s .pre .1) _ _
+    (part-is (left .samples .ensures)) (part-is (right .samples2 .ensures)) (c .before .before .group-digits .ensures)
 
 pub gate-digits-spec : {M : Type 1} → statement M
 gate-digits-spec =

@@ -8,6 +8,16 @@ use Rattle.digits.specs.Ready.{ready}
 use Rattle.digits.proofs.gate.group_digits.Statement.{statement}
 use Rattle.digits.proofs.gate.group_digits.Tie as tie
 
+-- the function's entry, from the other inputs' assignments; that place, from the classes; that one, from both lists lent
+abbrev start : tie.After-other-offsets → tie.Start
+start c = c .before .before .before .before .before .before
+
+abbrev others : tie.After-class-list → tie.After-other-offsets
+others c = c .before .before .before
+
+abbrev listed : tie.After-write-digits-arg3 → tie.After-class-list
+listed c = c .before .before .before .before .before .before
+
 slice-aggregate-other-offsets : tie.Need-slice-aggregate-other-offsets
 slice-aggregate-other-offsets c = search needs
 
@@ -27,7 +37,7 @@ part-write-digits-start : tie.Need-part-write-digits-start
 part-write-digits-start c = search needs
 
 part-write-digits-end : tie.Need-part-write-digits-end
-part-write-digits-end c = fits-in (c .before .before .before .before .before .other-offsets .ensures)
+part-write-digits-end c = fits-in (others (c .before .before) .other-offsets .ensures)
 
 sub-write-digits-2 : tie.Need-sub-write-digits-2
 sub-write-digits-2 c = search needs
@@ -40,12 +50,13 @@ part-write-digits-end-2 c = fits-in (c .before .before .before .before .class-li
 
 write-digits-requires : tie.Need-write-digits-requires
 write-digits-requires c κs =
-    let start = c .before .before .before .before .before .before .before .before .before .before .before .before .before .before .before in
-    let a = start .args in
-    let pre = start .pre in (
+    let class = listed c in
+    let other = others class in
+    let a = start other .args in
+    let pre = start other .pre in (
       pre .0 .some,
       ready (a .m) (a .n) (a .cells .now) (inkIn (a .cells .now)) (a .g) (a .left .now) (a .right .now) (pre .0) (pre .1) (pre .2) (pre .3) _ _
-          (part-is (c .before .before .before .before .before .before .before .before .before .other-offsets .ensures)) (part-is (c .before .before .before .before .before .before .class-list .ensures)),
+          (part-is (other .other-offsets .ensures)) (part-is (class .class-list .ensures)),
       pre .4,
     )
 
@@ -54,9 +65,11 @@ same-length c = search needs
 
 returns : tie.Need-returns
 returns c =
-    let a = c .before .before .before .before .before .before .before .before .before .before .before .before .before .before .before .before .before .before .args in
+    let class = listed (c .before .before .before) in
+    let other = others class in
+    let a = start other .args in
     written-given (a .m) (a .n) (inkIn (a .cells .now)) (a .last) (a .at) (a .digits .now) _ (a .g) (a .left .now) (a .right .now) _ _
-    (part-is (c .before .before .before .before .before .before .before .before .before .before .before .before .other-offsets .ensures)) (part-is (c .before .before .before .before .before .before .before .before .before .class-list .ensures)) (c .before .before .write-digits .ensures)
+    (part-is (other .other-offsets .ensures)) (part-is (class .class-list .ensures)) (c .before .before .write-digits .ensures)
 
 pub group-digits-spec : {M : Type 1} → statement M
 group-digits-spec =

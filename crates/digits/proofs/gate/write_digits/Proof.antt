@@ -28,42 +28,49 @@ next-digit m left right own digits₀ digits at k v k< room e d =
     ∙ paste-suc digits₀ at all k 0 (omega arith) (omega (arith, sampled-length m left right own))
     ∙ ap (paste digits₀ at all) (sym (add-one k))
 
+-- the function's entry, from what is known of the digits; that place, from the loop
+abbrev start : tie.After-slice-known Inv-loop μ-loop → tie.Start Inv-loop μ-loop
+start c = c .before .before .before .before .before .before
+
+abbrev entry : tie.At-loop Inv-loop μ-loop → tie.Start Inv-loop μ-loop
+entry c = start (c .before)
+
 mul-end : tie.Need-mul-end Inv-loop μ-loop
-mul-end c = omega (arith, c .before .before .before .before .before .before .pre, c .before .before .before .before .before .before .good)
+mul-end c = omega (arith, start c .pre, start c .good)
 
 loop-holds : tie.Need-loop-holds Inv-loop μ-loop
-loop-holds c = let a = c .before .before .before .before .before .before .args in (omega arith, refl, paste-zero (a .digits .now) (a .at) [])
+loop-holds c = let a = start c .args in (omega arith, refl, paste-zero (a .digits .now) (a .at) [])
 
 div-digit : tie.Need-div-digit Inv-loop μ-loop
-div-digit c = c .before .before .before .before .before .before .before .before .pre .0
+div-digit c = entry (c .before) .pre .0
 
 rem-digit : tie.Need-rem-digit Inv-loop μ-loop
-rem-digit c = c .before .before .before .before .before .before .before .before .pre .0
+rem-digit c = entry (c .before) .pre .0
 
 digit-requires : tie.Need-digit-requires Inv-loop μ-loop
-digit-requires c κs = c .before .before .before .before .before .before .before .before .pre .1
+digit-requires c κs = entry (c .before) .pre .1
 
 add-digits : tie.Need-add-digits Inv-loop μ-loop
-add-digits c = omega (arith, c .before .before .before .before .before .before .before .before .before .pre .2, c .before .before .before .before .before .before .before .before .before .good, c .before .loop-test .taken)
+add-digits c = omega (arith, entry (c .before .before) .pre .2, entry (c .before .before) .good, c .before .loop-test .taken)
 
 slice-write-digits : tie.Need-slice-write-digits Inv-loop μ-loop
-slice-write-digits c = omega (arith, c .before .before .before .before .before .before .before .before .before .pre .2, c .before .loop-test .taken, c .before .before .loop .inv .1)
+slice-write-digits c = omega (arith, entry (c .before .before) .pre .2, c .before .loop-test .taken, c .before .before .loop .inv .1)
 
 add-k : tie.Need-add-k Inv-loop μ-loop
-add-k c = omega (arith, c .before .before .before .before .before .before .before .before .before .pre .2, c .before .before .before .before .before .before .before .before .before .good, c .before .loop-test .taken)
+add-k c = omega (arith, entry (c .before .before) .pre .2, entry (c .before .before) .good, c .before .loop-test .taken)
 
 loop-less : tie.Need-loop-less Inv-loop μ-loop
 loop-less c = omega (arith, c .before .loop-test .taken)
 
 loop-again : tie.Need-loop-again Inv-loop μ-loop
 loop-again c =
-    let a = c .before .before .before .before .before .before .before .before .before .args in
+    let a = entry (c .before .before) .args in
     let l = c .before .before .loop in
     let own = givenFrom (inkIn (a .cells .now)) (a .ys .now) (a .firsts .now) (a .last) in
     let k< = c .before .loop-test .taken in (
       omega arith,
       length-set (l .digits) (a .at + l .k) _ ∙ l .inv .1,
-      next-digit (a .m) (a .left .now) (a .right .now) own (a .digits .now) (l .digits) (a .at) (l .k) _ k< (c .before .before .before .before .before .before .before .before .before .pre .2) (l .inv .2) (c .digit .ensures),
+      next-digit (a .m) (a .left .now) (a .right .now) own (a .digits .now) (l .digits) (a .at) (l .k) _ k< (entry (c .before .before) .pre .2) (l .inv .2) (c .digit .ensures),
     )
 
 same-length : tie.Need-same-length Inv-loop μ-loop
@@ -71,7 +78,7 @@ same-length c = c .before .loop .inv .1
 
 returns : tie.Need-returns Inv-loop μ-loop
 returns c =
-    let a = c .before .before .before .before .before .before .before .before .args in
+    let a = entry (c .before) .args in
     let l = c .before .loop in
     let end : l .k ≡ a .m * a .m = omega arith in
     l .inv .2 ∙ ap (paste (a .digits .now) (a .at) _) end

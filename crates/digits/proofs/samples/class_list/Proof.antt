@@ -6,6 +6,10 @@ use Rattle.digits.specs.Samples.{counted-all}
 use Rattle.digits.proofs.samples.class_list.Statement.{statement}
 use Rattle.digits.proofs.samples.class_list.Tie as tie
 
+-- the function's entry, from the classes counted
+abbrev start : tie.After-group-classes → tie.Start
+start c = c .before .before .before .before .before .before
+
 slice-aggregate-group-classes : tie.Need-slice-aggregate-group-classes
 slice-aggregate-group-classes c = search needs
 
@@ -21,10 +25,11 @@ same-length c = search needs
 returns : tie.Need-returns
 unfolding multiplicity
 returns c =
-    let start = c .before .before .before .before .before .before .before .before .before .before in
-    let a = start .args in
-    let called = c .before .before .before .before .group-classes in
-    counted-all (a .m) (classes (a .m) (a .n) (inkIn (a .cells .now)) (a .g)) (called .result) (called .last .1 .1 .1 .1 .1 .1 .0) (start .pre .3) (called .ensures)
+    let counted = c .before .before .before .before in
+    let s = start counted in
+    let a = s .args in
+    let called = counted .group-classes in
+    counted-all (a .m) (classes (a .m) (a .n) (inkIn (a .cells .now)) (a .g)) (called .result) (called .last .1 .1 .1 .1 .1 .1 .0) (s .pre .3) (called .ensures)
 
 pub class-list-spec : {M : Type 1} → statement M
 class-list-spec =

@@ -9,11 +9,21 @@ use Rattle.digits.specs.Samples.{weight-fits, single-front, several-fron
 use Rattle.digits.proofs.samples.samples.Statement.{statement}
 use Rattle.digits.proofs.samples.samples.Tie as tie
 
+-- the function's entry, from the test; the test, from the first-listed input; that place, from the points written
+abbrev start : tie.After-single → tie.Start
+start c = c .before .before .before
+
+abbrev tested : tie.After-first-input → tie.After-single
+tested c = c .before .before
+
+abbrev weighed : tie.After-level-points → tie.After-first-input
+weighed c = c .before .before .before
+
 -- the first-listed input, as the call gives it
-first : (c : tie.After-first-input) → c .first-input .result < c .before .before .before .before .before .args .n
+first : (c : tie.After-first-input) → c .first-input .result < start (tested c) .args .n
 first c =
-    let start = c .before .before .before .before .before in
-    subst (λ (i : ℕ). i < start .args .n) (sym (c .first-input .ensures)) (first-member (start .args .n) (start .args .g) (start .pre .3) (start .pre .2) .0)
+    let s = start (tested c) in
+    subst (λ (i : ℕ). i < s .args .n) (sym (c .first-input .ensures)) (first-member (s .args .n) (s .args .g) (s .pre .3) (s .pre .2) .0)
 
 single-requires : tie.Need-single-requires
 single-requires c κs = search needs
@@ -32,11 +42,11 @@ power-requires c κs = search needs
 
 level-points-requires : tie.Need-level-points-requires
 level-points-requires c κs =
-    let start = c .before .before .before .before .before .before .before in
-    let a = start .args in
-    let sized = start .pre .0 in
+    let s = start (tested (c .before .before)) in
+    let a = s .args in
+    let sized = s .pre .0 in
     let i = c .before .before .first-input .result in (
-      start .pre .1,
+      s .pre .1,
       omega (arith, weight-fits (a .m) (a .n) i (sized .some) (first (c .before .before)), ap (λ (w : ℕ). a .m * w) (c .before .power .ensures), sized .small),
     )
 
@@ -48,20 +58,25 @@ same-length c = search needs
 
 returns : tie.Need-returns
 returns c =
-    let start = c .before .before .before .before .before .before .before .before .before .before in
-    let a = start .args in
-    single-front (a .m) (a .n) (inkIn (a .cells .now)) (a .g) (start .pre .3) (c .before .before .level-points .last .1 .1 .0) (c .before .before .before .before .before .first-input .result) (c .before .before .before .before .power .result)
-    (sym (c .before .before .before .before .before .before .before .single .ensures (a .n) (start .pre .3)) ∙ c .before .before .before .before .before .before .if1 .taken) (c .before .before .before .before .before .first-input .ensures) (c .before .before .before .before .power .ensures) (c .before .before .level-points .ensures)
+    let written = c .before .before in
+    let power = written .before .before .power in
+    let found = weighed written in
+    let s = start (tested found) in
+    let a = s .args in
+    single-front (a .m) (a .n) (inkIn (a .cells .now)) (a .g) (s .pre .3) (written .level-points .last .1 .1 .0) (found .first-input .result) (power .result)
+    (sym (tested found .single .ensures (a .n) (s .pre .3)) ∙ found .before .if1 .taken) (found .first-input .ensures) (power .ensures) (written .level-points .ensures)
 
 same-length-2 : tie.Need-same-length-2
 same-length-2 c = search needs
 
 returns-2 : tie.Need-returns-2
 returns-2 c =
-    let start = c .before .before .before .before .before .before .before .before in
-    let a = start .args in
-    several-front (a .m) (a .n) (inkIn (a .cells .now)) (a .g) (start .pre .3) (c .before .before .class-list .result) (c .before .before .class-list .last .1 .1 .1 .1 .0)
-    (sym (c .before .before .before .before .before .single .ensures (a .n) (start .pre .3)) ∙ c .before .before .before .before .if1 .left) (c .before .before .class-list .ensures)
+    let listed = c .before .before in
+    let several = listed .before .before in
+    let s = start (several .before) in
+    let a = s .args in
+    several-front (a .m) (a .n) (inkIn (a .cells .now)) (a .g) (s .pre .3) (listed .class-list .result) (listed .class-list .last .1 .1 .1 .1 .0)
+    (sym (several .before .single .ensures (a .n) (s .pre .3)) ∙ several .if1 .left) (listed .class-list .ensures)
 
 pub samples-spec : {M : Type 1} → statement M
 samples-spec =

@@ -1,6 +1,6 @@
 -- `filling::settled::settled_net` meets its contract: the wiring that is chosen can be filled, and filled it is the settled net's.
 -- Assumes nothing.
-use Prim.Native.Nat.{ℕ, _-_, _<_}
+use Prim.Native.Nat.{ℕ, _-_}
 use mathlib.Core.Path.{_≡_, ap, subst, subst⁻¹}
 use native.Mathlib.Omega.{arith}
 use lib.Pow.{pow-pos}

@@ -1,6 +1,6 @@
 -- `wirings::choose::wire_group` meets its contract. The measure is the group's number: both parts of a split are below it. Assumes
 -- nothing.
-use Prim.Native.Nat.{ℕ, _+_, _-_, _^_, _≤_, _<_}
+use Prim.Native.Nat.{ℕ, _+_, _-_, _≤_, _<_}
 use mathlib.Core.Path.{_≡_, sym, _∙_, subst}
 use mathlib.Core.Logic.{_≢_}
 use mathlib.Core.List.{List}
