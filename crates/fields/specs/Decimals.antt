@@ -4,13 +4,13 @@ use Prim.Native.Nat.{ℕ, _+_, _/_, _%_, _≤_, _<_}
 use mathlib.Core.Path.{_≡_, ap, _∙_}
 use mathlib.Core.List.{List, [], _∷_, _++_}
 use native.Mathlib.Omega.{arith}
-use Rattle.rules.specs.Text.{digitByte, decimal}
+use Rattle.rules.specs.Text.{digitByte, decimal, zeroByte}
 use Rattle.laws.specs.Decimals.{decimal-one as one-digit, decimal-more}
 
-pub decimal-one : (n : ℕ) → n < 10 → decimal n ≡ (48 + n % 10) ∷ []
+pub decimal-one : (n : ℕ) → n < 10 → decimal n ≡ (zeroByte + n % 10) ∷ []
 unfolding digitByte
-decimal-one n h = one-digit n h ∙ ap {B = List ℕ} (λ d. (48 + d) ∷ []) (omega arith)
+decimal-one n h = one-digit n h ∙ ap {B = List ℕ} (λ d. (zeroByte + d) ∷ []) (omega arith)
 
-pub decimal-two : (n : ℕ) → 10 ≤ n → n < 100 → decimal n ≡ (48 + n / 10) ∷ (48 + n % 10) ∷ []
+pub decimal-two : (n : ℕ) → 10 ≤ n → n < 100 → decimal n ≡ (zeroByte + n / 10) ∷ (zeroByte + n % 10) ∷ []
 unfolding digitByte
-decimal-two n h k = decimal-more n h ∙ ap (λ (t : List ℕ). t ++ ((48 + n % 10) ∷ [])) (one-digit (n / 10) (omega arith))
+decimal-two n h k = decimal-more n h ∙ ap (λ (t : List ℕ). t ++ ((zeroByte + n % 10) ∷ [])) (one-digit (n / 10) (omega arith))

@@ -15,10 +15,10 @@ use Rattle.laws.specs.Concat.{map-append}
 use Rattle.laws.specs.Ranges.{range-suc, map-range-same}
 use Rattle.laws.specs.Runs.{run-front}
 use Rattle.rules.specs.Lists.{range}
-use Rattle.rules.specs.Text.{space}
+use Rattle.rules.specs.Text.{space, spaceByte}
 use Rattle.rules.specs.Fields.{good, then, give, field, run}
 use Rattle.rules.specs.Sheets.{nameField, nameFields}
-use Rattle.rules.specs.Limits.{mostInputs}
+use Rattle.rules.specs.Limits.{mostInputs, mostNameBytes}
 use Rattle.nets.specs.Forms.{noNames, nameIn, headerOf, NamesHeld}
 use Rattle.nets.specs.declared.forms.Header.{Header}
 use Rattle.fields.specs.Chained.{never-both}
@@ -34,7 +34,7 @@ use Rattle.fields.specs.declared.lines.HeaderRead.{HeaderRead}
 -- reading a name at `at`
 pub record NameRead (s : List ℕ) (at due : ℕ) (earlier : List (List ℕ)) (r : Step) : Type 0 where
   pub reads : stepAs (λ len. take len (drop at s)) s r ≡ field (nameField earlier) due (drop at s) at
-  pub held : (len next : ℕ) → r ≡ On len next → (len ≤ 8) × (next ≡ at + len + 1) × (next ≤ length s)
+  pub held : (len next : ℕ) → r ≡ On len next → (len ≤ mostNameBytes) × (next ≡ at + len + 1) × (next ≤ length s)
 
 -- the separator that is due after a name, by the names that are left
 unfoldable pub dueBefore : ℕ → ℕ → ℕ
@@ -48,7 +48,7 @@ due-last i n last e = sym (ap (λ k. dueBefore k last) none-left)
     none-left : n - (i + 1) ≡ 0
     none-left = omega arith
 
-pub due-space : (i n last : ℕ) → i < n → (i + 1 ≡ n → ⊥) → 32 ≡ dueBefore (n - (i + 1)) last
+pub due-space : (i n last : ℕ) → i < n → (i + 1 ≡ n → ⊥) → spaceByte ≡ dueBefore (n - (i + 1)) last
 unfolding dueBefore space
 due-space i n last h e = sym (ap (λ k. dueBefore k last) some-left)
   where
@@ -78,7 +78,7 @@ name-read s at due earlier w test v r is new e after =
     front = rw is (run-front (drop at s))
 
     go : (t : Bool) → t ≡ isNew earlier w → (len next : ℕ) → judgedAs itself (tested t (length w) 4) ≡ good len → Taken (λ _. judgedAs itself v) len s at next
-        → (len ≤ 8) × (next ≡ at + len + 1) × (next ≤ length s)
+        → (len ≤ mostNameBytes) × (next ≡ at + len + 1) × (next ≤ length s)
     go true is-new len next good-len told =
         let long : length w ≡ len = cc in
         (omega (arith, new-short earlier w (sym is-new)), omega (arith, told .ends, ap length is), told .within)
@@ -107,7 +107,7 @@ pub record Reading (s : List ℕ) (at m n last : ℕ) (h : Header) (place i : �
   pub starts : length (h .starts) ≡ mostInputs
   pub lens : length (h .lens) ≡ mostInputs
   pub most : i ≤ n
-  pub near : place ≤ at + 9 * i
+  pub near : place ≤ at + (mostNameBytes + 1) * i
   pub held : NamesHeld s h i
   pub reads : nameFields last n [] (drop at s) at ≡ nameFields last (n - i) (namesTo s h i) (drop place s) place
 

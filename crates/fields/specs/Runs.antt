@@ -10,21 +10,21 @@ use native.Mathlib.Omega.{arith}
 use lib.ListN.{length, take, drop, getD, length-drop, drop-of-length-le}
 use lib.Seq.{drop-cons}
 use borrow.Author.Tests.{eq-eqb, ne-eqb}
-use Rattle.rules.specs.Text.{space, newline}
+use Rattle.rules.specs.Text.{space, newline, spaceByte, newlineByte}
 use Rattle.rules.specs.Fields.{isSeparator, run}
 use Rattle.laws.specs.Runs.{run-front, run-most}
 
-pub is-space : (b : ℕ) → b ≡ 32 → isSeparator b ≡ true
+pub is-space : (b : ℕ) → b ≡ spaceByte → isSeparator b ≡ true
 unfolding isSeparator space newline
-is-space b e = simp (eq-eqb b 32 e)
+is-space b e = simp (eq-eqb b spaceByte e)
 
-pub is-newline : (b : ℕ) → b ≡ 10 → isSeparator b ≡ true
+pub is-newline : (b : ℕ) → b ≡ newlineByte → isSeparator b ≡ true
 unfolding isSeparator space newline
 is-newline b e = rw e refl
 
-pub is-neither : (b : ℕ) → (b ≡ 32 → ⊥) → (b ≡ 10 → ⊥) → isSeparator b ≡ false
+pub is-neither : (b : ℕ) → (b ≡ spaceByte → ⊥) → (b ≡ newlineByte → ⊥) → isSeparator b ≡ false
 unfolding isSeparator space newline
-is-neither b h k = simp (ne-eqb b 32 h, ne-eqb b 10 k)
+is-neither b h k = simp (ne-eqb b spaceByte h, ne-eqb b newlineByte k)
 
 -- where the field that starts at `at` ends
 unfoldable pub fieldEnd : List ℕ → ℕ → ℕ

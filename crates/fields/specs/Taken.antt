@@ -9,7 +9,7 @@ use native.Mathlib.Omega.{arith}
 use lib.ListN.{length, drop, length-append, length-drop}
 use lib.Dec.{eqb}
 use Rattle.rules.specs.Lists.{same}
-use Rattle.rules.specs.Text.{isDigit, decimal}
+use Rattle.rules.specs.Text.{isDigit, decimal, zeroByte}
 use Rattle.rules.specs.Limits.{levelsFit, cellsFit, fewestInputs, mostInputs}
 use Rattle.rules.specs.Fields.{Read, read, turnedBack, Judge, Judged, good, bad, judged, separator, afterField, fieldOf, field, run, past}
 use Rattle.rules.specs.Sheets.{levelsField, inputsOf, inputsField}
@@ -65,8 +65,8 @@ levels-told : (w : List ℕ) (m : ℕ) → levelsField w ≡ good m → (levelsF
 unfolding levelsField
 levels-told [] m e = let z : _≡_ {A = ℕ} 0 1 = cc in absurd (omega arith)
 levels-told (b ∷ []) m e =
-    let told = judged-good (isDigit 10 b && levelsFit (b - 48)) (b - 48) m 2 e in
-    (rw (told .1) at (and-eq-true-iff (isDigit 10 b) (levelsFit (b - 48)) .0 (told .0) .1), refl)
+    let told = judged-good (isDigit 10 b && levelsFit (b - zeroByte)) (b - zeroByte) m 2 e in
+    (rw (told .1) at (and-eq-true-iff (isDigit 10 b) (levelsFit (b - zeroByte)) .0 (told .0) .1), refl)
 levels-told (b ∷ d ∷ w) m e = let z : _≡_ {A = ℕ} 0 1 = cc in absurd (omega arith)
 
 inputs-found : (w : List ℕ) (n : ℕ) → inputsOf w ≡ some n → (fewestInputs ≤ n) × (n ≤ mostInputs) × (length w ≤ 2)

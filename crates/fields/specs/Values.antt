@@ -8,8 +8,8 @@ use mathlib.Core.List.{List, [], _∷_}
 use native.Mathlib.Omega.{arith}
 use lib.ListN.{length, getD}
 use borrow.Author.Tests.{le-leb, lt-leb, lt-ltb, le-ltb}
-use Rattle.rules.specs.Text.{isDigit}
-use Rattle.rules.specs.Limits.{levelsFit, fewestInputs, mostInputs, cellsFit, mostCells}
+use Rattle.rules.specs.Text.{isDigit, zeroByte}
+use Rattle.rules.specs.Limits.{levelsFit, fewestInputs, mostInputs, cellsFit, mostCells, fewestLevels, mostLevels}
 use Rattle.rules.specs.Fields.{good, bad}
 use Rattle.rules.specs.Sheets.{levelsField, inputsOf, inputsField}
 use Rattle.laws.specs.Finds.{found-is, first-in-range}
@@ -25,19 +25,19 @@ levels-long (b ∷ []) h = absurd (h refl)
 levels-long (b ∷ d ∷ w) h = refl
 
 module _ (w : List ℕ) (e : length w ≡ 1) where
-  pub levels-low : getD w 0 0 < 50 → bad 2 ≡ levelsField w
+  pub levels-low : getD w 0 0 < zeroByte + fewestLevels → bad 2 ≡ levelsField w
   unfolding levelsField isDigit levelsFit
-  levels-low h = rw (one-byte w e) (simp (lt-leb 2 (getD w 0 0 - 48) (omega arith), and-false))
+  levels-low h = rw (one-byte w e) (simp (lt-leb fewestLevels (getD w 0 0 - zeroByte) (omega arith), and-false))
 
-  pub levels-high : 57 < getD w 0 0 → bad 2 ≡ levelsField w
+  pub levels-high : zeroByte + mostLevels < getD w 0 0 → bad 2 ≡ levelsField w
   unfolding levelsField isDigit levelsFit
-  levels-high h = rw (one-byte w e) (simp (le-ltb (getD w 0 0) 58 (omega arith), and-false))
+  levels-high h = rw (one-byte w e) (simp (le-ltb (getD w 0 0) (zeroByte + 10) (omega arith), and-false))
 
-  pub levels-good : 50 ≤ getD w 0 0 → getD w 0 0 ≤ 57 → good (getD w 0 0 - 48) ≡ levelsField w
+  pub levels-good : zeroByte + fewestLevels ≤ getD w 0 0 → getD w 0 0 ≤ zeroByte + mostLevels → good (getD w 0 0 - zeroByte) ≡ levelsField w
   unfolding levelsField isDigit levelsFit
   levels-good h k =
       let b = getD w 0 0 in
-      rw (one-byte w e) (simp (le-leb 48 b (omega arith), lt-ltb b 58 (omega arith), le-leb 2 (b - 48) (omega arith), le-leb (b - 48) 9 (omega arith)))
+      rw (one-byte w e) (simp (le-leb zeroByte b (omega arith), lt-ltb b (zeroByte + 10) (omega arith), le-leb fewestLevels (b - zeroByte) (omega arith), le-leb (b - zeroByte) mostLevels (omega arith)))
 
 inputs-range : (w : List ℕ) (n : ℕ) → inputsOf w ≡ some n → (fewestInputs ≤ n) × (n ≤ mostInputs)
 unfolding inputsOf

@@ -6,6 +6,7 @@ ghost use Rattle.rules.specs.Limits.{levelsFit};
 ghost use Rattle.rules.specs.Sheets.{headerLines};
 ghost use Rattle.fields.specs.Header.{HeaderRest, fromInputs, fromLevels};
 ghost use Rattle.fields.specs.declared.steps.Step.the-variants.{Back};
+ghost use Rattle.fields.specs.Starts.{levelsStart, inputsStart};
 use crate::lines::HeaderRead;
 use crate::lines::name_fields;
 use crate::steps::Step;
@@ -26,7 +27,7 @@ pub fn turned(number: usize, place: usize) -> HeaderRead
 
 // From the inputs field on.
 pub fn from_inputs(s: &[u8], at: usize, levels: usize, last: u8) -> HeaderRead
-    requires { ⌜ (levelsFit levels ≡ true) × (at ≤ 16) ⌝ }
+    requires { ⌜ (levelsFit levels ≡ true) × (at ≤ inputsStart) ⌝ }
     ensures { λ r. ⌜ HeaderRest (now (s .entry)) at (fromInputs last levels) r ⌝ }
 {
     match inputs_field(s, at, levels) {
@@ -37,7 +38,7 @@ pub fn from_inputs(s: &[u8], at: usize, levels: usize, last: u8) -> HeaderRead
 
 // From the levels field on.
 pub fn from_levels(s: &[u8], at: usize, last: u8) -> HeaderRead
-    requires { ⌜ at ≤ 14 ⌝ }
+    requires { ⌜ at ≤ levelsStart ⌝ }
     ensures { λ r. ⌜ HeaderRest (now (s .entry)) at (fromLevels last) r ⌝ }
 {
     match levels_field(s, at) {

@@ -6,6 +6,7 @@ ghost use Rattle.rules.specs.Lists.{range};
 ghost use Rattle.rules.specs.Limits.{mostInputs};
 ghost use Rattle.nets.specs.Forms.{nameIn, NamesHeld};
 ghost use Rattle.fields.specs.Lines.{NameRead, dueBefore, NamesRead};
+ghost use Rattle.fields.specs.Starts.{namesStart};
 use crate::ends::after_field;
 use crate::ends::judged;
 use crate::names::is_new_name;
@@ -44,7 +45,7 @@ pub fn due_after(i: usize, n: usize, last: u8) -> u8
 
 // The `inputs` names from `at` on.
 pub fn name_fields(s: &[u8], at: usize, levels: usize, inputs: usize, last: u8) -> HeaderRead
-    requires { ⌜ (inputs ≤ mostInputs) × (at ≤ 20) ⌝ }
+    requires { ⌜ (inputs ≤ mostInputs) × (at ≤ namesStart) ⌝ }
     ensures { λ r. ⌜ NamesRead (now (s .entry)) at levels inputs last r ⌝ }
 {
     let mut header = no_names(levels, inputs);

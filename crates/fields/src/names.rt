@@ -10,15 +10,16 @@ ghost use Rattle.fields.specs.Names.{isNameByte, isNew};
 use crate::same::same_bytes;
 use nets::forms::Header;
 use nets::names::name_of;
+use radix::limits;
 
 // Is b a lowercase letter?
 pub fn is_letter(b: u8) -> bool
     ensures { λ r. ⌜ r ≡ isLetter b ⌝ }
 {
-    if b < 97 {
+    if b < b'a' {
         return false;
     }
-    b <= 122
+    b <= b'z'
 }
 
 // Is b a lowercase letter or a digit?
@@ -28,10 +29,10 @@ pub fn is_name_byte(b: u8) -> bool
     if is_letter(b) {
         return true;
     }
-    if b < 48 {
+    if b < b'0' {
         return false;
     }
-    b < 58
+    b <= b'9'
 }
 
 pub fn are_name_bytes(w: &[u8]) -> bool
@@ -50,7 +51,7 @@ pub fn are_name_bytes(w: &[u8]) -> bool
 pub fn is_name(w: &[u8]) -> bool
     ensures { λ r. ⌜ r ≡ isName (now (w .entry)) ⌝ }
 {
-    if 8 < w.len() {
+    if limits::MOST_NAME_BYTES < w.len() {
         return false;
     }
     if w.len() == 0 {

@@ -10,7 +10,7 @@ pub fn is_decimal(w: &[u8], n: usize) -> bool
     requires { ⌜ n < 100 ⌝ }
     ensures { λ r. ⌜ r ≡ same (now (w .entry)) (decimal n) ⌝ }
 {
-    let digits = [48 + (n / 10) as u8, 48 + (n % 10) as u8];
+    let digits = [b'0' + (n / 10) as u8, b'0' + (n % 10) as u8];
     if n < 10 {
         return same_bytes(w, &digits[1..]);
     }

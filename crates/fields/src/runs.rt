@@ -4,9 +4,12 @@ ghost use lib.ListN.{drop};
 ghost use Rattle.rules.specs.Fields.{run};
 ghost use Rattle.fields.specs.Runs.{fieldEnd};
 
-pub const SPACE: u8 = 32;
+pub const SPACE: u8 = b' ';
 
-pub const NEWLINE: u8 = 10;
+pub const NEWLINE: u8 = b'\n';
+
+// The byte of the digit 0, where digits are counted from it.
+pub const ZERO: usize = b'0' as usize;
 
 // Where the field that starts at `at` ends.
 pub fn field_end(s: &[u8], at: usize) -> usize

@@ -5,11 +5,13 @@ ghost use lib.ListN.{drop};
 ghost use Rattle.rules.specs.Limits.{mostLevels};
 ghost use Rattle.rules.specs.Fields.{field};
 ghost use Rattle.rules.specs.Sheets.{levelsField, inputsOf, inputsField};
+ghost use Rattle.rules.specs.Text.{spaceByte, newlineByte};
 ghost use Rattle.fields.specs.Steps.{judgedAs, stepAs, itself, optionOf};
 use crate::ends::after_field;
 use crate::numbers::is_decimal;
 use crate::runs::NEWLINE;
 use crate::runs::SPACE;
+use crate::runs::ZERO;
 use crate::runs::field_at;
 use crate::steps::Found;
 use crate::steps::Step;
@@ -24,17 +26,17 @@ pub fn judge_levels(w: &[u8]) -> Verdict
         return Verdict::Bad(2);
     }
     let b = w[0] as usize;
-    if b < 48 + limits::FEWEST_LEVELS {
+    if b < ZERO + limits::FEWEST_LEVELS {
         return Verdict::Bad(2);
     }
-    if 48 + limits::MOST_LEVELS < b {
+    if ZERO + limits::MOST_LEVELS < b {
         return Verdict::Bad(2);
     }
-    Verdict::Good(b - 48)
+    Verdict::Good(b - ZERO)
 }
 
 pub fn levels_field(s: &[u8], at: usize) -> Step
-    ensures { λ r. ⌜ stepAs itself (now (s .entry)) r ≡ field levelsField 32 (drop at (now (s .entry))) at ⌝ }
+    ensures { λ r. ⌜ stepAs itself (now (s .entry)) r ≡ field levelsField spaceByte (drop at (now (s .entry))) at ⌝ }
 {
     let w = field_at(s, at);
     let verdict = judge_levels(w);
@@ -72,7 +74,7 @@ pub fn judge_inputs(w: &[u8], m: usize) -> Verdict
 
 pub fn inputs_field(s: &[u8], at: usize, m: usize) -> Step
     requires { ⌜ m ≤ mostLevels ⌝ }
-    ensures { λ r. ⌜ stepAs itself (now (s .entry)) r ≡ field (inputsField m) 10 (drop at (now (s .entry))) at ⌝ }
+    ensures { λ r. ⌜ stepAs itself (now (s .entry)) r ≡ field (inputsField m) newlineByte (drop at (now (s .entry))) at ⌝ }
 {
     let w = field_at(s, at);
     let verdict = judge_inputs(w, m);

@@ -10,6 +10,7 @@ use Rattle.trees.specs.Trees.{mix}
 use Rattle.trees.specs.Levels.{mix-below}
 use Rattle.laws.specs.Places.{mem-getD}
 use Rattle.trees.specs.Points.{points-are-parts}
+use Rattle.radix.specs.Widths.{mostMembers, mostOffsets}
 
 -- p with each of ys added is below b
 abbrev pub Within : ℕ → List ℕ → ℕ → Type 0
@@ -33,8 +34,8 @@ points-within m n pos g g< b room i i< =
 -- the other inputs. Offsets are below 2 to the 16.
 pub record Room (m n : ℕ) (cells xs ys : List ℕ) : Type 0 where
   pub some : 0 < m
-  pub inputs : n ≤ 16
-  pub small : m ^ n ≤ 32_768
+  pub inputs : n ≤ mostMembers
+  pub small : m ^ n ≤ mostOffsets
   pub for-cells : m ^ n ≤ length cells
   pub for-xs : m ^ n ≤ length xs
   pub for-ys : m ^ n ≤ length ys

@@ -12,6 +12,10 @@ use Rattle.laws.specs.Decimals.{decimal-length}
 abbrev pub refusalLines : ℕ → ℕ → List ℕ
 refusalLines number place = line (text "number" ∷ text "place" ∷ []) ++ line (decimal number ∷ decimal place ∷ [])
 
-pub refusal-length : (number place : ℕ) → number < 2 ^ 64 → place < 2 ^ 64 → length (refusalLines number place) ≤ 55
+-- the two lines of the longest, with two values of 20 digits
+abbrev pub mostRefusal : ℕ
+mostRefusal = 55
+
+pub refusal-length : (number place : ℕ) → number < 2 ^ 64 → place < 2 ^ 64 → length (refusalLines number place) ≤ mostRefusal
 unfolding line text space newline
 refusal-length number place h l = simp length-append (omega (arith, decimal-length 19 number (omega arith), decimal-length 19 place (omega arith)))

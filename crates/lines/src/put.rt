@@ -19,7 +19,7 @@ pub fn put_digit(d: usize, out: &mut [u8], at: usize) -> usize
     requires { ⌜ (d < 10) × (at < length (now out)) ⌝ }
     ensures { λ r. ⌜ Put (now (out .entry)) at (digitByte d ∷ []) (now (out .exit)) r ⌝ }
 {
-    put(48 + d as u8, out, at)
+    put(b'0' + d as u8, out, at)
 }
 
 // All of t.

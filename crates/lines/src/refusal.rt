@@ -2,12 +2,12 @@
 ghost use Prim.Native.Nat.{_≤_};
 ghost use lib.ListN.{length};
 ghost use Rattle.lines.specs.Put.{Wrote};
-ghost use Rattle.lines.specs.Refusals.{refusalLines};
+ghost use Rattle.lines.specs.Refusals.{refusalLines, mostRefusal};
 use crate::header::print_pair;
 
 // Writes the line `number place` and the line of the two values to the front of `out`, and answers their length.
 pub fn print_refusal(number: usize, place: usize, out: &mut [u8]) -> usize
-    requires { ⌜ 55 ≤ length (now out) ⌝ }
+    requires { ⌜ mostRefusal ≤ length (now out) ⌝ }
     ensures { λ r. ⌜ Wrote (now (out .entry)) (refusalLines number place) (now (out .exit)) r ⌝ }
 {
     print_pair(b"number place\n", number, place, out, 0)

@@ -3,6 +3,7 @@ ghost use mathlib.Core.Path.{_≡_};
 ghost use Prim.Native.Nat.{ℕ, _-_, _^_, _<_};
 ghost use Rattle.rules.specs.Wirings.{firstInput};
 ghost use Rattle.marks.specs.Parts.{Part, Next};
+ghost use Rattle.radix.specs.Widths.{groupsEnd};
 
 // 2 to the power 16: past every group.
 const PAST: usize = 65536;
@@ -17,7 +18,7 @@ pub fn without_first(g: usize) -> usize
 
 // The next part of `all` after `part`, by number. A carry runs through the bits that are not of `all`.
 pub fn next_part(all: usize, part: usize) -> usize
-    requires { ⌜ (all < 65536) × (part < all) × (Part part all) ⌝ }
+    requires { ⌜ (all < groupsEnd) × (part < all) × (Part part all) ⌝ }
     ensures { λ r. ⌜ Next all part r ⌝ }
 {
     (part + PAST - all) & all

@@ -6,6 +6,7 @@ ghost use Rattle.rules.specs.Groups.{size};
 ghost use Rattle.rules.specs.Marks.{marksLength, noTreePlace};
 ghost use Rattle.marks.specs.Stored.{held};
 ghost use Rattle.marks.specs.Place.{oneOf, lowest, foundBelow};
+ghost use Rattle.radix.specs.Widths.{mostMembers};
 use crate::stored;
 use radix::powers;
 
@@ -51,7 +52,7 @@ fn lowest_one(n: usize, end: usize, marks: &[u8], k: usize) -> usize
 }
 
 pub fn no_tree_place(n: usize, marks: &[u8]) -> usize
-    requires { ⌜ (n ≤ 16) × (marksLength n ≤ length (now marks)) ⌝ }
+    requires { ⌜ (n ≤ mostMembers) × (marksLength n ≤ length (now marks)) ⌝ }
     ensures { λ r. ⌜ r ≡ noTreePlace n (held (now (marks .entry))) ⌝ }
 {
     let end = powers::power(2, n);

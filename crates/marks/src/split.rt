@@ -7,6 +7,7 @@ ghost use lib.ListN.{length};
 ghost use Rattle.rules.specs.Marks.{markIn};
 ghost use Rattle.rules.specs.Settled.{splitOf};
 ghost use Rattle.marks.specs.Stored.{held};
+ghost use Rattle.radix.specs.Widths.{groupsEnd};
 use crate::parts;
 use crate::stored;
 
@@ -24,7 +25,7 @@ fn both_two(marks: &[u8], g: usize, a: usize) -> bool
 // The part A of lowest number that holds g's first-listed input, where A and the rest have mark 2; g itself where there is none.
 // Goes through the parts of the other members, in rising order.
 pub fn split_of(marks: &[u8], g: usize) -> usize
-    requires { ⌜ (0 < g) × (g < 65536) × (g ≤ length (held (now marks))) ⌝ }
+    requires { ⌜ (0 < g) × (g < groupsEnd) × (g ≤ length (held (now marks))) ⌝ }
     ensures { λ r. ⌜ ((n : ℕ) → g < 2 ^ n → r ≡ splitOf n (held (now (marks .entry))) g) ⌝ }
 {
     let rest = parts::without_first(g);

@@ -4,6 +4,7 @@ ghost use Prim.Native.Nat.{_≤_, _<_};
 ghost use lib.ListN.{length};
 ghost use Rattle.rules.specs.Marks.{markIn, marksLength};
 ghost use Rattle.marks.specs.Stored.{held, put};
+ghost use Rattle.radix.specs.Widths.{mostMembers};
 use radix::limits::MOST_INPUTS;
 use radix::powers;
 
@@ -26,7 +27,7 @@ pub fn put_mark(marks: &mut [u8], g: usize, v: u8)
 
 // The length that a marks buffer needs.
 pub fn marks_length(n: usize) -> usize
-    requires { ⌜ n ≤ 16 ⌝ }
+    requires { ⌜ n ≤ mostMembers ⌝ }
     ensures { λ r. ⌜ r ≡ marksLength n ⌝ }
 {
     powers::power(2, n)

@@ -38,7 +38,7 @@ fn print_digits(digits: &[u8], out: &mut [u8], at: usize) -> usize
     let mut i: usize = 0;
     let mut p: usize = at;
     while i < digits.len() {
-        out[p] = 48 + digits[i];
+        out[p] = b'0' + digits[i];
         i += 1;
         p += 1;
     }

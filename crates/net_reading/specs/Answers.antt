@@ -4,7 +4,7 @@ use Prim.Native.Nat.{ℕ, _-_, _≤_, _<_}
 use mathlib.Core.Path.{_≡_, ap, _∙_}
 use mathlib.Core.List.{List, []}
 use lib.ListN.{length, drop}
-use Rattle.rules.specs.Text.{space, newline, text}
+use Rattle.rules.specs.Text.{space, newline, text, spaceByte, newlineByte}
 use Rattle.rules.specs.Fields.{Reader, then, _>>=_, give, field, theWord, closed}
 use Rattle.rules.specs.Sheets as sheets
 use Rattle.rules.specs.Sheets.{headerLines, gateLines, netSheet}
@@ -51,16 +51,16 @@ fromHeading h = headingLine >>= λ _. fromGates h
 
 -- ---- line 4: a word, then two more
 
-module _ (s : List ℕ) (at : ℕ) (step : Step) (reads : stepAs nothing s step ≡ field (spelled (text "left")) 32 (drop at s) at) (r : Step) where
+module _ (s : List ℕ) (at : ℕ) (step : Step) (reads : stepAs nothing s step ≡ field (spelled (text "left")) spaceByte (drop at s) at) (r : Step) where
   pub left-back : (number place : ℕ) → step ≡ Back number place → r ≡ Back number place → stepAs nothing s r ≡ headingLine (drop at s) at
   unfolding headingLine spelled theWord space
-  left-back number place e q = chained-back nothing (field (theWord "left") 32) _ s at step reads nothing r number place e q
+  left-back number place e q = chained-back nothing (field (theWord "left") spaceByte) _ s at step reads nothing r number place e q
 
   pub left-on : (value next : ℕ) → step ≡ On value next → stepAs nothing s r ≡ twoWords (text "right") (text "table") (drop next s) next
       → stepAs nothing s r ≡ headingLine (drop at s) at
   unfolding headingLine twoWords spelled theWord space newline
   left-on value next e onward =
-      chained-on nothing (field (theWord "left") 32) (λ _. field (theWord "right") 32 >>= λ _. field (theWord "table") 10) s at step reads nothing r value next e onward
+      chained-on nothing (field (theWord "left") spaceByte) (λ _. field (theWord "right") spaceByte >>= λ _. field (theWord "table") newlineByte) s at step reads nothing r value next e onward
 
 -- ---- from the gate lines back to the whole sheet
 

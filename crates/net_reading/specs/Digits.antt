@@ -11,7 +11,7 @@ use lib.Seq.{length-take-le, getD-take, getD-drop, paste, paste-suc}
 use lib.Dec.{eqb, leb, ltb}
 use borrow.Author.Tests.{lt-leb, le-leb, le-ltb, lt-ltb, eq-eqb, ne-eqb, eqb-true, leb-true}
 use Rattle.rules.specs.Lists.{all}
-use Rattle.rules.specs.Text.{isDigit}
+use Rattle.rules.specs.Text.{isDigit, zeroByte, newlineByte}
 use Rattle.rules.specs.Fields.{good, field, run}
 use Rattle.rules.specs.Sheets.{digitsField}
 use Rattle.laws.specs.Places.{mem-getD}
@@ -26,11 +26,11 @@ use Rattle.fields.specs.declared.steps.Verdict.{Verdict}
 
 -- the `count` digits that stand in the sheet from `at` on, as numbers
 abbrev pub digitsAt : List ℕ → ℕ → ℕ → List ℕ
-digitsAt s at count = map (λ b. b - 48) (take count (drop at s))
+digitsAt s at count = map (λ b. b - zeroByte) (take count (drop at s))
 
 -- and as bytes that are digits
 abbrev pub areDigits : List ℕ → ℕ → ℕ → Type 0
-areDigits s at count = (i : ℕ) → i < count → 48 ≤ getD s (at + i) 0
+areDigits s at count = (i : ℕ) → i < count → zeroByte ≤ getD s (at + i) 0
 
 -- the test that the table field makes
 unfoldable pub isTable : ℕ → List ℕ → Bool
@@ -38,7 +38,7 @@ isTable m w = eqb (length w) (m * m) && all (isDigit m) w
 
 -- reading a gate's digits at `at`
 pub record DigitsRead (s : List ℕ) (at m : ℕ) (r : Step) : Type 0 where
-  pub reads : stepAs (λ count. digitsAt s at count) s r ≡ field (digitsField m) 10 (drop at s) at
+  pub reads : stepAs (λ count. digitsAt s at count) s r ≡ field (digitsField m) newlineByte (drop at s) at
   pub count : (count next : ℕ) → r ≡ On count next → count ≡ m * m
   pub within : (count next : ℕ) → r ≡ On count next → at + m * m ≤ length s
   pub digits : (count next : ℕ) → r ≡ On count next → areDigits s at (m * m)
@@ -46,17 +46,17 @@ pub record DigitsRead (s : List ℕ) (at m : ℕ) (r : Step) : Type 0 where
 -- ---- a digit below m
 
 module _ (m b : ℕ) where
-  pub digit-low : b < 48 → isDigit m b ≡ false
+  pub digit-low : b < zeroByte → isDigit m b ≡ false
   unfolding isDigit
-  digit-low h = simp (lt-leb 48 b h)
+  digit-low h = simp (lt-leb zeroByte b h)
 
-  pub digit-high : 48 + m ≤ b → isDigit m b ≡ false
+  pub digit-high : zeroByte + m ≤ b → isDigit m b ≡ false
   unfolding isDigit
-  digit-high h = simp (le-ltb b (48 + m) h, and-false)
+  digit-high h = simp (le-ltb b (zeroByte + m) h, and-false)
 
-  pub digit-good : 48 ≤ b → b < 48 + m → isDigit m b ≡ true
+  pub digit-good : zeroByte ≤ b → b < zeroByte + m → isDigit m b ≡ true
   unfolding isDigit
-  digit-good h k = simp (le-leb 48 b h, lt-ltb b (48 + m) k)
+  digit-good h k = simp (le-leb zeroByte b h, lt-ltb b (zeroByte + m) k)
 
 -- ---- the field
 
@@ -68,16 +68,16 @@ pub table-digits : (m : ℕ) (w : List ℕ) → length w ≡ m * m → all (isDi
 unfolding isTable
 table-digits m w e = rw (eq-eqb (length w) (m * m) e)
 
-digit-least : (m b : ℕ) → isDigit m b ≡ true → 48 ≤ b
+digit-least : (m b : ℕ) → isDigit m b ≡ true → zeroByte ≤ b
 unfolding isDigit
-digit-least m b e = leb-true 48 b (and-eq-true-iff (leb 48 b) (ltb b (48 + m)) .0 e .0)
+digit-least m b e = leb-true zeroByte b (and-eq-true-iff (leb zeroByte b) (ltb b (zeroByte + m)) .0 e .0)
 
 pub digits-read : (s : List ℕ) (at m : ℕ) (w : List ℕ) (test : Bool) (v : Verdict) (r : Step) → w ≡ run (drop at s)
-    → test ≡ isTable m w → v ≡ tested test (length w) 6 → stepAs itself s r ≡ judgedField v 10 s at → DigitsRead s at m r
+    → test ≡ isTable m w → v ≡ tested test (length w) 6 → stepAs itself s r ≡ judgedField v newlineByte s at → DigitsRead s at m r
 unfolding tested judgedField digitsField isTable
 digits-read s at m w test v r is table e after =
     record {
-      reads = field-tested (λ count. digitsAt s at count) (digitsField m) 10 s at w test (length w) 6 v r is e (rw (front, table) refl) after;
+      reads = field-tested (λ count. digitsAt s at count) (digitsField m) newlineByte s at w test (length w) 6 v r is e (rw (front, table) refl) after;
       count = λ count next q. told count next q .0;
       within = λ count next q. told count next q .1;
       digits = λ count next q. told count next q .2;
@@ -102,21 +102,21 @@ digits-read s at m w test v r is table e after =
 
     told : (count next : ℕ) → r ≡ On count next → (count ≡ m * m) × (at + m * m ≤ length s) × areDigits s at (m * m)
     told count next q =
-        let taken = field-on s r at count next q itself (λ _. judgedAs itself v) 10 after in
+        let taken = field-on s r at count next q itself (λ _. judgedAs itself v) newlineByte after in
         go test table count next (ap (judgedAs itself) (sym e) ∙ taken .judged) taken
 
 -- ---- the digits copied
 
 pub digits-count : (s : List ℕ) (at count : ℕ) → at + count ≤ length s → length (digitsAt s at count) ≡ count
-digits-count s at count h = length-map (take count (drop at s)) (λ b. b - 48) ∙ length-take-le count (drop at s) (rw length-drop (omega arith))
+digits-count s at count h = length-map (take count (drop at s)) (λ b. b - zeroByte) ∙ length-take-le count (drop at s) (rw length-drop (omega arith))
 
-digit-at : (s : List ℕ) (at count i : ℕ) → i < count → getD (digitsAt s at count) i 0 ≡ getD s (at + i) 0 - 48
+digit-at : (s : List ℕ) (at count i : ℕ) → i < count → getD (digitsAt s at count) i 0 ≡ getD s (at + i) 0 - zeroByte
 digit-at s at count i h =
-    List·getD-map (λ b. b - 48) (take count (drop at s)) i 0
-    ∙ ap (λ b. b - 48) (getD-take count (drop at s) i 0 h ∙ getD-drop at s i 0)
+    List·getD-map (λ b. b - zeroByte) (take count (drop at s)) i 0
+    ∙ ap (λ b. b - zeroByte) (getD-take count (drop at s) i 0 h ∙ getD-drop at s i 0)
 
 pub digits-copied : (s : List ℕ) (at count : ℕ) (digits : List ℕ) (from i : ℕ) → at + count ≤ length s → from + count ≤ length digits → i < count
-    → set (paste digits from (digitsAt s at count) i) (from + i) (getD s (at + i) 0 - 48) ≡ paste digits from (digitsAt s at count) (i + 1)
+    → set (paste digits from (digitsAt s at count) i) (from + i) (getD s (at + i) 0 - zeroByte) ≡ paste digits from (digitsAt s at count) (i + 1)
 digits-copied s at count digits from i h k l =
     ap (λ b. set (paste digits from (digitsAt s at count) i) (from + i) b) (sym (digit-at s at count i l))
     ∙ (paste-suc digits from (digitsAt s at count) i 0 (omega arith) (rw (digits-count s at count h) l)

@@ -6,10 +6,11 @@ use mathlib.Core.List.{List, [], _∷_, _++_}
 use native.Mathlib.Omega.{arith}
 use lib.ListN.{length, drop, length-set}
 use lib.Seq.{paste, length-paste}
-use Rattle.rules.specs.Text.{space, newline}
+use Rattle.rules.specs.Text.{space, newline, spaceByte, newlineByte}
 use Rattle.rules.specs.Fields.{read, Reader, then, _>>=_, give, field}
 use Rattle.rules.specs.Sheets as sheets
 use Rattle.rules.specs.Sheets.{referenceField, digitsField, usedBy, gateLine}
+use Rattle.rules.specs.Limits.{mostLevels}
 use Rattle.fields.specs.Chained.{chained-back, chained-on, then-then, never-both}
 use Rattle.fields.specs.Header.{HeaderHeld}
 use Rattle.fields.specs.Steps.{stepAs, itself}
@@ -126,7 +127,7 @@ unfolding fromDigits newline
 gate-whole s at net left right step count next r digits e grown =
     record {
       reads =
-          chained-on (λ count. digitsAt s at count) (field (digitsField (net .levels)) 10) (λ v. give (withGate (gatesOf net) left right v)) s at step
+          chained-on (λ count. digitsAt s at count) (field (digitsField (net .levels)) newlineByte) (λ v. give (withGate (gatesOf net) left right v)) s at step
           (digits .reads) (λ _. gatesOf r) step count next e
           (ap (stepAs (λ _. gatesOf r) s) e
           ∙ ap (λ gates. read gates (drop next s) next)
@@ -139,13 +140,13 @@ pub digits-back : (s : List ℕ) (at : ℕ) (net : Net) (left right : ℕ) (step
     → GateRest s at (fromDigits (net .levels) (gatesOf net) left right) net (record { step = step; net = net })
 unfolding fromDigits newline
 digits-back s at net left right step number place digits e =
-    gate-back s at net (λ count. digitsAt s at count) (field (digitsField (net .levels)) 10) (λ v. give (withGate (gatesOf net) left right v)) step
+    gate-back s at net (λ count. digitsAt s at count) (field (digitsField (net .levels)) newlineByte) (λ v. give (withGate (gatesOf net) left right v)) step
     (digits .reads) number place step e e
 
 module _ (s : List ℕ) (at : ℕ) (h : Header) (net : Net) (left : ℕ) (step : Step)
-    (reads : stepAs itself s step ≡ field (referenceField (namesIn s h) (net .gates) (left ∷ usedBy (gatesOf net))) 32 (drop at s) at) where
+    (reads : stepAs itself s step ≡ field (referenceField (namesIn s h) (net .gates) (left ∷ usedBy (gatesOf net))) spaceByte (drop at s) at) where
   right-field : Reader ℕ
-  right-field = field (referenceField (namesIn s h) (length (gatesOf net)) (left ∷ usedBy (gatesOf net))) 32
+  right-field = field (referenceField (namesIn s h) (length (gatesOf net)) (left ∷ usedBy (gatesOf net))) spaceByte
 
   right-reads : stepAs itself s step ≡ right-field (drop at s) at
   unfolding right-field
@@ -195,15 +196,15 @@ module _ (m : ℕ) (names : List (List ℕ)) (earlier : List sheets.Gate) where
       ∙ ap (then (field (referenceField names (length earlier) (usedBy earlier)) space t at)) (λ i left s p. right-after left s p i))
 
 module _ (s : List ℕ) (at : ℕ) (h : Header) (net : Net) (nowhere : ℕ) (beyond : length (namesIn s h) + net .gates ≤ nowhere) (step : Step)
-    (reads : stepAs itself s step ≡ field (referenceField (namesIn s h) (net .gates) (nowhere ∷ usedBy (gatesOf net))) 32 (drop at s) at) where
+    (reads : stepAs itself s step ≡ field (referenceField (namesIn s h) (net .gates) (nowhere ∷ usedBy (gatesOf net))) spaceByte (drop at s) at) where
   left-field : Reader ℕ
-  left-field = field (referenceField (namesIn s h) (length (gatesOf net)) (usedBy (gatesOf net))) 32
+  left-field = field (referenceField (namesIn s h) (length (gatesOf net)) (usedBy (gatesOf net))) spaceByte
 
   left-reads : stepAs itself s step ≡ left-field (drop at s) at
   unfolding left-field
   left-reads =
       rw (gates-length net)
-      (reads ∙ ap (λ judge. field judge 32 (drop at s) at) (spare (namesIn s h) (net .gates) (usedBy (gatesOf net)) nowhere beyond))
+      (reads ∙ ap (λ judge. field judge spaceByte (drop at s) at) (spare (namesIn s h) (net .gates) (usedBy (gatesOf net)) nowhere beyond))
 
   whole-line : (r : GatesRead) → GateRest s at (left-field >>= fromRight (net .levels) (namesIn s h) (gatesOf net)) net r
       → GateRest s at (oneGate (net .levels) (namesIn s h) (gatesOf net)) net r
@@ -228,7 +229,7 @@ module _ (s : List ℕ) (at : ℕ) (h : Header) (net : Net) (nowhere : ℕ) (bey
 pub record Room (net : Net) : Type 0 where
   pub few : net .gates < mostGates
   pub digits : (net .gates + 1) * (net .levels * net .levels) ≤ mostDigits
-  pub levels : net .levels ≤ 9
+  pub levels : net .levels ≤ mostLevels
 
 pub room-told : (s : List ℕ) (h : Header) (net : Net) → GateRoom s h net → Room net
 room-told s h net given =

@@ -9,6 +9,7 @@ ghost use Rattle.net_reading.specs.Digits.{DigitsRead, isTable, areDigit
 use fields::ends::after_field;
 use fields::ends::judged;
 use fields::runs::NEWLINE;
+use fields::runs::ZERO;
 use fields::runs::field_at;
 use fields::steps::Step;
 use radix::limits::MOST_DIGITS;
@@ -24,10 +25,10 @@ pub fn is_table(w: &[u8], m: usize) -> bool
     let mut i: usize = 0;
     while i < w.len() {
         let b = w[i] as usize;
-        if b < 48 {
+        if b < ZERO {
             return false;
         }
-        if 48 + m <= b {
+        if ZERO + m <= b {
             return false;
         }
         i += 1;
@@ -52,7 +53,7 @@ pub fn copy_digits(s: &[u8], at: usize, count: usize, digits: &mut [u8; MOST_DIG
 {
     let mut i: usize = 0;
     while i < count {
-        digits[from + i] = s[at + i] - 48;
+        digits[from + i] = s[at + i] - b'0';
         i += 1;
     }
 }

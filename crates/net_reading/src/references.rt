@@ -7,6 +7,7 @@ ghost use mathlib.Core.List.{_∷_};
 ghost use Rattle.rules.specs.Lists.{any, same};
 ghost use Rattle.rules.specs.Fields.{field};
 ghost use Rattle.rules.specs.Sheets.{referenceText, referenceOf, referenceField, usedBy};
+ghost use Rattle.rules.specs.Text.{spaceByte};
 ghost use Rattle.nets.specs.Forms.{gatesOf, namesIn};
 ghost use Rattle.nets.specs.Room.{mostGates};
 ghost use Rattle.fields.specs.Header.{HeaderHeld};
@@ -91,7 +92,7 @@ pub fn judge_reference(s: &[u8], header: Header, net: Net, taken: usize, w: &[u8
 
 pub fn reference_field(s: &[u8], at: usize, header: Header, net: Net, taken: usize) -> Step
     requires { ⌜ HeaderHeld (now s) header × (net .gates ≤ mostGates) ⌝ }
-    ensures { λ r. ⌜ stepAs itself (now (s .entry)) r ≡ field (referenceField (namesIn (now (s .entry)) header) (net .gates) (taken ∷ usedBy (gatesOf net))) 32 (drop at (now (s .entry))) at ⌝ }
+    ensures { λ r. ⌜ stepAs itself (now (s .entry)) r ≡ field (referenceField (namesIn (now (s .entry)) header) (net .gates) (taken ∷ usedBy (gatesOf net))) spaceByte (drop at (now (s .entry))) at ⌝ }
 {
     let w = field_at(s, at);
     let verdict = judge_reference(s, header, net, taken, w);

@@ -5,6 +5,7 @@ ghost use Rattle.nets.specs.Sound.{Sound};
 ghost use Rattle.nets.specs.Evaluating.{netOf, Ready, Valued, Tabled};
 use crate::forms::Net;
 use crate::levels::next_levels;
+use radix::limits;
 
 // The net's value at the assignment whose n levels stand at the front of `values`; each gate's value is put behind them. The
 // digits of gate k begin at `from`.
@@ -33,7 +34,10 @@ pub fn value(
     values[n + gates - 1]
 }
 
-// As `table`, for a net whose parts are lent one by one. `values` has room for 16 inputs and their gates.
+// The inputs and the gates of a net.
+const MOST_WIRES: usize = limits::MOST_INPUTS + limits::MOST_GATES;
+
+// As `table`, for a net whose parts are lent one by one.
 fn fill(
     m: usize,
     n: usize,
@@ -46,7 +50,7 @@ fn fill(
     requires { ⌜ Sound (netOf m n gates (now left) (now right) (now digits)) × (gates ≤ length (now left)) × (gates ≤ length (now right)) × (m ^ n ≤ length (now cells)) ⌝ }
     ensures { λ r. ⌜ Tabled (netOf m n gates (now (left .entry)) (now (right .entry)) (now (digits .entry))) (now (cells .entry)) (now (cells .exit)) r ⌝ }
 {
-    let mut values = [0u8; 32];
+    let mut values = [0u8; MOST_WIRES];
     let last = radix::powers::power(m, n) - 1;
     let mut p: usize = 0;
     while p <= last {

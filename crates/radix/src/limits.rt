@@ -15,6 +15,8 @@ pub const MOST_DIGITS: usize = 162;
 
 pub const MOST_CELLS: usize = 2187;
 
+pub const MOST_NAME_BYTES: usize = 8;
+
 // The length of the longest settled sheet.
 pub const MOST_SETTLED: usize = 512;
 

@@ -5,6 +5,7 @@ ghost use lib.ListN.{length, take, getD};
 ghost use Rattle.rules.specs.Groups.{member, points, others};
 ghost use Rattle.radix.specs.Fronts.{Front};
 ghost use Rattle.radix.specs.Offsets.{widened};
+ghost use Rattle.radix.specs.Widths.{mostMembers, offsetsEnd, mostOffsets};
 use crate::powers;
 
 // Is input i a member of group g?
@@ -18,7 +19,7 @@ pub fn member_of(g: usize, i: usize) -> bool
 // The first `len` offsets, all below w, become m times as many: for each level of one more input of weight w, all of them plus
 // that level times w.
 fn widen(out: &mut [u16], len: usize, w: u16, m: usize) -> usize
-    requires { ⌜ (0 < len) × (0 < m) × (len * m ≤ length (now out)) × (w * m ≤ 65536) × ((k : ℕ) → k < len → getD (now out) k 0 < w) ⌝ }
+    requires { ⌜ (0 < len) × (0 < m) × (len * m ≤ length (now out)) × (w * m ≤ offsetsEnd) × ((k : ℕ) → k < len → getD (now out) k 0 < w) ⌝ }
     ensures { λ r. ⌜ (r ≡ len * m) × (take (len * m) (now (out .exit)) ≡ widened m w (take len (now (out .entry)))) ⌝ }
 {
     let end = len * m;
@@ -32,7 +33,7 @@ fn widen(out: &mut [u16], len: usize, w: u16, m: usize) -> usize
 
 // Writes the assignments of group g to the front of `out`, and answers how many there are.
 pub fn offsets(m: usize, n: usize, g: usize, out: &mut [u16]) -> usize
-    requires { ⌜ (0 < m) × (n ≤ 16) × (m ^ n ≤ 32768) × (m ^ n ≤ length (now out)) ⌝ }
+    requires { ⌜ (0 < m) × (n ≤ mostMembers) × (m ^ n ≤ mostOffsets) × (m ^ n ≤ length (now out)) ⌝ }
     ensures { λ r. ⌜ Front (points m n g) r (now (out .exit)) ⌝ }
 {
     let mut len: usize = 1;
@@ -54,7 +55,7 @@ pub fn offsets(m: usize, n: usize, g: usize, out: &mut [u16]) -> usize
 
 // The same for the inputs that are no members.
 pub fn other_offsets(m: usize, n: usize, g: usize, out: &mut [u16]) -> usize
-    requires { ⌜ (0 < m) × (n ≤ 16) × (m ^ n ≤ 32768) × (m ^ n ≤ length (now out)) × (g < 2 ^ n) ⌝ }
+    requires { ⌜ (0 < m) × (n ≤ mostMembers) × (m ^ n ≤ mostOffsets) × (m ^ n ≤ length (now out)) × (g < 2 ^ n) ⌝ }
     ensures { λ r. ⌜ Front (points m n (others n g)) r (now (out .exit)) ⌝ }
 {
     offsets(m, n, powers::power(2, n) - 1 - g, out)

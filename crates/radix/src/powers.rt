@@ -1,12 +1,13 @@
 // Powers, and whether m, n and the number of cells are within a sheet's bounds.
 ghost use mathlib.Core.Path.{_≡_};
 ghost use Prim.Native.Nat.{_^_, _≤_};
-ghost use Rattle.rules.specs.Limits.{sizeFits};
+ghost use Rattle.rules.specs.Limits.{sizeFits, mostLevels};
+ghost use Rattle.radix.specs.Widths.{mostMembers};
 use crate::limits;
 
 // m to the power n, for a digit m and n small enough that it fits.
 pub fn power(m: usize, n: usize) -> usize
-    requires { ⌜ (m ≤ 9) × (n ≤ 16) ⌝ }
+    requires { ⌜ (m ≤ mostLevels) × (n ≤ mostMembers) ⌝ }
     ensures { λ r. ⌜ r ≡ m ^ n ⌝ }
 {
     let mut p: usize = 1;

@@ -7,26 +7,37 @@ use mathlib.Core.Bool.{Bool, true, false, _&&_}
 use mathlib.Core.List.{List, [], _∷_, _++_}
 use lib.Dec.{leb, ltb}
 
--- "space (32)"
-unfoldable pub space : ℕ
-space = 32
+-- "space (32)", as the number that it is
+abbrev pub spaceByte : ℕ
+spaceByte = 32
 
--- "line feed (byte 10)"
+-- and as a name that a proof opens where it needs the number
+unfoldable pub space : ℕ
+space = spaceByte
+
+-- "line feed (byte 10)", the same two
+abbrev pub newlineByte : ℕ
+newlineByte = 10
+
 unfoldable pub newline : ℕ
-newline = 10
+newline = newlineByte
 
 -- a quoted text as its bytes (the texts here are ASCII)
 unfoldable pub text : String → List ℕ
 text no-text = []
 text (c then s) = code c ∷ text s
 
+-- the byte of the digit 0
+abbrev pub zeroByte : ℕ
+zeroByte = 48
+
 -- a digit's byte
 unfoldable pub digitByte : ℕ → ℕ
-digitByte d = 48 + d
+digitByte d = zeroByte + d
 
 -- is `b` the byte of a digit below `m`? (m is at most 10)
 unfoldable pub isDigit : ℕ → ℕ → Bool
-isDigit m b = leb 48 b && ltb b (48 + m)
+isDigit m b = leb zeroByte b && ltb b (zeroByte + m)
 
 -- "No decimal value has a needless leading zero." `fuel` is at least the number of digits less one.
 unfoldable pub decimalF : ℕ → ℕ → List ℕ

@@ -8,7 +8,7 @@ use native.Mathlib.Omega.{arith}
 use lib.ListN.{length, getD}
 use lib.Dec.{leb, ltb}
 use borrow.Author.Tests.{le-leb, lt-leb, lt-ltb, le-ltb, leb-true, ltb-true}
-use Rattle.rules.specs.Text.{isDigit}
+use Rattle.rules.specs.Text.{isDigit, zeroByte}
 use Rattle.rules.specs.Fields.{read, good, bad, field, run}
 use Rattle.rules.specs.Sheets.{inkField}
 use Rattle.fields.specs.Taken.{field-read, judged-good}
@@ -21,26 +21,26 @@ ink-long m (b ∷ []) h = absurd (h refl)
 ink-long m (b ∷ d ∷ w) h = refl
 
 module _ (m : ℕ) (w : List ℕ) (e : length w ≡ 1) where
-  pub ink-low : getD w 0 0 < 48 → bad 6 ≡ inkField m w
+  pub ink-low : getD w 0 0 < zeroByte → bad 6 ≡ inkField m w
   unfolding inkField isDigit
-  ink-low h = rw (one-byte w e) (simp (lt-leb 48 (getD w 0 0) h))
+  ink-low h = rw (one-byte w e) (simp (lt-leb zeroByte (getD w 0 0) h))
 
-  pub ink-high : 48 ≤ getD w 0 0 → m ≤ getD w 0 0 - 48 → bad 6 ≡ inkField m w
+  pub ink-high : zeroByte ≤ getD w 0 0 → m ≤ getD w 0 0 - zeroByte → bad 6 ≡ inkField m w
   unfolding inkField isDigit
-  ink-high h k = rw (one-byte w e) (simp (le-ltb (getD w 0 0) (48 + m) (omega arith), and-false))
+  ink-high h k = rw (one-byte w e) (simp (le-ltb (getD w 0 0) (zeroByte + m) (omega arith), and-false))
 
-  pub ink-good : 48 ≤ getD w 0 0 → getD w 0 0 - 48 < m → good (getD w 0 0 - 48) ≡ inkField m w
+  pub ink-good : zeroByte ≤ getD w 0 0 → getD w 0 0 - zeroByte < m → good (getD w 0 0 - zeroByte) ≡ inkField m w
   unfolding inkField isDigit
-  ink-good h k = rw (one-byte w e) (simp (le-leb 48 (getD w 0 0) h, lt-ltb (getD w 0 0) (48 + m) (omega arith)))
+  ink-good h k = rw (one-byte w e) (simp (le-leb zeroByte (getD w 0 0) h, lt-ltb (getD w 0 0) (zeroByte + m) (omega arith)))
 
 -- an ink that was read is a level
 ink-told : (m : ℕ) (w : List ℕ) (ink : ℕ) → inkField m w ≡ good ink → ink < m
 unfolding inkField isDigit
 ink-told m [] ink e = let z : _≡_ {A = ℕ} 0 1 = cc in absurd (omega arith)
 ink-told m (b ∷ []) ink e =
-    let told = judged-good (isDigit m b) (b - 48) ink 6 e in
-    let (low, high) = and-eq-true-iff (leb 48 b) (ltb b (48 + m)) .0 (told .0) in
-    omega (arith, leb-true 48 b low, ltb-true b (48 + m) high, told .1)
+    let told = judged-good (isDigit m b) (b - zeroByte) ink 6 e in
+    let (low, high) = and-eq-true-iff (leb zeroByte b) (ltb b (zeroByte + m)) .0 (told .0) in
+    omega (arith, leb-true zeroByte b low, ltb-true b (zeroByte + m) high, told .1)
 ink-told m (b ∷ d ∷ w) ink e = let z : _≡_ {A = ℕ} 0 1 = cc in absurd (omega arith)
 
 pub ink-read : (m due : ℕ) (t rest : List ℕ) (at ink next : ℕ) → field (inkField m) due t at ≡ read ink rest next → ink < m

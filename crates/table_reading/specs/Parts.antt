@@ -4,7 +4,7 @@ use Prim.Native.Nat.{ℕ, _≤_, _<_}
 use mathlib.Core.Path.{_≡_}
 use mathlib.Core.List.{List}
 use lib.ListN.{length, drop}
-use Rattle.rules.specs.Text.{space, newline, text}
+use Rattle.rules.specs.Text.{space, newline, text, newlineByte}
 use Rattle.rules.specs.Fields.{field, theWord}
 use Rattle.rules.specs.Sheets.{headerLines, tableSheet}
 use Rattle.rules.specs.Reading.{readTable}
@@ -45,7 +45,7 @@ module _ (s : List ℕ) (at : ℕ) (h : Header) (cells : List ℕ) (step : Step)
 -- ---- the word
 
 module _ (s : List ℕ) (at : ℕ) (h : Header) (cells : List ℕ) (step : Step)
-    (word : stepAs nothing s step ≡ field (spelled (text "ink")) 10 (drop at s) at) where
+    (word : stepAs nothing s step ≡ field (spelled (text "ink")) newlineByte (drop at s) at) where
   pub ink-refused : (number place : ℕ) → step ≡ Back number place → TableRest s at (fromInk (headerOf s h)) h cells (Refused number place)
   unfolding fromInk spelled theWord newline
   ink-refused number place e = answers-back nothing (field (theWord "ink") newline) _ s at step word _ _ number place e

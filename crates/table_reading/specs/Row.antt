@@ -7,7 +7,7 @@ use native.Mathlib.Omega.{arith}
 use native.Mathlib.Numerals.{add-one}
 use lib.ListN.{length, take, drop, getD, drop-of-length-le}
 use lib.Seq.{drop-cons, getD-take, length-take-le}
-use Rattle.rules.specs.Text.{space, newline}
+use Rattle.rules.specs.Text.{space, newline, spaceByte, newlineByte}
 use Rattle.rules.specs.Fields.{Read, read, turnedBack, Reader, then, _>>=_, field}
 use Rattle.rules.specs.Sheets.{levelField, inkField, levelFields}
 use Rattle.fields.specs.Steps.{stepAs, itself, nothing}
@@ -22,7 +22,7 @@ rowLine m ls = levelFields ls >>= λ _. field (inkField m) newline
 -- ---- the levels of a row
 
 fields-more : (ls : List ℕ) (i : ℕ) (t : List ℕ) (q : ℕ) → i < length ls
-    → levelFields (drop i ls) t q ≡ then (field (levelField (getD ls i 0)) 32 t q) (λ _. levelFields (drop (i + 1) ls))
+    → levelFields (drop i ls) t q ≡ then (field (levelField (getD ls i 0)) spaceByte t q) (λ _. levelFields (drop (i + 1) ls))
 unfolding levelFields space
 fields-more ls i t q h = rw (add-one, drop-cons ls i 0, levelFields)
 
@@ -35,14 +35,14 @@ pub row-start : (s levels : List ℕ) (at n : ℕ) → InRow s levels at n at 0
 row-start s levels at n = record { most = omega arith; reads = refl }
 
 module _ (s levels : List ℕ) (at n place i : ℕ) (room : n ≤ length levels) (row : InRow s levels at n place i) where
-  module _ (more : i < n) (step : Step) (level : stepAs nothing s step ≡ field (levelField (getD levels i 0)) 32 (drop place s) place) where
+  module _ (more : i < n) (step : Step) (level : stepAs nothing s step ≡ field (levelField (getD levels i 0)) spaceByte (drop place s) place) where
     onward : levelFields (take n levels) (drop at s) at ≡ then (stepAs nothing s step) (λ _. levelFields (drop (i + 1) (take n levels)))
     onward =
         let here : i < length (take n levels) = rw (length-take-le n levels room) more in
         row .reads
         ∙ (fields-more (take n levels) i (drop place s) place here
         ∙ ap (λ x. then x (λ _. levelFields (drop (i + 1) (take n levels))))
-        (ap (λ l. field (levelField l) 32 (drop place s) place) (getD-take n levels i 0 more) ∙ sym level))
+        (ap (λ l. field (levelField l) spaceByte (drop place s) place) (getD-take n levels i 0 more) ∙ sym level))
 
     pub row-back : (m number back : ℕ) → step ≡ Back number back → stepAs itself s step ≡ rowLine m (take n levels) (drop at s) at
     unfolding rowLine then
@@ -52,7 +52,7 @@ module _ (s levels : List ℕ) (at n place i : ℕ) (room : n ≤ length levels)
     unfolding then
     row-next value next e = record { most = omega arith; reads = rw (onward, e) refl }
 
-  pub row-done : (m : ℕ) (step : Step) → n ≤ i → stepAs itself s step ≡ field (inkField m) 10 (drop place s) place
+  pub row-done : (m : ℕ) (step : Step) → n ≤ i → stepAs itself s step ≡ field (inkField m) newlineByte (drop place s) place
       → stepAs itself s step ≡ rowLine m (take n levels) (drop at s) at
   unfolding rowLine then levelFields newline
   row-done m step done ink =

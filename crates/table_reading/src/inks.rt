@@ -3,9 +3,11 @@ ghost use mathlib.Core.Path.{_≡_};
 ghost use lib.ListN.{drop};
 ghost use Rattle.rules.specs.Fields.{field};
 ghost use Rattle.rules.specs.Sheets.{inkField};
+ghost use Rattle.rules.specs.Text.{newlineByte};
 ghost use Rattle.fields.specs.Steps.{judgedAs, stepAs, itself};
 use fields::ends::after_field;
 use fields::runs::NEWLINE;
+use fields::runs::ZERO;
 use fields::runs::field_at;
 use fields::steps::Step;
 use fields::steps::Verdict;
@@ -17,17 +19,17 @@ pub fn judge_ink(w: &[u8], m: usize) -> Verdict
         return Verdict::Bad(6);
     }
     let b = w[0] as usize;
-    if b < 48 {
+    if b < ZERO {
         return Verdict::Bad(6);
     }
-    if m <= b - 48 {
+    if m <= b - ZERO {
         return Verdict::Bad(6);
     }
-    Verdict::Good(b - 48)
+    Verdict::Good(b - ZERO)
 }
 
 pub fn ink_field(s: &[u8], at: usize, m: usize) -> Step
-    ensures { λ r. ⌜ stepAs itself (now (s .entry)) r ≡ field (inkField m) 10 (drop at (now (s .entry))) at ⌝ }
+    ensures { λ r. ⌜ stepAs itself (now (s .entry)) r ≡ field (inkField m) newlineByte (drop at (now (s .entry))) at ⌝ }
 {
     let w = field_at(s, at);
     let verdict = judge_ink(w, m);

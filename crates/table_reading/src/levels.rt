@@ -4,7 +4,7 @@ ghost use mathlib.Core.Bool.{true};
 ghost use mathlib.Core.List.{[], _∷_};
 ghost use lib.ListN.{drop};
 ghost use Rattle.rules.specs.Lists.{same};
-ghost use Rattle.rules.specs.Text.{digitByte};
+ghost use Rattle.rules.specs.Text.{digitByte, spaceByte};
 ghost use Rattle.rules.specs.Fields.{field};
 ghost use Rattle.rules.specs.Sheets.{levelField};
 ghost use Rattle.fields.specs.Steps.{stepAs, nothing};
@@ -12,6 +12,7 @@ ghost use Rattle.table_reading.specs.Levels.{PlainLevel};
 use fields::ends::after_field;
 use fields::ends::judged;
 use fields::runs::SPACE;
+use fields::runs::ZERO;
 use fields::runs::field_at;
 use fields::steps::Step;
 
@@ -22,7 +23,7 @@ pub fn is_level(w: &[u8], due: u8) -> bool
     if w.len() != 1 {
         return false;
     }
-    w[0] as usize == 48 + due as usize
+    w[0] as usize == ZERO + due as usize
 }
 
 // Does the digit of `due` stand at `at`, with a space after it?
@@ -36,7 +37,7 @@ fn is_plain(s: &[u8], at: usize, due: u8) -> bool
     if s.len() <= after {
         return false;
     }
-    if s[at] as usize != 48 + due as usize {
+    if s[at] as usize != ZERO + due as usize {
         return false;
     }
     s[after] == SPACE
@@ -44,7 +45,7 @@ fn is_plain(s: &[u8], at: usize, due: u8) -> bool
 
 // As `level_field`, by the field and its judge.
 pub fn judged_level(s: &[u8], at: usize, due: u8) -> Step
-    ensures { λ r. ⌜ stepAs nothing (now (s .entry)) r ≡ field (levelField due) 32 (drop at (now (s .entry))) at ⌝ }
+    ensures { λ r. ⌜ stepAs nothing (now (s .entry)) r ≡ field (levelField due) spaceByte (drop at (now (s .entry))) at ⌝ }
 {
     let w = field_at(s, at);
     let verdict = judged(is_level(w, due), 0, 5);
@@ -53,7 +54,7 @@ pub fn judged_level(s: &[u8], at: usize, due: u8) -> Step
 
 // Nearly every level field is plain, so that is tried first.
 pub fn level_field(s: &[u8], at: usize, due: u8) -> Step
-    ensures { λ r. ⌜ stepAs nothing (now (s .entry)) r ≡ field (levelField due) 32 (drop at (now (s .entry))) at ⌝ }
+    ensures { λ r. ⌜ stepAs nothing (now (s .entry)) r ≡ field (levelField due) spaceByte (drop at (now (s .entry))) at ⌝ }
 {
     if is_plain(s, at, due) {
         return Step::On {

@@ -18,6 +18,14 @@ use Rattle.lines.specs.Names.{NamesInside}
 use Rattle.table_writing.specs.Rows.{row-text, row-length}
 use Rattle.table_writing.specs.Tables.{table-parts}
 
+-- the digits of the longest decimal value: a number has 64 bits
+abbrev pub mostDecimal : ℕ
+mostDecimal = 20
+
+-- `levels inputs`, the space of line 2, `ink`, and the line feeds of the three lines
+abbrev fixedBytes : ℕ
+fixedBytes = 20
+
 -- how long the first n names are, each with the space behind it
 unfoldable pub lensTotal : List ℕ → ℕ → ℕ
 lensTotal lens zero = 0
@@ -45,9 +53,9 @@ rows-length m n p (ink ∷ inks) =
     length-append (printedRow m n p ink) (printedRows m n (suc p) inks)
     ∙ omega (arith, rows-length m n (suc p) inks, one-row m n p ink, suc-mul (length inks) (2 * n + 2))
 
--- 20 bytes of fixed words and separators, the two decimal values, the names, and 2 n + 2 bytes for each row
+-- the fixed words and separators, the two decimal values, the names, and 2 n + 2 bytes for each row
 pub table-length : (s : List ℕ) (h : Header) (inks : List ℕ) → length (printedTable (tableIn s h inks))
-    ≡ 20 + (length (decimal (h .levels)) + length (decimal (h .inputs))) + length (spacedFrom (nameIn s h) 0 (h .inputs)) + length inks * (2 * h .inputs + 2)
+    ≡ fixedBytes + (length (decimal (h .levels)) + length (decimal (h .inputs))) + length (spacedFrom (nameIn s h) 0 (h .inputs)) + length inks * (2 * h .inputs + 2)
 unfolding line text space newline
 table-length s h inks =
     ap length (table-parts s h inks) ∙ simp (length-append, rows-length) (omega arith)

@@ -8,13 +8,13 @@ ghost use Rattle.rules.specs.Text.{decimal};
 ghost use Rattle.rules.specs.Printed.{printedTable};
 ghost use Rattle.lines.specs.Names.{NamesInside};
 ghost use Rattle.nets.specs.Forms.{tableIn};
-ghost use Rattle.table_writing.specs.Lengths.{lensTotal};
+ghost use Rattle.table_writing.specs.Lengths.{lensTotal, mostDecimal};
 use lines::wide::wide;
 use nets::forms::Header;
 
 // How many digits k has.
 pub fn decimal_length(k: usize) -> usize
-    ensures { λ r. ⌜ (r ≡ length (decimal k)) × (r ≤ 20) ⌝ }
+    ensures { λ r. ⌜ (r ≡ length (decimal k)) × (r ≤ mostDecimal) ⌝ }
 {
     let mut digits: usize = 1;
     let mut rest: usize = k;
@@ -41,6 +41,9 @@ pub fn names_length(h: Header) -> usize
     total
 }
 
+// `levels inputs`, the space of line 2, `ink`, and the line feeds of the three lines.
+const FIXED: usize = 20;
+
 // The length of the table sheet of the header's names and as many inks as there are cells.
 pub fn table_length(h: Header, cells: usize) -> usize
     requires { ⌜ (h .inputs ≤ mostInputs) × (cells ≤ mostCells) ⌝ }
@@ -49,5 +52,5 @@ pub fn table_length(h: Header, cells: usize) -> usize
     let levels = h.levels;
     let inputs = h.inputs;
     let values = decimal_length(levels) + decimal_length(inputs);
-    20 + values + names_length(h) + cells * (2 * inputs + 2)
+    FIXED + values + names_length(h) + cells * (2 * inputs + 2)
 }

@@ -22,12 +22,12 @@ fn print_row(levels: &[u8], ink: u8, out: &mut [u8], at: usize) -> usize
     let mut i: usize = 0;
     let mut p: usize = at;
     while i < levels.len() {
-        out[p] = 48 + levels[i];
+        out[p] = b'0' + levels[i];
         out[p + 1] = b' ';
         i += 1;
         p += 2;
     }
-    out[p] = 48 + ink;
+    out[p] = b'0' + ink;
     out[p + 1] = b'\n';
     p + 2
 }

@@ -8,6 +8,13 @@ use borrow.Author.Needs.{needs}
 use Rattle.checking.proofs.check.check_table.Statement.{statement}
 use Rattle.checking.proofs.check.check_table.Tie as tie
 
+-- the start from the table's read, and that read from the call after it
+abbrev at-start : tie.After-read-table → tie.Start
+at-start c = c .before .before .before .before .before
+
+abbrev at-read : tie.After-inks3 → tie.After-read-table
+at-read c = c .before .before .before .before .before
+
 slice-aggregate-read-table : tie.Need-slice-aggregate-read-table
 slice-aggregate-read-table c = search needs
 
@@ -24,11 +31,11 @@ slice-aggregate-check-accepted : tie.Need-slice-aggregate-check-accepted
 slice-aggregate-check-accepted c = search needs
 
 check-accepted-requires : tie.Need-check-accepted-requires
-check-accepted-requires c κs = (c .before .before .before .before .before .before .before .before .before .before .before .pre, table-taken _ _ _ (c .before .before .before .before .before .before .read-table .ensures) (c .before .before .enum-told .given .1))
+check-accepted-requires c κs = (at-start (at-read (c .before)) .pre, table-taken _ _ _ (at-read (c .before) .read-table .ensures) (c .before .before .enum-told .given .1))
 
 returns : tie.Need-returns
 returns c =
-    sym (check-table-refused _ _ _ _ (c .before .before .before .before .before .before .before .before .before .before .pre .reads) _ _ (table-refused _ _ _ (c .before .before .before .before .before .read-table .ensures) _ _ (c .before .outcome .given .1)))
+    sym (check-table-refused _ _ _ _ (at-start (c .before .before .before .before .before) .pre .reads) _ _ (table-refused _ _ _ (c .before .before .before .before .before .read-table .ensures) _ _ (c .before .outcome .given .1)))
 
 same-length : tie.Need-same-length
 same-length c = search needs

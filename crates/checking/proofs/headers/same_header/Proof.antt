@@ -6,6 +6,13 @@ use Rattle.checking.specs.Headers.{levels-differ, inputs-differ, by-name
 use Rattle.checking.proofs.headers.same_header.Statement.{statement}
 use Rattle.checking.proofs.headers.same_header.Tie as tie
 
+-- the start from the first test, and that test from the second
+abbrev at-start : tie.Else1 → tie.Start
+at-start c = c .before .before .before .before .before
+
+abbrev at-first : tie.Else2 → tie.Else1
+at-first c = c .before .before .before
+
 returns : tie.Need-returns
 returns c = levels-differ _ _ _ _ (c .if1 .taken)
 
@@ -14,12 +21,12 @@ returns-2 c = inputs-differ _ _ _ _ (c .before .before .before .if1 .left) (c .i
 
 same-names-requires : tie.Need-same-names-requires
 same-names-requires c κs =
-    let start = c .before .before .before .before .before .before .before .before in
+    let start = at-start (at-first c) in
     let h = start .args .h in
     (sized (h .levels) (h .inputs) (start .pre .0 .fits) .inputs-most, start .pre .0 .names, rw (c .if2 .left) (start .pre .1 .names))
 
 returns-3 : tie.Need-returns-3
-returns-3 c = c .same-names .ensures ∙ by-names _ _ _ _ (c .before .before .before .before .if1 .left) (c .before .if2 .left)
+returns-3 c = c .same-names .ensures ∙ by-names _ _ _ _ (at-first (c .before) .if1 .left) (c .before .if2 .left)
 
 pub same-header-spec : {M : Type 1} → statement M
 same-header-spec = tie.close (tie.spec returns returns-2 same-names-requires returns-3)

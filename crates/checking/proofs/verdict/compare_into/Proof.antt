@@ -5,6 +5,10 @@ use borrow.Author.Needs.{needs}
 use Rattle.checking.proofs.verdict.compare_into.Statement.{statement}
 use Rattle.checking.proofs.verdict.compare_into.Tie as tie
 
+-- the start, from the call of `copy`
+abbrev at-start : tie.After-copy → tie.Start
+at-start c = c .before .before .before .before .before
+
 copy-requires : tie.Need-copy-requires
 copy-requires c κs = search needs
 
@@ -15,7 +19,7 @@ same-length : tie.Need-same-length
 same-length c = search needs
 
 returns : tie.Need-returns
-returns c = inks-compared _ _ _ _ _ (c .before .before .before .before .before .before .before .before .pre .2) (c .before .before .before .copy .ensures) _ (c .compare .ensures)
+returns c = inks-compared _ _ _ _ _ (at-start (c .before .before .before) .pre .2) (c .before .before .before .copy .ensures) _ (c .compare .ensures)
 
 pub compare-into-spec : {M : Type 1} → statement M
 compare-into-spec = tie.close (tie.spec copy-requires compare-requires same-length returns)

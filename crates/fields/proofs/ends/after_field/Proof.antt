@@ -9,8 +9,15 @@ use Rattle.fields.specs.Judging.{after-empty, after-bad, after-good}
 use Rattle.fields.proofs.ends.after_field.Statement.{statement}
 use Rattle.fields.proofs.ends.after_field.Tie as tie
 
+-- the start from the test of the field's end, and that test from the call of `separated`
+abbrev at-start : tie.After-shared-slice-known2 → tie.Start
+at-start c = c .before .before
+
+abbrev at-found : tie.After-known-told2 → tie.Else1
+at-found c = c .before .before .before
+
 returns : tie.Need-returns
-returns c = after-empty _ _ _ _ _ (c .before .before .before .pre) (c .if1 .taken)
+returns c = after-empty _ _ _ _ _ (at-start (c .before) .pre) (c .if1 .taken)
 
 enum-known-verdict : tie.Need-enum-known-verdict
 enum-known-verdict c = search needs
@@ -20,17 +27,17 @@ enum-known-verdict-2 c = search needs
 
 add-separated : tie.Need-add-separated
 add-separated c =
-    let start = c .before .before .before .before .before .before in
+    let start = at-start (at-found c .before) in
     omega (arith, ap length (start .pre), run-most (drop (start .args .at) (start .args .s .now)), length-drop (start .args .at) (start .args .s .now), start)
 
 separated-requires : tie.Need-separated-requires
 separated-requires c κs = search needs
 
 returns-2 : tie.Need-returns-2
-returns-2 c = after-bad _ _ _ _ _ (c .before .before .before .before .before .before .pre) (c .before .before .before .if1 .left) _ (c .before .verdict .given .1)
+returns-2 c = after-bad _ _ _ _ _ (at-start (c .before .before .before .before) .pre) (c .before .before .before .if1 .left) _ (c .before .verdict .given .1)
 
 returns-3 : tie.Need-returns-3
-returns-3 c = after-good _ _ _ _ _ (c .before .before .before .before .before .before .before .pre) (c .before .before .before .before .if1 .left) _ (c .separated .result) (c .before .before .verdict2 .given .1) (c .separated .ensures)
+returns-3 c = after-good _ _ _ _ _ (at-start (at-found (c .before) .before) .pre) (at-found (c .before) .if1 .left) _ (c .separated .result) (c .before .before .verdict2 .given .1) (c .separated .ensures)
 
 pub after-field-spec : {M : Type 1} → statement M
 after-field-spec =

@@ -2,7 +2,7 @@
 -- Assumes nothing.
 use borrow.Author.Needs.{needs}
 use native.Mathlib.Omega.{arith}
-use Rattle.rules.specs.Text.{space}
+use Rattle.rules.specs.Text.{space, spaceByte}
 use Rattle.rules.specs.Fields.{field}
 use Rattle.rules.specs.Sheets.{levelsField}
 use Rattle.fields.specs.Header.{fromLevels, fromInputs, rest-back, rest-on}
@@ -10,6 +10,13 @@ use Rattle.fields.specs.Steps.{itself}
 use Rattle.fields.specs.Taken.{levels-on}
 use Rattle.fields.proofs.header.from_levels.Statement.{statement}
 use Rattle.fields.proofs.header.from_levels.Tie as tie
+
+-- the start from the field's read, and that read from where the next field begins
+abbrev at-start : tie.After-levels-field → tie.Start
+at-start c = c .before .before
+
+abbrev at-levels : tie.After-known-told2 → tie.After-levels-field
+at-levels c = c .before .before .before
 
 levels-field-requires : tie.Need-levels-field-requires
 levels-field-requires c κs = search needs
@@ -24,18 +31,18 @@ enum-known-value : tie.Need-enum-known-value
 enum-known-value c = search needs
 
 from-inputs-requires : tie.Need-from-inputs-requires
-from-inputs-requires c κs = let told = levels-on _ _ (c .before .before .before .before .before .args .at) _ _ (c .before .value .given .1) _ (c .before .before .before .levels-field .ensures) in (told .0, omega (arith, told .1, c .before .before .before .before .before .pre))
+from-inputs-requires c κs = let told = levels-on _ _ (at-start (at-levels c) .args .at) _ _ (c .before .value .given .1) _ (at-levels c .levels-field .ensures) in (told .0, omega (arith, told .1, at-start (at-levels c) .pre))
 
 returns : tie.Need-returns
 unfolding fromLevels space
 returns c =
-    rest-back itself (field levelsField 32) (fromInputs _) _ _ _ (c .before .before .before .before .levels-field .ensures) _ _ (c .turned .result)
+    rest-back itself (field levelsField spaceByte) (fromInputs _) _ _ _ (c .before .before .before .before .levels-field .ensures) _ _ (c .turned .result)
     (c .before .before .number .given .1) (c .turned .ensures)
 
 returns-2 : tie.Need-returns-2
 unfolding fromLevels space
 returns-2 c =
-    rest-on itself (field levelsField 32) (fromInputs _) _ _ _ (c .before .before .before .before .levels-field .ensures) _ _ (c .from-inputs .result)
+    rest-on itself (field levelsField spaceByte) (fromInputs _) _ _ _ (at-levels (c .before) .levels-field .ensures) _ _ (c .from-inputs .result)
     (c .before .before .value .given .1) (c .from-inputs .ensures)
 
 pub from-levels-spec : {M : Type 1} → statement M

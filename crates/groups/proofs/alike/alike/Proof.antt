@@ -16,6 +16,16 @@ Inv-loop cells ys p q k₀ k = (k ≤ length ys) × (alikeOver (inkIn cells) (dr
 abbrev μ-loop : tie.MeasureT-loop
 μ-loop cells ys p q k₀ k = length ys - k
 
+-- the start from the loop's head, and a turn's start from its first read and its last
+abbrev at-start : tie.At-loop Inv-loop μ-loop → tie.Start Inv-loop μ-loop
+at-start c = c .before
+
+abbrev at-turn : tie.After-shared-slice-known Inv-loop μ-loop → tie.In-loop Inv-loop μ-loop
+at-turn c = c .before
+
+abbrev turn-reads : tie.After-shared-slice-known3 Inv-loop μ-loop → tie.In-loop Inv-loop μ-loop
+turn-reads c = at-turn (c .before .before)
+
 loop-holds : tie.Need-loop-holds Inv-loop μ-loop
 loop-holds c = (omega arith, refl)
 
@@ -26,32 +36,32 @@ shared-slice-read-y : tie.Need-shared-slice-read-y Inv-loop μ-loop
 shared-slice-read-y c = omega arith
 
 cast-y : tie.Need-cast-y Inv-loop μ-loop
-cast-y c = omega (arith, c .shared-slice-known .given (c .before .before .loop .k))
+cast-y c = omega (arith, c .shared-slice-known .given (at-turn c .before .loop .k))
 
 -- the two cells that a turn looks at are there
 in-cells : (c : tie.In-loop Inv-loop μ-loop) →
-    let a = c .before .before .args in
+    let a = at-start (c .before) .args in
     let y = getD (a .ys .now) (c .before .loop .k) 0 in
     (a .p + y < length (a .cells .now)) × (a .q + y < length (a .cells .now))
-in-cells c = let pre = c .before .before .pre in (pre .0 (c .before .loop .k) (c .loop-test .taken), pre .1 (c .before .loop .k) (c .loop-test .taken))
+in-cells c = let pre = at-start (c .before) .pre in (pre .0 (c .before .loop .k) (c .loop-test .taken), pre .1 (c .before .loop .k) (c .loop-test .taken))
 
 add-if1 : tie.Need-add-if1 Inv-loop μ-loop
-add-if1 c = omega (arith, in-cells (c .before))
+add-if1 c = omega (arith, in-cells (at-turn c))
 
 shared-slice-read-if1 : tie.Need-shared-slice-read-if1 Inv-loop μ-loop
-shared-slice-read-if1 c = in-cells (c .before .before) .0
+shared-slice-read-if1 c = in-cells (at-turn (c .before)) .0
 
 add-if1-2 : tie.Need-add-if1-2 Inv-loop μ-loop
-add-if1-2 c = omega (arith, in-cells (c .before .before))
+add-if1-2 c = omega (arith, in-cells (at-turn (c .before)))
 
 shared-slice-read-if1-2 : tie.Need-shared-slice-read-if1-2 Inv-loop μ-loop
-shared-slice-read-if1-2 c = in-cells (c .before .before .before) .1
+shared-slice-read-if1-2 c = in-cells (turn-reads c) .1
 
 returns : tie.Need-returns Inv-loop μ-loop
 unfolding alikeOver
 returns c =
-    let l = c .before .before .before .before .before .loop in
-    sym (all-stop _ (c .before .before .before .before .before .before .args .ys .now) (l .k) (c .before .before .before .before .loop-test .taken) (ne-eqb _ _ (c .if1 .taken))) ∙ l .inv .1
+    let l = turn-reads (c .before) .before .loop in
+    sym (all-stop _ (at-start (turn-reads (c .before) .before) .args .ys .now) (l .k) (turn-reads (c .before) .loop-test .taken) (ne-eqb _ _ (c .if1 .taken))) ∙ l .inv .1
 
 add-k : tie.Need-add-k Inv-loop μ-loop
 add-k c = omega arith
@@ -62,12 +72,12 @@ loop-less c = omega arith
 loop-again : tie.Need-loop-again Inv-loop μ-loop
 unfolding alikeOver
 loop-again c =
-    let l = c .before .before .before .before .before .loop in
-    (omega arith, all-next _ (c .before .before .before .before .before .before .args .ys .now) (l .k) (c .before .before .before .before .loop-test .taken) (eq-eqb _ _ (c .if1 .left)) ∙ l .inv .1)
+    let l = turn-reads (c .before) .before .loop in
+    (omega arith, all-next _ (at-start (turn-reads (c .before) .before) .args .ys .now) (l .k) (turn-reads (c .before) .loop-test .taken) (eq-eqb _ _ (c .if1 .left)) ∙ l .inv .1)
 
 returns-2 : tie.Need-returns-2 Inv-loop μ-loop
 unfolding alikeOver
-returns-2 c = sym (all-end _ (c .before .before .args .ys .now) (c .before .loop .k) (c .loop-test .left)) ∙ c .before .loop .inv .1
+returns-2 c = sym (all-end _ (at-start (c .before) .args .ys .now) (c .before .loop .k) (c .loop-test .left)) ∙ c .before .loop .inv .1
 
 pub alike-spec : {M : Type 1} → statement M
 alike-spec =

@@ -21,6 +21,13 @@ Inv-loop cells ys firsts count p j₀ j =
 abbrev μ-loop : tie.MeasureT-loop
 μ-loop cells ys firsts count p j₀ j = count - j
 
+-- the start from the loop's head, and a turn's start from its call
+abbrev at-start : tie.At-loop Inv-loop μ-loop → tie.Start Inv-loop μ-loop
+at-start c = c .before .before .before .before
+
+abbrev at-turn : tie.After-alike Inv-loop μ-loop → tie.In-loop Inv-loop μ-loop
+at-turn c = c .before .before
+
 loop-holds : tie.Need-loop-holds Inv-loop μ-loop
 loop-holds c = (omega arith, zero-add _)
 
@@ -34,28 +41,28 @@ cast-alike : tie.Need-cast-alike Inv-loop μ-loop
 cast-alike c = omega (arith, c .shared-slice-known4 .given (c .before .before .loop .j))
 
 alike-requires : tie.Need-alike-requires Inv-loop μ-loop
-alike-requires c κs = let pre = c .before .before .before .before .before .before .pre in (pre .1, pre .2 (c .before .before .loop .j) (c .before .loop-test .taken))
+alike-requires c κs = let pre = at-start (c .before .before) .pre in (pre .1, pre .2 (c .before .before .loop .j) (c .before .loop-test .taken))
 
 -- what the code's test says of the front's entry j, which is there
 module _ (c : tie.After-alike Inv-loop μ-loop) where
   abbrev start : tie.Start Inv-loop μ-loop
-  start = c .before .before .before .before .before .before .before
+  start = at-start (at-turn c .before)
 
   says : (t : Bool) → c .alike .result ≡ t
-      → alikeOver (inkIn (start .args .cells .now)) (start .args .ys .now) (start .args .p) (getD (take (start .args .count) (start .args .firsts .now)) (c .before .before .before .loop .j) 0) ≡ t
+      → alikeOver (inkIn (start .args .cells .now)) (start .args .ys .now) (start .args .p) (getD (take (start .args .count) (start .args .firsts .now)) (at-turn c .before .loop .j) 0) ≡ t
   says t e =
       ap (alikeOver (inkIn (start .args .cells .now)) (start .args .ys .now) (start .args .p))
-      (getD-take (start .args .count) (start .args .firsts .now) (c .before .before .before .loop .j) 0 (c .before .before .loop-test .taken))
+      (getD-take (start .args .count) (start .args .firsts .now) (at-turn c .before .loop .j) 0 (at-turn c .loop-test .taken))
       ∙ sym (c .alike .ensures)
       ∙ e
 
-  there : c .before .before .before .loop .j < length (take (start .args .count) (start .args .firsts .now))
-  there = omega (arith, length-take-le (start .args .count) (start .args .firsts .now) (start .pre .0), c .before .before .loop-test .taken)
+  there : at-turn c .before .loop .j < length (take (start .args .count) (start .args .firsts .now))
+  there = omega (arith, length-take-le (start .args .count) (start .args .firsts .now) (start .pre .0), at-turn c .loop-test .taken)
 
 returns : tie.Need-returns Inv-loop μ-loop
 returns c =
-    let a = c .before .before .before .before .before .before .before .before .args in
-    sym (place-stop _ (take (a .count) (a .firsts .now)) (c .before .before .before .before .loop .j) (there (c .before)) (says (c .before) true (c .if1 .taken))) ∙ c .before .before .before .before .loop .inv .1
+    let a = at-start (at-turn (c .before) .before) .args in
+    sym (place-stop _ (take (a .count) (a .firsts .now)) (at-turn (c .before) .before .loop .j) (there (c .before)) (says (c .before) true (c .if1 .taken))) ∙ at-turn (c .before) .before .loop .inv .1
 
 add-j : tie.Need-add-j Inv-loop μ-loop
 add-j c = omega arith
@@ -65,12 +72,12 @@ loop-less c = omega arith
 
 loop-again : tie.Need-loop-again Inv-loop μ-loop
 loop-again c =
-    let a = c .before .before .before .before .before .before .before .before .args in
-    (omega arith, place-next _ (take (a .count) (a .firsts .now)) (c .before .before .before .before .loop .j) (there (c .before)) (says (c .before) false (c .if1 .left)) ∙ c .before .before .before .before .loop .inv .1)
+    let a = at-start (at-turn (c .before) .before) .args in
+    (omega arith, place-next _ (take (a .count) (a .firsts .now)) (at-turn (c .before) .before .loop .j) (there (c .before)) (says (c .before) false (c .if1 .left)) ∙ at-turn (c .before) .before .loop .inv .1)
 
 returns-2 : tie.Need-returns-2 Inv-loop μ-loop
 returns-2 c =
-    let start = c .before .before .before .before .before in
+    let start = at-start (c .before) in
     let a = start .args in
     let l = c .before .loop in
     let all : a .count ≡ l .j = omega arith in

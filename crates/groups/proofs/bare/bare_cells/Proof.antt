@@ -8,6 +8,10 @@ use borrow.Author.Needs.{needs}
 use Rattle.groups.proofs.bare.bare_cells.Statement.{statement}
 use Rattle.groups.proofs.bare.bare_cells.Tie as tie
 
+-- the call of `power`, from that of `first_over`
+abbrev at-power : tie.After-first-over → tie.After-power
+at-power c = c .before .before
+
 size-fits-requires : tie.Need-size-fits-requires
 size-fits-requires c κs = search needs
 
@@ -28,12 +32,12 @@ first-over-requires c κs = search needs
 
 returns-3 : tie.Need-returns-3
 returns-3 c =
-    bare-cell _ _ _ (sym (c .before .before .before .before .before .size-fits .ensures) ∙ not-false _ (c .before .before .before .before .if1 .left)) (c .before .before .if2 .left ∙ c .before .before .before .power .ensures)
+    bare-cell _ _ _ (sym (at-power (c .before) .before .before .size-fits .ensures) ∙ not-false _ (at-power (c .before) .before .if1 .left)) (c .before .before .if2 .left ∙ at-power (c .before) .power .ensures)
     (c .before .first-over .result) (c .before .first-over .ensures) (c .if3 .taken)
 
 returns-4 : tie.Need-returns-4
 returns-4 c =
-    bare-good _ _ _ (sym (c .before .before .before .before .before .size-fits .ensures) ∙ not-false _ (c .before .before .before .before .if1 .left)) (c .before .before .if2 .left ∙ c .before .before .before .power .ensures)
+    bare-good _ _ _ (sym (at-power (c .before) .before .before .size-fits .ensures) ∙ not-false _ (at-power (c .before) .before .if1 .left)) (c .before .before .if2 .left ∙ at-power (c .before) .power .ensures)
     (c .before .first-over .result) (c .before .first-over .ensures) (c .if3 .left)
 
 pub bare-cells-spec : {M : Type 1} → statement M

@@ -9,6 +9,16 @@ use borrow.Author.Needs.{needs}
 use Rattle.groups.proofs.call.group_answer.Statement.{statement}
 use Rattle.groups.proofs.call.group_answer.Tie as tie
 
+-- the start, the two tests and the call of `group_classes`, each from the next
+abbrev at-start : tie.After-power → tie.Start
+at-start c = c .before .before .before
+
+abbrev at-fits : tie.After-firsts → tie.Else2
+at-fits c = c .before .before .before
+
+abbrev at-classes : tie.After-firsts2 → tie.After-group-classes
+at-classes c = c .before .before .before
+
 returns : tie.Need-returns
 returns c = group-empty _ _ _ _ (c .if1 .taken)
 
@@ -32,15 +42,15 @@ slice-aggregate-group-classes-3 c = search needs
 
 group-classes-requires : tie.Need-group-classes-requires
 group-classes-requires c κs =
-    let start = c .before .before .before .before .before .before .before in
+    let start = at-start (at-fits c .before) in
     let fit = sized (start .args .m) (start .args .n) (start .pre .0) in
-    omega (arith, fit .levels-least, fit .levels-most, fit .inputs-most, fit .cells-most, start .pre .1, c .before .before .before .before .power .ensures)
+    omega (arith, fit .levels-least, fit .levels-most, fit .inputs-most, fit .cells-most, start .pre .1, at-fits c .before .power .ensures)
 
 returns-3 : tie.Need-returns-3
 unfolding multiplicity
 returns-3 c =
-    group-counted _ _ _ _ _ (c .before .before .before .before .before .before .before .before .before .if1 .left) (omega (arith, c .before .before .before .before .before .before .before .before .power .ensures, c .before .before .before .before .before .before .before .if2 .left))
-    (c .before .before .before .group-classes .ensures .answer)
+    group-counted _ _ _ _ _ (at-fits (at-classes c .before) .before .before .if1 .left) (omega (arith, at-fits (at-classes c .before) .before .power .ensures, at-fits (at-classes c .before) .if2 .left))
+    (at-classes c .group-classes .ensures .answer)
 
 pub group-answer-spec : {M : Type 1} → statement M
 group-answer-spec =

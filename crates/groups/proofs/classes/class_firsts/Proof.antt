@@ -16,6 +16,13 @@ Inv-loop cells xs ys m firsts₀ count₀ i₀ firsts count i = (length firsts �
 abbrev μ-loop : tie.MeasureT-loop
 μ-loop cells xs ys m firsts₀ count₀ i₀ firsts count i = length xs - i
 
+-- the start from the loop's head, and a turn's start from its call
+abbrev at-start : tie.At-loop Inv-loop μ-loop → tie.Start Inv-loop μ-loop
+at-start c = c .before .before .before .before .before
+
+abbrev at-turn : tie.After-class-of-arg Inv-loop μ-loop → tie.In-loop Inv-loop μ-loop
+at-turn c = c .before .before
+
 loop-holds : tie.Need-loop-holds Inv-loop μ-loop
 loop-holds c =
     let a = c .before .before .before .before .args in
@@ -28,12 +35,12 @@ shared-slice-read-p : tie.Need-shared-slice-read-p Inv-loop μ-loop
 shared-slice-read-p c = omega arith
 
 cast-class-of : tie.Need-cast-class-of Inv-loop μ-loop
-cast-class-of c = omega (arith, c .before .shared-slice-known4 .given (c .before .before .before .loop .i))
+cast-class-of c = omega (arith, c .before .shared-slice-known4 .given (at-turn c .before .loop .i))
 
 class-of-requires : tie.Need-class-of-requires Inv-loop μ-loop
 class-of-requires c κs =
-    let l = c .before .before .before .loop in
-    (omega (arith, l .inv .1 .few, l .inv .1 .room), c .before .before .before .before .before .before .before .before .pre .1 (l .i) (c .before .before .loop-test .taken), l .inv .1 .inside)
+    let l = at-turn c .before .loop in
+    (omega (arith, l .inv .1 .few, l .inv .1 .room), at-start (at-turn c .before) .pre .1 (l .i) (at-turn c .loop-test .taken), l .inv .1 .inside)
 
 add-i : tie.Need-add-i Inv-loop μ-loop
 add-i c = omega arith
@@ -43,17 +50,17 @@ loop-less c = omega arith
 
 loop-again : tie.Need-loop-again Inv-loop μ-loop
 loop-again c =
-    let inv = c .before .before .before .before .before .loop .inv in
-    (inv .0, kept-known (inv .1) (c .before .before .before .before .loop-test .taken) (c .before .class-of .ensures) (c .if1 .taken))
+    let inv = at-turn (c .before .before) .before .loop .inv in
+    (inv .0, kept-known (inv .1) (at-turn (c .before .before) .loop-test .taken) (c .before .class-of .ensures) (c .if1 .taken))
 
 add-result : tie.Need-add-result Inv-loop μ-loop
 add-result c = omega arith
 
 same-length : tie.Need-same-length Inv-loop μ-loop
-same-length c = c .before .before .before .before .before .before .loop .inv .0
+same-length c = at-turn (c .before .before .before) .before .loop .inv .0
 
 returns : tie.Need-returns Inv-loop μ-loop
-returns c = kept-over (c .before .before .before .before .before .before .loop .inv .1) (c .before .before .before .before .before .loop-test .taken) (c .before .before .class-of .ensures) (c .before .if1 .left) (c .if2 .taken)
+returns c = kept-over (at-turn (c .before .before .before) .before .loop .inv .1) (at-turn (c .before .before .before) .loop-test .taken) (c .before .before .class-of .ensures) (c .before .if1 .left) (c .if2 .taken)
 
 mul-firsts : tie.Need-mul-firsts Inv-loop μ-loop
 mul-firsts c = omega arith
@@ -72,10 +79,10 @@ loop-less-2 c = omega arith
 
 loop-again-2 : tie.Need-loop-again-2 Inv-loop μ-loop
 loop-again-2 c =
-    let l = c .before .before .before .before .before .before .loop in
-    let more = c .before .before .before .before .before .loop-test .taken in (
+    let l = at-turn (c .before .before .before) .before .loop in
+    let more = at-turn (c .before .before .before) .loop-test .taken in (
       length-set (l .firsts) (l .count) _ ∙ l .inv .0,
-      kept-new (l .inv .1) more (c .before .before .class-of .ensures) (c .before .if1 .left) (omega (arith, l .inv .1 .few, c .if2 .left)) (c .before .before .before .before .before .before .before .before .before .before .before .pre .1 (l .i) more),
+      kept-new (l .inv .1) more (c .before .before .class-of .ensures) (c .before .if1 .left) (omega (arith, l .inv .1 .few, c .if2 .left)) (at-start (at-turn (c .before .before .before) .before) .pre .1 (l .i) more),
     )
 
 same-length-2 : tie.Need-same-length-2 Inv-loop μ-loop

@@ -14,6 +14,19 @@ use borrow.Author.Needs.{needs}
 use Rattle.groups.proofs.classes.group_classes.Statement.{statement}
 use Rattle.groups.proofs.classes.group_classes.Tie as tie
 
+-- the start, each call and the parts that the last one takes, each from the next
+abbrev at-start : tie.After-offsets → tie.Start
+at-start c = c .before .before .before .before .before .before
+
+abbrev at-offsets : tie.After-other-offsets → tie.After-offsets
+at-offsets c = c .before .before .before .before
+
+abbrev at-others : tie.After-xs2 → tie.After-other-offsets
+at-others c = c .before .before .before
+
+abbrev at-parts : tie.After-class-firsts-arg3 → tie.After-xs2
+at-parts c = c .before .before .before .before
+
 -- the classes of the two lists are the group's
 of-group : (m n g : ℕ) (f : ℕ → ℕ) (xs ys : List ℕ) → xs ≡ points m n g → ys ≡ points m n (others n g) → classesOver f ys xs ≡ classes m n f g
 unfolding classesOver classes
@@ -32,7 +45,7 @@ part-class-firsts-start : tie.Need-part-class-firsts-start
 part-class-firsts-start c = search needs
 
 part-class-firsts-end : tie.Need-part-class-firsts-end
-part-class-firsts-end c = fits-in (c .before .before .before .before .before .before .before .offsets .ensures)
+part-class-firsts-end c = fits-in (at-offsets (at-others c) .offsets .ensures)
 
 sub-class-firsts-2 : tie.Need-sub-class-firsts-2
 sub-class-firsts-2 c = search needs
@@ -41,16 +54,16 @@ part-class-firsts-start-2 : tie.Need-part-class-firsts-start-2
 part-class-firsts-start-2 c = search needs
 
 part-class-firsts-end-2 : tie.Need-part-class-firsts-end-2
-part-class-firsts-end-2 c = fits-in (c .before .before .before .before .before .other-offsets .ensures)
+part-class-firsts-end-2 c = fits-in (at-others (c .before .before) .other-offsets .ensures)
 
 class-firsts-requires : tie.Need-class-firsts-requires
 class-firsts-requires c κs =
-    let start = c .before .before .before .before .before .before .before .before .before .before .before .before .before .before .before .before .before in
+    let start = at-start (at-offsets (at-others (at-parts c))) in
     let a = start .args in
     let room = start .pre .0 in (
       start .pre .1,
       subst₂ (λ (us vs : List ℕ). (i : ℕ) → i < length us → Within (length (a .cells .now)) vs (getD us i 0))
-          (sym (part-is (c .before .before .before .before .before .before .before .before .before .before .before .offsets .ensures))) (sym (part-is (c .before .before .before .before .before .before .before .other-offsets .ensures)))
+          (sym (part-is (at-offsets (at-others (at-parts c)) .offsets .ensures))) (sym (part-is (at-others (at-parts c) .other-offsets .ensures)))
           (points-within (a .m) (a .n) (room .some) (a .g) (start .pre .2) (length (a .cells .now)) (room .for-cells)),
     )
 
@@ -65,10 +78,11 @@ same-length-3 c = search needs
 
 returns : tie.Need-returns
 returns c =
-    let a = c .before .before .before .before .before .before .before .before .before .before .before .before .before .before .before .before .before .before .before .before .args in
+    let others = at-others (at-parts (c .before .before .before)) in
+    let a = at-start (at-offsets others) .args in
     let called = c .before .before .class-firsts in
     subst (λ (l : List ℕ). Counted (a .m) l (called .result) (called .last .1 .1 .1 .1 .0))
-    (of-group (a .m) (a .n) (a .g) (inkIn (a .cells .now)) _ _ (part-is (c .before .before .before .before .before .before .before .before .before .before .before .before .before .before .offsets .ensures)) (part-is (c .before .before .before .before .before .before .before .before .before .before .other-offsets .ensures)))
+    (of-group (a .m) (a .n) (a .g) (inkIn (a .cells .now)) _ _ (part-is (at-offsets others .offsets .ensures)) (part-is (others .other-offsets .ensures)))
     (called .ensures)
 
 pub group-classes-spec : {M : Type 1} → statement M

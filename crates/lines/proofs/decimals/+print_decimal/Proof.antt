@@ -33,6 +33,20 @@ print-decimal-below t =
     (falls 1 print-decimal-kinds.ps _<_ μ-print-decimal t)
     print-decimal.Pre
 
+-- the start, from the call of itself
+abbrev at-start : (t : ℕ) → print-decimal-lts.After-print-decimal (
+  put-digit-reads.Asked,
+  put-digit-reads.Learnt,
+  print-decimal-below t,
+  print-decimal.Post,
+) (print-decimal-at t) print-decimal.Post → print-decimal-lts.Start (
+  put-digit-reads.Asked,
+  put-digit-reads.Learnt,
+  print-decimal-below t,
+  print-decimal.Post,
+) (print-decimal-at t) print-decimal.Post
+at-start t c = c .before .before .before .before
+
 module _ (out : List ℕ) (at k : ℕ) (room : at + length (decimal k) ≤ length out) where
   one-left : k < 10 → Left out at (digitByte k ∷ []) out at (decimal k)
   one-left h = parts-left (decimal-one k h) room
@@ -64,7 +78,9 @@ print-decimal-returns : (t : ℕ) → print-decimal-lts.Need-returns (
   print-decimal-below t,
   print-decimal.Post,
 ) (print-decimal-at t) print-decimal.Post
-print-decimal-returns t c = last-put (one-left (c .before .before .before .before .before .before .args .out .now) (c .before .before .before .before .before .before .args .at) (c .before .before .before .before .before .before .args .k) (c .before .before .before .before .before .before .pre .1) (c .before .before .before .before .if1 .taken)) (c .before .before .put-digit .ensures)
+print-decimal-returns t c =
+    let start = c .before .before .before .before .before .before in
+    last-put (one-left (start .args .out .now) (start .args .at) (start .args .k) (start .pre .1) (c .before .before .before .before .if1 .taken)) (c .before .before .put-digit .ensures)
 
 print-decimal-print-decimal-requires : (t : ℕ) → print-decimal-lts.Need-print-decimal-requires (
   put-digit-reads.Asked,
@@ -85,7 +101,9 @@ print-decimal-put-digit-requires-2 : (t : ℕ) → print-decimal-lts.Need-put-di
   print-decimal.Post,
 ) (print-decimal-at t) print-decimal.Post
 print-decimal-put-digit-requires-2 t c κs =
-    (omega arith, omega (arith, (put-left (more-left (c .before .before .before .before .before .before .before .args .out .now) (c .before .before .before .before .before .before .before .args .at) (c .before .before .before .before .before .before .before .args .k) (c .before .before .before .before .before .before .before .pre .1) (c .before .before .before .before .before .if1 .left)) (c .before .before .before .print-decimal .ensures)) .room))
+    let called = c .before .before .before in
+    let start = at-start t called in
+    (omega arith, omega (arith, (put-left (more-left (start .args .out .now) (start .args .at) (start .args .k) (start .pre .1) (called .before .before .if1 .left)) (called .print-decimal .ensures)) .room))
 
 print-decimal-same-length-2 : (t : ℕ) → print-decimal-lts.Need-same-length-2 (
   put-digit-reads.Asked,
@@ -102,7 +120,9 @@ print-decimal-returns-2 : (t : ℕ) → print-decimal-lts.Need-returns-2 (
   print-decimal.Post,
 ) (print-decimal-at t) print-decimal.Post
 print-decimal-returns-2 t c =
-    last-put (put-left (more-left (c .before .before .before .before .before .before .before .before .before .before .args .out .now) (c .before .before .before .before .before .before .before .before .before .before .args .at) (c .before .before .before .before .before .before .before .before .before .before .args .k) (c .before .before .before .before .before .before .before .before .before .before .pre .1) (c .before .before .before .before .before .before .before .before .if1 .left)) (c .before .before .before .before .before .before .print-decimal .ensures)) (c .before .before .put-digit2 .ensures)
+    let called = c .before .before .before .before .before .before in
+    let start = at-start t called in
+    last-put (put-left (more-left (start .args .out .now) (start .args .at) (start .args .k) (start .pre .1) (called .before .before .if1 .left)) (called .print-decimal .ensures)) (c .before .before .put-digit2 .ensures)
 
 pub +print-decimal-spec : {M : Type 1} → statement M
 +print-decimal-spec = close μ-print-decimal λ t. print-decimal-lts.spec (

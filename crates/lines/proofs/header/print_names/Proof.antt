@@ -16,17 +16,24 @@ Inv-loop s h count out₀ at i₀ p₀ out i p = (i ≤ count) × Left out p (sp
 abbrev μ-loop : tie.MeasureT-loop
 μ-loop s h count out₀ at i₀ p₀ out i p = count - i
 
+-- the start from a turn's start, and the name's call from that of `put`
+abbrev at-start : tie.In-loop Inv-loop μ-loop → tie.Start Inv-loop μ-loop
+at-start c = c .before .before .before .before
+
+abbrev at-name : tie.After-put-arg Inv-loop μ-loop → tie.After-print-name Inv-loop μ-loop
+at-name c = c .before .before .before
+
 abbrev name : tie.In-loop Inv-loop μ-loop → ℕ → List ℕ
-name c = nameIn (c .before .before .before .before .args .s .now) (c .before .before .before .before .args .h)
+name c = nameIn (at-start c .args .s .now) (at-start c .args .h)
 
 abbrev later : tie.In-loop Inv-loop μ-loop → List ℕ
-later c = spacedFrom (name c) (c .before .loop .i + 1) (c .before .before .before .before .args .count)
+later c = spacedFrom (name c) (c .before .loop .i + 1) (at-start c .args .count)
 
 abbrev Rest : tie.In-loop Inv-loop μ-loop → List ℕ → ℕ → List ℕ → Type 0
-Rest c out p t = Left out p t (c .before .before .before .before .args .out .now) (c .before .before .before .before .args .at) (spacedFrom (name c) 0 (c .before .before .before .before .args .count))
+Rest c out p t = Left out p t (at-start c .args .out .now) (at-start c .args .at) (spacedFrom (name c) 0 (at-start c .args .count))
 
 turn : (c : tie.In-loop Inv-loop μ-loop) → Rest c (c .before .loop .out) (c .before .loop .p) (name c (c .before .loop .i) ++ (space ∷ later c))
-turn c = rw (spaced-next (name c) (c .before .loop .i) (c .before .before .before .before .args .count) (c .loop-test .taken)) at (c .before .loop .inv .1)
+turn c = rw (spaced-next (name c) (c .before .loop .i) (at-start c .args .count) (c .loop-test .taken)) at (c .before .loop .inv .1)
 
 after-name : (c : tie.After-print-name Inv-loop μ-loop) → Rest (c .before .before) (c .print-name .last .1 .1 .1 .0) (c .print-name .result) (space ∷ later (c .before .before))
 after-name c = put-left (turn (c .before .before)) (c .print-name .ensures)
@@ -35,10 +42,10 @@ loop-holds : tie.Need-loop-holds Inv-loop μ-loop
 loop-holds c = (omega arith, all-left (c .before .before .pre .2))
 
 print-name-requires : tie.Need-print-name-requires Inv-loop μ-loop
-print-name-requires c κs = (c .before .before .before .before .before .pre .0, omega arith, room-for (name (c .before) (c .before .before .loop .i)) (space ∷ later (c .before)) (turn (c .before)))
+print-name-requires c κs = (at-start (c .before) .pre .0, omega arith, room-for (name (c .before) (c .before .before .loop .i)) (space ∷ later (c .before)) (turn (c .before)))
 
 put-requires : tie.Need-put-requires Inv-loop μ-loop
-put-requires c κs = room-byte (after-name (c .before .before .before))
+put-requires c κs = room-byte (after-name (at-name c))
 
 add-i : tie.Need-add-i Inv-loop μ-loop
 add-i c = omega arith
@@ -48,7 +55,7 @@ loop-less c = omega arith
 
 loop-again : tie.Need-loop-again Inv-loop μ-loop
 unfolding space
-loop-again c = (omega arith, put-left (after-name (c .before .before .before .before .before .before)) (c .before .before .put .ensures))
+loop-again c = (omega arith, put-left (after-name (at-name (c .before .before .before))) (c .before .before .put .ensures))
 
 same-length : tie.Need-same-length Inv-loop μ-loop
 same-length c = c .before .loop .inv .1 .kept

@@ -13,6 +13,19 @@ use Rattle.lines.specs.Names.{names-line}
 use Rattle.lines.proofs.header.print_names_line.Statement.{statement}
 use Rattle.lines.proofs.header.print_names_line.Tie as tie
 
+-- the start and each call, from the next
+abbrev at-start : tie.After-print-names-arg → tie.Start
+at-start c = c .before .before .before .before
+
+abbrev at-names : tie.After-print-name-arg → tie.After-print-names
+at-names c = c .before .before .before
+
+abbrev at-name : tie.After-put-arg → tie.After-print-name
+at-name c = c .before .before .before
+
+abbrev names-start : tie.After-print-names → tie.Start
+names-start c = at-start (c .before)
+
 abbrev name : tie.Start → ℕ → List ℕ
 name c = nameIn (c .args .s .now) (c .args .h)
 
@@ -25,31 +38,31 @@ Rest c out at t = Left out at t (c .args .out .now) (c .args .at) (line (namesIn
 start : (c : tie.Start) → Rest c (c .args .out .now) (c .args .at) (spacedFrom (name c) 0 (last c) ++ (name c (last c) ++ (newline ∷ [])))
 start c = parts-left (names-line (c .args .s .now) (c .args .h) (c .pre .0 .some)) (c .pre .1)
 
-after-names : (c : tie.After-print-names) → Rest (c .before .before .before .before .before) (c .print-names .last .1 .1 .1 .0) (c .print-names .result) (name (c .before .before .before .before .before) (last (c .before .before .before .before .before)) ++ (newline ∷ []))
-after-names c = put-left (start (c .before .before .before .before .before)) (c .print-names .ensures)
+after-names : (c : tie.After-print-names) → Rest (names-start c) (c .print-names .last .1 .1 .1 .0) (c .print-names .result) (name (names-start c) (last (names-start c)) ++ (newline ∷ []))
+after-names c = put-left (start (names-start c)) (c .print-names .ensures)
 
-after-name : (c : tie.After-print-name) → Rest (c .before .before .before .before .before .before .before .before .before) (c .print-name .last .1 .1 .1 .0) (c .print-name .result) (newline ∷ [])
-after-name c = put-left (after-names (c .before .before .before .before)) (c .print-name .ensures)
+after-name : (c : tie.After-print-name) → Rest (names-start (at-names (c .before))) (c .print-name .last .1 .1 .1 .0) (c .print-name .result) (newline ∷ [])
+after-name c = put-left (after-names (at-names (c .before))) (c .print-name .ensures)
 
 sub-last : tie.Need-sub-last
 sub-last c = search needs
 
 print-names-requires : tie.Need-print-names-requires
 print-names-requires c κs =
-    (c .before .before .before .before .pre .0, omega arith, room-for (spacedFrom (name (c .before .before .before .before)) 0 (last (c .before .before .before .before))) (name (c .before .before .before .before) (last (c .before .before .before .before)) ++ (newline ∷ [])) (start (c .before .before .before .before)))
+    (at-start c .pre .0, omega arith, room-for (spacedFrom (name (at-start c)) 0 (last (at-start c))) (name (at-start c) (last (at-start c)) ++ (newline ∷ [])) (start (at-start c)))
 
 print-name-requires : tie.Need-print-name-requires
-print-name-requires c κs = (c .before .before .before .before .before .before .before .before .pre .0, omega arith, room-for (name (c .before .before .before .before .before .before .before .before) (last (c .before .before .before .before .before .before .before .before))) (newline ∷ []) (after-names (c .before .before .before)))
+print-name-requires c κs = (names-start (at-names c) .pre .0, omega arith, room-for (name (names-start (at-names c)) (last (names-start (at-names c)))) (newline ∷ []) (after-names (at-names c)))
 
 put-requires : tie.Need-put-requires
-put-requires c κs = room-byte (after-name (c .before .before .before))
+put-requires c κs = room-byte (after-name (at-name c))
 
 same-length : tie.Need-same-length
 same-length c = search needs
 
 returns : tie.Need-returns
 unfolding newline
-returns c = last-put (after-name (c .before .before .before .before .before .before)) (c .before .before .put .ensures)
+returns c = last-put (after-name (at-name (c .before .before .before))) (c .before .before .put .ensures)
 
 pub print-names-line-spec : {M : Type 1} → statement M
 print-names-line-spec =

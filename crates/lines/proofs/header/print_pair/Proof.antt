@@ -9,6 +9,29 @@ use Rattle.lines.specs.Put.{Left, all-left, put-left, room-for, room-byt
 use Rattle.lines.proofs.header.print_pair.Statement.{statement}
 use Rattle.lines.proofs.header.print_pair.Tie as tie
 
+-- the start and each call, from the next
+abbrev at-start : tie.After-copy-arg → tie.Start
+at-start c = c .before .before .before
+
+abbrev at-copy : tie.After-print-decimal-arg → tie.After-copy
+at-copy c = c .before .before .before
+
+abbrev at-first : tie.After-put-arg → tie.After-print-decimal
+at-first c = c .before .before .before
+
+abbrev at-space : tie.After-print-decimal-arg2 → tie.After-put
+at-space c = c .before .before .before
+
+abbrev at-second : tie.After-put-arg2 → tie.After-print-decimal2
+at-second c = c .before .before .before
+
+-- the start from the first two calls
+abbrev copy-start : tie.After-copy → tie.Start
+copy-start c = at-start (c .before)
+
+abbrev first-start : tie.After-print-decimal → tie.Start
+first-start c = copy-start (at-copy (c .before))
+
 abbrev text : tie.Start → List ℕ
 text c = c .args .head .now ++ (decimal (c .args .a) ++ (space ∷ (decimal (c .args .b) ++ (newline ∷ []))))
 
@@ -19,40 +42,40 @@ start : (c : tie.Start) → Rest c (c .args .out .now) (c .args .at) (text c)
 unfolding line
 start c = all-left (c .pre)
 
-after-copy : (c : tie.After-copy) → Rest (c .before .before .before .before) (c .copy .last .1 .0) (c .copy .result) (decimal (c .before .before .before .before .args .a) ++ (space ∷ (decimal (c .before .before .before .before .args .b) ++ (newline ∷ []))))
-after-copy c = put-left (start (c .before .before .before .before)) (c .copy .ensures)
+after-copy : (c : tie.After-copy) → Rest (copy-start c) (c .copy .last .1 .0) (c .copy .result) (decimal (copy-start c .args .a) ++ (space ∷ (decimal (copy-start c .args .b) ++ (newline ∷ []))))
+after-copy c = put-left (start (copy-start c)) (c .copy .ensures)
 
-after-first : (c : tie.After-print-decimal) → Rest (c .before .before .before .before .before .before .before .before) (c .print-decimal .last .1 .0) (c .print-decimal .result) (space ∷ (decimal (c .before .before .before .before .before .before .before .before .args .b) ++ (newline ∷ [])))
-after-first c = put-left (after-copy (c .before .before .before .before)) (c .print-decimal .ensures)
+after-first : (c : tie.After-print-decimal) → Rest (first-start c) (c .print-decimal .last .1 .0) (c .print-decimal .result) (space ∷ (decimal (first-start c .args .b) ++ (newline ∷ [])))
+after-first c = put-left (after-copy (at-copy (c .before))) (c .print-decimal .ensures)
 
-after-space : (c : tie.After-put) → Rest (c .before .before .before .before .before .before .before .before .before .before .before .before) (c .put .last .1 .0) (c .put .result) (decimal (c .before .before .before .before .before .before .before .before .before .before .before .before .args .b) ++ (newline ∷ []))
+after-space : (c : tie.After-put) → Rest (first-start (at-first (c .before))) (c .put .last .1 .0) (c .put .result) (decimal (first-start (at-first (c .before)) .args .b) ++ (newline ∷ []))
 unfolding space
-after-space c = put-left (after-first (c .before .before .before .before)) (c .put .ensures)
+after-space c = put-left (after-first (at-first (c .before))) (c .put .ensures)
 
-after-second : (c : tie.After-print-decimal2) → Rest (c .before .before .before .before .before .before .before .before .before .before .before .before .before .before .before .before) (c .print-decimal2 .last .1 .0) (c .print-decimal2 .result) (newline ∷ [])
-after-second c = put-left (after-space (c .before .before .before .before)) (c .print-decimal2 .ensures)
+after-second : (c : tie.After-print-decimal2) → Rest (first-start (at-first (at-space (c .before) .before))) (c .print-decimal2 .last .1 .0) (c .print-decimal2 .result) (newline ∷ [])
+after-second c = put-left (after-space (at-space (c .before))) (c .print-decimal2 .ensures)
 
 copy-requires : tie.Need-copy-requires
-copy-requires c κs = room-for (c .before .before .before .args .head .now) (decimal (c .before .before .before .args .a) ++ (space ∷ (decimal (c .before .before .before .args .b) ++ (newline ∷ [])))) (start (c .before .before .before))
+copy-requires c κs = room-for (at-start c .args .head .now) (decimal (at-start c .args .a) ++ (space ∷ (decimal (at-start c .args .b) ++ (newline ∷ [])))) (start (at-start c))
 
 print-decimal-requires : tie.Need-print-decimal-requires
-print-decimal-requires c κs = room-for (decimal (c .before .before .before .before .before .before .before .args .a)) (space ∷ (decimal (c .before .before .before .before .before .before .before .args .b) ++ (newline ∷ []))) (after-copy (c .before .before .before))
+print-decimal-requires c κs = room-for (decimal (copy-start (at-copy c) .args .a)) (space ∷ (decimal (copy-start (at-copy c) .args .b) ++ (newline ∷ []))) (after-copy (at-copy c))
 
 put-requires : tie.Need-put-requires
-put-requires c κs = room-byte (after-first (c .before .before .before))
+put-requires c κs = room-byte (after-first (at-first c))
 
 print-decimal-requires-2 : tie.Need-print-decimal-requires-2
-print-decimal-requires-2 c κs = room-for (decimal (c .before .before .before .before .before .before .before .before .before .before .before .before .before .before .before .args .b)) (newline ∷ []) (after-space (c .before .before .before))
+print-decimal-requires-2 c κs = room-for (decimal (first-start (at-first (at-space c .before)) .args .b)) (newline ∷ []) (after-space (at-space c))
 
 put-requires-2 : tie.Need-put-requires-2
-put-requires-2 c κs = room-byte (after-second (c .before .before .before))
+put-requires-2 c κs = room-byte (after-second (at-second c))
 
 same-length : tie.Need-same-length
 same-length c = search needs
 
 returns : tie.Need-returns
 unfolding line newline
-returns c = last-put (after-second (c .before .before .before .before .before .before)) (c .before .before .put2 .ensures)
+returns c = last-put (after-second (at-second (c .before .before .before))) (c .before .before .put2 .ensures)
 
 pub print-pair-spec : {M : Type 1} → statement M
 print-pair-spec =

@@ -11,6 +11,10 @@ use Rattle.lines.specs.Refusals.{refusalLines, refusal-length}
 use Rattle.lines.proofs.refusal.print_refusal.Statement.{statement}
 use Rattle.lines.proofs.refusal.print_refusal.Tie as tie
 
+-- the start, from the call of `print_pair`
+abbrev at-start : tie.After-print-pair-arg2 → tie.Start
+at-start c = c .before .before .before
+
 room : (c : tie.Start) → length (refusalLines (c .args .number) (c .args .place)) ≤ length (c .args .out .now)
 room c = omega (arith, c .pre, refusal-length (c .args .number) (c .args .place) (c .fits .number .fits) (c .fits .place .fits))
 
@@ -19,14 +23,14 @@ slice-aggregate-print-pair c = search needs
 
 print-pair-requires : tie.Need-print-pair-requires
 unfolding line text space newline
-print-pair-requires c κs = omega (arith, room (c .before .before .before))
+print-pair-requires c κs = omega (arith, room (at-start c))
 
 same-length : tie.Need-same-length
 same-length c = search needs
 
 returns : tie.Need-returns
 unfolding line text space newline
-returns c = put-wrote (room (c .before .before .before .before .before .before)) (c .before .before .print-pair .ensures)
+returns c = put-wrote (room (at-start (c .before .before .before))) (c .before .before .print-pair .ensures)
 
 pub print-refusal-spec : {M : Type 1} → statement M
 print-refusal-spec =

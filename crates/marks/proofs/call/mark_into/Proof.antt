@@ -6,6 +6,13 @@ use borrow.Author.Needs.{needs}
 use Rattle.marks.proofs.call.mark_into.Statement.{statement}
 use Rattle.marks.proofs.call.mark_into.Tie as tie
 
+-- the start and the test of the length, from the calls after them
+abbrev at-start : tie.After-marks-length → tie.Start
+at-start c = c .before .before .before
+
+abbrev at-fits : tie.After-mark-all → tie.Else1
+at-fits c = c .before .before
+
 marks-length-requires : tie.Need-marks-length-requires
 marks-length-requires c κs =
     let start = c .before .before in
@@ -25,10 +32,10 @@ same-length c = search needs
 
 returns-2 : tie.Need-returns-2
 returns-2 c =
-    let a = c .before .before .before .before .before .before .before .before .args in
-    let need = c .before .before .before .before .before .marks-length in
+    let a = at-start (at-fits (c .before .before) .before) .args in
+    let need = at-fits (c .before .before) .before .marks-length in
     let did = c .before .before .mark-all in
-    marks-written (a .m) (a .n) (a .cells .now) (a .marks .now) (need .result) (need .ensures) (c .before .before .before .before .if1 .left) (did .result) (did .last .1 .1 .1 .0) (did .ensures)
+    marks-written (a .m) (a .n) (a .cells .now) (a .marks .now) (need .result) (need .ensures) (at-fits (c .before .before) .if1 .left) (did .result) (did .last .1 .1 .1 .0) (did .ensures)
 
 pub mark-into-spec : {M : Type 1} → statement M
 mark-into-spec =

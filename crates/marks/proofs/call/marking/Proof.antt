@@ -7,6 +7,13 @@ use borrow.Author.Needs.{needs}
 use Rattle.marks.proofs.call.marking.Statement.{statement}
 use Rattle.marks.proofs.call.marking.Tie as tie
 
+-- the start and the call of `bare_cells`, from the calls after them
+abbrev at-start : tie.After-bare-cells → tie.Start
+at-start c = c .before .before .before
+
+abbrev at-bare : tie.After-mark-into-arg → tie.After-bare-cells
+at-bare c = c .before .before .before
+
 bare-cells-requires : tie.Need-bare-cells-requires
 bare-cells-requires c κs = search needs
 
@@ -17,7 +24,7 @@ enum-told : tie.Need-enum-told
 enum-told c = search needs
 
 mark-into-requires : tie.Need-mark-into-requires
-mark-into-requires c κs = bare-accepted _ _ _ (sym (ap (outcomeAs tt) (c .before .enum-told .given .1)) ∙ c .before .before .before .bare-cells .ensures)
+mark-into-requires c κs = bare-accepted _ _ _ (sym (ap (outcomeAs tt) (c .before .enum-told .given .1)) ∙ at-bare c .bare-cells .ensures)
 
 returns : tie.Need-returns
 returns c = marking-refused _ _ _ _ _ _ (sym (ap (outcomeAs tt) (c .before .judged .given .1)) ∙ c .before .before .before .bare-cells .ensures)
@@ -27,9 +34,9 @@ same-length c = search needs
 
 returns-2 : tie.Need-returns-2
 returns-2 c =
-    let a = c .before .before .before .before .before .before .before .before .before .args in
+    let a = at-start (at-bare (c .before .before .before)) .args in
     c .before .before .mark-into .ensures
-    ∙ marking-judged (a .m) (a .n) (a .cells .now) (a .marks .now) (sym (ap (outcomeAs tt) (c .before .before .before .before .enum-told .given .1)) ∙ c .before .before .before .before .before .before .bare-cells .ensures)
+    ∙ marking-judged (a .m) (a .n) (a .cells .now) (a .marks .now) (sym (ap (outcomeAs tt) (c .before .before .before .before .enum-told .given .1)) ∙ at-bare (c .before .before .before) .bare-cells .ensures)
 
 pub marking-spec : {M : Type 1} → statement M
 marking-spec =

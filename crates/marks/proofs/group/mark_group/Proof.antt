@@ -10,6 +10,16 @@ use borrow.Author.Needs.{needs}
 use Rattle.marks.proofs.group.mark_group.Statement.{statement}
 use Rattle.marks.proofs.group.mark_group.Tie as tie
 
+-- the start, the test of the group and the classes' call, each from the next
+abbrev at-start : tie.Else1 → tie.Start
+at-start c = c .before .before .before .before .before
+
+abbrev at-several : tie.After-firsts → tie.Else1
+at-several c = c .before .before .before
+
+abbrev at-classes : tie.After-firsts2 → tie.After-group-classes
+at-classes c = c .before .before .before .before .before
+
 returns : tie.Need-returns
 returns c = mark-empty _ _ _ _ _ (c .if1 .taken)
 
@@ -17,7 +27,7 @@ slice-aggregate-group-classes : tie.Need-slice-aggregate-group-classes
 slice-aggregate-group-classes c = search needs
 
 group-classes-requires : tie.Need-group-classes-requires
-group-classes-requires c κs = let pre = c .before .before .before .before .before .before .before .before .pre in (pre .0, pre .1, pre .2)
+group-classes-requires c κs = let pre = at-start (at-several c) .pre in (pre .0, pre .1, pre .2)
 
 same-length : tie.Need-same-length
 same-length c = search needs
@@ -27,12 +37,12 @@ same-length-2 c = search needs
 
 returns-2 : tie.Need-returns-2
 unfolding multiplicity
-returns-2 c = let counted = c .before .before .before .before .before .before .group-classes in mark-over _ _ _ _ _ (counted .result) (counted .ensures .answer) (c .if2 .taken)
+returns-2 c = let counted = at-classes (c .before) .group-classes in mark-over _ _ _ _ _ (counted .result) (counted .ensures .answer) (c .if2 .taken)
 
 few-mark-requires : tie.Need-few-mark-requires
 few-mark-requires c κs =
-    let pre = c .before .before .before .before .before .before .before .before .before .before .before .before .before .before .before .pre in
-    (omega (arith, c .before .before .before .before .before .before .before .before .before .before .if1 .left), lt-of-lt-of-le (pre .2) (pow-mono (pre .0 .inputs)), pre .3)
+    let pre = at-start (at-several (at-classes (c .before) .before)) .pre in
+    (omega (arith, at-several (at-classes (c .before) .before) .if1 .left), lt-of-lt-of-le (pre .2) (pow-mono (pre .0 .inputs)), pre .3)
 
 same-length-3 : tie.Need-same-length-3
 same-length-3 c = search needs
@@ -43,9 +53,10 @@ same-length-4 c = search needs
 returns-3 : tie.Need-returns-3
 unfolding multiplicity
 returns-3 c =
-    let counted = c .before .before .before .before .before .before .before .group-classes in
-    c .few-mark .ensures (c .before .before .before .before .before .before .before .before .before .before .before .before .before .before .before .before .args .n) (c .before .before .before .before .before .before .before .before .before .before .before .before .before .before .before .before .pre .2)
-    ∙ mark-few _ _ _ _ _ (counted .result) (counted .ensures .answer) (c .before .before .before .before .before .before .before .before .before .before .before .if1 .left) (c .before .if2 .left)
+    let classes = at-classes (c .before .before) in
+    let counted = classes .group-classes in
+    c .few-mark .ensures (at-start (at-several (classes .before)) .args .n) (at-start (at-several (classes .before)) .pre .2)
+    ∙ mark-few _ _ _ _ _ (counted .result) (counted .ensures .answer) (at-several (classes .before) .if1 .left) (c .before .if2 .left)
 
 pub mark-group-spec : {M : Type 1} → statement M
 mark-group-spec =

@@ -1,4 +1,5 @@
 -- `marks::parts::next_part` meets its contract, by the law of the next part. Assumes nothing.
+use Rattle.radix.specs.Widths.{mostMembers}
 use Rattle.marks.specs.Parts.{next-part}
 use borrow.Author.Needs.{needs}
 use Rattle.marks.proofs.parts.next_part.Statement.{statement}
@@ -11,7 +12,7 @@ sub-result : tie.Need-sub-result
 sub-result c = search needs
 
 returns : tie.Need-returns
-returns c = next-part 16 (c .args .all) (c .args .part) (c .pre .0) (c .pre .1) (c .pre .2)
+returns c = next-part mostMembers (c .args .all) (c .args .part) (c .pre .0) (c .pre .1) (c .pre .2)
 
 pub next-part-spec : {M : Type 1} → statement M
 next-part-spec = tie.close (tie.spec add-result sub-result returns)

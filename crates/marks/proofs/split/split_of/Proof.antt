@@ -3,6 +3,7 @@
 use Prim.Native.Nat.{_-_}
 use mathlib.Core.Path.{sym, _∙_}
 use native.Mathlib.Omega.{arith}
+use Rattle.radix.specs.Widths.{mostMembers}
 use Rattle.marks.specs.Stored.{held}
 use Rattle.marks.proofs.Searching.{Sought, sought-none, sought-all, here, sought-found, sought-next}
 use Rattle.marks.proofs.split.split_of.Statement.{statement}
@@ -14,70 +15,77 @@ Inv-loop marks g rest first part₀ part = Sought (held marks) g rest part
 abbrev μ-loop : tie.MeasureT-loop
 μ-loop marks g rest first part₀ part = rest - part
 
+-- the call of `without_first` from the loop's head, and the start from that call
+abbrev at-start : tie.After-without-first Inv-loop μ-loop → tie.Start Inv-loop μ-loop
+at-start c = c .before .before
+
+abbrev at-first : tie.At-loop Inv-loop μ-loop → tie.After-without-first Inv-loop μ-loop
+at-first c = c .before
+
 without-first-requires : tie.Need-without-first-requires Inv-loop μ-loop
 without-first-requires c κs = c .before .pre .0
 
 sub-first : tie.Need-sub-first Inv-loop μ-loop
-sub-first c = omega (arith, c .without-first .ensures 16 (c .before .before .pre .1))
+sub-first c = omega (arith, c .without-first .ensures mostMembers (at-start c .pre .1))
 
 loop-holds : tie.Need-loop-holds Inv-loop μ-loop
 loop-holds c =
-    let start = c .before .before in
+    let start = at-start c in
     let w = c .without-first in
     sought-none (held (start .args .marks .now)) (start .args .g) (w .result) (start .pre .0) (w .ensures)
 
 add-both-two : tie.Need-add-both-two Inv-loop μ-loop
 add-both-two c =
-    let start = c .before .before .before .before in
+    let start = at-start (at-first (c .before)) in
     let l = c .before .loop in
-    let w = c .before .before .without-first in
-    omega (arith, here (held (start .args .marks .now)) (start .args .g) (w .result) (start .pre .0) (w .ensures) (l .part) (l .inv) (c .loop-test .taken) 16 (start .pre .1))
+    let w = at-first (c .before) .without-first in
+    omega (arith, here (held (start .args .marks .now)) (start .args .g) (w .result) (start .pre .0) (w .ensures) (l .part) (l .inv) (c .loop-test .taken) mostMembers (start .pre .1))
 
 both-two-requires : tie.Need-both-two-requires Inv-loop μ-loop
 both-two-requires c κs =
-    let start = c .before .before .before .before in
+    let start = at-start (at-first (c .before)) in
     let l = c .before .loop in
-    let w = c .before .before .without-first in
-    let a = here (held (start .args .marks .now)) (start .args .g) (w .result) (start .pre .0) (w .ensures) (l .part) (l .inv) (c .loop-test .taken) 16 (start .pre .1) in
+    let w = at-first (c .before) .without-first in
+    let a = here (held (start .args .marks .now)) (start .args .g) (w .result) (start .pre .0) (w .ensures) (l .part) (l .inv) (c .loop-test .taken) mostMembers (start .pre .1) in
     (a .0, a .1, start .pre .2)
 
 add-result : tie.Need-add-result Inv-loop μ-loop
 add-result c =
-    let start = c .before .before .before .before .before .before in
+    let start = at-start (at-first (c .before .before .before)) in
     let l = c .before .before .before .loop in
-    let w = c .before .before .before .before .without-first in
-    omega (arith, here (held (start .args .marks .now)) (start .args .g) (w .result) (start .pre .0) (w .ensures) (l .part) (l .inv) (c .before .before .loop-test .taken) 16 (start .pre .1))
+    let w = at-first (c .before .before .before) .without-first in
+    omega (arith, here (held (start .args .marks .now)) (start .args .g) (w .result) (start .pre .0) (w .ensures) (l .part) (l .inv) (c .before .before .loop-test .taken) mostMembers (start .pre .1))
 
 returns : tie.Need-returns Inv-loop μ-loop
 returns c =
-    let start = c .before .before .before .before .before .before in
+    let start = at-start (at-first (c .before .before .before)) in
     let l = c .before .before .before .loop in
-    let w = c .before .before .before .before .without-first in
+    let w = at-first (c .before .before .before) .without-first in
     sought-found (held (start .args .marks .now)) (start .args .g) (w .result) (start .pre .0) (w .ensures) (l .part) (l .inv) (c .before .before .loop-test .taken) (sym (c .before .both-two .ensures) ∙ c .if1 .taken)
 
 next-part-requires : tie.Need-next-part-requires Inv-loop μ-loop
 next-part-requires c κs =
-    let start = c .before .before .before .before .before .before in
+    let start = at-start (at-first (c .before .before .before)) in
     let l = c .before .before .before .loop in
-    let w = c .before .before .before .before .without-first in
-    (omega (arith, w .ensures 16 (start .pre .1)), c .before .before .loop-test .taken, l .inv .is-part)
+    let w = at-first (c .before .before .before) .without-first in
+    (omega (arith, w .ensures mostMembers (start .pre .1)), c .before .before .loop-test .taken, l .inv .is-part)
 
 loop-less : tie.Need-loop-less Inv-loop μ-loop
 loop-less c = omega (arith, c .next-part .ensures .above, c .before .before .before .loop-test .taken)
 
 loop-again : tie.Need-loop-again Inv-loop μ-loop
 loop-again c =
-    let start = c .before .before .before .before .before .before .before in
+    let start = at-start (at-first (c .before .before .before .before)) in
     let l = c .before .before .before .before .loop in
-    let w = c .before .before .before .before .before .without-first in
+    let w = at-first (c .before .before .before .before) .without-first in
     sought-next (held (start .args .marks .now)) (start .args .g) (w .result) (start .pre .0) (w .ensures) (l .part) (l .inv) (c .before .before .before .loop-test .taken) (sym (c .before .before .both-two .ensures) ∙ c .before .if1 .left)
     (c .next-part .result) (c .next-part .ensures)
 
 returns-2 : tie.Need-returns-2 Inv-loop μ-loop
 returns-2 c =
-    let start = c .before .before .before .before in
+    let start = at-start (at-first (c .before)) in
     let l = c .before .loop in
-    let w = c .before .before .without-first in
+    let w = at-first (c .before) .without-first in
     sought-all (held (start .args .marks .now)) (start .args .g) (w .result) (start .pre .0) (w .ensures) (l .part) (l .inv) (c .loop-test .left)
 
 pub split-of-spec : {M : Type 1} → statement M

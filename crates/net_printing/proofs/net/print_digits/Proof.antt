@@ -4,7 +4,7 @@ use Prim.Native.Nat.{ℕ, _+_, _-_, _≤_, _<_}
 use mathlib.Core.List.{List, map}
 use native.Mathlib.Omega.{arith}
 use lib.ListN.{length, getD, set, drop, length-drop, length-map}
-use Rattle.rules.specs.Text.{digitByte}
+use Rattle.rules.specs.Text.{digitByte, zeroByte}
 use Rattle.laws.specs.Places.{map-at}
 use Rattle.lines.specs.Put.{Left, all-left, next-left, past-left}
 use Rattle.net_printing.proofs.net.print_digits.Statement.{statement}
@@ -16,12 +16,19 @@ Inv-loop digits out₀ at i₀ p₀ out i p = (i ≤ length digits) × Left out 
 abbrev μ-loop : tie.MeasureT-loop
 μ-loop digits out₀ at i₀ p₀ out i p = length digits - i
 
+-- the start from the loop's head, and that head from a turn's read
+abbrev at-start : tie.At-loop Inv-loop μ-loop → tie.Start Inv-loop μ-loop
+at-start c = c .before
+
+abbrev at-loop : tie.After-shared-slice-known Inv-loop μ-loop → tie.At-loop Inv-loop μ-loop
+at-loop c = c .before .before
+
 -- what is left, by its length
 room : (digits : List ℕ) (i p n : ℕ) → p + length (drop i (map digitByte digits)) ≤ n → p + (length digits - i) ≤ n
 room digits i p n h = rw (length-drop, length-map) at h
 
 turn : (digits : List ℕ) (i : ℕ) {out : List ℕ} {p : ℕ} {out₀ : List ℕ} {at : ℕ} {t : List ℕ} → i < length digits → Left out p (drop i (map digitByte digits)) out₀ at t
-    → Left (set out p (48 + getD digits i 0)) (p + 1) (drop (i + 1) (map digitByte digits)) out₀ at t
+    → Left (set out p (zeroByte + getD digits i 0)) (p + 1) (drop (i + 1) (map digitByte digits)) out₀ at t
 unfolding digitByte
 turn digits i h l = rw (map-at digitByte digits i 0 0 h) at (next-left (map digitByte digits) i (rw length-map h) l)
 
@@ -32,28 +39,28 @@ shared-slice-read-out : tie.Need-shared-slice-read-out Inv-loop μ-loop
 shared-slice-read-out c = omega arith
 
 add-out : tie.Need-add-out Inv-loop μ-loop
-add-out c = omega (arith, c .before .before .before .pre .1 (c .before .before .loop .i) (c .before .loop-test .taken))
+add-out c = omega (arith, at-start (at-loop c) .pre .1 (at-loop c .loop .i) (c .before .loop-test .taken))
 
 slice-write-out : tie.Need-slice-write-out Inv-loop μ-loop
-slice-write-out c = omega (arith, room (c .before .before .before .args .digits .now) (c .before .before .loop .i) (c .before .before .loop .p) (length (c .before .before .loop .out)) (c .before .before .loop .inv .1 .room))
+slice-write-out c = omega (arith, room (at-start (at-loop c) .args .digits .now) (at-loop c .loop .i) (at-loop c .loop .p) (length (at-loop c .loop .out)) (at-loop c .loop .inv .1 .room))
 
 add-i : tie.Need-add-i Inv-loop μ-loop
 add-i c = omega arith
 
 add-p : tie.Need-add-p Inv-loop μ-loop
-add-p c = omega (arith, room (c .before .before .before .args .digits .now) (c .before .before .loop .i) (c .before .before .loop .p) (length (c .before .before .loop .out)) (c .before .before .loop .inv .1 .room))
+add-p c = omega (arith, room (at-start (at-loop c) .args .digits .now) (at-loop c .loop .i) (at-loop c .loop .p) (length (at-loop c .loop .out)) (at-loop c .loop .inv .1 .room))
 
 loop-less : tie.Need-loop-less Inv-loop μ-loop
 loop-less c = omega arith
 
 loop-again : tie.Need-loop-again Inv-loop μ-loop
-loop-again c = (omega arith, turn (c .before .before .before .args .digits .now) (c .before .before .loop .i) (c .before .loop-test .taken) (c .before .before .loop .inv .1))
+loop-again c = (omega arith, turn (at-start (at-loop c) .args .digits .now) (at-loop c .loop .i) (c .before .loop-test .taken) (at-loop c .loop .inv .1))
 
 same-length : tie.Need-same-length Inv-loop μ-loop
 same-length c = c .before .loop .inv .1 .kept
 
 returns : tie.Need-returns Inv-loop μ-loop
-returns c = past-left (map digitByte (c .before .before .args .digits .now)) (c .before .loop .i) (rw length-map (c .loop-test .left)) (c .before .loop .inv .1)
+returns c = past-left (map digitByte (at-start (c .before) .args .digits .now)) (c .before .loop .i) (rw length-map (c .loop-test .left)) (c .before .loop .inv .1)
 
 pub print-digits-spec : {M : Type 1} → statement M
 print-digits-spec =

@@ -15,6 +15,26 @@ use Rattle.lines.specs.Lines.{line-three}
 use Rattle.net_printing.proofs.net.print_gate.Statement.{statement}
 use Rattle.net_printing.proofs.net.print_gate.Tie as tie
 
+-- the start and each call, from the next
+abbrev at-start : tie.After-right → tie.Start
+at-start c = c .before .before .before .before
+
+abbrev at-first : tie.After-slice-known2 → tie.After-print-wire
+at-first c = c .before .before
+
+abbrev at-second : tie.After-print-gate-table-arg → tie.After-print-wire2
+at-second c = c .before .before .before
+
+abbrev at-table : tie.After-put-arg → tie.After-print-gate-table
+at-table c = c .before .before .before
+
+-- the start from the two wires
+abbrev first-start : tie.After-print-wire → tie.Start
+first-start c = at-start (c .before .before .before)
+
+abbrev second-start : tie.After-print-wire2 → tie.Start
+second-start c = first-start (at-first (c .before .before .before))
+
 abbrev left : tie.Start → List ℕ
 left c = referenceIn (c .args .s .now) (c .args .h) (getD (c .args .net .left) (c .args .k) 0)
 
@@ -33,60 +53,62 @@ unfolding printedGate gateOf
 start c = parts-left (line-three (left c) (right c) (digits c)) (c .pre .3)
 
 first : (c : tie.After-print-wire)
-    → Put (c .before .before .before .before .before .before .before .args .out .now) (c .before .before .before .before .before .before .before .args .at) (left (c .before .before .before .before .before .before .before) ++ (space ∷ [])) (c .print-wire .last .1 .1 .1 .0) (c .print-wire .result)
+    → Put (first-start c .args .out .now) (first-start c .args .at) (left (first-start c) ++ (space ∷ [])) (c .print-wire .last .1 .1 .1 .0) (c .print-wire .result)
 first c = rw (c .before .before .wide .ensures .0) at (c .print-wire .ensures)
 
 after-first : (c : tie.After-print-wire)
-    → Rest (c .before .before .before .before .before .before .before) (c .print-wire .last .1 .1 .1 .0) (c .print-wire .result) ((right (c .before .before .before .before .before .before .before) ++ (space ∷ [])) ++ (digits (c .before .before .before .before .before .before .before) ++ (newline ∷ [])))
-after-first c = put-left (start (c .before .before .before .before .before .before .before)) (first c)
+    → Rest (first-start c) (c .print-wire .last .1 .1 .1 .0) (c .print-wire .result) ((right (first-start c) ++ (space ∷ [])) ++ (digits (first-start c) ++ (newline ∷ [])))
+after-first c = put-left (start (first-start c)) (first c)
 
 second : (c : tie.After-print-wire2)
-    → Put (c .before .before .before .before .before .print-wire .last .1 .1 .1 .0) (c .before .before .before .before .before .print-wire .result) (right (c .before .before .before .before .before .before .before .before .before .before .before .before) ++ (space ∷ [])) (c .print-wire2 .last .1 .1 .1 .0) (c .print-wire2 .result)
+    → Put (at-first (c .before .before .before) .print-wire .last .1 .1 .1 .0) (at-first (c .before .before .before) .print-wire .result) (right (second-start c) ++ (space ∷ [])) (c .print-wire2 .last .1 .1 .1 .0) (c .print-wire2 .result)
 second c = rw (c .before .before .wide2 .ensures .0) at (c .print-wire2 .ensures)
 
-after-second : (c : tie.After-print-wire2) → Rest (c .before .before .before .before .before .before .before .before .before .before .before .before) (c .print-wire2 .last .1 .1 .1 .0) (c .print-wire2 .result) (digits (c .before .before .before .before .before .before .before .before .before .before .before .before) ++ (newline ∷ []))
-after-second c = put-left (after-first (c .before .before .before .before .before)) (second c)
+after-second : (c : tie.After-print-wire2) → Rest (second-start c) (c .print-wire2 .last .1 .1 .1 .0) (c .print-wire2 .result) (digits (second-start c) ++ (newline ∷ []))
+after-second c = put-left (after-first (at-first (c .before .before .before))) (second c)
 
-after-table : (c : tie.After-print-gate-table) → Rest (c .before .before .before .before .before .before .before .before .before .before .before .before .before .before .before .before) (c .print-gate-table .last .1 .1 .0) (c .print-gate-table .result) (newline ∷ [])
-after-table c = put-left (after-second (c .before .before .before .before)) (c .print-gate-table .ensures)
+after-table : (c : tie.After-print-gate-table) → Rest (second-start (at-second (c .before))) (c .print-gate-table .last .1 .1 .0) (c .print-gate-table .result) (newline ∷ [])
+after-table c = put-left (after-second (at-second (c .before))) (c .print-gate-table .ensures)
 
 -- the form has room for the gate
 place : (c : tie.Start) → c .args .k < mostGates
 place c = omega (arith, c .pre .1 .count, c .pre .2)
 
 array-read-wide : tie.Need-array-read-wide
-array-read-wide c = place (c .before .before .before .before)
+array-read-wide c = place (at-start c)
 
 wide-requires : tie.Need-wide-requires
 wide-requires c κs = search needs
 
 print-wire-requires : tie.Need-print-wire-requires
 print-wire-requires c κs =
+    let entry = at-start (c .before .before) in
     rw (c .before .wide .ensures .0)
-    (c .before .before .before .before .before .before .pre .0, room-for (left (c .before .before .before .before .before .before) ++ (space ∷ [])) ((right (c .before .before .before .before .before .before) ++ (space ∷ [])) ++ (digits (c .before .before .before .before .before .before) ++ (newline ∷ []))) (start (c .before .before .before .before .before .before)))
+    (entry .pre .0, room-for (left entry ++ (space ∷ [])) ((right entry ++ (space ∷ [])) ++ (digits entry ++ (newline ∷ []))) (start entry))
 
 array-read-wide-2 : tie.Need-array-read-wide-2
-array-read-wide-2 c = place (c .before .before .before .before .before .before .before .before .before)
+array-read-wide-2 c = place (first-start (at-first c))
 
 wide-requires-2 : tie.Need-wide-requires-2
 wide-requires-2 c κs = search needs
 
 print-wire-requires-2 : tie.Need-print-wire-requires-2
 print-wire-requires-2 c κs =
-    rw (c .before .wide2 .ensures .0) (c .before .before .before .before .before .before .before .before .before .before .before .pre .0, room-for (right (c .before .before .before .before .before .before .before .before .before .before .before) ++ (space ∷ [])) (digits (c .before .before .before .before .before .before .before .before .before .before .before) ++ (newline ∷ [])) (after-first (c .before .before .before .before)))
+    let wire = at-first (c .before .before) in
+    rw (c .before .wide2 .ensures .0) (first-start wire .pre .0, room-for (right (first-start wire) ++ (space ∷ [])) (digits (first-start wire) ++ (newline ∷ [])) (after-first wire))
 
 print-gate-table-requires : tie.Need-print-gate-table-requires
-print-gate-table-requires c κs = (c .before .before .before .before .before .before .before .before .before .before .before .before .before .before .before .pre .1, c .before .before .before .before .before .before .before .before .before .before .before .before .before .before .before .pre .2, room-for (digits (c .before .before .before .before .before .before .before .before .before .before .before .before .before .before .before)) (newline ∷ []) (after-second (c .before .before .before)))
+print-gate-table-requires c κs = (second-start (at-second c) .pre .1, second-start (at-second c) .pre .2, room-for (digits (second-start (at-second c))) (newline ∷ []) (after-second (at-second c)))
 
 put-requires : tie.Need-put-requires
-put-requires c κs = room-byte (after-table (c .before .before .before))
+put-requires c κs = room-byte (after-table (at-table c))
 
 same-length : tie.Need-same-length
 same-length c = search needs
 
 returns : tie.Need-returns
 unfolding newline
-returns c = last-put (after-table (c .before .before .before .before .before .before)) (c .before .before .put .ensures)
+returns c = last-put (after-table (at-table (c .before .before .before))) (c .before .before .put .ensures)
 
 pub print-gate-spec : {M : Type 1} → statement M
 print-gate-spec =

@@ -12,6 +12,13 @@ use Rattle.net_printing.specs.Gates.{table-end, table-digit}
 use Rattle.net_printing.proofs.net.print_gate_table.Statement.{statement}
 use Rattle.net_printing.proofs.net.print_gate_table.Tie as tie
 
+-- the start, from the sums and from the call of `print_digits`
+abbrev at-start : tie.After-struct-known → tie.Start
+at-start c = c .before .before .before
+
+abbrev part-start : tie.After-print-digits-arg2 → tie.Start
+part-start c = at-start (c .before .before .before)
+
 end : (c : tie.Start) → c .args .k * (c .args .net .levels * c .args .net .levels) + c .args .net .levels * c .args .net .levels ≤ mostDigits
 end c = omega (arith, c .pre .0 .room, table-end (c .args .net) (c .pre .0) (c .args .k) (c .pre .1))
 
@@ -30,13 +37,13 @@ part net k =
     ap (λ (n : ℕ). take n (drop (k * size) (net .digits))) e
 
 mul-size : tie.Need-mul-size
-mul-size c = omega (arith, end (c .before .before .before))
+mul-size c = omega (arith, end (at-start c))
 
 mul-from : tie.Need-mul-from
-mul-from c = omega (arith, end (c .before .before .before))
+mul-from c = omega (arith, end (at-start c))
 
 add-end : tie.Need-add-end
-add-end c = omega (arith, end (c .before .before .before))
+add-end c = omega (arith, end (at-start c))
 
 sub-print-digits : tie.Need-sub-print-digits
 sub-print-digits c = search needs
@@ -45,18 +52,18 @@ part-print-digits-start : tie.Need-part-print-digits-start
 part-print-digits-start c = search needs
 
 part-print-digits-end : tie.Need-part-print-digits-end
-part-print-digits-end c = omega (arith, end (c .before .before .before .before), size (c .before .before .before .before))
+part-print-digits-end c = omega (arith, end (at-start (c .before)), size (at-start (c .before)))
 
 print-digits-requires : tie.Need-print-digits-requires
 print-digits-requires c κs =
-    rw (part (c .before .before .before .before .before .before .args .net) (c .before .before .before .before .before .before .args .k))
-    (c .before .before .before .before .before .before .pre .2, table-digit (c .before .before .before .before .before .before .args .net) (c .before .before .before .before .before .before .pre .0) (c .before .before .before .before .before .before .args .k) (c .before .before .before .before .before .before .pre .1))
+    rw (part (part-start c .args .net) (part-start c .args .k))
+    (part-start c .pre .2, table-digit (part-start c .args .net) (part-start c .pre .0) (part-start c .args .k) (part-start c .pre .1))
 
 same-length : tie.Need-same-length
 same-length c = search needs
 
 returns : tie.Need-returns
-returns c = rw (part (c .before .before .before .before .before .before .before .before .before .args .net) (c .before .before .before .before .before .before .before .before .before .args .k)) at (c .before .before .print-digits .ensures)
+returns c = rw (part (part-start (c .before .before .before) .args .net) (part-start (c .before .before .before) .args .k)) at (c .before .before .print-digits .ensures)
 
 pub print-gate-table-spec : {M : Type 1} → statement M
 print-gate-table-spec =

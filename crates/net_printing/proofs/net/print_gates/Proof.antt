@@ -15,22 +15,26 @@ Inv-loop s h net out₀ at gates k₀ p₀ out k p = Left out p (linesFrom s h n
 abbrev μ-loop : tie.MeasureT-loop
 μ-loop s h net out₀ at gates k₀ p₀ out k p = gates - k
 
+-- the start, from a turn's start
+abbrev at-start : tie.In-loop Inv-loop μ-loop → tie.Start Inv-loop μ-loop
+at-start c = c .before .before .before .before
+
 abbrev this : tie.In-loop Inv-loop μ-loop → List ℕ
-this c = gateLine (c .before .before .before .before .args .s .now) (c .before .before .before .before .args .h) (c .before .before .before .before .args .net) (c .before .loop .k)
+this c = gateLine (at-start c .args .s .now) (at-start c .args .h) (at-start c .args .net) (c .before .loop .k)
 
 abbrev later : tie.In-loop Inv-loop μ-loop → List ℕ
-later c = linesFrom (c .before .before .before .before .args .s .now) (c .before .before .before .before .args .h) (c .before .before .before .before .args .net) (c .before .loop .k + 1)
+later c = linesFrom (at-start c .args .s .now) (at-start c .args .h) (at-start c .args .net) (c .before .loop .k + 1)
 
 turn : (c : tie.In-loop Inv-loop μ-loop)
-    → Left (c .before .loop .out) (c .before .loop .p) (this c ++ later c) (c .before .before .before .before .args .out .now) (c .before .before .before .before .args .at)
-    (gateLines (c .before .before .before .before .args .s .now) (c .before .before .before .before .args .h) (c .before .before .before .before .args .net))
-turn c = rw (lines-next (c .before .before .before .before .args .s .now) (c .before .before .before .before .args .h) (c .before .before .before .before .args .net) (c .before .loop .k) (c .loop-test .taken)) at (c .before .loop .inv)
+    → Left (c .before .loop .out) (c .before .loop .p) (this c ++ later c) (at-start c .args .out .now) (at-start c .args .at)
+    (gateLines (at-start c .args .s .now) (at-start c .args .h) (at-start c .args .net))
+turn c = rw (lines-next (at-start c .args .s .now) (at-start c .args .h) (at-start c .args .net) (c .before .loop .k) (c .loop-test .taken)) at (c .before .loop .inv)
 
 loop-holds : tie.Need-loop-holds Inv-loop μ-loop
 loop-holds c = parts-left (sym (lines-all (c .before .before .args .s .now) (c .before .before .args .h) (c .before .before .args .net))) (c .before .before .pre .2)
 
 print-gate-requires : tie.Need-print-gate-requires Inv-loop μ-loop
-print-gate-requires c κs = (c .before .before .before .before .before .pre .0, c .before .before .before .before .before .pre .1, c .before .loop-test .taken, room-for (this (c .before)) (later (c .before)) (turn (c .before)))
+print-gate-requires c κs = (at-start (c .before) .pre .0, at-start (c .before) .pre .1, c .before .loop-test .taken, room-for (this (c .before)) (later (c .before)) (turn (c .before)))
 
 add-k : tie.Need-add-k Inv-loop μ-loop
 add-k c = omega arith

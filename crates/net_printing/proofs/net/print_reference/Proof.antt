@@ -5,27 +5,38 @@ use Rattle.net_printing.specs.Gates.{reference-name, reference-gate}
 use Rattle.net_printing.proofs.net.print_reference.Statement.{statement}
 use Rattle.net_printing.proofs.net.print_reference.Tie as tie
 
+-- the start, from the test
+abbrev at-start : tie.After-slice-known → tie.Start
+at-start c = c .before .before
+
 print-name-requires : tie.Need-print-name-requires
 print-name-requires c κs =
-    (c .before .before .before .before .pre .0, c .before .if1 .taken, rw (reference-name (c .before .before .before .before .args .s .now) (c .before .before .before .before .args .h) (c .before .before .before .before .args .r) (c .before .if1 .taken)) at (c .before .before .before .before .pre .1))
+    let start = at-start (c .before .before) in
+    (start .pre .0, c .before .if1 .taken, rw (reference-name (start .args .s .now) (start .args .h) (start .args .r) (c .before .if1 .taken)) at (start .pre .1))
 
 same-length : tie.Need-same-length
 same-length c = search needs
 
 returns : tie.Need-returns
-returns c = rw (reference-name (c .before .before .before .before .before .before .before .args .s .now) (c .before .before .before .before .before .before .before .args .h) (c .before .before .before .before .before .before .before .args .r) (c .before .before .before .before .if1 .taken)) (c .before .before .print-name .ensures)
+returns c =
+    let start = at-start (c .before .before .before .before .before) in
+    rw (reference-name (start .args .s .now) (start .args .h) (start .args .r) (c .before .before .before .before .if1 .taken)) (c .before .before .print-name .ensures)
 
 add-print-decimal : tie.Need-add-print-decimal
 add-print-decimal c = search needs
 
 print-decimal-requires : tie.Need-print-decimal-requires
-print-decimal-requires c κs = rw (reference-gate (c .before .before .before .before .args .s .now) (c .before .before .before .before .args .h) (c .before .before .before .before .args .r) (c .before .if1 .left)) at (c .before .before .before .before .pre .1)
+print-decimal-requires c κs =
+    let start = at-start (c .before .before) in
+    rw (reference-gate (start .args .s .now) (start .args .h) (start .args .r) (c .before .if1 .left)) at (start .pre .1)
 
 same-length-2 : tie.Need-same-length-2
 same-length-2 c = search needs
 
 returns-2 : tie.Need-returns-2
-returns-2 c = rw (reference-gate (c .before .before .before .before .before .before .before .args .s .now) (c .before .before .before .before .before .before .before .args .h) (c .before .before .before .before .before .before .before .args .r) (c .before .before .before .before .if1 .left)) (c .before .before .print-decimal .ensures)
+returns-2 c =
+    let start = at-start (c .before .before .before .before .before) in
+    rw (reference-gate (start .args .s .now) (start .args .h) (start .args .r) (c .before .before .before .before .if1 .left)) (c .before .before .print-decimal .ensures)
 
 pub print-reference-spec : {M : Type 1} → statement M
 print-reference-spec =

@@ -9,6 +9,13 @@ use Rattle.lines.specs.Put.{Left, all-left, put-left, room-for, room-byte, last
 use Rattle.net_printing.proofs.net.print_wire.Statement.{statement}
 use Rattle.net_printing.proofs.net.print_wire.Tie as tie
 
+-- the start and each call, from the next
+abbrev at-start : tie.After-print-reference-arg → tie.Start
+at-start c = c .before .before .before
+
+abbrev at-reference : tie.After-put-arg → tie.After-print-reference
+at-reference c = c .before .before .before
+
 abbrev field : tie.Start → List ℕ
 field c = referenceIn (c .args .s .now) (c .args .h) (c .args .r)
 
@@ -16,21 +23,21 @@ start : (c : tie.Start) → Left (c .args .out .now) (c .args .at) (field c ++ (
 start c = all-left (c .pre .1)
 
 after-reference : (c : tie.After-print-reference)
-    → Left (c .print-reference .last .1 .1 .1 .0) (c .print-reference .result) (space ∷ []) (c .before .before .before .before .args .out .now) (c .before .before .before .before .args .at) (field (c .before .before .before .before) ++ (space ∷ []))
-after-reference c = put-left (start (c .before .before .before .before)) (c .print-reference .ensures)
+    → Left (c .print-reference .last .1 .1 .1 .0) (c .print-reference .result) (space ∷ []) (at-start (c .before) .args .out .now) (at-start (c .before) .args .at) (field (at-start (c .before)) ++ (space ∷ []))
+after-reference c = put-left (start (at-start (c .before))) (c .print-reference .ensures)
 
 print-reference-requires : tie.Need-print-reference-requires
-print-reference-requires c κs = (c .before .before .before .pre .0, room-for (field (c .before .before .before)) (space ∷ []) (start (c .before .before .before)))
+print-reference-requires c κs = (at-start c .pre .0, room-for (field (at-start c)) (space ∷ []) (start (at-start c)))
 
 put-requires : tie.Need-put-requires
-put-requires c κs = room-byte (after-reference (c .before .before .before))
+put-requires c κs = room-byte (after-reference (at-reference c))
 
 same-length : tie.Need-same-length
 same-length c = search needs
 
 returns : tie.Need-returns
 unfolding space
-returns c = last-put (after-reference (c .before .before .before .before .before .before)) (c .before .before .put .ensures)
+returns c = last-put (after-reference (at-reference (c .before .before .before))) (c .before .before .put .ensures)
 
 pub print-wire-spec : {M : Type 1} → statement M
 print-wire-spec = tie.close (tie.spec print-reference-requires put-requires same-length returns)

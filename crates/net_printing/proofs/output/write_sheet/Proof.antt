@@ -5,6 +5,13 @@ use Rattle.net_printing.specs.Output.{sheet-short, sheet-copied}
 use Rattle.net_printing.proofs.output.write_sheet.Statement.{statement}
 use Rattle.net_printing.proofs.output.write_sheet.Tie as tie
 
+-- the start and the test of the length, from the calls after them
+abbrev at-start : tie.After-print-net → tie.Start
+at-start c = c .before .before .before .before
+
+abbrev at-fits : tie.After-copy-arg → tie.Else1
+at-fits c = c .before .before .before
+
 slice-aggregate-print-net : tie.Need-slice-aggregate-print-net
 slice-aggregate-print-net c = search needs
 
@@ -21,7 +28,7 @@ part-text-start : tie.Need-part-text-start
 part-text-start c = search needs
 
 part-text-end : tie.Need-part-text-end
-part-text-end c = omega (arith, c .before .before .before .print-net .ensures .length, c .before .before .before .before .before .before .before .pre .2, c .before .before .before .print-net .kept)
+part-text-end c = omega (arith, c .before .before .before .print-net .ensures .length, at-start (c .before .before .before) .pre .2, c .before .before .before .print-net .kept)
 
 copy-requires : tie.Need-copy-requires
 copy-requires c κs = search needs
@@ -31,7 +38,7 @@ same-length c = search needs
 
 returns-2 : tie.Need-returns-2
 returns-2 c =
-    sheet-copied _ _ _ _ _ (c .before .before .before .before .before .before .before .before .print-net .ensures) (c .before .before .before .before .before .before .if1 .left) _ _ (c .before .before .copy .ensures)
+    sheet-copied _ _ _ _ _ (at-fits (c .before .before .before) .before .before .print-net .ensures) (at-fits (c .before .before .before) .if1 .left) _ _ (c .before .before .copy .ensures)
 
 pub write-sheet-spec : {M : Type 1} → statement M
 write-sheet-spec =

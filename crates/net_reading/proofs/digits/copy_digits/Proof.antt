@@ -5,6 +5,7 @@ use mathlib.Core.Path.{_≡_, ap, _∙_}
 use native.Mathlib.Omega.{arith}
 use lib.ListN.{set, getD}
 use lib.Seq.{paste, paste-zero}
+use Rattle.rules.specs.Text.{zeroByte}
 use Rattle.net_reading.specs.Digits.{digitsAt, digits-copied}
 use Rattle.net_reading.proofs.digits.copy_digits.Statement.{statement}
 use Rattle.net_reading.proofs.digits.copy_digits.Tie as tie
@@ -44,7 +45,7 @@ loop-again c =
     let a = c .before .before .before .args in
     let i = c .before .before .loop .i in
     let pre = c .before .before .before .pre in (
-      ap (λ l. set l (a .from + i) (getD (a .s .now) (a .at + i) 0 - 48)) (c .before .before .loop .inv .0)
+      ap (λ l. set l (a .from + i) (getD (a .s .now) (a .at + i) 0 - zeroByte)) (c .before .before .loop .inv .0)
           ∙ digits-copied (a .s .now) (a .at) (a .count) (a .digits .now) (a .from) i (pre .0) (omega (arith, pre .1, pre .2)) (c .before .loop-test .taken),
       omega arith,
     )

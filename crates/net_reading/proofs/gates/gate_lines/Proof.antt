@@ -15,6 +15,10 @@ Inv-loop s at header inputs net₀ place₀ k₀ net place k = Building s at hea
 abbrev μ-loop : tie.MeasureT-loop
 μ-loop s at header inputs net₀ place₀ k₀ net place k = inputs - k
 
+-- the line's read, from the turn's end
+abbrev at-line : tie.After-net Inv-loop μ-loop → tie.After-gate-line Inv-loop μ-loop
+at-line c = c .before .before .before .before
+
 no-gates-requires : tie.Need-no-gates-requires Inv-loop μ-loop
 no-gates-requires c κs = tt
 
@@ -40,10 +44,10 @@ add-k : tie.Need-add-k Inv-loop μ-loop
 add-k c = omega arith
 
 loop-less : tie.Need-loop-less Inv-loop μ-loop
-loop-less c = omega (arith, c .before .before .before .before .before .loop-test .taken)
+loop-less c = omega (arith, at-line c .before .loop-test .taken)
 
 loop-again : tie.Need-loop-again Inv-loop μ-loop
-loop-again c = build-next _ _ _ _ _ _ (c .before .before .before .before .before .before .loop .inv) (c .before .before .before .before .before .loop-test .taken) _ (c .before .before .before .before .gate-line .ensures) _ _ (c .before .before .step .given .1)
+loop-again c = build-next _ _ _ _ _ _ (at-line c .before .before .loop .inv) (at-line c .before .loop-test .taken) _ (at-line c .gate-line .ensures) _ _ (c .before .before .step .given .1)
 
 returns-2 : tie.Need-returns-2 Inv-loop μ-loop
 returns-2 c = build-done _ _ _ _ _ _ (c .before .loop .inv) (c .loop-test .left)

@@ -5,6 +5,13 @@ use Rattle.net_reading.specs.Answers.{gates-back, gates-over, gates-clos
 use Rattle.net_reading.proofs.net.from_gates.Statement.{statement}
 use Rattle.net_reading.proofs.net.from_gates.Tie as tie
 
+-- the start from the gates' read, and that read from its end
+abbrev at-start : tie.After-gate-lines → tie.Start
+at-start c = c .before .before
+
+abbrev at-gates : tie.After-step2 → tie.After-gate-lines
+at-gates c = c .before .before .before
+
 gate-lines-requires : tie.Need-gate-lines-requires
 gate-lines-requires c κs = search needs
 
@@ -15,13 +22,13 @@ enum-known-step-2 : tie.Need-enum-known-step-2
 enum-known-step-2 c = search needs
 
 returns : tie.Need-returns
-returns c = gates-over _ _ _ (c .before .before .before .before .before .before .before .pre) _ (c .before .before .before .before .before .gate-lines .ensures) _ _ (c .before .before .step2 .given .1) (c .if1 .taken)
+returns c = gates-over _ _ _ (at-start (at-gates (c .before .before)) .pre) _ (at-gates (c .before .before) .gate-lines .ensures) _ _ (c .before .before .step2 .given .1) (c .if1 .taken)
 
 returns-2 : tie.Need-returns-2
-returns-2 c = gates-back _ _ _ (c .before .before .before .before .before .before .pre) _ (c .before .before .before .before .gate-lines .ensures) _ _ (c .before .step .given .1)
+returns-2 c = gates-back _ _ _ (at-start (c .before .before .before .before) .pre) _ (c .before .before .before .before .gate-lines .ensures) _ _ (c .before .step .given .1)
 
 returns-3 : tie.Need-returns-3
-returns-3 c = gates-closed _ _ _ (c .before .before .before .before .before .before .before .pre) _ (c .before .before .before .before .before .gate-lines .ensures) _ _ (c .before .before .step2 .given .1) (c .if1 .left)
+returns-3 c = gates-closed _ _ _ (at-start (at-gates (c .before .before)) .pre) _ (at-gates (c .before .before) .gate-lines .ensures) _ _ (c .before .before .step2 .given .1) (c .if1 .left)
 
 pub from-gates-spec : {M : Type 1} → statement M
 from-gates-spec =

@@ -7,6 +7,13 @@ use Rattle.net_reading.specs.Answers.{left-back, left-on}
 use Rattle.net_reading.proofs.net.heading_line.Statement.{statement}
 use Rattle.net_reading.proofs.net.heading_line.Tie as tie
 
+-- the start from the first word's read, and that word's end from the other two
+abbrev at-start : tie.After-word-field → tie.Start
+at-start c = c .before .before .before
+
+abbrev at-next : tie.After-two-words → tie.After-next
+at-next c = c .before .before .before .before
+
 slice-aggregate-word-field : tie.Need-slice-aggregate-word-field
 slice-aggregate-word-field c = search needs
 
@@ -30,11 +37,11 @@ two-words-requires c κs = search needs
 
 returns : tie.Need-returns
 unfolding text
-returns c = left-back _ (c .before .before .before .before .before .before .args .at) _ (c .before .before .before .word-field .ensures) _ _ _ (c .before .number .given .1) refl
+returns c = left-back _ (at-start (c .before .before .before) .args .at) _ (c .before .before .before .word-field .ensures) _ _ _ (c .before .number .given .1) refl
 
 returns-2 : tie.Need-returns-2
 unfolding text
-returns-2 c = left-on _ (c .before .before .before .before .before .before .before .before .before .args .at) _ (c .before .before .before .before .before .before .word-field .ensures) (c .two-words .result) _ _ (c .before .before .before .before .next .given .1) (c .two-words .ensures .reads)
+returns-2 c = left-on _ (at-start (at-next c .before .before) .args .at) _ (at-next c .before .before .word-field .ensures) (c .two-words .result) _ _ (at-next c .next .given .1) (c .two-words .ensures .reads)
 
 pub heading-line-spec : {M : Type 1} → statement M
 heading-line-spec =

@@ -6,6 +6,10 @@ use Rattle.net_reading.specs.References.{judged-none, judged-taken, judg
 use Rattle.net_reading.proofs.references.judge_reference.Statement.{statement}
 use Rattle.net_reading.proofs.references.judge_reference.Tie as tie
 
+-- the reference looked up, from the test whether it is used
+abbrev at-reference : tie.Else1 → tie.After-r
+at-reference c = c .before .before
+
 reference-of-requires : tie.Need-reference-of-requires
 reference-of-requires c κs = search needs
 
@@ -22,13 +26,13 @@ is-used-requires : tie.Need-is-used-requires
 is-used-requires c κs = search needs
 
 returns-2 : tie.Need-returns-2
-returns-2 c = judged-used _ _ _ _ _ _ _ (c .before .before .before .before .before .before .reference-of .ensures) (c .before .before .before .before .r .given .1) (c .before .before .if1 .left) (sym (c .before .is-used .ensures) ∙ c .if2 .taken)
+returns-2 c = judged-used _ _ _ _ _ _ _ (at-reference (c .before .before) .before .before .reference-of .ensures) (at-reference (c .before .before) .r .given .1) (c .before .before .if1 .left) (sym (c .before .is-used .ensures) ∙ c .if2 .taken)
 
 returns-3 : tie.Need-returns-3
 returns-3 c = judged-none _ _ _ _ _ _ (c .before .before .reference-of .ensures) (c .enum-told .given .1)
 
 returns-4 : tie.Need-returns-4
-returns-4 c = judged-free _ _ _ _ _ _ _ (c .before .before .before .before .before .before .reference-of .ensures) (c .before .before .before .before .r .given .1) (c .before .before .if1 .left) (sym (c .before .is-used .ensures) ∙ c .if2 .left)
+returns-4 c = judged-free _ _ _ _ _ _ _ (at-reference (c .before .before) .before .before .reference-of .ensures) (at-reference (c .before .before) .r .given .1) (c .before .before .if1 .left) (sym (c .before .is-used .ensures) ∙ c .if2 .left)
 
 pub judge-reference-spec : {M : Type 1} → statement M
 judge-reference-spec =

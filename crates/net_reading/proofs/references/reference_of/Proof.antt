@@ -18,6 +18,10 @@ Inv-loop s header earlier w end r₀ r = find (λ k. same w (referenceText (name
 abbrev μ-loop : tie.MeasureT-loop
 μ-loop s header earlier w end r₀ r = end - r
 
+-- the start, from a turn's start
+abbrev at-start : tie.In-loop Inv-loop μ-loop → tie.Start Inv-loop μ-loop
+at-start c = c .before .before .before .before .before
+
 add-end : tie.Need-add-end Inv-loop μ-loop
 add-end c = let size = sized _ _ (c .before .before .before .pre .0 .fits) in omega (arith, size .inputs-most)
 
@@ -26,13 +30,13 @@ unfolding referenceOf
 loop-holds c = rw (sub-zero, names-count)
 
 refers-requires : tie.Need-refers-requires Inv-loop μ-loop
-refers-requires c κs = (c .before .before .before .before .before .pre .0, omega (arith, c .loop-test .taken, c .before .before .before .before .before .pre .1))
+refers-requires c κs = (at-start c .pre .0, omega (arith, c .loop-test .taken, at-start c .pre .1))
 
 returns : tie.Need-returns Inv-loop μ-loop
 returns c = sym (find-stop _ (c .before .before .before .loop .r) _ (c .before .before .loop-test .taken) (sym (c .before .refers .ensures) ∙ c .if1 .taken)) ∙ c .before .before .before .loop .inv
 
 add-r : tie.Need-add-r Inv-loop μ-loop
-add-r c = let size = sized _ _ (c .before .before .before .before .before .before .before .pre .0 .fits) in omega (arith, size .inputs-most, c .before .before .loop-test .taken, c .before .before .before .before .before .before .before .pre .1)
+add-r c = let size = sized _ _ (at-start (c .before .before) .pre .0 .fits) in omega (arith, size .inputs-most, c .before .before .loop-test .taken, at-start (c .before .before) .pre .1)
 
 loop-less : tie.Need-loop-less Inv-loop μ-loop
 loop-less c = omega (arith, c .before .before .loop-test .taken)

@@ -14,6 +14,10 @@ Inv-loop m n levels₀ i₀ levels i = (i ≤ length levels) × (length levels �
 abbrev μ-loop : tie.MeasureT-loop
 μ-loop m n levels₀ i₀ levels i = i
 
+-- the loop's head, from a turn's read
+abbrev at-loop : tie.After-slice-known Inv-loop μ-loop → tie.At-loop Inv-loop μ-loop
+at-loop c = c .before .before
+
 loop-holds : tie.Need-loop-holds Inv-loop μ-loop
 loop-holds c = (c .pre .1, refl, refl)
 
@@ -24,23 +28,23 @@ slice-read-l : tie.Need-slice-read-l Inv-loop μ-loop
 slice-read-l c = omega arith
 
 cast-if1 : tie.Need-cast-if1 Inv-loop μ-loop
-cast-if1 c = omega (arith, c .slice-known .given (c .before .before .loop .i - 1))
+cast-if1 c = omega (arith, c .slice-known .given (at-loop c .loop .i - 1))
 
 add-if1 : tie.Need-add-if1 Inv-loop μ-loop
-add-if1 c = omega (arith, c .slice-known .given (c .before .before .loop .i - 1))
+add-if1 c = omega (arith, c .slice-known .given (at-loop c .loop .i - 1))
 
 add-levels : tie.Need-add-levels Inv-loop μ-loop
-add-levels c = omega (arith, c .before .before .before .before .pre)
+add-levels c = omega (arith, at-loop (c .before) .before .pre)
 
 slice-write-levels : tie.Need-slice-write-levels Inv-loop μ-loop
 slice-write-levels c = omega arith
 
 same-length : tie.Need-same-length Inv-loop μ-loop
-same-length c = simp length-set (c .before .before .before .loop .inv .1)
+same-length c = simp length-set (at-loop (c .before) .loop .inv .1)
 
 returns : tie.Need-returns Inv-loop μ-loop
 returns c =
-    let head = c .before .before .before in
+    let head = at-loop (c .before) in
     step-up _ (head .loop .i) (head .loop .levels) (omega arith) (omega arith) (omega arith) ∙ head .loop .inv .2
 
 slice-write-levels-2 : tie.Need-slice-write-levels-2 Inv-loop μ-loop
@@ -51,7 +55,7 @@ loop-less c = omega arith
 
 loop-again : tie.Need-loop-again Inv-loop μ-loop
 loop-again c =
-    let head = c .before .before .before in (
+    let head = at-loop (c .before) in (
       simp length-set (omega arith),
       simp length-set (head .loop .inv .1),
       step-turn _ (head .loop .i) (head .loop .levels) (omega arith) (omega arith) (omega arith) ∙ head .loop .inv .2,

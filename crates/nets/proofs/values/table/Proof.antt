@@ -9,6 +9,10 @@ use Rattle.nets.specs.Sound.{sound-size, gates-count}
 use Rattle.nets.proofs.values.table.Statement.{statement}
 use Rattle.nets.proofs.values.table.Tie as tie
 
+-- the start, from where the arrays are lent
+abbrev at-start : tie.After-left2 → tie.Start
+at-start c = c .before .before .before .before .before
+
 slice-aggregate-fill : tie.Need-slice-aggregate-fill
 slice-aggregate-fill c = search needs
 
@@ -20,7 +24,7 @@ slice-aggregate-fill-3 c = search needs
 
 fill-requires : tie.Need-fill-requires
 fill-requires c κs =
-    let start = c .before .before .before .before .before .before .before .before in
+    let start = at-start (c .before .before .before) in
     let net = start .args .net in
     let count : suc (net .gates) ≡ net .inputs = gates-count _ (start .pre .0) in
     let most : net .inputs ≤ mostInputs = sound-size _ (start .pre .0) .inputs-most in

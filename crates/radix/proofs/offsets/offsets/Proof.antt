@@ -14,6 +14,19 @@ Inv-loop m n g out₀ len₀ w₀ i₀ out len w i = (length out ≡ length out�
 abbrev μ-loop : tie.MeasureT-loop
 μ-loop m n g out₀ len₀ w₀ i₀ out len w i = i
 
+-- the start from a turn's start, and back through a turn that widens
+abbrev at-start : tie.In-loop Inv-loop μ-loop → tie.Start Inv-loop μ-loop
+at-start c = c .before .before .before
+
+abbrev at-turn : tie.Then1 Inv-loop μ-loop → tie.In-loop Inv-loop μ-loop
+at-turn c = c .before .before
+
+abbrev at-taken : tie.After-widen Inv-loop μ-loop → tie.Then1 Inv-loop μ-loop
+at-taken c = c .before .before
+
+abbrev at-widen : tie.After-slice-known2 Inv-loop μ-loop → tie.After-widen Inv-loop μ-loop
+at-widen c = c .before .before
+
 slice-write-out : tie.Need-slice-write-out Inv-loop μ-loop
 slice-write-out c = omega (arith, one-le-pow (c .before .args .n) (c .before .args .m) (c .before .pre .0))
 
@@ -30,18 +43,18 @@ member-of-requires c κs = omega arith
 
 cast-widen : tie.Need-cast-widen Inv-loop μ-loop
 cast-widen c =
-    let start = c .before .before .before .before .before .before in
+    let start = at-start (at-turn (c .before)) in
     let a = start .args in
-    let l = c .before .before .before .before .loop in
+    let l = at-turn (c .before) .before .loop in
     omega (arith, built-weight (a .m) (a .n) (a .g) (start .pre .0) (l .out) (l .len) (l .w) (l .i) (l .inv .1))
 
 widen-requires : tie.Need-widen-requires Inv-loop μ-loop
 widen-requires c κs =
-    let start = c .before .before .before .before .before .before in
+    let start = at-start (at-turn (c .before)) in
     let a = start .args in
     let pos = start .pre .0 in
-    let l = c .before .before .before .before .loop in
-    let more = c .before .before .before .loop-test .taken in (
+    let l = at-turn (c .before) .before .loop in
+    let more = at-turn (c .before) .loop-test .taken in (
       built-some (a .m) (a .n) (a .g) pos (l .out) (l .len) (l .w) (l .i) (l .inv .1),
       pos,
       omega (arith, built-room (a .m) (a .n) (a .g) pos (l .out) (l .len) (l .w) (l .i) (l .inv .1) more, length-set (a .out .now) 0 0, l .inv .0, start .pre),
@@ -51,38 +64,38 @@ widen-requires c κs =
 
 mul-w : tie.Need-mul-w Inv-loop μ-loop
 mul-w c =
-    let start = c .before .before .before .before .before .before .before .before .before in
+    let start = at-start (at-turn (at-taken (at-widen c))) in
     let a = start .args in
-    let l = c .before .before .before .before .before .before .before .loop in
+    let l = at-turn (at-taken (at-widen c)) .before .loop in
     omega (
       arith,
       built-next (a .m) (a .n) (a .g) (start .pre .0) (l .out) (l .len) (l .w) (l .i) (l .inv .1)
-          (c .before .before .before .before .before .before .loop-test .taken),
+          (at-turn (at-taken (at-widen c)) .loop-test .taken),
       start .pre,
     )
 
 sub-i : tie.Need-sub-i Inv-loop μ-loop
-sub-i c = omega (arith, c .before .before .before .before .before .before .loop-test .taken)
+sub-i c = omega (arith, at-turn (at-taken (at-widen c)) .loop-test .taken)
 
 loop-less : tie.Need-loop-less Inv-loop μ-loop
-loop-less c = omega (arith, c .before .before .before .before .before .before .loop-test .taken)
+loop-less c = omega (arith, at-turn (at-taken (at-widen c)) .loop-test .taken)
 
 loop-again : tie.Need-loop-again Inv-loop μ-loop
 loop-again c =
-    let start = c .before .before .before .before .before .before .before .before .before in
+    let start = at-start (at-turn (at-taken (at-widen c))) in
     let a = start .args in
-    let l = c .before .before .before .before .before .before .before .loop in
-    let widen = c .before .before .widen in
-    let test = c .before .before .before .before in (
+    let l = at-turn (at-taken (at-widen c)) .before .loop in
+    let widen = at-widen c .widen in
+    let test = at-taken (at-widen c) in (
       widen .kept .0 ∙ l .inv .0,
       built-member (a .m) (a .n) (a .g) (start .pre .0) (l .out) (l .len) (l .w) (l .i) (l .inv .1)
-          (c .before .before .before .before .before .before .loop-test .taken) (widen .last .0) (widen .result)
+          (at-turn (at-taken (at-widen c)) .loop-test .taken) (widen .last .0) (widen .result)
           (sym (test .before .member-of .ensures) ∙ test .if1 .taken) (widen .ensures .0) (widen .ensures .1),
     )
 
 mul-w-2 : tie.Need-mul-w-2 Inv-loop μ-loop
 mul-w-2 c =
-    let start = c .before .before .before .before .before in
+    let start = at-start (c .before .before) in
     let a = start .args in
     let l = c .before .before .before .loop in
     omega (arith, built-next (a .m) (a .n) (a .g) (start .pre .0) (l .out) (l .len) (l .w) (l .i) (l .inv .1) (c .before .before .loop-test .taken), start .pre)
@@ -95,7 +108,7 @@ loop-less-2 c = omega arith
 
 loop-again-2 : tie.Need-loop-again-2 Inv-loop μ-loop
 loop-again-2 c =
-    let start = c .before .before .before .before .before in
+    let start = at-start (c .before .before) in
     let a = start .args in
     let l = c .before .before .before .loop in (
       l .inv .0,

@@ -7,6 +7,10 @@ use Rattle.radix.specs.Fronts.{Front, rest-others}
 use Rattle.radix.proofs.offsets.other_offsets.Statement.{statement}
 use Rattle.radix.proofs.offsets.other_offsets.Tie as tie
 
+-- the start, from the call of `power`
+abbrev at-start : tie.After-power → tie.Start
+at-start c = c .before .before
+
 power-requires : tie.Need-power-requires
 power-requires c κs = search needs
 
@@ -24,7 +28,7 @@ same-length c = search needs
 
 returns : tie.Need-returns
 returns c =
-    let a = c .before .before .before .before .before .before .args in
+    let a = at-start (c .before .before .before .before) .args in
     let called = c .before .before .offsets in
     subst (λ (h : ℕ). Front (points (a .m) (a .n) h) (called .result) (called .last .1 .1 .1 .0))
     (rest-others (a .n) (a .g) _ (c .before .before .before .before .power .ensures)) (called .ensures)

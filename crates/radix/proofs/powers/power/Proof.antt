@@ -5,6 +5,8 @@ use native.Mathlib.Nat.{pow-zero, pow-suc, pow-le-pow-left, pow-le-pow-right, le
 use native.Mathlib.Numerals.{add-one}
 use native.Mathlib.Omega.{arith}
 use lib.Dec.{lit<}
+use Rattle.rules.specs.Limits.{mostLevels}
+use Rattle.radix.specs.Widths.{mostMembers}
 use Rattle.radix.proofs.powers.power.Statement.{statement}
 use Rattle.radix.proofs.powers.power.Tie as tie
 
@@ -15,7 +17,7 @@ abbrev μ-loop : tie.MeasureT-loop
 μ-loop m n p₀ i₀ p i = n - i
 
 -- a power of a digit, small enough, fits
-small : (m i : ℕ) → m ≤ 9 → i ≤ 16 → m ^ i < 2 ^ 64
+small : (m i : ℕ) → m ≤ mostLevels → i ≤ mostMembers → m ^ i < 2 ^ 64
 small m i h k = lt-of-le-of-lt (le-trans (pow-le-pow-left h i) (pow-le-pow-right (zero-lt-suc 8) k)) (lit< tt)
 
 one-more : (m i p : ℕ) → p ≡ m ^ i → p * m ≡ m ^ (i + 1)

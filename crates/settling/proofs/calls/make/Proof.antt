@@ -8,6 +8,16 @@ use borrow.Author.Needs.{needs}
 use Rattle.settling.proofs.calls.make.Statement.{statement}
 use Rattle.settling.proofs.calls.make.Tie as tie
 
+-- the table's read and each call, from the next
+abbrev at-read : tie.After-enum-told → tie.After-read-table
+at-read c = c .before .before .before .before
+
+abbrev at-power : tie.After-settle-into-arg4 → tie.After-power
+at-power c = c .before .before .before .before .before
+
+abbrev at-settled : tie.After-slice-known6 → tie.After-settle-into
+at-settled c = c .before .before .before .before .before .before
+
 slice-aggregate-read-table : tie.Need-slice-aggregate-read-table
 slice-aggregate-read-table c = search needs
 
@@ -22,7 +32,7 @@ enum-told c = search needs
 
 power-requires : tie.Need-power-requires
 power-requires c κs =
-    let size = held-size _ _ (c .before .before .before .before .read-table .ensures .held (c .enum-told .given .1) .header) in
+    let size = held-size _ _ (at-read c .read-table .ensures .held (c .enum-told .given .1) .header) in
     (omega (arith, size .levels-most), omega (arith, size .inputs-most))
 
 sub-settle-into : tie.Need-sub-settle-into
@@ -33,11 +43,11 @@ part-settle-into-start c = search needs
 
 part-settle-into-end : tie.Need-part-settle-into-end
 part-settle-into-end c =
-    let read = c .before .before .before .before .before .before .read-table in
+    let read = at-read (c .before .before) .read-table in
     omega (arith, c .before .power .ensures, held-size _ _ (read .ensures .held (c .before .before .enum-told .given .1) .header) .cells-most, read .kept)
 
 settle-into-requires : tie.Need-settle-into-requires
-settle-into-requires c κs = inks-given _ _ _ (table-taken _ _ _ (c .before .before .before .before .before .before .before .before .before .before .read-table .ensures) (c .before .before .before .before .before .before .enum-told .given .1)) _ (c .before .before .before .before .before .power .ensures)
+settle-into-requires c κs = inks-given _ _ _ (table-taken _ _ _ (at-read (at-power c .before) .read-table .ensures) (at-power c .before .enum-told .given .1)) _ (at-power c .power .ensures)
 
 returns : tie.Need-returns
 returns c = sym (make-refused _ _ _ _ _ _ (table-refused _ _ _ (c .before .before .before .before .before .read-table .ensures) _ _ (c .before .outcome .given .1)))
@@ -53,8 +63,9 @@ same-length-3 c = search needs
 
 returns-2 : tie.Need-returns-2
 returns-2 c =
-    c .before .before .before .before .before .before .settle-into .ensures
-    ∙ table-settled _ _ _ (table-taken _ _ _ (c .before .before .before .before .before .before .before .before .before .before .before .before .before .before .before .before .before .read-table .ensures) (c .before .before .before .before .before .before .before .before .before .before .before .before .before .enum-told .given .1)) _ (c .before .before .before .before .before .before .before .before .before .before .before .before .power .ensures) _ _ _
+    let power = at-power (at-settled c .before) in
+    at-settled c .settle-into .ensures
+    ∙ table-settled _ _ _ (table-taken _ _ _ (at-read (power .before) .read-table .ensures) (power .before .enum-told .given .1)) _ (power .power .ensures) _ _ _
 
 pub make-spec : {M : Type 1} → statement M
 make-spec =

@@ -6,6 +6,16 @@ use borrow.Author.Needs.{needs}
 use Rattle.settling.proofs.calls.settle.Statement.{statement}
 use Rattle.settling.proofs.calls.settle.Tie as tie
 
+-- the sheet's read from the match on it, that match and the call of `settle_net`, each from the next
+abbrev at-read : tie.After-enum-told → tie.After-read-net
+at-read c = c .before .before .before .before
+
+abbrev at-told : tie.After-settle-net-arg3 → tie.After-enum-told
+at-told c = c .before .before .before
+
+abbrev at-settled : tie.After-slice-known6 → tie.After-settle-net
+at-settled c = c .before .before .before .before .before .before
+
 read-net-requires : tie.Need-read-net-requires
 read-net-requires c κs = search needs
 
@@ -16,7 +26,7 @@ enum-told : tie.Need-enum-told
 enum-told c = search needs
 
 settle-net-requires : tie.Need-settle-net-requires
-settle-net-requires c κs = net-taken _ _ (c .before .before .before .before .before .before .before .read-net .ensures) (c .before .before .before .enum-told .given .1)
+settle-net-requires c κs = net-taken _ _ (at-read (at-told c) .read-net .ensures) (at-told c .enum-told .given .1)
 
 returns : tie.Need-returns
 returns c = sym (settle-refused _ _ _ _ _ _ (net-refused _ _ (c .before .before .before .before .before .read-net .ensures) _ _ (c .before .outcome .given .1)))
@@ -31,7 +41,7 @@ same-length-3 : tie.Need-same-length-3
 same-length-3 c = search needs
 
 returns-2 : tie.Need-returns-2
-returns-2 c = c .before .before .before .before .before .before .settle-net .ensures
+returns-2 c = at-settled c .settle-net .ensures
 
 pub settle-spec : {M : Type 1} → statement M
 settle-spec =

@@ -7,6 +7,13 @@ use borrow.Author.Needs.{needs}
 use Rattle.settling.proofs.program.settle_output.Statement.{statement}
 use Rattle.settling.proofs.program.settle_output.Tie as tie
 
+-- the two calls, each from the next
+abbrev at-read : tie.After-settle → tie.After-first-read
+at-read c = c .before .before .before .before
+
+abbrev at-settled : tie.After-out2 → tie.After-settle
+at-settled c = c .before .before .before
+
 first-read-requires : tie.Need-first-read-requires
 first-read-requires c κs = search needs
 
@@ -25,14 +32,14 @@ settle-requires c κs = search needs
 output-of-requires : tie.Need-output-of-requires
 unfolding marksLength
 output-of-requires c κs =
-    let did = c .before .before .before .settle in
+    let did = at-settled c .settle in
     output-fits settleCall _ (did .result) _ _ _ (did .ensures) (settle-fits _ _ _ _) (did .kept .1 .1 .1 .0)
 
 returns : tie.Need-returns
 unfolding marksLength settleProgram
 returns c =
-    let did = c .before .before .before .before .settle in
-    output-prints settleCall _ (did .result) _ _ _ (did .ensures) (c .before .before .before .before .before .before .before .before .before .before .args .s .now) (c .before .before .before .before .before .before .before .before .first-read .ensures) _ (c .output-of .ensures)
+    let did = at-settled (c .before) .settle in
+    output-prints settleCall _ (did .result) _ _ _ (did .ensures) (at-read (at-settled (c .before)) .before .before .args .s .now) (at-read (at-settled (c .before)) .first-read .ensures) _ (c .output-of .ensures)
 
 pub settle-output-spec : {M : Type 1} → statement M
 settle-output-spec =

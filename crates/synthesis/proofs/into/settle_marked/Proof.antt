@@ -9,20 +9,36 @@ use borrow.Author.Needs.{needs}
 use Rattle.synthesis.proofs.into.settle_marked.Statement.{statement}
 use Rattle.synthesis.proofs.into.settle_marked.Tie as tie
 
+-- the start, each call and the test of the whole group's mark, each from the next
+abbrev at-start : tie.After-copy-arg → tie.Start
+at-start c = c .before .before .before .before .before .before
+
+abbrev at-copy : tie.After-mark-all-arg → tie.After-copy
+at-copy c = c .before .before .before
+
+abbrev at-marks : tie.After-slice-known5 → tie.After-mark-all
+at-marks c = c .before .before
+
+abbrev at-tree : tie.After-write-sheet-arg → tie.Else1
+at-tree c = c .before .before .before
+
+abbrev marks-start : tie.After-mark-all → tie.Start
+marks-start c = at-start (at-copy (c .before) .before)
+
 copy-requires : tie.Need-copy-requires
 copy-requires c κs = search needs
 
 mark-all-requires : tie.Need-mark-all-requires
 mark-all-requires c κs =
-    let start = c .before .before .before .before .before .before .before .before .before .before in
+    let start = at-start (at-copy c .before) in
     (given-size _ _ _ (start .pre .0), le-of-eq (sym (given-count _ _ _ (start .pre .0))), start .pre .2)
 
 no-tree-place-requires : tie.Need-no-tree-place-requires
 no-tree-place-requires c κs =
-    let start = c .before .before .before .before .before .before .before .before .before .before .before .before .before .before .before in
+    let start = marks-start (at-marks (c .before .before)) in
     let h = start .args .header in (
       omega (arith, sized (h .levels) (h .inputs) (given-size _ _ _ (start .pre .0)) .inputs-most),
-      omega (arith, start .pre .2, c .before .before .before .before .mark-all .kept .1 .1 .1 .0),
+      omega (arith, start .pre .2, at-marks (c .before .before) .mark-all .kept .1 .1 .1 .0),
     )
 
 same-length : tie.Need-same-length
@@ -33,15 +49,16 @@ same-length-2 c = search needs
 
 returns : tie.Need-returns
 returns c =
-    let start = c .before .before .before .before .before .before .before .before .before .before .before .before .before .before .before .before in
-    let did = c .before .before .before .before .before .mark-all in
-    given-16 _ _ _ (start .pre .0) _ _ _ (did .ensures) (omega (arith, start .pre .2, did .kept .1 .1 .1 .0)) _ _ (start .args .out .now) (put-wrote (start .pre .1) (c .before .before .before .before .before .before .before .before .before .copy .ensures) .text) (c .before .before .if1 .taken)
+    let marks = at-marks (c .before .before .before) in
+    let start = marks-start marks in
+    let did = marks .mark-all in
+    given-16 _ _ _ (start .pre .0) _ _ _ (did .ensures) (omega (arith, start .pre .2, did .kept .1 .1 .1 .0)) _ _ (start .args .out .now) (put-wrote (start .pre .1) (at-copy (marks .before) .copy .ensures) .text) (c .before .before .if1 .taken)
     _ (c .no-tree-place .ensures)
 
 settled-net-requires : tie.Need-settled-net-requires
 settled-net-requires c κs =
-    let start = c .before .before .before .before .before .before .before .before .before .before .before .before .before .before .before in
-    let did = c .before .before .before .before .mark-all in
+    let start = marks-start (at-marks (c .before .before)) in
+    let did = at-marks (c .before .before) .mark-all in
     let g = start .pre .0 in (
       given-size _ _ _ g,
       le-of-eq (sym (given-count _ _ _ g)),
@@ -52,7 +69,7 @@ settled-net-requires c κs =
 
 write-sheet-requires : tie.Need-write-sheet-requires
 write-sheet-requires c κs =
-    let g = c .before .before .before .before .before .before .before .before .before .before .before .before .before .before .before .before .before .pre .0 in
+    let g = marks-start (at-marks (at-tree c .before)) .pre .0 in
     let settled = c .before .settled-net in
     (g .names, settled-inside _ _ _ g _ (settled .ensures), settled-short _ _ _ g _ (settled .ensures))
 
@@ -67,9 +84,11 @@ same-length-5 c = search needs
 
 returns-2 : tie.Need-returns-2
 returns-2 c =
-    let start = c .before .before .before .before .before .before .before .before .before .before .before .before .before .before .before .before .before .before .before .before in
-    let did = c .before .before .before .before .before .before .before .before .before .mark-all in
-    given-tree _ _ _ (start .pre .0) _ _ _ (did .ensures) _ _ _ (put-wrote (start .pre .1) (c .before .before .before .before .before .before .before .before .before .before .before .before .before .copy .ensures) .text) (c .before .before .before .before .before .before .if1 .left) _ (c .before .before .before .before .settled-net .ensures)
+    let tree = at-tree (c .before .before .before) in
+    let marks = at-marks (tree .before) in
+    let start = marks-start marks in
+    let did = marks .mark-all in
+    given-tree _ _ _ (start .pre .0) _ _ _ (did .ensures) _ _ _ (put-wrote (start .pre .1) (at-copy (marks .before) .copy .ensures) .text) (tree .if1 .left) _ (c .before .before .before .before .settled-net .ensures)
     (c .before .before .write-sheet .result) _ (c .before .before .write-sheet .ensures)
 
 pub settle-marked-spec : {M : Type 1} → statement M

@@ -13,6 +13,13 @@ Inv-loop s at levels n m place₀ i₀ place i = InRow s levels at n place i
 abbrev μ-loop : tie.MeasureT-loop
 μ-loop s at levels n m place₀ i₀ place i = n - i
 
+-- a turn's start from the level's read, and that read from the turn's end
+abbrev at-turn : tie.After-level-field Inv-loop μ-loop → tie.In-loop Inv-loop μ-loop
+at-turn c = c .before .before
+
+abbrev at-level : tie.After-known-told Inv-loop μ-loop → tie.After-level-field Inv-loop μ-loop
+at-level c = c .before .before .before
+
 loop-holds : tie.Need-loop-holds Inv-loop μ-loop
 loop-holds c = row-start _ _ _ _
 
@@ -27,8 +34,8 @@ enum-told c = search needs
 
 returns : tie.Need-returns Inv-loop μ-loop
 returns c =
-    let head = c .before .before .before .before .before in
-    row-back _ _ _ _ _ _ (head .before .before .before .pre) (head .loop .inv) (c .before .before .before .before .loop-test .taken)
+    let head = at-turn (c .before .before) .before in
+    row-back _ _ _ _ _ _ (head .before .before .before .pre) (head .loop .inv) (at-turn (c .before .before) .loop-test .taken)
     _ (c .before .before .level-field .ensures) _ _ _ (c .enum-told .given .1)
 
 enum-known-step : tie.Need-enum-known-step Inv-loop μ-loop
@@ -42,9 +49,9 @@ loop-less c = omega arith
 
 loop-again : tie.Need-loop-again Inv-loop μ-loop
 loop-again c =
-    let head = c .before .before .before .before .before .before in
-    row-next _ _ _ _ _ _ (head .before .before .before .pre) (head .loop .inv) (c .before .before .before .before .before .loop-test .taken)
-    _ (c .before .before .before .level-field .ensures) _ _ (c .before .step .given .1)
+    let head = at-turn (at-level c) .before in
+    row-next _ _ _ _ _ _ (head .before .before .before .pre) (head .loop .inv) (at-turn (at-level c) .loop-test .taken)
+    _ (at-level c .level-field .ensures) _ _ (c .before .step .given .1)
 
 ink-field-requires : tie.Need-ink-field-requires Inv-loop μ-loop
 ink-field-requires c κs = search needs

@@ -18,6 +18,16 @@ Inv-loop s at m n cells₀ levels₀ count place₀ p₀ cells levels place p =
 abbrev μ-loop : tie.MeasureT-loop
 μ-loop s at m n cells₀ levels₀ count place₀ p₀ cells levels place p = m ^ n - p
 
+-- a turn's start from the row's read, that read from the ink's place, and that place from the turn's end
+abbrev at-turn : tie.After-row Inv-loop μ-loop → tie.In-loop Inv-loop μ-loop
+at-turn c = c .before .before
+
+abbrev at-row : tie.After-known-told Inv-loop μ-loop → tie.After-row Inv-loop μ-loop
+at-row c = c .before .before .before
+
+abbrev at-ink : tie.After-levels3 Inv-loop μ-loop → tie.After-known-told Inv-loop μ-loop
+at-ink c = c .before .before .before
+
 -- the function's entry, seen from the loop's head
 abbrev start : tie.At-loop Inv-loop μ-loop → tie.Start Inv-loop μ-loop
 start c = c .before .before .before .before
@@ -50,11 +60,11 @@ enum-told : tie.Need-enum-told Inv-loop μ-loop
 enum-told c = search needs
 
 same-length : tie.Need-same-length Inv-loop μ-loop
-same-length c = c .before .before .before .before .before .loop .inv .0
+same-length c = at-turn (c .before .before) .before .loop .inv .0
 
 returns : tie.Need-returns Inv-loop μ-loop
 returns c =
-    let turn = c .before .before .before .before in
+    let turn = at-turn (c .before .before) in
     rows-back _ _ _ _ _ _ _ _ (turn .before .loop .inv .2) (more turn) _ (c .before .before .row .ensures) _ _ (c .enum-told .given .1)
 
 enum-known-step : tie.Need-enum-known-step Inv-loop μ-loop
@@ -62,39 +72,39 @@ enum-known-step c = search needs
 
 cast-cells : tie.Need-cast-cells Inv-loop μ-loop
 cast-cells c =
-    let turn = c .before .before .before .before .before in
-    let small = ink-below _ _ _ _ _ _ _ _ (turn .before .loop .inv .2) (more turn) _ (c .before .before .before .row .ensures) _ _ (c .before .step .given .1) in
+    let turn = at-turn (at-row c) in
+    let small = ink-below _ _ _ _ _ _ _ _ (turn .before .loop .inv .2) (more turn) _ (at-row c .row .ensures) _ _ (c .before .step .given .1) in
     omega (arith, small, size (start (turn .before)) .levels-most)
 
 slice-write-cells : tie.Need-slice-write-cells Inv-loop μ-loop
 slice-write-cells c =
-    let turn = c .before .before .before .before .before in
+    let turn = at-turn (at-row c) in
     omega (arith, more turn, turn .before .loop .inv .0, start (turn .before) .pre .1)
 
 slice-aggregate-next-levels : tie.Need-slice-aggregate-next-levels Inv-loop μ-loop
-slice-aggregate-next-levels c = sym (c .before .before .before .before .before .before .before .loop .inv .1)
+slice-aggregate-next-levels c = sym (at-turn (at-row (c .before)) .before .loop .inv .1)
 
 next-levels-requires : tie.Need-next-levels-requires Inv-loop μ-loop
 next-levels-requires c κs =
-    let head = c .before .before .before .before .before .before .before in
+    let head = at-turn (at-row (c .before)) .before in
     omega (arith, room head, size (start head) .levels-most)
 
 add-p : tie.Need-add-p Inv-loop μ-loop
 add-p c =
-    let turn = c .before .before .before .before .before .before .before .before in
+    let turn = at-turn (at-row (at-ink c)) in
     omega (arith, turn .loop-test .taken, turn .before .before .power .ok)
 
 loop-less : tie.Need-loop-less Inv-loop μ-loop
-loop-less c = omega (arith, more (c .before .before .before .before .before .before .before .before))
+loop-less c = omega (arith, more (at-turn (at-row (at-ink c))))
 
 loop-again : tie.Need-loop-again Inv-loop μ-loop
 loop-again c =
-    let turn = c .before .before .before .before .before .before .before .before in
+    let turn = at-turn (at-row (at-ink c)) in
     let head = turn .before in (
       simp length-set (head .loop .inv .0),
       c .before .next-levels .kept .1 .1 .0 ∙ head .loop .inv .1,
-      rows-next _ _ _ _ _ _ _ _ (head .loop .inv .2) (more turn) _ (c .before .before .before .before .before .before .row .ensures) _ _
-          (c .before .before .before .before .step .given .1) _ (omega (arith, size (start head) .levels-least)) (room head)
+      rows-next _ _ _ _ _ _ _ _ (head .loop .inv .2) (more turn) _ (at-row (at-ink c) .row .ensures) _ _
+          (at-ink c .before .step .given .1) _ (omega (arith, size (start head) .levels-least)) (room head)
           (omega (arith, more turn, head .loop .inv .0, start head .pre .1)) (c .before .next-levels .ensures),
     )
 

@@ -6,6 +6,10 @@ use Rattle.table_reading.specs.Parts.{ink-refused, ink-on}
 use Rattle.table_reading.proofs.sheet.from_ink.Statement.{statement}
 use Rattle.table_reading.proofs.sheet.from_ink.Tie as tie
 
+-- the word's end, from the call of `from_rows`
+abbrev at-next : tie.After-from-rows-arg → tie.After-next
+at-next c = c .before .before
+
 slice-aggregate-word-field : tie.Need-slice-aggregate-word-field
 slice-aggregate-word-field c = search needs
 
@@ -31,8 +35,8 @@ same-length c = search needs
 returns-2 : tie.Need-returns-2
 unfolding text
 returns-2 c =
-    ink-on _ _ _ _ _ (c .before .before .before .before .before .before .before .word-field .ensures) _ _ _
-    (c .before .before .before .before .before .next .given .1) (c .before .before .from-rows .ensures)
+    ink-on _ _ _ _ _ (at-next (c .before .before .before) .before .before .word-field .ensures) _ _ _
+    (at-next (c .before .before .before) .next .given .1) (c .before .before .from-rows .ensures)
 
 pub from-ink-spec : {M : Type 1} → statement M
 from-ink-spec =

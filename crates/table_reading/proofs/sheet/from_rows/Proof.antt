@@ -7,6 +7,10 @@ use Rattle.table_reading.specs.Parts.{rows-refused, rows-over, rows-clos
 use Rattle.table_reading.proofs.sheet.from_rows.Statement.{statement}
 use Rattle.table_reading.proofs.sheet.from_rows.Tie as tie
 
+-- the rows' read, from the match on what it gave
+abbrev at-rows : tie.After-slice-known2 → tie.After-rows
+at-rows c = c .before .before
+
 rows-requires : tie.Need-rows-requires
 rows-requires c κs =
     let pre = c .before .before .before .pre in
@@ -22,19 +26,19 @@ same-length : tie.Need-same-length
 same-length c = search needs
 
 returns : tie.Need-returns
-returns c = rows-over _ _ _ _ _ (c .before .before .before .before .before .before .rows .ensures) _ _ (c .before .before .next .given .1) (c .if1 .taken)
+returns c = rows-over _ _ _ _ _ (at-rows (c .before .before .before .before) .rows .ensures) _ _ (c .before .before .next .given .1) (c .if1 .taken)
 
 same-length-2 : tie.Need-same-length-2
 same-length-2 c = search needs
 
 returns-2 : tie.Need-returns-2
-returns-2 c = rows-refused _ _ _ _ _ (c .before .before .before .before .before .rows .ensures) _ _ (c .before .number .given .1)
+returns-2 c = rows-refused _ _ _ _ _ (at-rows (c .before .before .before) .rows .ensures) _ _ (c .before .number .given .1)
 
 same-length-3 : tie.Need-same-length-3
 same-length-3 c = search needs
 
 returns-3 : tie.Need-returns-3
-returns-3 c = rows-closed _ _ _ _ _ (c .before .before .before .before .before .before .rows .ensures) _ _ (c .before .before .next .given .1) (c .if1 .left)
+returns-3 c = rows-closed _ _ _ _ _ (at-rows (c .before .before .before .before) .rows .ensures) _ _ (c .before .before .next .given .1) (c .if1 .left)
 
 pub from-rows-spec : {M : Type 1} → statement M
 from-rows-spec =

@@ -6,6 +6,16 @@ use Rattle.table_reading.specs.Parts.{header-refused, header-on}
 use Rattle.table_reading.proofs.sheet.read_table.Statement.{statement}
 use Rattle.table_reading.proofs.sheet.read_table.Tie as tie
 
+-- the start, the header's read and where it ends, each from the next
+abbrev at-start : tie.After-header-lines → tie.Start
+at-start c = c .before .before .before
+
+abbrev at-header : tie.After-step2 → tie.After-header-lines
+at-header c = c .before .before .before
+
+abbrev at-step : tie.After-from-ink-arg → tie.After-step2
+at-step c = c .before .before
+
 header-lines-requires : tie.Need-header-lines-requires
 header-lines-requires c κs = search needs
 
@@ -16,7 +26,7 @@ enum-known-step-2 : tie.Need-enum-known-step-2
 enum-known-step-2 c = search needs
 
 from-ink-requires : tie.Need-from-ink-requires
-from-ink-requires c κs = (c .before .before .before .before .before .header-lines .ensures .held _ _ (c .before .before .step2 .given .1) .fits, c .before .before .before .before .before .before .before .before .pre)
+from-ink-requires c κs = (at-header (at-step c) .header-lines .ensures .held _ _ (at-step c .step2 .given .1) .fits, at-start (at-header (at-step c)) .pre)
 
 returns : tie.Need-returns
 unfolding space
@@ -28,8 +38,8 @@ same-length c = search needs
 returns-2 : tie.Need-returns-2
 unfolding space
 returns-2 c =
-    header-on _ _ _ (c .before .before .before .before .before .before .before .before .header-lines .ensures) _ _ _
-    (c .before .before .before .before .before .step2 .given .1) (c .before .before .from-ink .ensures)
+    header-on _ _ _ (at-header (at-step (c .before .before .before)) .header-lines .ensures) _ _ _
+    (at-step (c .before .before .before) .step2 .given .1) (c .before .before .from-ink .ensures)
 
 pub read-table-spec : {M : Type 1} → statement M
 read-table-spec =

@@ -8,6 +8,7 @@ use native.Mathlib.Omega.{arith}
 use lib.ListN.{length, length-append}
 use Rattle.rules.specs.Text.{digitByte, decimal}
 use Rattle.laws.specs.Decimals.{decimal-one, decimal-more, decimal-length}
+use Rattle.table_writing.specs.Lengths.{mostDecimal}
 use Rattle.table_writing.proofs.lengths.decimal_length.Statement.{statement}
 use Rattle.table_writing.proofs.lengths.decimal_length.Tie as tie
 
@@ -20,7 +21,7 @@ abbrev μ-loop : tie.MeasureT-loop
 more : (rest : ℕ) → 10 ≤ rest → length (decimal rest) ≡ length (decimal (rest / 10)) + 1
 more rest h = ap length (decimal-more rest h) ∙ length-append (decimal (rest / 10)) (digitByte (rest % 10) ∷ [])
 
-most : (c : tie.Start Inv-loop μ-loop) → length (decimal (c .args .k)) ≤ 20
+most : (c : tie.Start Inv-loop μ-loop) → length (decimal (c .args .k)) ≤ mostDecimal
 most c = decimal-length 19 (c .args .k) (omega (arith, c .fits .k))
 
 loop-holds : tie.Need-loop-holds Inv-loop μ-loop

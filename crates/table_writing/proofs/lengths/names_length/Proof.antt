@@ -16,6 +16,10 @@ Inv-loop inputs lens total₀ i₀ total i = (i ≤ inputs) × (total ≡ lensTo
 abbrev μ-loop : tie.MeasureT-loop
 μ-loop inputs lens total₀ i₀ total i = inputs - i
 
+-- the start, from a turn's start
+abbrev at-start : tie.In-loop Inv-loop μ-loop → tie.Start Inv-loop μ-loop
+at-start c = c .before .before .before
+
 more : (lens : List ℕ) (i : ℕ) → lensTotal lens (i + 1) ≡ lensTotal lens i + (getD lens i 0 + 1)
 unfolding lensTotal
 more lens i = ap (lensTotal lens) (add-one i)
@@ -25,7 +29,7 @@ unfolding lensTotal
 loop-holds c = (omega arith, refl, omega arith)
 
 array-read-wide : tie.Need-array-read-wide Inv-loop μ-loop
-array-read-wide c = omega (arith, c .before .before .before .pre)
+array-read-wide c = omega (arith, at-start c .pre)
 
 wide-requires : tie.Need-wide-requires Inv-loop μ-loop
 wide-requires c κs = tt
@@ -34,16 +38,16 @@ add-total : tie.Need-add-total Inv-loop μ-loop
 add-total c = omega arith
 
 add-total-2 : tie.Need-add-total-2 Inv-loop μ-loop
-add-total-2 c = omega (arith, c .before .before .before .before .pre)
+add-total-2 c = omega (arith, at-start (c .before) .pre)
 
 add-i : tie.Need-add-i Inv-loop μ-loop
-add-i c = omega (arith, c .before .before .before .before .pre)
+add-i c = omega (arith, at-start (c .before) .pre)
 
 loop-less : tie.Need-loop-less Inv-loop μ-loop
 loop-less c = omega arith
 
 loop-again : tie.Need-loop-again Inv-loop μ-loop
-loop-again c = (omega arith, omega (arith, more (c .before .before .before .before .args .h .lens) (c .before .before .loop .i), c .wide .ensures .0, c .before .before .loop .inv .1), omega arith)
+loop-again c = (omega arith, omega (arith, more (at-start (c .before) .args .h .lens) (c .before .before .loop .i), c .wide .ensures .0, c .before .before .loop .inv .1), omega arith)
 
 returns : tie.Need-returns Inv-loop μ-loop
 returns c =

@@ -4,7 +4,7 @@ use Prim.Native.Nat.{_+_, _-_, _≤_}
 use mathlib.Core.List.{[], _∷_}
 use native.Mathlib.Omega.{arith}
 use lib.ListN.{length, getD, length-set}
-use Rattle.rules.specs.Text.{space, newline, digitByte}
+use Rattle.rules.specs.Text.{space, newline, digitByte, zeroByte, spaceByte, newlineByte}
 use Rattle.lines.specs.Put.{Left, parts-left, bytes-left, none-left}
 use Rattle.table_writing.specs.Rows.{rowText, rowFrom, row-all, row-next, row-end}
 use Rattle.table_writing.proofs.table.print_row.Statement.{statement}
@@ -18,13 +18,13 @@ abbrev μ-loop : tie.MeasureT-loop
 
 turn : (c : tie.After-shared-slice-known Inv-loop μ-loop)
     → Left (c .before .before .loop .out) (c .before .before .loop .p)
-    ((48 + getD (c .before .before .before .args .levels .now) (c .before .before .loop .i) 0) ∷ 32 ∷ rowFrom (c .before .before .before .args .levels .now) (c .before .before .before .args .ink) (c .before .before .loop .i + 1))
+    ((zeroByte + getD (c .before .before .before .args .levels .now) (c .before .before .loop .i) 0) ∷ spaceByte ∷ rowFrom (c .before .before .before .args .levels .now) (c .before .before .before .args .ink) (c .before .before .loop .i + 1))
     (c .before .before .before .args .out .now) (c .before .before .before .args .at) (rowText (c .before .before .before .args .levels .now) (c .before .before .before .args .ink))
 unfolding digitByte space
 turn c = rw (row-next (c .before .before .before .args .levels .now) (c .before .before .before .args .ink) (c .before .before .loop .i) (c .before .loop-test .taken)) at (c .before .before .loop .inv .1)
 
 last : (c : tie.After-loop Inv-loop μ-loop)
-    → Left (c .before .loop .out) (c .before .loop .p) ((48 + c .before .before .args .ink) ∷ 10 ∷ []) (c .before .before .args .out .now) (c .before .before .args .at) (rowText (c .before .before .args .levels .now) (c .before .before .args .ink))
+    → Left (c .before .loop .out) (c .before .loop .p) ((zeroByte + c .before .before .args .ink) ∷ newlineByte ∷ []) (c .before .before .args .out .now) (c .before .before .args .at) (rowText (c .before .before .args .levels .now) (c .before .before .args .ink))
 unfolding digitByte newline
 last c = rw (row-end (c .before .before .args .levels .now) (c .before .before .args .ink) (c .before .loop .i) (c .loop-test .left)) at (c .before .loop .inv .1)
 

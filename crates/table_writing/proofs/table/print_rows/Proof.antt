@@ -23,6 +23,16 @@ Inv-loop m n inks out₀ at levels₀ k₀ p₀ out levels k p =
 abbrev μ-loop : tie.MeasureT-loop
 μ-loop m n inks out₀ at levels₀ k₀ p₀ out levels k p = length inks - k
 
+-- the start from a turn's start; in a turn, its start and the row's call from the next call
+abbrev at-start : tie.In-loop Inv-loop μ-loop → tie.Start Inv-loop μ-loop
+at-start c = c .before .before .before .before
+
+abbrev at-turn : tie.After-print-row-arg2 Inv-loop μ-loop → tie.In-loop Inv-loop μ-loop
+at-turn c = c .before .before .before .before
+
+abbrev at-row : tie.After-levels2 Inv-loop μ-loop → tie.After-print-row Inv-loop μ-loop
+at-row c = c .before .before .before
+
 -- the front of the levels, as `print_row` is lent it
 module _ (m n k : ℕ) (levels : List ℕ) (front : take n levels ≡ levelsAt m n k) where
   lent : take (n - 0) levels ≡ levelsAt m n k
@@ -49,16 +59,16 @@ part-print-row-start : tie.Need-part-print-row-start Inv-loop μ-loop
 part-print-row-start c = omega arith
 
 part-print-row-end : tie.Need-part-print-row-end Inv-loop μ-loop
-part-print-row-end c = omega (arith, c .before .before .before .before .before .pre .2, c .before .before .loop .inv .0)
+part-print-row-end c = omega (arith, at-start (c .before) .pre .2, c .before .before .loop .inv .0)
 
 shared-slice-read-print-row : tie.Need-shared-slice-read-print-row Inv-loop μ-loop
 shared-slice-read-print-row c = omega arith
 
 print-row-requires : tie.Need-print-row-requires Inv-loop μ-loop
 print-row-requires c κs =
-    let start = c .before .before .before .before .before .before .before .before in
-    let at = c .before .before .before .before .before .loop in
-    let more = c .before .before .before .before .loop-test .taken in (
+    let start = at-start (at-turn c) in
+    let at = at-turn c .before .loop in
+    let more = at-turn c .loop-test .taken in (
       digits (start .args .m) (start .args .n) (at .k) (at .levels) (at .inv .1) (start .pre .0) (start .pre .1),
       start .pre .3 (at .k) more,
       row-room (start .args .m) (start .args .n) (at .k) (at .levels) (at .inv .1) (start .args .inks .now) more (at .inv .2),
@@ -69,8 +79,8 @@ slice-aggregate-next-levels c = omega arith
 
 next-levels-requires : tie.Need-next-levels-requires Inv-loop μ-loop
 next-levels-requires c κs =
-    let start = c .before .before .before .before .before .before .before .before .before .before .before .before in
-    (omega (arith, start .pre .1), omega (arith, start .pre .2, c .before .before .before .before .before .before .before .before .before .loop .inv .0))
+    let start = at-start (at-turn (at-row c .before)) in
+    (omega (arith, start .pre .1), omega (arith, start .pre .2, at-turn (at-row c .before) .before .loop .inv .0))
 
 add-k : tie.Need-add-k Inv-loop μ-loop
 add-k c = omega arith
@@ -80,13 +90,14 @@ loop-less c = omega arith
 
 loop-again : tie.Need-loop-again Inv-loop μ-loop
 loop-again c =
-    let start = c .before .before .before .before .before .before .before .before .before .before .before .before .before .before in
-    let at = c .before .before .before .before .before .before .before .before .before .before .before .loop in
+    let row = at-row (c .before .before) in
+    let start = at-start (at-turn (row .before)) in
+    let at = at-turn (row .before) .before .loop in
     let did = c .before .next-levels .ensures in
     let front = at .inv .1 in (
       front-kept (start .args .m) (start .args .n) (at .k) (start .pre .0) _ _ front did (omega (arith, start .pre .2, at .inv .0)) ∙ at .inv .0,
       front-next (start .args .m) (start .args .n) (at .k) (start .pre .0) _ _ front did,
-      put-left (first-row (start .args .m) (start .args .n) (at .k) (at .levels) front (start .args .inks .now) (c .before .before .before .before .before .before .before .before .before .before .loop-test .taken) (at .inv .2)) (c .before .before .before .before .before .print-row .ensures),
+      put-left (first-row (start .args .m) (start .args .n) (at .k) (at .levels) front (start .args .inks .now) (at-turn (row .before) .loop-test .taken) (at .inv .2)) (row .print-row .ensures),
     )
 
 same-length : tie.Need-same-length Inv-loop μ-loop
