@@ -9,8 +9,8 @@ ghost use Rattle.trees.specs.Classes.{Few};
 ghost use Rattle.digits.specs.Samples.{levelPoints, samples};
 ghost use Rattle.digits.specs.Sized.{Sized};
 use groups::classes;
-use marks::members;
 use radix::limits;
+use radix::members;
 use radix::powers;
 
 // The assignments of an input of weight w, one for each level.

@@ -17,7 +17,7 @@ use Rattle.rules.specs.Wirings.{firstInput}
 use Rattle.rules.specs.Settled.{splitOf}
 use Rattle.trees.specs.MarkTwo.{isA}
 use Rattle.trees.specs.MarkRule.{parts-at-holds}
-use Rattle.marks.specs.Parts.{Part, Next, without-first}
+use Rattle.radix.specs.Parts.{Part, Next, without-first}
 use Rattle.marks.specs.Splits.{holds-part, part-holds, skip-to}
 use Rattle.laws.specs.FirstPlaces.{stop-at}
 

@@ -1,7 +1,5 @@
 pub mod Answers
 pub mod Marking
-pub mod Parts
-pub mod Members
 pub mod Rule
 pub mod Splits
 pub mod Stored

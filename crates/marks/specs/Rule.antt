@@ -13,7 +13,7 @@ use Rattle.rules.specs.Marks.{partsAt, markOf}
 use Rattle.rules.specs.Wirings.{firstInput}
 use Rattle.rules.specs.Settled.{splitOf}
 use Rattle.trees.specs.Members.{size-one, size-single, first-member}
-use Rattle.marks.specs.Parts.{without-first}
+use Rattle.radix.specs.Parts.{without-first}
 use Rattle.marks.specs.Splits.{split-found}
 
 -- the mark of a group that has at most m classes

@@ -20,7 +20,7 @@ use Rattle.laws.specs.Ranges.{mem-range, range-length}
 use Rattle.laws.specs.Tests.{two-ways, mem-any}
 use Rattle.trees.specs.MarkRule.{search-parts}
 use Rattle.trees.specs.MarkTwo.{isA, some-A}
-use Rattle.marks.specs.Parts.{Part, inside-part, part-inside}
+use Rattle.radix.specs.Parts.{Part, inside-part, part-inside}
 
 -- ---- parts that hold the first-listed input
 

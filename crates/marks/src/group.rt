@@ -9,17 +9,17 @@ ghost use Rattle.groups.specs.Within.{Room};
 ghost use Rattle.marks.specs.Rule.{fewMark};
 ghost use Rattle.marks.specs.Stored.{held};
 ghost use Rattle.radix.specs.Widths.{groupsEnd};
-use crate::parts;
 use crate::split;
 use groups::classes;
 use radix::limits;
+use radix::members;
 
 // The mark of a group that has at most m classes, from the marks of the groups below it.
 fn few_mark(marks: &[u8], g: usize) -> u8
     requires { ⌜ (0 < g) × (g < groupsEnd) × (g ≤ length (held (now marks))) ⌝ }
     ensures { λ r. ⌜ ((n : ℕ) → g < 2 ^ n → r ≡ fewMark n (held (now (marks .entry))) g) ⌝ }
 {
-    if parts::without_first(g) == 0 {
+    if members::without_first(g) == 0 {
         return 2;
     }
     if split::split_of(marks, g) < g {

@@ -2,8 +2,6 @@
 pub mod call;
 pub mod group;
 pub mod marking;
-pub mod members;
-pub mod parts;
 pub mod place;
 pub mod split;
 pub mod stored;

@@ -8,22 +8,8 @@ ghost use Rattle.marks.specs.Stored.{held};
 ghost use Rattle.marks.specs.Place.{oneOf, lowest, foundBelow};
 ghost use Rattle.radix.specs.Widths.{mostMembers};
 use crate::stored;
+use radix::members;
 use radix::powers;
-
-// How many members group g has.
-fn members(n: usize, g: usize) -> usize
-    ensures { λ r. ⌜ r ≡ size n g ⌝ }
-{
-    let mut rest: usize = g;
-    let mut count: usize = 0;
-    let mut i: usize = 0;
-    while i < n {
-        count += rest % 2;
-        rest = rest / 2;
-        i += 1;
-    }
-    count
-}
 
 // Has g mark 1 and k members?
 fn is_one_of(n: usize, marks: &[u8], k: usize, g: usize) -> bool
@@ -33,7 +19,7 @@ fn is_one_of(n: usize, marks: &[u8], k: usize, g: usize) -> bool
     if stored::mark_at(marks, g) != 1 {
         return false;
     }
-    members(n, g) == k
+    members::members(n, g) == k
 }
 
 // The lowest group of k members that has mark 1, or `end`, past the last group, where there is none.

@@ -8,8 +8,8 @@ ghost use Rattle.rules.specs.Marks.{markIn};
 ghost use Rattle.rules.specs.Settled.{splitOf};
 ghost use Rattle.marks.specs.Stored.{held};
 ghost use Rattle.radix.specs.Widths.{groupsEnd};
-use crate::parts;
 use crate::stored;
+use radix::members;
 
 // Have a and the rest of g both mark 2?
 fn both_two(marks: &[u8], g: usize, a: usize) -> bool
@@ -28,14 +28,14 @@ pub fn split_of(marks: &[u8], g: usize) -> usize
     requires { ⌜ (0 < g) × (g < groupsEnd) × (g ≤ length (held (now marks))) ⌝ }
     ensures { λ r. ⌜ ((n : ℕ) → g < 2 ^ n → r ≡ splitOf n (held (now (marks .entry))) g) ⌝ }
 {
-    let rest = parts::without_first(g);
+    let rest = members::without_first(g);
     let first = g - rest;
     let mut part: usize = 0;
     while part < rest {
         if both_two(marks, g, first + part) {
             return first + part;
         }
-        part = parts::next_part(rest, part);
+        part = members::next_part(rest, part);
     }
     g
 }

@@ -1,3 +1,5 @@
 pub mod Fronts
 pub mod Offsets
 pub mod Widths
+pub mod Parts
+pub mod Members

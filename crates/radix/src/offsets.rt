@@ -6,15 +6,8 @@ ghost use Rattle.rules.specs.Groups.{member, points, others};
 ghost use Rattle.radix.specs.Fronts.{Front};
 ghost use Rattle.radix.specs.Offsets.{widened};
 ghost use Rattle.radix.specs.Widths.{mostMembers, offsetsEnd, mostOffsets};
+use crate::members;
 use crate::powers;
-
-// Is input i a member of group g?
-pub fn member_of(g: usize, i: usize) -> bool
-    requires { ⌜ i < 64 ⌝ }
-    ensures { λ r. ⌜ r ≡ member i g ⌝ }
-{
-    (g >> i) % 2 == 1
-}
 
 // The first `len` offsets, all below w, become m times as many: for each level of one more input of weight w, all of them plus
 // that level times w.
@@ -41,7 +34,7 @@ pub fn offsets(m: usize, n: usize, g: usize, out: &mut [u16]) -> usize
     let mut i = n;
     out[0] = 0;
     while 0 < i {
-        if member_of(g, i - 1) {
+        if members::member_of(g, i - 1) {
             len = widen(out, len, w as u16, m);
             w = w * m;
             i -= 1;

@@ -6,8 +6,8 @@ ghost use Rattle.marks.specs.Stored.{held};
 ghost use Rattle.wirings.specs.Added.{Added};
 ghost use Rattle.wirings.specs.Chosen.{Choosable, Chosen};
 use crate::forms;
-use marks::members;
 use marks::split;
+use radix::members;
 
 // A wiring, and the reference to what was added to it last.
 pub struct Wired {

@@ -93,8 +93,7 @@ pub fn count_field(field: &[u8], due: u8) -> Judged<()> {
     Ok(())
 }
 
-/// An ink is one digit below m. Later requests (K8, K13) change how an ink field
-/// is judged, and only here.
+/// An ink is one digit below m: how an ink field is judged is said here alone.
 pub fn ink_field(field: &[u8], m: usize) -> Judged<u8> {
     match *field {
         [byte] => digit_below(byte, m).ok_or(refusal::DIGITS),

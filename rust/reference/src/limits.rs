@@ -1,5 +1,5 @@
 //! The bounds of a sheet. Every bound of document 01 stands here and nowhere
-//! else, since a later request (K6) moves two of them.
+//! else.
 
 /// "Levels, written m, is one digit from 2 to 9."
 pub const LEAST_LEVELS: u64 = 2;

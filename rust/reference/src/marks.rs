@@ -57,8 +57,8 @@ pub fn first_stuck(marks: &[u8], n: usize) -> Option<usize> {
         .min_by_key(|&group| (members(group, n).len(), group))
 }
 
-// How marks lie in a lent buffer: "one byte, at its number". A later request
-// (K7) changes this, and only the two functions below.
+// How marks lie in a lent buffer: "one byte, at its number". The two functions
+// below say it, and nothing else does.
 
 /// The length that the marks of n inputs need.
 pub fn needed(n: usize) -> usize {

@@ -47,6 +47,15 @@ fn read(path: &str) -> String {
         .unwrap_or_else(|error| panic!("{path}: {error}"))
 }
 
+/// The files of a folder, one after the other.
+fn read_all(folder: &str) -> String {
+    let entries = std::fs::read_dir(repository().join(folder)).expect("a folder");
+    let names = entries.map(|entry| entry.expect("a file").file_name());
+    names
+        .map(|name| read(&format!("{folder}/{}", name.to_string_lossy())))
+        .collect()
+}
+
 /// A declaration's name, its parameters as names and C types, and its result.
 type Declared = (String, Vec<(String, String)>, String);
 
@@ -132,7 +141,7 @@ fn in_rattle(text: &str) -> Vec<(String, Vec<String>, String)> {
 fn the_header_declares_what_rust_and_the_proved_crate_declare() {
     let mut rust = in_rust(&read("rust/sitgurp/src/ffi.rs"));
     let mut c = in_c(&read("include/sitgurp.h"));
-    let mut rattle = in_rattle(&read("crates/capi/src/lib.rt"));
+    let mut rattle = in_rattle(&read_all("crates/capi/src"));
     rust.sort();
     c.sort();
     rattle.sort();

@@ -20,8 +20,8 @@ use borrow.Fn.PlainCycle.{Measures, is, falls, and}
 use Rattle.wirings.proofs.choose.wire_group.Reads as wire-group
 use Rattle.wirings.proofs.choose.wire_group.Kinds as wire-group-kinds
 use Rattle.wirings.proofs.choose.+wire_group.Lts-wire_group as wire-group-lts
-use Rattle.marks.proofs.members.first_input.Reads as first-input-reads
-use Rattle.marks.proofs.members.single.Reads as single-reads
+use Rattle.radix.proofs.members.first_input.Reads as first-input-reads
+use Rattle.radix.proofs.members.single.Reads as single-reads
 use Rattle.marks.proofs.split.split_of.Reads as split-of-reads
 use Rattle.wirings.proofs.forms.link.Reads as link-reads
 use Rattle.wirings.proofs.choose.+wire_group.{statement}

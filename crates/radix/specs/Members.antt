@@ -9,7 +9,7 @@ use lib.Dec.{eqb}
 use Rattle.rules.specs.Groups.{size}
 use Rattle.rules.specs.Wirings.{firstInput}
 use Rattle.trees.specs.Members.{size-single, size-one, first-member}
-use Rattle.marks.specs.Parts.{without-first}
+use Rattle.radix.specs.Parts.{without-first}
 
 -- one member: the first-listed is all
 pub single-test : (n g : ℕ) → 0 < g → g < 2 ^ n → (r : ℕ) → r ≡ g - 2 ^ firstInput n g → eqb r 0 ≡ eqb (size n g) 1

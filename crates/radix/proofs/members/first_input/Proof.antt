@@ -1,4 +1,4 @@
--- `marks::members::first_input` meets its contract. The loop's invariant: the first place from `i` on is the first of all. Assumes
+-- `radix::members::first_input` meets its contract. The loop's invariant: the first place from `i` on is the first of all. Assumes
 -- nothing.
 use Prim.Native.Nat.{ℕ, _+_, _-_, _≤_, _<_}
 use mathlib.Core.Path.{_≡_, sym, ap, _∙_}
@@ -11,8 +11,8 @@ use Rattle.rules.specs.Groups.{member}
 use Rattle.rules.specs.Wirings.{firstInput}
 use Rattle.laws.specs.Ranges.{range-length, range-at}
 use Rattle.laws.specs.Walks.{place-next, place-stop, place-end}
-use Rattle.marks.proofs.members.first_input.Statement.{statement}
-use Rattle.marks.proofs.members.first_input.Tie as tie
+use Rattle.radix.proofs.members.first_input.Statement.{statement}
+use Rattle.radix.proofs.members.first_input.Tie as tie
 
 abbrev Inv-loop : tie.InvT-loop
 Inv-loop n g i₀ i = (i ≤ n) × (i + firstPlace (λ j. member j g) (drop i (range 0 n)) ≡ firstInput n g)

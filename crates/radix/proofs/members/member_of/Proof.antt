@@ -1,9 +1,9 @@
--- `radix::offsets::member_of` meets its contract: a shift is a division by a power of two. Assumes nothing.
+-- `radix::members::member_of` meets its contract: a shift is a division by a power of two. Assumes nothing.
 use mathlib.Core.Path.{refl}
 use borrow.Author.Needs.{needs}
 use Rattle.rules.specs.Groups.{member}
-use Rattle.radix.proofs.offsets.member_of.Statement.{statement}
-use Rattle.radix.proofs.offsets.member_of.Tie as tie
+use Rattle.radix.proofs.members.member_of.Statement.{statement}
+use Rattle.radix.proofs.members.member_of.Tie as tie
 
 shr-result : tie.Need-shr-result
 shr-result c = search needs

@@ -1,8 +1,8 @@
--- `marks::parts::without_first` meets its contract, by the law of one less. Assumes nothing.
-use Rattle.marks.specs.Parts.{without-first}
+-- `radix::members::without_first` meets its contract, by the law of one less. Assumes nothing.
+use Rattle.radix.specs.Parts.{without-first}
 use borrow.Author.Needs.{needs}
-use Rattle.marks.proofs.parts.without_first.Statement.{statement}
-use Rattle.marks.proofs.parts.without_first.Tie as tie
+use Rattle.radix.proofs.members.without_first.Statement.{statement}
+use Rattle.radix.proofs.members.without_first.Tie as tie
 
 sub-result : tie.Need-sub-result
 sub-result c = search needs

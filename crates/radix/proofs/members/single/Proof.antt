@@ -1,8 +1,8 @@
--- `marks::members::single` meets its contract: a group of one member is nothing without its first-listed. Assumes nothing.
+-- `radix::members::single` meets its contract: a group of one member is nothing without its first-listed. Assumes nothing.
 use borrow.Author.Needs.{needs}
-use Rattle.marks.specs.Members.{single-test}
-use Rattle.marks.proofs.members.single.Statement.{statement}
-use Rattle.marks.proofs.members.single.Tie as tie
+use Rattle.radix.specs.Members.{single-test}
+use Rattle.radix.proofs.members.single.Statement.{statement}
+use Rattle.radix.proofs.members.single.Tie as tie
 
 without-first-requires : tie.Need-without-first-requires
 without-first-requires c κs = search needs

@@ -1,9 +1,9 @@
--- `marks::parts::next_part` meets its contract, by the law of the next part. Assumes nothing.
+-- `radix::members::next_part` meets its contract, by the law of the next part. Assumes nothing.
 use Rattle.radix.specs.Widths.{mostMembers}
-use Rattle.marks.specs.Parts.{next-part}
+use Rattle.radix.specs.Parts.{next-part}
 use borrow.Author.Needs.{needs}
-use Rattle.marks.proofs.parts.next_part.Statement.{statement}
-use Rattle.marks.proofs.parts.next_part.Tie as tie
+use Rattle.radix.proofs.members.next_part.Statement.{statement}
+use Rattle.radix.proofs.members.next_part.Tie as tie
 
 add-result : tie.Need-add-result
 add-result c = search needs

@@ -1,4 +1,4 @@
--- `marks::place::members` meets its contract. The loop's invariant: the members so far, and those among the inputs that are
+-- `radix::members::members` meets its contract. The loop's invariant: the members so far, and those among the inputs that are
 -- left. Assumes nothing.
 use Prim.Native.Nat.{suc, _+_, _-_, _≤_}
 use mathlib.Core.Path.{_≡_, ap}
@@ -6,8 +6,8 @@ use native.Mathlib.Nat.{sub-zero}
 use native.Mathlib.Omega.{arith}
 use Rattle.rules.specs.Groups.{size}
 use Rattle.trees.specs.Members.{size-suc, size-le}
-use Rattle.marks.proofs.place.members.Statement.{statement}
-use Rattle.marks.proofs.place.members.Tie as tie
+use Rattle.radix.proofs.members.members.Statement.{statement}
+use Rattle.radix.proofs.members.members.Tie as tie
 
 abbrev Inv-loop : tie.InvT-loop
 Inv-loop n g rest₀ count₀ i₀ rest count i = (i ≤ n) × (count ≤ i) × (count + size (n - i) rest ≡ size n g)

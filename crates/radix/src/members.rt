@@ -1,0 +1,73 @@
+// A group as bits: its members, the first-listed, what is left without it, and its parts by rising number.
+ghost use mathlib.Core.Path.{_≡_};
+ghost use Prim.Native.Nat.{ℕ, _-_, _^_, _≤_, _<_};
+ghost use lib.Dec.{eqb};
+ghost use Rattle.rules.specs.Groups.{member, size};
+ghost use Rattle.rules.specs.Wirings.{firstInput};
+ghost use Rattle.radix.specs.Parts.{Part, Next};
+ghost use Rattle.radix.specs.Widths.{groupsEnd};
+
+// 2 to the power 16: past every group.
+const PAST: usize = 65536;
+
+// Is input i a member of group g?
+pub fn member_of(g: usize, i: usize) -> bool
+    requires { ⌜ i < 64 ⌝ }
+    ensures { λ r. ⌜ r ≡ member i g ⌝ }
+{
+    (g >> i) % 2 == 1
+}
+
+// How many members group g has.
+pub fn members(n: usize, g: usize) -> usize
+    ensures { λ r. ⌜ r ≡ size n g ⌝ }
+{
+    let mut rest: usize = g;
+    let mut count: usize = 0;
+    let mut i: usize = 0;
+    while i < n {
+        count += rest % 2;
+        rest = rest / 2;
+        i += 1;
+    }
+    count
+}
+
+// A group's first-listed input, or n where it is empty.
+pub fn first_input(n: usize, g: usize) -> usize
+    requires { ⌜ n ≤ 64 ⌝ }
+    ensures { λ r. ⌜ r ≡ firstInput n g ⌝ }
+{
+    let mut i: usize = 0;
+    while i < n {
+        if member_of(g, i) {
+            return i;
+        }
+        i += 1;
+    }
+    n
+}
+
+// A group without its first-listed input.
+pub fn without_first(g: usize) -> usize
+    requires { ⌜ 0 < g ⌝ }
+    ensures { λ r. ⌜ ((n : ℕ) → g < 2 ^ n → r ≡ g - 2 ^ firstInput n g) ⌝ }
+{
+    g & (g - 1)
+}
+
+// Has a group one member?
+pub fn single(g: usize) -> bool
+    requires { ⌜ 0 < g ⌝ }
+    ensures { λ r. ⌜ ((n : ℕ) → g < 2 ^ n → r ≡ eqb (size n g) 1) ⌝ }
+{
+    without_first(g) == 0
+}
+
+// The next part of `all` after `part`, by number. A carry runs through the bits that are not of `all`.
+pub fn next_part(all: usize, part: usize) -> usize
+    requires { ⌜ (all < groupsEnd) × (part < all) × (Part part all) ⌝ }
+    ensures { λ r. ⌜ Next all part r ⌝ }
+{
+    (part + PAST - all) & all
+}
