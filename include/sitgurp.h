@@ -53,7 +53,7 @@ typedef struct sitgurp_turn {
 } sitgurp_turn;
 
 /*
- * The number of classes of a group if it is at most m, and otherwise m + 1.
+ * The number of classes of a group, however large; within the sizes of a sheet it is at most 256.
  * Bare cells: m levels, n inputs, and one byte a cell in index order. A group is the sum of 2 to the power i over its members.
  * Refusals: 9 (m, n or the number of cells), 10 (a cell not below m; value is its index), 11 (the group).
  */

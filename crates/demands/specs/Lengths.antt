@@ -3,15 +3,15 @@
 -- Assumes nothing.
 use Prim.Native.Nat.{ℕ, _^_, _≤_}
 use mathlib.Core.Path.{_≡_, refl, sym, ap, _∙_, subst₂}
-use mathlib.Core.Bool.{Bool, true, false, _&&_}
+use mathlib.Core.Bool.{Bool, true, false}
 use mathlib.Core.List.{List, [], _∷_}
 use native.Mathlib.Nat.{le-trans}
 use native.Mathlib.Omega.{arith}
 use lib.ListN.{length}
-use lib.Dec.{eqb, leb, ltb}
+use lib.Dec.{leb}
 use borrow.Author.Tests.{leb-true, le-ltb}
 use Rattle.rules.specs.Lists.{range, all, any}
-use Rattle.rules.specs.Limits.{mostCells, mostSettled, mostTableSheet, sizeFits}
+use Rattle.rules.specs.Limits.{mostCells, mostSettled, mostTableSheet}
 use Rattle.rules.specs.Sheets.{Header, Net, Table}
 use Rattle.rules.specs.Printed.{printedTable}
 use Rattle.rules.specs.Marks.{markIn, marksOf, marksLength, storedMarks}
@@ -36,9 +36,9 @@ use Rattle.readback.specs.TableLength.{table-length}
 use Rattle.demands.specs.Settles.{sheetIn, sheetOf, Long, settles, settled-short}
 use Rattle.laws.specs.Answers.{not-refused}
 use Rattle.trees.specs.NetTables.{kept-table}
-use Rattle.demands.specs.Numbers.{Gives, refuses}
-use Rattle.laws.specs.Tests.{by-test}
+use Rattle.demands.specs.Numbers.{Gives, refuses, bare-numbers}
 use Rattle.demands.specs.Makes.{Making, no-tree, some-tree, made-short, make-either}
+use Rattle.laws.specs.BareCells.{bare-accepted}
 
 -- ---- what is needed
 
@@ -204,36 +204,21 @@ abbrev pub bareNumbers : List ℕ
 bareNumbers = 9 ∷ 10 ∷ []
 
 module _ (m n : ℕ) (cells marks : List ℕ) (ample : mostMarks ≤ length marks) where
-  bare-numbers : Gives bareNumbers (bareCells m n cells)
-  unfolding bareCells any
-  bare-numbers =
-      by-test (Gives bareNumbers) (sizeFits m n && eqb (length cells) (m ^ n)) _ _
-      (by-test (Gives bareNumbers) (all (λ c. ltb c m) cells) _ _ (λ number place e. absurd (not-refused tt number place e)) (refuses bareNumbers 10 _ refl))
-      (refuses bareNumbers 9 0 refl)
-
   marks-refused : (k at : ℕ) → bareCells m n cells ≡ refused k at → markingCall m n cells marks ≡ record { answer = refused k at; marks = marks }
   unfolding markingCall
   marks-refused k at d = rw (d, markingCall)
-
-  bare-size : bareCells m n cells ≡ accepted tt → Size m n
-  unfolding bareCells
-  bare-size d = sized m n (go (sizeFits m n) refl)
-    where
-      go : (u : Bool) → sizeFits m n ≡ u → sizeFits m n ≡ true
-      go true e = e
-      go false e = absurd (not-refused tt 9 0 (sym d ∙ rw (e, bareCells)))
 
   marks-written : bareCells m n cells ≡ accepted tt
       → markingCall m n cells marks
       ≡ record { answer = accepted (markIn (marksOf m n (inkIn cells)) (wholeGroup n)); marks = written marks (storedMarks (marksOf m n (inkIn cells))) }
   unfolding markingCall
-  marks-written d = rw (d, le-ltb (length marks) (marksLength n) (le-trans (size-marks m n (bare-size d)) ample), markingCall)
+  marks-written d = rw (d, le-ltb (length marks) (marksLength n) (le-trans (size-marks m n (sized m n (bare-accepted m n cells (sym d) .0))) ample), markingCall)
 
   -- marking refuses with the numbers of its cells alone
   pub marking-ample-numbers : Gives bareNumbers (markingCall m n cells marks .answer)
-  unfolding markingCall
+  unfolding markingCall any
   marking-ample-numbers number place e = go (bareCells m n cells) refl
     where
       go : (a : Answer (Unit {0})) → bareCells m n cells ≡ a → In number bareNumbers
       go (accepted _) d = absurd (not-refused _ number place (sym (ap (λ (made : Marked). made .answer) (marks-written d)) ∙ e))
-      go (refused k at) d = refuses bareNumbers k at (bare-numbers k at d) number place (sym (ap (λ (made : Marked). made .answer) (marks-refused k at d)) ∙ e)
+      go (refused k at) d = refuses bareNumbers k at (bare-numbers m n cells bareNumbers refl refl k at d) number place (sym (ap (λ (made : Marked). made .answer) (marks-refused k at d)) ∙ e)

@@ -17,3 +17,4 @@ pub mod Assignments
 pub mod TreeClause
 pub mod Programs
 pub mod Lengths
+pub mod Counting

@@ -20,7 +20,7 @@ use Rattle.rules.specs.Filling.{carried, classNumber}
 use Rattle.laws.specs.Concat.{map-same}
 use Rattle.laws.specs.Ranges.{map-range-length, map-range-at}
 use Rattle.radix.specs.Fronts.{Front}
-use Rattle.groups.specs.Firsts.{Counted, capped-few}
+use Rattle.groups.specs.Firsts.{Counted}
 use Rattle.laws.specs.Places.{mem-getD}
 use Rattle.trees.specs.Members.{member-single, size-one}
 use Rattle.trees.specs.Levels.{level-below, level-part-in}
@@ -81,7 +81,7 @@ weight-fits m n i pos h =
 -- a count of classes that did not stop
 pub counted-all : (m : ℕ) (list : List ℕ) (count : ℕ) (out : List ℕ) → length list ≤ m → Counted m list count out → Front list count out
 counted-all m list count out few found =
-    let e : count ≡ length list = found .answer ∙ capped-few m (length list) few in
+    let e : count ≡ length list = found .few few in
     record { count = e; is = found .found (omega arith) }
 
 module _ (m n : ℕ) (f : ℕ → ℕ) (g : ℕ) (g< : g < 2 ^ n) where

@@ -32,7 +32,7 @@ pub fn class_list(m: usize, n: usize, cells: &[u8], g: usize, out: &mut [u16]) -
 {
     let mut xs = [0u16; limits::MOST_CELLS];
     let mut ys = [0u16; limits::MOST_CELLS];
-    classes::group_classes(m, n, cells, g, &mut xs, &mut ys, out)
+    classes::group_classes(m, n, cells, g, m, &mut xs, &mut ys, out)
 }
 
 // Writes the samples of group g to the front of `out`, and answers how many there are: an input's levels, or the first of each

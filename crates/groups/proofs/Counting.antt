@@ -9,41 +9,42 @@ use native.Mathlib.Decide.{ℕ-discrete}
 use lib.ListN.{length, getD, take, drop, set, length-set, length-append, drop-of-length-le}
 use lib.Seq.{take-suc-set, length-take-le, getD-set-same, getD-set-other}
 use Rattle.rules.specs.Lists.{firstPlace}
-use Rattle.rules.specs.Groups.{alikeOver, firsts, capped}
-use Rattle.groups.specs.Firsts.{classesOver, Counted, firsts-known, firsts-new, firsts-more, capped-few, capped-many}
+use Rattle.rules.specs.Groups.{alikeOver, firsts}
+use Rattle.groups.specs.Firsts.{classesOver, Counted, firsts-known, firsts-new, firsts-more}
 use Rattle.laws.specs.Walks.{rest}
 use Rattle.groups.specs.Within.{Within}
 
-module _ (f : ℕ → ℕ) (b : ℕ) (ys xs : List ℕ) (m : ℕ) where
+module _ (f : ℕ → ℕ) (b : ℕ) (ys xs : List ℕ) (most : ℕ) where
   -- what is kept before assignment i is looked at
   pub record Kept (fs : List ℕ) (count i : ℕ) : Type 0 where
     pub low : i ≤ length xs
-    pub few : count ≤ m
-    pub room : m ≤ length fs
+    pub few : count ≤ most
+    pub room : most ≤ length fs
     pub left : firsts (alikeOver f ys) (take count fs) (drop i xs) ≡ classesOver f ys xs
     pub inside : (j : ℕ) → j < count → Within b ys (getD fs j 0)
 
-  pub kept-none : (fs : List ℕ) → m ≤ length fs → Kept fs 0 0
+  pub kept-none : (fs : List ℕ) → most ≤ length fs → Kept fs 0 0
   unfolding classesOver
   kept-none fs h = record { low = omega arith; few = omega arith; room = h; left = refl; inside = λ j k. absurd (omega arith) }
 
-module _ {f : ℕ → ℕ} {b : ℕ} {ys xs : List ℕ} {m : ℕ} {fs : List ℕ} {count i : ℕ} (kept : Kept f b ys xs m fs count i) where
+module _ {f : ℕ → ℕ} {b : ℕ} {ys xs : List ℕ} {most : ℕ} {fs : List ℕ} {count i : ℕ} (kept : Kept f b ys xs most fs count i) where
   kept-length : length (take count fs) ≡ count
   kept-length = length-take-le count fs (omega (arith, kept .few, kept .room))
 
   -- all are looked at
-  pub kept-all : length xs ≤ i → Counted m (classesOver f ys xs) count fs
+  pub kept-all : length xs ≤ i → Counted most (classesOver f ys xs) count fs
   unfolding firsts
   kept-all h =
       let all : take count fs ≡ classesOver f ys xs = ap (firsts (alikeOver f ys) (take count fs)) (sym (drop-of-length-le xs h)) ∙ kept .left in
       record {
-        answer = sym (capped-few m count (kept .few)) ∙ ap (capped m) (sym kept-length ∙ ap length all);
+        few = λ _. sym kept-length ∙ ap length all;
+        many = λ over. absurd (omega (arith, kept .few, kept-length, ap length all));
         found = λ _. all;
       }
 
   module _ (more : i < length xs) {k : ℕ} (place : k ≡ firstPlace (alikeOver f ys (getD xs i 0)) (take count fs)) where
     -- one of a class that is kept
-    pub kept-known : k < count → Kept f b ys xs m fs count (i + 1)
+    pub kept-known : k < count → Kept f b ys xs most fs count (i + 1)
     kept-known h =
         record {
           low = omega arith;
@@ -63,7 +64,7 @@ module _ {f : ℕ → ℕ} {b : ℕ} {ys xs : List ℕ} {m : ℕ} {fs : List ℕ
           ∙ ap (firsts (alikeOver f ys) (take count fs)) (sym (rest xs i more))
           ∙ kept .left
 
-      pub kept-new : count < m → Within b ys (getD xs i 0) → Kept f b ys xs m (set fs count (getD xs i 0)) (count + 1) (i + 1)
+      pub kept-new : count < most → Within b ys (getD xs i 0) → Kept f b ys xs most (set fs count (getD xs i 0)) (count + 1) (i + 1)
       kept-new h w =
           record {
             low = omega arith;
@@ -81,10 +82,10 @@ module _ {f : ℕ → ℕ} {b : ℕ} {ys xs : List ℕ} {m : ℕ} {fs : List ℕ
               (ap (λ (j : ℕ). getD (set fs count (getD xs i 0)) j 0) e ∙ getD-set-same fs count (getD xs i 0) 0 (omega (arith, kept .room))) w
           at j l (no ne) = subst⁻¹ (Within b ys) (getD-set-other fs count j (getD xs i 0) 0 ne) (kept .inside j (omega arith))
 
-      -- m are kept already, so there are more than m
-      pub kept-over : count ≡ m → Counted m (classesOver f ys xs) (m + 1) fs
+      -- `most` are kept already, so there are more
+      pub kept-over : count ≡ most → Counted most (classesOver f ys xs) (most + 1) fs
       kept-over e =
-          let over : m < length (classesOver f ys xs) =
+          let over : most < length (classesOver f ys xs) =
           omega (
             arith,
             subst (λ (l : List ℕ). length (take count fs ++ (getD xs i 0 ∷ [])) ≤ length l) joins
@@ -92,4 +93,4 @@ module _ {f : ℕ → ℕ} {b : ℕ} {ys xs : List ℕ} {m : ℕ} {fs : List ℕ
             length-append (take count fs) (getD xs i 0 ∷ []),
             kept-length,
           ) in
-          record { answer = sym (capped-many m (length (classesOver f ys xs)) over); found = λ h. absurd (omega arith) }
+          record { few = λ within. absurd (omega arith); many = λ _. omega arith; found = λ h. absurd (omega arith) }

@@ -1,24 +1,45 @@
--- The first of each class, found one assignment at a time, and what a search of them that stops at m + 1 answers.
+-- The first of each class, found one assignment at a time, and what a count of them that may stop early answers.
 -- Assumes nothing.
-use Prim.Native.Nat.{ℕ, _+_, _≤_, _<_}
+use Prim.Native.Nat.{ℕ, suc, _+_, _^_, _≤_, _<_}
 use mathlib.Core.Path.{_≡_, _∙_}
 use mathlib.Core.Bool.{Bool, true, false}
 use mathlib.Core.List.{List, [], _∷_, _++_}
+use native.Mathlib.Nat.{le-trans, zero-add, pow-le-pow-right}
+use native.Mathlib.Decide.{decLt}
 use native.Mathlib.Omega.{arith}
 use lib.ListN.{length, take, length-append}
-use borrow.Author.Tests.{le-leb, lt-leb, lt-ltb, le-ltb}
+use borrow.Author.Tests.{lt-ltb, le-ltb}
 use Rattle.rules.specs.Lists.{any, firstPlace}
-use Rattle.rules.specs.Groups.{alikeOver, firsts, capped}
+use Rattle.rules.specs.Groups.{others, points, alikeOver, firsts, classes}
 use Rattle.laws.specs.FirstPlaces.{any-place}
+use Rattle.trees.specs.Members.{size-le}
+use Rattle.trees.specs.Points.{points-length}
 
 -- the first of each class of the assignments xs, where ys are those of the other inputs
 unfoldable pub classesOver : (ℕ → ℕ) → List ℕ → List ℕ → List ℕ
 classesOver f ys xs = firsts (alikeOver f ys) [] xs
 
--- a count of `classes` that stops at m + 1, and the classes where it does not
-pub record Counted (m : ℕ) (classes : List ℕ) (count : ℕ) (kept : List ℕ) : Type 0 where
-  pub answer : count ≡ capped m (length classes)
-  pub found : count ≤ m → take count kept ≡ classes
+-- A count of `classes` that may stop once there are more than `most`: it is theirs where they are at most so many, and else more than that.
+pub record Counted (most : ℕ) (classes : List ℕ) (count : ℕ) (kept : List ℕ) : Type 0 where
+  pub few : length classes ≤ most → count ≡ length classes
+  pub many : most < length classes → most < count
+  pub found : count ≤ most → take count kept ≡ classes
+
+-- such a count is over `most` exactly when the classes are
+module _ {most : ℕ} {classes : List ℕ} {count : ℕ} {kept : List ℕ} (counted : Counted most classes count kept) where
+  pub counted-over : most < count → most < length classes
+  counted-over h = go (decLt most (length classes))
+    where
+      go : Dec (most < length classes) → most < length classes
+      go (yes l) = l
+      go (no l) = absurd (omega (arith, counted .few (omega arith)))
+
+  pub counted-within : count ≤ most → length classes ≤ most
+  counted-within h = go (decLt most (length classes))
+    where
+      go : Dec (most < length classes) → length classes ≤ most
+      go (yes l) = absurd (omega (arith, counted .many l))
+      go (no l) = omega arith
 
 module _ (same : ℕ → ℕ → Bool) where
   -- one of a class that is kept
@@ -45,10 +66,21 @@ module _ (same : ℕ → ℕ → Bool) where
       go true old new = old
       go false old new = omega (arith, length-append kept (p ∷ []))
 
-pub capped-few : (m k : ℕ) → k ≤ m → capped m k ≡ k
-unfolding capped
-capped-few m k h = rw (le-leb k m h)
+  -- there are no more than were kept and are left
+  pub firsts-fewer : (kept ps : List ℕ) → length (firsts same kept ps) ≤ length kept + length ps
+  unfolding firsts
+  firsts-fewer kept [] = omega arith
+  firsts-fewer kept (p ∷ ps) = go (any (same p) kept) (firsts-fewer kept ps) (firsts-fewer (kept ++ (p ∷ [])) ps)
+    where
+      go : (b : Bool) → length (firsts same kept ps) ≤ length kept + length ps
+          → length (firsts same (kept ++ (p ∷ [])) ps) ≤ length (kept ++ (p ∷ [])) + length ps
+          → length {A = ℕ} (elim b as (λ _. List ℕ) [ true ↦ firsts same kept ps | false ↦ firsts same (kept ++ (p ∷ [])) ps ]) ≤ length kept + suc (length ps)
+      go true old new = omega arith
+      go false old new = omega (arith, length-append kept (p ∷ []))
 
-pub capped-many : (m k : ℕ) → m < k → capped m k ≡ m + 1
-unfolding capped
-capped-many m k h = rw (lt-leb k m h)
+-- a group has no more classes than there are cells
+pub classes-fit : (m n : ℕ) → 0 < m → (f : ℕ → ℕ) (g : ℕ) → length (classes m n f g) ≤ m ^ n
+unfolding classes
+classes-fit m n pos f g =
+    le-trans (firsts-fewer (alikeOver f (points m n (others n g))) [] (points m n g))
+    (rw (zero-add, points-length m n pos g) (pow-le-pow-right pos (size-le n g)))

@@ -6,7 +6,7 @@ ghost use lib.ListN.{length};
 ghost use Rattle.rules.specs.Limits.{sizeFits};
 ghost use Rattle.rules.specs.Multiplicity.{multiplicityCall};
 ghost use Rattle.answers.specs.Answers.{answerOf};
-ghost use Rattle.groups.specs.Answers.{groupAnswer};
+ghost use Rattle.laws.specs.Multiplicity.{groupAnswer};
 use crate::bare;
 use crate::classes;
 use answers::answer::Answer;
@@ -33,11 +33,20 @@ fn group_answer(m: usize, n: usize, cells: &[u8], group: usize) -> Answer
     }
     let mut xs = [0u16; limits::MOST_CELLS];
     let mut ys = [0u16; limits::MOST_CELLS];
-    let mut firsts = [0u16; limits::MOST_LEVELS];
-    Answer::Accepted(classes::group_classes(m, n, cells, group, &mut xs, &mut ys, &mut firsts))
+    let mut firsts = [0u16; limits::MOST_CELLS];
+    Answer::Accepted(classes::group_classes(
+        m,
+        n,
+        cells,
+        group,
+        limits::MOST_CELLS,
+        &mut xs,
+        &mut ys,
+        &mut firsts,
+    ))
 }
 
-// The number of classes of a group if it is at most m, and otherwise m + 1. Any arguments may come in.
+// The number of classes of a group. Any arguments may come in.
 pub fn multiplicity(m: usize, n: usize, cells: &[u8], group: usize) -> Answer
     ensures { λ r. ⌜ answerOf r ≡ multiplicityCall m n (now (cells .entry)) group ⌝ }
 {

@@ -1,4 +1,4 @@
-// The first of each class of a group's assignments, and how many there are, counted no further than m + 1.
+// The first of each class of a group's assignments, and how many there are, counted no further than is asked.
 ghost use Prim.Native.Nat.{ℕ, _^_, _≤_, _<_};
 ghost use lib.ListN.{length, getD};
 ghost use Rattle.rules.specs.Groups.{classes};
@@ -8,11 +8,11 @@ ghost use Rattle.groups.specs.Within.{Within, Room};
 use crate::alike;
 use radix::offsets;
 
-// Goes through the assignments xs and puts the first of each class to the front of `firsts`, m of them at most. Answers how
-// many classes there are, or m + 1 where they are more than m.
-pub fn class_firsts(cells: &[u8], xs: &[u16], ys: &[u16], m: usize, firsts: &mut [u16]) -> usize
-    requires { ⌜ (m ≤ length (now firsts)) × ((i : ℕ) → i < length (now xs) → Within (length (now cells)) (now ys) (getD (now xs) i 0)) ⌝ }
-    ensures { λ r. ⌜ Counted m (classesOver (inkIn (now (cells .entry))) (now (ys .entry)) (now (xs .entry))) r (now (firsts .exit)) ⌝ }
+// Goes through the assignments xs and puts the first of each class to the front of `firsts`, `most` of them at most. Answers how
+// many classes there are, or more than `most` where they are more.
+pub fn class_firsts(cells: &[u8], xs: &[u16], ys: &[u16], most: usize, firsts: &mut [u16]) -> usize
+    requires { ⌜ (most ≤ length (now firsts)) × ((i : ℕ) → i < length (now xs) → Within (length (now cells)) (now ys) (getD (now xs) i 0)) ⌝ }
+    ensures { λ r. ⌜ Counted most (classesOver (inkIn (now (cells .entry))) (now (ys .entry)) (now (xs .entry))) r (now (firsts .exit)) ⌝ }
 {
     let mut count: usize = 0;
     let mut i: usize = 0;
@@ -21,8 +21,8 @@ pub fn class_firsts(cells: &[u8], xs: &[u16], ys: &[u16], m: usize, firsts: &mut
         if alike::class_of(cells, ys, firsts, count, p as usize) < count {
             i += 1;
         } else {
-            if count == m {
-                return m + 1;
+            if count == most {
+                return most + 1;
             }
             firsts[count] = p;
             count += 1;
@@ -32,21 +32,22 @@ pub fn class_firsts(cells: &[u8], xs: &[u16], ys: &[u16], m: usize, firsts: &mut
     count
 }
 
-// The classes of group g: the first of each to the front of `firsts`, and how many there are, or m + 1 where they are more than m.
+// The classes of group g: the first of each to the front of `firsts`, and how many there are, or more than `most` where they are more.
 // `xs` and `ys` are work arrays.
 pub fn group_classes(
     m: usize,
     n: usize,
     cells: &[u8],
     g: usize,
+    most: usize,
     xs: &mut [u16],
     ys: &mut [u16],
     firsts: &mut [u16],
 ) -> usize
-    requires { ⌜ (Room m n (now cells) (now xs) (now ys)) × (m ≤ length (now firsts)) × (g < 2 ^ n) ⌝ }
-    ensures { λ r. ⌜ Counted m (classes m n (inkIn (now (cells .entry))) g) r (now (firsts .exit)) ⌝ }
+    requires { ⌜ (Room m n (now cells) (now xs) (now ys)) × (most ≤ length (now firsts)) × (g < 2 ^ n) ⌝ }
+    ensures { λ r. ⌜ Counted most (classes m n (inkIn (now (cells .entry))) g) r (now (firsts .exit)) ⌝ }
 {
     let count = offsets::offsets(m, n, g, xs);
     let other = offsets::other_offsets(m, n, g, ys);
-    class_firsts(cells, &xs[0..count], &ys[0..other], m, firsts)
+    class_firsts(cells, &xs[0..count], &ys[0..other], most, firsts)
 }

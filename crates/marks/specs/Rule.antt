@@ -8,10 +8,11 @@ use native.Mathlib.Omega.{arith}
 use lib.Dec.{eqb, leb}
 use borrow.Author.Tests.{leb-false, le-leb, lt-leb, eq-eqb, ne-eqb, lt-ltb, le-ltb}
 use Rattle.rules.specs.Lists.{range, any}
-use Rattle.rules.specs.Groups.{size, multiplicity, capped}
+use Rattle.rules.specs.Groups.{size, classes, multiplicity}
 use Rattle.rules.specs.Marks.{partsAt, markOf}
 use Rattle.rules.specs.Wirings.{firstInput}
 use Rattle.rules.specs.Settled.{splitOf}
+use Rattle.groups.specs.Firsts.{Counted, counted-over, counted-within}
 use Rattle.trees.specs.Members.{size-one, size-single, first-member}
 use Rattle.radix.specs.Parts.{without-first}
 use Rattle.marks.specs.Splits.{split-found}
@@ -22,38 +23,22 @@ fewMark n marks g = elim (eqb (size n g) 1 || any (partsAt n marks g) (range 1 (
 
 -- ---- few classes
 
--- a capped count is over m exactly when the count is
-capped-over : (m k : ℕ) → m < capped m k → m < k
-unfolding capped
-capped-over m k h = go (leb k m) refl h
-  where
-    go : (b : Bool) → leb k m ≡ b → m < cond b k (m + 1) → m < k
-    go true e h = h
-    go false e h = leb-false k m e
-
-capped-within : (m k : ℕ) → capped m k ≤ m → k ≤ m
-unfolding capped
-capped-within m k h = go (leb k m) h
-  where
-    go : (b : Bool) → cond b k (m + 1) ≤ m → k ≤ m
-    go true h = h
-    go false h = absurd (omega arith)
-
 module _ (m n : ℕ) (f : ℕ → ℕ) (marks : List ℕ) (g : ℕ) where
   pub mark-empty : g ≡ 0 → 0 ≡ markOf m n f marks g
   unfolding markOf
   mark-empty e = rw (eq-eqb g 0 e, markOf)
 
-  module _ (count : ℕ) (counted : count ≡ capped m (multiplicity m n f g)) where
+  -- the count of its classes, which may stop once they are more than m
+  module _ {count : ℕ} {kept : List ℕ} (counted : Counted m (classes m n f g) count kept) where
     pub mark-over : m < count → 0 ≡ markOf m n f marks g
-    unfolding markOf
+    unfolding markOf multiplicity
     mark-over h =
-        rw (lt-leb (multiplicity m n f g) m (capped-over m _ (subst (λ (k : ℕ). m < k) counted h)), or-true (eqb g 0), markOf)
+        rw (lt-leb (multiplicity m n f g) m (counted-over counted h), or-true (eqb g 0), markOf)
 
     pub mark-few : (g ≡ 0 → ⊥) → count ≤ m → fewMark n marks g ≡ markOf m n f marks g
-    unfolding markOf fewMark
+    unfolding markOf fewMark multiplicity
     mark-few some h =
-        rw (ne-eqb g 0 some, le-leb (multiplicity m n f g) m (capped-within m _ (subst (λ (k : ℕ). k ≤ m) counted h)), markOf)
+        rw (ne-eqb g 0 some, le-leb (multiplicity m n f g) m (counted-within counted h), markOf)
 
 -- ---- the group parts
 

@@ -46,7 +46,7 @@ pub fn mark_group(
         return 0;
     }
     let mut firsts = [0u16; limits::MOST_LEVELS];
-    if m < classes::group_classes(m, n, cells, g, xs, ys, &mut firsts) {
+    if m < classes::group_classes(m, n, cells, g, m, xs, ys, &mut firsts) {
         return 0;
     }
     few_mark(marks, g)

@@ -16,13 +16,17 @@ use Rattle.trees.specs.Points.{points-are-parts}
 use Rattle.trees.specs.Classes.{alike-class, class-below, class-listed, class-part, classes-are-points, few-classes}
 use Rattle.paper.specs.PartitionMatrix.{columnMultiplicity, rowMultiplicity, column-multiplicity, row-multiplicity, others-others}
 
--- "f(Z) has a simple disjunctive decomposition (SDD) if and only if f(Z) = F(g(X), Y)": g has m values, and is given the levels
+-- "f(Z) has a simple disjunctive decomposition (SDD) if and only if f(Z) = F(g(X), Y)": g has k values, and is given the levels
 -- of X; F is given g's value and the levels of Y.
-pub record Simple (m n : ℕ) (f : ℕ → ℕ) (x : ℕ) : Type 0 where
+pub record SimpleBy (k m n : ℕ) (f : ℕ → ℕ) (x : ℕ) : Type 0 where
   pub g : ℕ → ℕ
   pub F : ℕ → ℕ → ℕ
-  pub below : (p : ℕ) → g (part m n x p) < m
+  pub below : (p : ℕ) → g (part m n x p) < k
   pub equation : (p : ℕ) → p < m ^ n → f p ≡ F (g (part m n x p)) (part m n (others n x) p)
+
+-- in the paper g has m values, as every wire there
+abbrev pub Simple : ℕ → ℕ → (ℕ → ℕ) → ℕ → Type 0
+Simple m n f x = SimpleBy m m n f x
 
 -- "the complex disjunctive decomposition (CDD)", f(Z) = F(g1(X), g2(Y))
 pub record Complex (m n : ℕ) (f : ℕ → ℕ) (x : ℕ) : Type 0 where
@@ -64,7 +68,7 @@ listed m n f x c = getD (classes m n f x) c 0
 
 module _ (m n : ℕ) (pos : 0 < m) (f : ℕ → ℕ) (x : ℕ) (x< : x < 2 ^ n) where
   -- g's value and the levels of Y tell the ink
-  pub simple-tells : (d : Simple m n f x) → Tells m n f x (λ p. d .g (part m n x p))
+  pub simple-tells : {k : ℕ} (d : SimpleBy k m n f x) → Tells m n f x (λ p. d .g (part m n x p))
   simple-tells d p q e y = equation p ∙ ap (λ v. d .F v (part m n (others n x) y)) e ∙ sym (equation q)
     where
       equation : (p : ℕ) → f (mix m n x p y) ≡ d .F (d .g (part m n x p)) (part m n (others n x) y)
@@ -83,8 +87,8 @@ module _ (m n : ℕ) (pos : 0 < m) (f : ℕ → ℕ) (x : ℕ) (x< : x < 2 ^ n) 
   pub class-equation : (p : ℕ) → p < m ^ n → f p ≡ f (listed m n f x (classNumber m n f x (part m n x p)) + part m n (others n x) p)
   class-equation p h = rw (class-part m n pos f x x< p) (sym (ap f (mix-self m n pos x x< p h)) ∙ by-class p p)
 
-  -- with at most m classes, the labels are below m
-  pub label-below : multiplicity m n f x ≤ m → (p : ℕ) → classNumber m n f x p < m
+  -- with at most k classes, the labels are below k
+  pub label-below : {k : ℕ} → multiplicity m n f x ≤ k → (p : ℕ) → classNumber m n f x p < k
   label-below few p = lt-of-lt-of-le (class-below m n pos f x x< p) few
 
 module _ (m n : ℕ) (pos : 0 < m) (f : ℕ → ℕ) (x : ℕ) (x< : x < 2 ^ n) where
@@ -112,7 +116,7 @@ module _ (m n : ℕ) (pos : 0 < m) (f : ℕ → ℕ) (x : ℕ) (x< : x < 2 ^ n) 
   class-labels p q h = class-part m n pos f x x< p ∙ alike-class m n pos f x x< p q h ∙ sym (class-part m n pos f x x< q)
 
   -- .. and F is read off the matrix
-  abbrev pub class-simple : multiplicity m n f x ≤ m → Simple m n f x
+  abbrev pub class-simple : {k : ℕ} → multiplicity m n f x ≤ k → SimpleBy k m n f x
   class-simple few =
       record {
         g = classNumber m n f x;
@@ -133,14 +137,19 @@ module _ (m n : ℕ) (pos : 0 < m) (f : ℕ → ℕ) (x : ℕ) (x< : x < 2 ^ n) 
         equation = classes-equation;
       }
 
--- an SDD leaves at most m classes, since g's values are below m and tell them
-simple-few : (m n : ℕ) → 0 < m → (f : ℕ → ℕ) (x : ℕ) → x < 2 ^ n → Simple m n f x → multiplicity m n f x ≤ m
-simple-few m n pos f x x< d = few-classes m n pos f x x< m (λ p. d .g (part m n x p)) (d .below) (simple-tells m n pos f x x< d)
+-- a g of k values leaves at most k classes, since its values are below k and tell them
+simple-few : (k m n : ℕ) → 0 < m → (f : ℕ → ℕ) (x : ℕ) → x < 2 ^ n → SimpleBy k m n f x → multiplicity m n f x ≤ k
+simple-few k m n pos f x x< d = few-classes m n pos f x x< k (λ p. d .g (part m n x p)) (d .below) (simple-tells m n pos f x x< d)
+
+-- For every k: f(Z) = F(g(X), Y) with g of k values exactly when X has at most k classes. So the multiplicity of X is the fewest values that a
+-- wire in place of X can carry.
+pub values-needed : (k m n : ℕ) → 0 < m → (f : ℕ → ℕ) (x : ℕ) → x < 2 ^ n → SimpleBy k m n f x ↔ (multiplicity m n f x ≤ k)
+values-needed k m n pos f x x< = (simple-few k m n pos f x x<, λ few. class-simple m n pos f x x< few)
 
 -- Theorem 1: "f(Z), an m-valued function, has the SDD f(Z) = F(g(X), Y) if and only if its Y|X partition matrix has column
 -- multiplicity ν ≤ m."
 pub theorem-1 : (m n : ℕ) → 0 < m → (f : ℕ → ℕ) (x : ℕ) → x < 2 ^ n → Simple m n f x ↔ (columnMultiplicity m n f x ≤ m)
-theorem-1 m n pos f x x< = rw (column-multiplicity m n f x) (simple-few m n pos f x x<, class-simple m n pos f x x<)
+theorem-1 m n pos f x x< = rw (column-multiplicity m n f x) (values-needed m m n pos f x x<)
 
 -- a CDD is an SDD for X, as (2), ..
 abbrev pub columns-simple : (m n : ℕ) (f : ℕ → ℕ) (x : ℕ) → Complex m n f x → Simple m n f x
@@ -161,4 +170,4 @@ theorem-2 m n pos f x x< =
   where
     both : Complex m n f x → (multiplicity m n f x ≤ m) × (multiplicity m n f (others n x) ≤ m)
     both d =
-        (simple-few m n pos f x x< (columns-simple m n f x d), simple-few m n pos f (others n x) (others-below n x) (rows-simple m n f x x< d))
+        (simple-few m m n pos f x x< (columns-simple m n f x d), simple-few m m n pos f (others n x) (others-below n x) (rows-simple m n f x x< d))

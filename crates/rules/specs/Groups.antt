@@ -4,7 +4,7 @@ use Prim.Native.Nat.{ℕ, zero, suc, _+_, _-_, _*_, _/_, _%_, _^_}
 use mathlib.Core.Bool.{Bool, true, false, cond}
 use mathlib.Core.List.{List, [], _∷_, _++_, map}
 use lib.ListN.{length}
-use lib.Dec.{eqb, leb}
+use lib.Dec.{eqb}
 use Rattle.rules.specs.Lists.{range, all, any, those, concatMap}
 
 -- "A group is a set of inputs, numbered by the sum of 2 to the power i over its members, where i is the place in line 3 from
@@ -57,11 +57,7 @@ classes m n f g = let ys = points m n (others n g) in firsts (alikeOver f ys) []
 unfoldable pub multiplicity : ℕ → ℕ → (ℕ → ℕ) → ℕ → ℕ
 multiplicity m n f g = length (classes m n f g)
 
--- "it answers the multiplicity if it is at most m, and otherwise m + 1"
-unfoldable pub capped : ℕ → ℕ → ℕ
-capped m k = cond (leb k m) k (m + 1)
-
 -- all of this file computes
 unfoldable pub computing : Unit {0}
-unfolding member size wholeGroup others points part alikeOver alike firsts classes multiplicity capped
+unfolding member size wholeGroup others points part alikeOver alike firsts classes multiplicity
 computing = tt

@@ -70,6 +70,34 @@ fn marking(m: usize, n: usize, kind: TableKind) -> f64 {
     proved.as_secs_f64() / plain.as_secs_f64()
 }
 
+/// Every group's number of classes, one call a group.
+fn counting(m: usize, n: usize, kind: TableKind) -> f64 {
+    let mut generator = Generator::new(15);
+    let tables: Vec<Vec<u8>> = (0..TABLES)
+        .map(|_| generator.table(m, n, kind).inks)
+        .collect();
+    let groups = 1..1usize << n;
+    let proved = |cells: &[u8], group| sitgurp::multiplicity(m, n, cells, group).ok();
+    let second = |cells: &[u8], group| {
+        let count = reference::multiplicity(m as u64, n as u64, cells, group as u64);
+        count.ok().map(|count| count as usize)
+    };
+    for cells in &tables {
+        for group in groups.clone() {
+            let counts = (proved(cells, group), second(cells, group));
+            assert_eq!(counts.0, counts.1, "both count alike");
+        }
+    }
+    let all_groups = |count: &dyn Fn(&[u8], usize) -> Option<usize>| {
+        least(&tables, |cells| {
+            for group in groups.clone() {
+                black_box(count(black_box(cells), group));
+            }
+        })
+    };
+    all_groups(&proved).as_secs_f64() / all_groups(&second).as_secs_f64()
+}
+
 fn making(m: usize, n: usize, kind: TableKind) -> f64 {
     let mut generator = Generator::new(12);
     let sheets: Vec<Vec<u8>> = (0..TABLES)
@@ -131,6 +159,10 @@ fn checking(m: usize, n: usize, _kind: TableKind) -> f64 {
 fn main() {
     report("marking, proved / plain", marking);
     report("making, proved / plain", making);
+    report(
+        "counting every group's classes, proved / second implementation",
+        counting,
+    );
     report(
         "reading a table sheet, proved / second implementation",
         reading,

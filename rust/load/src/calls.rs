@@ -7,6 +7,8 @@ use sitgurp::MOST_NET_SHEET;
 #[derive(Clone, Copy, Debug, PartialEq, Eq)]
 pub enum Kind {
     Multiplicity,
+    Multiplicities,
+    FewestLevels,
     Marking,
     Settle,
     Make,
@@ -16,8 +18,10 @@ pub enum Kind {
 }
 
 impl Kind {
-    pub const ALL: [Kind; 7] = [
+    pub const ALL: [Kind; 9] = [
         Kind::Multiplicity,
+        Kind::Multiplicities,
+        Kind::FewestLevels,
         Kind::Marking,
         Kind::Settle,
         Kind::Make,
@@ -26,10 +30,11 @@ impl Kind {
         Kind::Listing,
     ];
 
-    /// The refusals that document 01 has for this call.
+    /// The refusals that document 01 has for this call; of the two that ask a table sheet's multiplicities, the sheet's.
     pub fn refusals(self) -> &'static [usize] {
         match self {
             Kind::Multiplicity => &[9, 10, 11],
+            Kind::Multiplicities | Kind::FewestLevels => &[1, 2, 3, 4, 5, 6],
             Kind::Marking => &[9, 10, 14],
             Kind::Settle => &[1, 2, 3, 4, 6, 7, 8, 13, 14, 15],
             Kind::Make => &[1, 2, 3, 4, 5, 6, 13, 14, 15, 16],
@@ -57,6 +62,8 @@ impl Call {
         let size = (inputs.m, inputs.n);
         let (asked, proved, second) = match kind {
             Kind::Multiplicity => multiplicity(&mut inputs),
+            Kind::Multiplicities => multiplicities(&mut inputs),
+            Kind::FewestLevels => fewest_levels(&mut inputs),
             Kind::Marking => marking(&mut inputs),
             Kind::Settle => {
                 let sheet = inputs.net_sheet();
@@ -136,6 +143,27 @@ fn multiplicity(inputs: &mut Inputs) -> Both {
         vec![],
         |_| Answer::of_proved(proved, Answer::Value),
         |_| Answer::of_second(second, |value| Answer::Value(value as usize)),
+    )
+}
+
+/// Every group of a table sheet.
+fn multiplicities(inputs: &mut Inputs) -> Both {
+    let sheet = inputs.table_sheet();
+    both(
+        in_words(&[&sheet], &[]),
+        vec![],
+        |_| Answer::of_proved(sitgurp::multiplicities(&sheet), Answer::Counts),
+        |_| Answer::of_second(reference::multiplicities(&sheet), Answer::Counts),
+    )
+}
+
+fn fewest_levels(inputs: &mut Inputs) -> Both {
+    let sheet = inputs.table_sheet();
+    both(
+        in_words(&[&sheet], &[]),
+        vec![],
+        |_| Answer::of_proved(sitgurp::fewest_levels(&sheet), Answer::Value),
+        |_| Answer::of_second(reference::fewest_levels(&sheet), Answer::Value),
     )
 }
 

@@ -9,6 +9,8 @@ pub enum Answer {
     Value(usize),
     Agree,
     Differ(usize),
+    /// Every group's number of classes.
+    Counts(Vec<usize>),
     /// The lister's turns: where a line begins and how long it is, or that none is left.
     Turns(Vec<Option<(usize, usize)>>),
     Refused {
@@ -115,6 +117,8 @@ mod tests {
             Answer::Value(4),
             Answer::Agree,
             Answer::Differ(4),
+            Answer::Counts(vec![0, 2, 2, 2]),
+            Answer::Counts(vec![0, 2, 2, 1]),
             Answer::Turns(vec![Some((4, 8)), None]),
             Answer::Turns(vec![Some((4, 8)), Some((4, 8))]),
             refused(4, Named::Net),

@@ -4,7 +4,7 @@
 //! untouched. Every other refusal changes no buffer." "Longer buffers keep their
 //! further bytes."
 
-use crate::groups::{capped_multiplicity, whole};
+use crate::groups::{self, whole};
 use crate::limits::cell_count;
 use crate::marks::{self, first_stuck, marks_of};
 use crate::net::Table;
@@ -19,14 +19,28 @@ pub enum Verdict {
     Differ(u64),
 }
 
-/// The classes of a group of bare cells, m + 1 if they are over m.
+/// "The multiplicity call gives the true number of classes, however large."
 /// Refusals 9, 10, 11.
 pub fn multiplicity(m: u64, n: u64, cells: &[u8], group: u64) -> Result<u64, Refusal> {
     let table = bare_table(m, n, cells)?;
     if group == 0 || group > whole(table.n) as u64 {
         return Err(Refusal::new(refusal::GROUP, 0));
     }
-    Ok(capped_multiplicity(&table, group as usize) as u64)
+    Ok(groups::multiplicity(&table, group as usize) as u64)
+}
+
+/// Every group's multiplicity, at its number, of a table sheet; 0 for group 0,
+/// which has none. Refusals 1 to 6.
+pub fn multiplicities(sheet: &[u8]) -> Result<Vec<usize>, Refusal> {
+    let (_, table) = read_table_sheet(sheet)?;
+    Ok(groups::multiplicities(&table))
+}
+
+/// The fewest levels that the gates' wires would have to carry for a table
+/// sheet to have a tree: at most m exactly when it has one. Refusals 1 to 6.
+pub fn fewest_levels(sheet: &[u8]) -> Result<usize, Refusal> {
+    let (_, table) = read_table_sheet(sheet)?;
+    Ok(marks::fewest_levels(&table))
 }
 
 /// "Marking takes bare cells, writes the marks buffer and answers the whole

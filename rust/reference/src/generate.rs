@@ -160,6 +160,17 @@ impl Generator {
     }
 }
 
+/// A table in which the group of the first `size` inputs has as many classes as
+/// it can: an assignment's place in the count, as digits, last digit first, is
+/// its column.
+pub fn most_classes_table(m: usize, n: usize, size: usize) -> Table {
+    let column = m.pow((n - size) as u32);
+    let digit = |place: usize, at: usize| (0..at).fold(place, |rest, _| rest / m) % m;
+    let ink = |index: usize| digit(index / column, index % column) as u8;
+    let inks = (0..m.pow(n as u32)).map(ink).collect();
+    Table { m, n, inks }
+}
+
 fn sum(levels: &[u8], m: usize) -> u8 {
     let total: usize = levels.iter().map(|&level| usize::from(level)).sum();
     (total % m) as u8

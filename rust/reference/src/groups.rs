@@ -5,10 +5,11 @@
 //! assignments are alike exactly when their columns are equal.
 
 use crate::net::{count_up, Table};
+use std::collections::HashMap;
 
 /// The classes of a group's assignments.
 pub struct Classes {
-    /// How many classes were seen.
+    /// How many classes there are: the multiplicity.
     pub count: usize,
     /// The class of each assignment, in the order in which they are counted,
     /// first-listed member slowest. Classes are numbered from 0 as they first
@@ -49,30 +50,34 @@ fn column(table: &Table, levels: &mut [u8], others: &[usize]) -> Vec<u8> {
     }
 }
 
-/// The classes of a group. The walk ends at the first class above `most`, and
-/// the count is then `most` + 1.
-pub fn classes(table: &Table, group: usize, most: usize) -> Classes {
+/// The classes of a group.
+pub fn classes(table: &Table, group: usize) -> Classes {
     let members = members(group, table.n);
     let others = others(group, table.n);
     let mut levels = vec![0; table.n];
-    let mut seen: Vec<Vec<u8>> = Vec::new();
+    let mut seen: HashMap<Vec<u8>, usize> = HashMap::new();
     let mut of = Vec::new();
     loop {
         let column = column(table, &mut levels, &others);
-        let class = seen.iter().position(|other| *other == column);
-        of.push(class.unwrap_or(seen.len()));
-        if class.is_none() {
-            seen.push(column);
-        }
-        let over = seen.len() > most;
-        if over || !count_up(&mut levels, &members, table.m) {
+        let next = seen.len();
+        of.push(*seen.entry(column).or_insert(next));
+        if !count_up(&mut levels, &members, table.m) {
             let count = seen.len();
             return Classes { count, of };
         }
     }
 }
 
-/// "It answers the multiplicity if it is at most m, and otherwise m + 1."
-pub fn capped_multiplicity(table: &Table, group: usize) -> usize {
-    classes(table, group, table.m).count
+/// "The group's multiplicity is the number of classes", "the true number of
+/// classes, however large".
+pub fn multiplicity(table: &Table, group: usize) -> usize {
+    classes(table, group).count
+}
+
+/// The multiplicity of every group, at the group's number. The empty group has
+/// none, and 0 stands there.
+pub fn multiplicities(table: &Table) -> Vec<usize> {
+    let groups = 1..=whole(table.n);
+    let counts = groups.map(|group| multiplicity(table, group));
+    std::iter::once(0).chain(counts).collect()
 }

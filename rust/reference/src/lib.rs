@@ -1,5 +1,6 @@
-//! The second implementation of document 01 ("Shade nets"), written from its
-//! text alone. The proved implementation is held against this one.
+//! The second implementation of document 01 ("Shade nets"), with what document
+//! 02 changes in it, written from their text alone. The proved implementation is
+//! held against this one.
 //!
 //! One module for one section of the document:
 //!
@@ -36,7 +37,9 @@ pub mod rng;
 pub mod settled;
 pub mod sheet;
 
-pub use calls::{check, make, marking, multiplicity, settle, write_table, Verdict};
+pub use calls::{
+    check, fewest_levels, make, marking, multiplicities, multiplicity, settle, write_table, Verdict,
+};
 pub use limits::allowed_sizes;
 pub use lister::Lister;
 pub use programs::{make_program, settle_program};

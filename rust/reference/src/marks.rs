@@ -1,7 +1,7 @@
 //! "Marks": which groups have few enough classes, and which of them can be
 //! built from inputs.
 
-use crate::groups::{capped_multiplicity, is_member, members, whole};
+use crate::groups::{is_member, members, multiplicities, whole};
 use crate::net::Table;
 
 /// "0 if it is empty or its multiplicity is over m."
@@ -14,24 +14,36 @@ pub const TREE: u8 = 2;
 
 /// The mark of every group, at the group's number.
 pub fn marks_of(table: &Table) -> Vec<u8> {
+    marks_with(&multiplicities(table), table.n, table.m)
+}
+
+/// The marks that groups of these multiplicities have with `most` in place of
+/// m. A single input has mark 2 whatever `most` is: it is a leaf, and no gate
+/// gives it.
+fn marks_with(multiplicities: &[usize], n: usize, most: usize) -> Vec<u8> {
     let mut marks = Vec::new();
-    for group in 0..=whole(table.n) {
+    for (group, &multiplicity) in multiplicities.iter().enumerate() {
         // A part of a group has a lower number, so its mark is there already.
-        let mark = mark_of(table, group, &marks);
+        let mark = match members(group, n).len() {
+            0 => NONE,
+            1 => TREE,
+            _ if multiplicity > most => NONE,
+            _ if split(&marks, group, n).is_some() => TREE,
+            _ => STUCK,
+        };
         marks.push(mark);
     }
     marks
 }
 
-fn mark_of(table: &Table, group: usize, marks: &[u8]) -> u8 {
-    let size = members(group, table.n).len();
-    if size == 0 || capped_multiplicity(table, group) > table.m {
-        return NONE;
-    }
-    if size == 1 || split(marks, group, table.n).is_some() {
-        return TREE;
-    }
-    STUCK
+/// The least k for which the whole group has mark 2 with k in place of m: how
+/// many levels the gates' wires would have to carry for a tree to exist. The
+/// output is such a wire, so k is not below the number of distinct inks.
+pub fn fewest_levels(table: &Table) -> usize {
+    let multiplicities = multiplicities(table);
+    (1..)
+        .find(|&most| marks_with(&multiplicities, table.n, most)[whole(table.n)] == TREE)
+        .expect("with as many as the largest multiplicity every group has mark 2")
 }
 
 /// A split of a group into (A, B), both of mark 2, "A holding its first-listed

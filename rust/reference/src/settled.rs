@@ -69,6 +69,6 @@ fn carried_by(table: &Table, group: usize) -> Vec<u8> {
     if members(group, table.n).len() == 1 {
         return (0..table.m as u8).collect();
     }
-    let classes = classes(table, group, table.m).of;
+    let classes = classes(table, group).of;
     classes.iter().map(|&class| class as u8).collect()
 }

@@ -3,9 +3,8 @@
 mod common;
 
 use common::*;
-use reference::generate::{Generator, TableKind};
+use reference::generate::{most_classes_table, Generator, TableKind};
 use reference::{allowed_sizes, marking, multiplicity};
-use std::collections::{HashMap, HashSet};
 
 /// Sizes that would wrap round to a small number of cells, and all others that
 /// are out of bounds.
@@ -98,9 +97,9 @@ fn refusal_11_groups() {
     }
 }
 
-/// "It answers the multiplicity if it is at most m, and otherwise m + 1."
+/// "The true number of classes, however large."
 #[test]
-fn multiplicity_counts_up_to_m_and_one_more() {
+fn multiplicity_counts_all_classes() {
     for m in 2..=9 {
         for count in 1..=m * m {
             // The first input's group has m classes at most; the two together
@@ -115,22 +114,9 @@ fn multiplicity_counts_up_to_m_and_one_more() {
         }
         // Three inputs, each pair of levels of the first two another column.
         let inks = inks_of(m, 3, |x| if x[2] == 0 { x[0] } else { x[1] });
-        assert_eq!(multiplicity(m as u64, 3, &inks, 3), Ok(m as u64 + 1));
+        assert_eq!(multiplicity(m as u64, 3, &inks, 3), Ok((m * m) as u64));
         assert_eq!(multiplicity(m as u64, 3, &inks, 4), Ok(2));
     }
-}
-
-/// The number of different columns: the cells parted by the levels of the
-/// group's members.
-fn count_of_columns(m: usize, n: usize, inks: &[u8], group: usize) -> usize {
-    let mut columns: HashMap<Vec<usize>, Vec<u8>> = HashMap::new();
-    for (index, &ink) in inks.iter().enumerate() {
-        let levels = levels_of(index, m, n);
-        let members = (0..n).filter(|input| group & (1 << input) != 0);
-        let column = members.map(|input| levels[input]).collect();
-        columns.entry(column).or_default().push(ink);
-    }
-    columns.into_values().collect::<HashSet<_>>().len()
 }
 
 #[test]
@@ -138,7 +124,7 @@ fn multiplicity_of_groups_at_every_size() {
     let seed = 131;
     println!("seed {seed}");
     let mut generator = Generator::new(seed);
-    let (mut few, mut many) = (0, 0);
+    let (mut few, mut many, mut most) = (0, 0, 0);
     for (m, n) in allowed_sizes() {
         for kind in TableKind::ALL {
             let inks = generator.table(m as usize, n as usize, kind).inks;
@@ -146,12 +132,39 @@ fn multiplicity_of_groups_at_every_size() {
                 let group = 1 + generator.rng.below((1 << n) - 1);
                 let count = count_of_columns(m as usize, n as usize, &inks, group) as u64;
                 let answer = multiplicity(m, n, &inks, group as u64);
-                assert_eq!(answer, Ok(count.min(m + 1)), "{m} {n} {kind:?} {group}");
+                assert_eq!(answer, Ok(count), "{m} {n} {kind:?} {group}");
                 few += usize::from(count <= m);
-                many += usize::from(count > m);
+                many += usize::from(count > m + 1);
+                most = most.max(count);
             }
         }
     }
-    println!("{few} groups with at most m classes, {many} with more");
-    assert!(few > 100 && many > 100);
+    println!("{few} groups with at most m classes, {many} with more than m + 1, at most {most}");
+    assert!(few > 100 && many > 100 && most > 100);
+}
+
+/// How many classes a group of some size can have: no more than it has
+/// assignments, and no more than there are columns of inks.
+fn most_classes(m: usize, n: usize, size: usize) -> usize {
+    let column = m.pow((n - size) as u32);
+    let columns = (0..column).try_fold(1, |count: usize, _| count.checked_mul(m));
+    m.pow(size as u32).min(columns.unwrap_or(usize::MAX))
+}
+
+#[test]
+fn the_most_classes_at_every_size() {
+    let mut most = Vec::new();
+    for (m, n) in allowed_sizes() {
+        for size in 1..=n as usize {
+            let bound = most_classes(m as usize, n as usize, size);
+            let inks = most_classes_table(m as usize, n as usize, size).inks;
+            let group = (1 << size) - 1;
+            assert_eq!(multiplicity(m, n, &inks, group), Ok(bound as u64));
+            most.push((bound, m, n, size));
+        }
+    }
+    most.sort();
+    most.reverse();
+    // 256 is the most that any group of any sheet has, at two of the sizes.
+    assert_eq!(most[..3], [(256, 4, 5, 4), (256, 2, 11, 8), (243, 3, 7, 5)]);
 }

@@ -125,8 +125,8 @@ fn case_8_figure_1_has_three_columns_and_three_rows() {
     assert_eq!(multiplicity(3, 4, &inks, 0b0011), Ok(3));
     assert_eq!(multiplicity(3, 4, &inks, 0b1100), Ok(3));
     let table = Table { m: 3, n: 4, inks };
-    assert_eq!(classes(&table, 0b0011, 3).of, FIGURE_1_G1);
-    assert_eq!(classes(&table, 0b1100, 3).of, FIGURE_1_G2);
+    assert_eq!(classes(&table, 0b0011).of, FIGURE_1_G1);
+    assert_eq!(classes(&table, 0b1100).of, FIGURE_1_G2);
 }
 
 #[test]

@@ -293,7 +293,7 @@ fn conjecture_inks() -> Vec<u8> {
     inks_of_digits(CONJECTURE)
 }
 
-/// The multiplicity of every group from 1 to 15, not capped.
+/// The multiplicity of every group from 1 to 15.
 const CONJECTURE_CLASSES: [usize; 15] = [3, 3, 5, 2, 5, 3, 3, 2, 4, 5, 5, 3, 6, 4, 3];
 
 #[test]
@@ -303,8 +303,7 @@ fn conjecture_multiplicities_and_marks() {
     for (group, classes) in (1..).zip(CONJECTURE_CLASSES) {
         let (_, count) = function.classes(&group_members(group, 4));
         assert_eq!(count, classes, "group {group}");
-        let capped = classes.min(M + 1) as u64;
-        assert_eq!(multiplicity(3, 4, &inks, group as u64), Ok(capped));
+        assert_eq!(multiplicity(3, 4, &inks, group as u64), Ok(count as u64));
     }
     let mut marks = [9; 16];
     assert_eq!(marking(3, 4, &inks, &mut marks), Ok(2));

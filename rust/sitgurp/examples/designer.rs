@@ -1,6 +1,7 @@
 //! The tree of a designer's table: `cargo run -p sitgurp --example designer -- ../examples/seven.table`.
 //!
-//! Prints the settled net sheet and then its gate lines one by one, or says in words why there is none.
+//! Prints the settled net sheet and then its gate lines one by one, or says in words why there is none; of a table without a tree also
+//! how many levels would do.
 
 use std::process::ExitCode;
 
@@ -22,6 +23,10 @@ fn main() -> ExitCode {
         Err(refusal) => {
             // number, place, line and column are also there as fields of the refusal
             eprintln!("{path}: {refusal}");
+            // an accepted sheet has an answer; of any other the refusal has been said
+            if let Ok(levels) = sitgurp::fewest_levels(&sheet) {
+                eprintln!("with {levels} levels on the wires between gates there would be a tree");
+            }
             ExitCode::FAILURE
         }
     }

@@ -1,7 +1,8 @@
 //! Safe Rust over the proved Sitgurp library: tables of shades, and the trees of two-input gates that compute them.
 //!
 //! Every call is the library's; nothing here decides what the library decides. Buffers are lent as in document 01, and
-//! [`settled`], [`made`] and [`table_of`] lend buffers of the sizes that always suffice.
+//! [`settled`], [`made`] and [`table_of`] lend buffers of the sizes that always suffice. [`multiplicities`] and [`fewest_levels`] put
+//! together what calls of the library answer about a table without a tree.
 //!
 //! ```
 //! let sheet = b"levels inputs\n2 3\na b c\nleft right table\na b 0110\n1 c 0110\n";
@@ -24,10 +25,12 @@
 //! assert_eq!(marks, [0, 2, 2, 0, 2, 0, 0, 1]);
 //! ```
 
+mod counting;
 mod ffi;
 mod lister;
 mod refusal;
 
+pub use counting::{fewest_levels, multiplicities};
 pub use lister::Lister;
 pub use refusal::{Named, Refusal};
 
@@ -57,7 +60,7 @@ fn answered(answer: ffi::Answer, named: Named, sheet: &[u8]) -> Result<usize, Re
     }
 }
 
-/// The number of classes of a group of a table given as bare cells, if it is at most m, and otherwise m + 1.
+/// The number of classes of a group of a table given as bare cells, however large.
 pub fn multiplicity(m: usize, n: usize, cells: &[u8], group: usize) -> Result<usize, Refusal> {
     let answer = unsafe { ffi::sitgurp_multiplicity(m, n, cells.as_ptr(), cells.len(), group) };
     answered(answer, Named::Neither, &[])

@@ -42,13 +42,11 @@ fn tables() -> Vec<(usize, usize, Vec<u8>)> {
 }
 
 #[test]
-fn groups_of_every_size() {
+fn every_group_of_every_size() {
     for (m, n, cells) in tables() {
-        let groups = 1usize << n;
-        for group in (0..=groups + 1).step_by(1 + groups / 64) {
+        for group in 0..=(1 << n) + 1 {
             same_multiplicity(m, n, &cells, group);
         }
-        same_multiplicity(m, n, &cells, groups - 1);
     }
 }
 

@@ -125,9 +125,13 @@ fn every_buffer_around_its_need() {
         let tables =
             [TableKind::OfNet, TableKind::Random].map(|kind| generator.table_sheet(m, n, kind));
         let length = same_settle(&net, ENOUGH).expect("a good net sheet settles");
-        for cells in around(m.pow(n as u32)) {
-            for marks in around(1 << n) {
-                for output in around(length) {
+        let lengths = match n {
+            11 => |need| vec![need - 1, need, need + 37],
+            _ => around,
+        };
+        for cells in lengths(m.pow(n as u32)) {
+            for marks in lengths(1 << n) {
+                for output in lengths(length) {
                     let lengths = Lengths(cells, marks, output);
                     same_settle(&net, lengths).ok();
                     for table in &tables {

@@ -5,6 +5,7 @@
 
 use reference::limits::{MOST_CELLS, MOST_INPUTS, MOST_NET_SHEET_BYTES};
 use reference::{make, settle, write_table, Refusal, Sheet};
+use std::collections::{HashMap, HashSet};
 
 /// Longer than any need of any allowed size: cells, marks, a net sheet, a table
 /// sheet.
@@ -42,6 +43,19 @@ pub fn inks_of(m: usize, n: usize, rule: impl Fn(&[usize]) -> usize) -> Vec<u8> 
     (0..m.pow(n as u32))
         .map(|index| rule(&levels_of(index, m, n)) as u8)
         .collect()
+}
+
+/// The number of different columns: the cells parted by the levels of the
+/// group's members.
+pub fn count_of_columns(m: usize, n: usize, inks: &[u8], group: usize) -> usize {
+    let mut columns: HashMap<Vec<usize>, Vec<u8>> = HashMap::new();
+    for (index, &ink) in inks.iter().enumerate() {
+        let levels = levels_of(index, m, n);
+        let members = (0..n).filter(|input| group & (1 << input) != 0);
+        let column = members.map(|input| levels[input]).collect();
+        columns.entry(column).or_default().push(ink);
+    }
+    columns.into_values().collect::<HashSet<_>>().len()
 }
 
 /// A table sheet from m, the names parted by spaces, and the inks.

@@ -84,8 +84,11 @@ static int turns(sitgurp_turn turn, size_t kind, size_t first, size_t second) {
 
 static void multiplicity(void) {
     static const uint8_t high[8] = {0, 1, 0, 1, 2, 0, 3, 0};
+    /* a where c is 0, b where c is 1 */
+    static const uint8_t either[8] = {0, 0, 0, 1, 1, 0, 1, 1};
     HOLDS(is(sitgurp_multiplicity(2, 3, sum_cells, 8, 3), 0, 2));
     HOLDS(is(sitgurp_multiplicity(2, 3, majority_cells, 8, 3), 0, 3));
+    HOLDS(is(sitgurp_multiplicity(2, 3, either, 8, 3), 0, 4));
     HOLDS(is(sitgurp_multiplicity(1, 3, sum_cells, 8, 3), 9, 0));
     HOLDS(is(sitgurp_multiplicity(2, 3, sum_cells, 7, 3), 9, 0));
     HOLDS(is(sitgurp_multiplicity(2, (size_t)-1, sum_cells, 8, 3), 9, 0));

@@ -29,7 +29,7 @@ returns c =
     let s = start counted in
     let a = s .args in
     let called = counted .group-classes in
-    counted-all (a .m) (classes (a .m) (a .n) (inkIn (a .cells .now)) (a .g)) (called .result) (called .last .1 .1 .1 .1 .1 .1 .0) (s .pre .3) (called .ensures)
+    counted-all (a .m) (classes (a .m) (a .n) (inkIn (a .cells .now)) (a .g)) (called .result) (called .last .1 .1 .1 .1 .1 .1 .1 .0) (s .pre .3) (called .ensures)
 
 pub class-list-spec : {M : Type 1} → statement M
 class-list-spec =

@@ -3,7 +3,7 @@ use mathlib.Core.Path.{sym, _∙_}
 use native.Mathlib.Omega.{arith}
 use borrow.Author.Tests.{not-true, not-false}
 use Rattle.laws.specs.Sizes.{sized}
-use Rattle.groups.specs.Answers.{bare-size, bare-length, bare-cell, bare-good}
+use Rattle.laws.specs.BareCells.{bare-size, bare-length, bare-cell, bare-good}
 use borrow.Author.Needs.{needs}
 use Rattle.groups.proofs.bare.bare_cells.Statement.{statement}
 use Rattle.groups.proofs.bare.bare_cells.Tie as tie

@@ -1,10 +1,13 @@
 -- `groups::call::group_answer` meets its contract: refusal 11, or the count of the group's classes, for which the work arrays have
 -- room.
 -- Assumes nothing.
+use native.Mathlib.Nat.{le-trans}
 use native.Mathlib.Omega.{arith}
 use Rattle.rules.specs.Groups.{multiplicity}
+use Rattle.rules.specs.Answers.{inkIn}
 use Rattle.laws.specs.Sizes.{sized}
-use Rattle.groups.specs.Answers.{group-empty, group-past, group-counted}
+use Rattle.groups.specs.Firsts.{classes-fit}
+use Rattle.laws.specs.Multiplicity.{group-empty, group-past, group-counted}
 use borrow.Author.Needs.{needs}
 use Rattle.groups.proofs.call.group_answer.Statement.{statement}
 use Rattle.groups.proofs.call.group_answer.Tie as tie
@@ -49,8 +52,12 @@ group-classes-requires c κs =
 returns-3 : tie.Need-returns-3
 unfolding multiplicity
 returns-3 c =
+    let start = at-start (at-fits (at-classes c .before) .before) in
+    let a = start .args in
+    let fit = sized (a .m) (a .n) (start .pre .0) in
+    let all = le-trans (classes-fit (a .m) (a .n) (omega (arith, fit .levels-least)) (inkIn (a .cells .now)) (a .group)) (fit .cells-most) in
     group-counted _ _ _ _ _ (at-fits (at-classes c .before) .before .before .if1 .left) (omega (arith, at-fits (at-classes c .before) .before .power .ensures, at-fits (at-classes c .before) .if2 .left))
-    (at-classes c .group-classes .ensures .answer)
+    (at-classes c .group-classes .ensures .few all)
 
 pub group-answer-spec : {M : Type 1} → statement M
 group-answer-spec =

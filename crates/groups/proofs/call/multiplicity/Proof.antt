@@ -2,7 +2,8 @@
 -- Assumes nothing.
 use mathlib.Core.Path.{sym, ap, _∙_}
 use Rattle.answers.specs.Answers.{outcomeAs}
-use Rattle.groups.specs.Answers.{bare-accepted, multiplicity-refused, multiplicity-judged}
+use Rattle.laws.specs.BareCells.{bare-accepted}
+use Rattle.laws.specs.Multiplicity.{multiplicity-refused, multiplicity-judged}
 use borrow.Author.Needs.{needs}
 use Rattle.groups.proofs.call.multiplicity.Statement.{statement}
 use Rattle.groups.proofs.call.multiplicity.Tie as tie

@@ -11,10 +11,10 @@ use Rattle.groups.proofs.classes.class_firsts.Statement.{statement}
 use Rattle.groups.proofs.classes.class_firsts.Tie as tie
 
 abbrev Inv-loop : tie.InvT-loop
-Inv-loop cells xs ys m firsts₀ count₀ i₀ firsts count i = (length firsts ≡ length firsts₀) × Kept (inkIn cells) (length cells) ys xs m firsts count i
+Inv-loop cells xs ys most firsts₀ count₀ i₀ firsts count i = (length firsts ≡ length firsts₀) × Kept (inkIn cells) (length cells) ys xs most firsts count i
 
 abbrev μ-loop : tie.MeasureT-loop
-μ-loop cells xs ys m firsts₀ count₀ i₀ firsts count i = length xs - i
+μ-loop cells xs ys most firsts₀ count₀ i₀ firsts count i = length xs - i
 
 -- the start from the loop's head, and a turn's start from its call
 abbrev at-start : tie.At-loop Inv-loop μ-loop → tie.Start Inv-loop μ-loop
@@ -26,7 +26,7 @@ at-turn c = c .before .before
 loop-holds : tie.Need-loop-holds Inv-loop μ-loop
 loop-holds c =
     let a = c .before .before .before .before .args in
-    (refl, kept-none (inkIn (a .cells .now)) (length (a .cells .now)) (a .ys .now) (a .xs .now) (a .m) (a .firsts .now) (c .before .before .before .before .pre .0))
+    (refl, kept-none (inkIn (a .cells .now)) (length (a .cells .now)) (a .ys .now) (a .xs .now) (a .most) (a .firsts .now) (c .before .before .before .before .pre .0))
 
 mul-p : tie.Need-mul-p Inv-loop μ-loop
 mul-p c = omega arith

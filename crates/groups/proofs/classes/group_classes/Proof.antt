@@ -81,7 +81,7 @@ returns c =
     let others = at-others (at-parts (c .before .before .before)) in
     let a = at-start (at-offsets others) .args in
     let called = c .before .before .class-firsts in
-    subst (λ (l : List ℕ). Counted (a .m) l (called .result) (called .last .1 .1 .1 .1 .0))
+    subst (λ (l : List ℕ). Counted (a .most) l (called .result) (called .last .1 .1 .1 .1 .0))
     (of-group (a .m) (a .n) (a .g) (inkIn (a .cells .now)) _ _ (part-is (at-offsets others .offsets .ensures)) (part-is (others .other-offsets .ensures)))
     (called .ensures)
 

@@ -1,7 +1,7 @@
 -- `marks::call::marking` meets its contract: what bare cells are refused for, or what marking does. Assumes nothing.
 use mathlib.Core.Path.{sym, ap, _∙_}
 use Rattle.answers.specs.Answers.{outcomeAs}
-use Rattle.groups.specs.Answers.{bare-accepted}
+use Rattle.laws.specs.BareCells.{bare-accepted}
 use Rattle.marks.specs.Answers.{marking-refused, marking-judged}
 use borrow.Author.Needs.{needs}
 use Rattle.marks.proofs.call.marking.Statement.{statement}

@@ -37,7 +37,7 @@ same-length-2 c = search needs
 
 returns-2 : tie.Need-returns-2
 unfolding multiplicity
-returns-2 c = let counted = at-classes (c .before) .group-classes in mark-over _ _ _ _ _ (counted .result) (counted .ensures .answer) (c .if2 .taken)
+returns-2 c = let counted = at-classes (c .before) .group-classes in mark-over _ _ _ _ _ (counted .ensures) (c .if2 .taken)
 
 few-mark-requires : tie.Need-few-mark-requires
 few-mark-requires c κs =
@@ -56,7 +56,7 @@ returns-3 c =
     let classes = at-classes (c .before .before) in
     let counted = classes .group-classes in
     c .few-mark .ensures (at-start (at-several (classes .before)) .args .n) (at-start (at-several (classes .before)) .pre .2)
-    ∙ mark-few _ _ _ _ _ (counted .result) (counted .ensures .answer) (at-several (classes .before) .if1 .left) (c .before .if2 .left)
+    ∙ mark-few _ _ _ _ _ (counted .ensures) (at-several (classes .before) .if1 .left) (c .before .if2 .left)
 
 pub mark-group-spec : {M : Type 1} → statement M
 mark-group-spec =
