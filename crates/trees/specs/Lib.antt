@@ -17,8 +17,8 @@ pub mod Carried
 pub mod DigitRule
 pub mod Wirings
 pub mod JoinedLists
-pub mod GateLists
 pub mod TreeLists
+pub mod GateLists
 pub mod Fillings
 pub mod GateLinks
 pub mod MarkRule

@@ -1,7 +1,7 @@
 -- A tree is a net: its gates written out ("A's, then B's, then the group's own") with its own digits, whatever they are, keep every
 -- rule of a net sheet and have the tree's value. `NetTree` has the other way: a net is a tree.
 -- Assumes nothing.
-use Prim.Native.Nat.{ℕ, suc, _+_, _-_, _*_, _≤_, _<_}
+use Prim.Native.Nat.{ℕ, _+_, _-_, _*_, _≤_, _<_}
 use native.Mathlib.Nat.{add-zero, zero-add, add-assoc}
 use native.Mathlib.Decide.{decLt}
 use native.Mathlib.Omega.{arith}
@@ -14,7 +14,7 @@ use Rattle.rules.specs.Lists.{range, those}
 use Rattle.rules.specs.Sheets.{Gate, usedBy, level, levelsAt}
 use Rattle.rules.specs.Value.{value, gateValue, withGates}
 use Rattle.rules.specs.Groups.{member, size, wholeGroup}
-use Rattle.rules.specs.Wirings.{Wiring, input, gate, groupOf, gatesIn, referenceTo}
+use Rattle.rules.specs.Wirings.{groupOf, gatesIn, referenceTo}
 use Rattle.rules.specs.Kept.{RefersBack, Tables, IsNet}
 use Rattle.laws.specs.Levels.{levels-length}
 use Rattle.laws.specs.Tests.{oneIf, one-if-le, one-if-or}
@@ -22,8 +22,8 @@ use Rattle.laws.specs.Ranges.{range-append, map-range-at}
 use Rattle.laws.specs.Counts.{count-cons, count-append, times, not-one, times-range}
 use Rattle.laws.specs.Distinct.{times-distinct}
 use Rattle.trees.specs.Trees.{Tree, leaf, node, wiringIn, EachOnce, Filled, treeValue}
-use Rattle.trees.specs.Members.{member-single, member-join, size-single, size-join, size-whole}
-use Rattle.trees.specs.Wirings.{group-below}
+use Rattle.trees.specs.Members.{member-single, member-join, size-whole}
+use Rattle.trees.specs.Wirings.{group-below, gates-in-size}
 use Rattle.trees.specs.JoinedLists.{used-append, refers-append, tables-append, with-gates-append, with-gates-length, with-gates-earlier, with-gates-last}
 
 -- how many gates a tree has
@@ -57,18 +57,6 @@ module _ (n : ℕ) where
 
   below-length : (before : ℕ) (a b : Tree) → length (below before a b) ≡ gatesOf a + gatesOf b
   below-length before a b = simp (length-append, lines-length before a, lines-length (before + gatesOf a) b)
-
-  -- a wiring of k inputs has k − 1 gates
-  gates-size : (w : Wiring) → EachOnce n w → suc (gatesIn w) ≡ size n (groupOf w)
-  unfolding gatesIn groupOf
-  gates-size (input i) once = sym (size-single i n once)
-  gates-size (gate a b) once =
-      omega (
-        arith,
-        gates-size a (once .1),
-        gates-size b (once .2),
-        size-join n (groupOf a) (groupOf b) (group-below n a (once .1)) (group-below n b (once .2)) (once .0),
-      )
 
   -- ---- references back
 
@@ -153,7 +141,7 @@ module _ (n : ℕ) where
 
     pub tree-net : (t : Tree) → EachOnce n (wiringIn t) → groupOf (wiringIn t) ≡ wholeGroup n → Filled m t → IsNet m n (treeGates n 0 t)
     tree-net t once whole filled = record {
-      count = omega (arith, lines-length 0 t, gates-size (wiringIn t) once, size-whole n, ap (size n) whole);
+      count = omega (arith, lines-length 0 t, gates-in-size n (wiringIn t) once, size-whole n, ap (size n) whole);
       rules = record {
         back = rw add-zero at (lines-back 0 t once);
         once = times-distinct (usedBy (treeGates n 0 t)) (λ r. used-at-most-once r 0 t once);
