@@ -32,6 +32,22 @@ typedef struct sitgurp_answer {
 } sitgurp_answer;
 
 /*
+ * number 0: accepted, value is the sheet's length, and layers the layers of its net; otherwise number is the refusal's, value its place,
+ * and layers 0
+ */
+typedef struct sitgurp_shallow {
+    size_t number;
+    size_t value;
+    size_t layers;
+} sitgurp_shallow;
+
+/* which 1: the first sheet; 2: the second; 0: an empty part of the first. length is the length of what is handed back. */
+typedef struct sitgurp_which {
+    size_t which;
+    size_t length;
+} sitgurp_which;
+
+/*
  * kind 0: the sheets agree; 1: they differ, and value is the lowest index that does; 2: refused, with number at place value.
  * A refusal names the net sheet (named 1), the table sheet (2) or neither (0). What a kind does not use is 0.
  */
@@ -83,6 +99,27 @@ sitgurp_answer sitgurp_settle(const uint8_t *sheet, size_t sheet_length, uint8_t
  */
 sitgurp_answer sitgurp_make(const uint8_t *sheet, size_t sheet_length, uint8_t *cells, size_t cells_length, uint8_t *marks,
                             size_t marks_length, uint8_t *output, size_t output_length);
+
+/*
+ * Settles a net sheet to its shallow net sheet, with the buffers and the refusals of sitgurp_settle. The layers of a net are the most gates on
+ * a way from an input to the output, and no net with that table has fewer than the one that is written. Answers the sheet's length, and the
+ * layers.
+ */
+sitgurp_shallow sitgurp_settle_shallow(const uint8_t *sheet, size_t sheet_length, uint8_t *cells, size_t cells_length, uint8_t *marks,
+                                       size_t marks_length, uint8_t *output, size_t output_length);
+
+/*
+ * Makes the shallow net sheet of a table sheet, with the buffers and the refusals of sitgurp_make. Answers the sheet's length, and the layers
+ * of its net.
+ */
+sitgurp_shallow sitgurp_make_shallow(const uint8_t *sheet, size_t sheet_length, uint8_t *cells, size_t cells_length, uint8_t *marks,
+                                     size_t marks_length, uint8_t *output, size_t output_length);
+
+/*
+ * Which of two net sheets has the net of fewer layers, as the two are wired and whatever their levels, inputs and names: the first when
+ * level. A sheet that is refused loses to one that is accepted; where both are refused, an empty part of the first. Writes nothing.
+ */
+sitgurp_which sitgurp_shallower(const uint8_t *first, size_t first_length, const uint8_t *second, size_t second_length);
 
 /*
  * Checks a net sheet against a table sheet, and writes the table sheet's inks into cells, whether they agree or not. Needs m to the

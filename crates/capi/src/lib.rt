@@ -2,8 +2,12 @@
 pub mod check;
 pub mod flat;
 pub mod gate_line;
+pub mod layered;
 pub mod make;
+pub mod make_shallow;
 pub mod marking;
 pub mod multiplicity;
 pub mod settle;
+pub mod settle_shallow;
+pub mod shallower_sheet;
 pub mod write_table;

@@ -10,11 +10,17 @@ pub mod SettlingNumbers
 pub mod CheckingNumbers
 pub mod TableWritingNumbers
 pub mod ListingNumbers
+pub mod ShallowRefusals
 pub mod NeverZero
 pub mod Makes
 pub mod Checks
 pub mod Assignments
 pub mod TreeClause
+pub mod ShallowMakes
+pub mod ShallowSettles
+pub mod ShallowerSheets
 pub mod Programs
 pub mod Lengths
 pub mod Counting
+pub mod ShallowLengths
+pub mod RoomToSpare

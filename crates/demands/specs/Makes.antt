@@ -17,7 +17,7 @@ use Rattle.rules.specs.Printed.{printedNet}
 use Rattle.rules.specs.Marks.{marksLength, storedMarks, noTreePlace}
 use Rattle.rules.specs.Kept.{KeptNet, KeptTable}
 use Rattle.rules.specs.Answers.{accepted, refused, inkIn, written}
-use Rattle.rules.specs.Settling.{Made, settledNet, writtenSheet, afterMarks, settledInto, settleCall, makeCall}
+use Rattle.rules.specs.Settling.{Made, settledNet, writtenSheet, afterMarks, madeInto, settleCall, makeCall}
 use Rattle.rules.specs.Reading.{readNet, readTable, tableOfNet}
 use Rattle.laws.specs.Settling.{WholeTwo, marksOfTable, make-accepted, into-marked, marked-16, marked-tree}
 use Rattle.trees.specs.Existence.{TreeExists, tree-exists, settled-net}
@@ -25,7 +25,7 @@ use Rattle.trees.specs.Uniqueness.{table-is, table-at}
 use Rattle.trees.specs.NetTables.{levels-pos, inputs-several}
 use Rattle.readback.specs.Length.{net-length}
 use Rattle.readback.specs.ReadBack.{net-read-back, net-accepted, table-accepted}
-use Rattle.demands.specs.Settles.{sheetIn, sheetOf, Long, settled-written, settles, table-path}
+use Rattle.demands.specs.Settles.{sheetIn, sheetOf, Long, net-written, settles, table-path}
 use Rattle.laws.specs.Answers.{accepted-inj, not-refused, written-front}
 use Rattle.demands.specs.Numbers.{not-given}
 use Rattle.laws.specs.Tests.{by-test}
@@ -50,7 +50,7 @@ module _ (t : Table) (kept : KeptTable t) where
   inks-below p h = kept .below p (subst⁻¹ (λ (k : ℕ). p < k) (kept .count) h)
 
   -- mark 2 at the whole group, a tree, and an accepted net sheet with the table are one
-  two-tree : HasTree t ↔ WholeTwo t
+  pub two-tree : HasTree t ↔ WholeTwo t
   two-tree = tree-exists (t .header .levels) (t .header .inputs) pos several (inkIn (t .inks)) inks-below
 
   tree-sheet : HasTree t → HasSheet t
@@ -79,7 +79,7 @@ module _ (t : Table) (kept : KeptTable t) where
     gates = settled-net (t .header .levels) (t .header .inputs) pos several (inkIn (t .inks)) inks-below two .0;
   }
 
-sheet-tree : (t : Table) → HasSheet t → HasTree t
+pub sheet-tree : (t : Table) → HasSheet t → HasTree t
 unfolding tableOfNet
 sheet-tree t has =
     let net : Net = has .1 in
@@ -91,22 +91,22 @@ sheet-tree t has =
 
 -- ---- what was written
 
--- whatever the buffers, a sheet that is written is the settled net's, and the whole group has mark 2
-into-accepted : (t : Table) (cells marks output sheet : List ℕ) → sheetOf (settledInto t cells marks output) ≡ accepted sheet
-    → WholeTwo t × (printedNet (settledNet t) ≡ sheet)
-unfolding settledInto sheetIn writtenSheet
-into-accepted t cells marks output sheet =
+-- whatever the buffers, a sheet that is written is that of the net made of the table, and the whole group has mark 2
+pub into-accepted : (netFor : Table → Net) (t : Table) (cells marks output sheet : List ℕ) → sheetOf (madeInto netFor t cells marks output) ≡ accepted sheet
+    → WholeTwo t × (printedNet (netFor t) ≡ sheet)
+unfolding madeInto sheetIn writtenSheet
+into-accepted netFor t cells marks output sheet =
     by-test Wrote (ltb (length cells) (t .header .levels ^ t .header .inputs)) _ _ (λ e. absurd (not-refused sheet 13 _ (sym e)))
     (by-test Wrote (ltb (length marks) (marksLength (t .header .inputs))) _ _ (λ e. absurd (not-refused sheet 14 _ (sym e))) (marked (ℕ-discrete _ 2)))
   where
     Wrote : Made → Type 0
-    Wrote made = sheetOf made ≡ accepted sheet → WholeTwo t × (printedNet (settledNet t) ≡ sheet)
+    Wrote made = sheetOf made ≡ accepted sheet → WholeTwo t × (printedNet (netFor t) ≡ sheet)
 
-    marked : Dec (WholeTwo t) → Wrote (afterMarks t cells marks output)
-    marked (no other) = subst⁻¹ Wrote (marked-16 t cells marks output other) (λ e. absurd (not-refused sheet 16 _ (sym e)))
-    marked (yes two) = subst⁻¹ Wrote (marked-tree t cells marks output two)
-        (by-test Wrote (ltb (length output) (length (printedNet (settledNet t)))) _ _ (λ e. absurd (not-refused sheet 15 _ (sym e)))
-        (λ e. (two, sym (written-front output (printedNet (settledNet t))) ∙ accepted-inj _ sheet e)))
+    marked : Dec (WholeTwo t) → Wrote (afterMarks netFor t cells marks output)
+    marked (no other) = subst⁻¹ Wrote (marked-16 netFor t cells marks output other) (λ e. absurd (not-refused sheet 16 _ (sym e)))
+    marked (yes two) = subst⁻¹ Wrote (marked-tree netFor t cells marks output two)
+        (by-test Wrote (ltb (length output) (length (printedNet (netFor t)))) _ _ (λ e. absurd (not-refused sheet 15 _ (sym e)))
+        (λ e. (two, sym (written-front output (printedNet (netFor t))) ∙ accepted-inj _ sheet e)))
 
 -- the two ways in which making ends on an accepted table sheet with long buffers
 pub data Making (t : Table) (made : Made) : Type 0 where
@@ -124,10 +124,10 @@ module _ (s : List ℕ) (t : Table) (reads : readTable s ≡ accepted t) where
       → ((place : ℕ) × (makeCall s cells marks output .answer ≡ refused 16 place)) ↔ (HasTree t → ⊥)
   unfolding any
   make-refuses cells marks output cells-fit marks-fit =
-      let marked = make-accepted s cells marks output t reads ∙ into-marked t cells marks output cells-fit marks-fit in (
+      let marked = make-accepted s cells marks output t reads ∙ into-marked settledNet t cells marks output cells-fit marks-fit in (
         λ r tree. not-given (15 ∷ []) _ (sheet-numbers (15 ∷ []) refl (printedNet (settledNet t)) (written cells (t .inks)) (written marks (storedMarks (marksOfTable t))) output) 16 (r .0) refl
-            (sym (ap (λ (made : Made). made .answer) (marked ∙ marked-tree t cells marks output (two-tree t kept .0 tree))) ∙ r .1),
-        λ none. (noTreePlace (t .header .inputs) (marksOfTable t), ap (λ (made : Made). made .answer) (marked ∙ marked-16 t cells marks output (λ two. none (two-tree t kept .1 two)))),
+            (sym (ap (λ (made : Made). made .answer) (marked ∙ marked-tree settledNet t cells marks output (two-tree t kept .0 tree))) ∙ r .1),
+        λ none. (noTreePlace (t .header .inputs) (marksOfTable t), ap (λ (made : Made). made .answer) (marked ∙ marked-16 settledNet t cells marks output (λ two. none (two-tree t kept .1 two)))),
       )
 
   -- .. and so exactly when no accepted net sheet of those levels and names has that table.
@@ -141,7 +141,7 @@ module _ (s : List ℕ) (t : Table) (reads : readTable s ≡ accepted t) where
   pub makes : (cells marks output : List ℕ) → HasTree t → Long t cells marks output
       → sheetOf (makeCall s cells marks output) ≡ accepted (printedNet (settledNet t))
   makes cells marks output tree long =
-      ap sheetOf (make-accepted s cells marks output t reads) ∙ settled-written t cells marks output (two-tree t kept .0 tree) long
+      ap sheetOf (make-accepted s cells marks output t reads) ∙ net-written settledNet t cells marks output (two-tree t kept .0 tree) long
 
   -- .. which is accepted as that net, and is never over 512 bytes long, ..
   pub made-accepted : HasTree t → readNet (printedNet (settledNet t)) ≡ accepted (settledNet t)
@@ -169,7 +169,7 @@ module _ (s : List ℕ) (t : Table) (reads : readTable s ≡ accepted t) where
       go : Dec (WholeTwo t) → Making t (makeCall s cells marks output)
       go (no other) =
           no-tree (λ tree. other (two-tree t kept .0 tree))
-          (ap (λ (made : Made). made .answer) (make-accepted s cells marks output t reads ∙ into-marked t cells marks output cells-fit marks-fit ∙ marked-16 t cells marks output other))
+          (ap (λ (made : Made). made .answer) (make-accepted s cells marks output t reads ∙ into-marked settledNet t cells marks output cells-fit marks-fit ∙ marked-16 settledNet t cells marks output other))
       go (yes two) =
           let tree = two-tree t kept .1 two in
           some-tree tree (makes cells marks output tree (record { cells-fit = cells-fit; marks-fit = marks-fit; output-fits = output-fits tree }))
@@ -178,5 +178,5 @@ module _ (s : List ℕ) (t : Table) (reads : readTable s ≡ accepted t) where
   pub made-sheet : (cells marks output sheet : List ℕ) → sheetOf (makeCall s cells marks output) ≡ accepted sheet
       → (readNet sheet ≡ accepted (settledNet t)) × (tableOfNet (settledNet t) ≡ t)
   made-sheet cells marks output sheet e =
-      let (two, same) = into-accepted t cells marks output sheet (sym (ap sheetOf (make-accepted s cells marks output t reads)) ∙ e) in
+      let (two, same) = into-accepted settledNet t cells marks output sheet (sym (ap sheetOf (make-accepted s cells marks output t reads)) ∙ e) in
       (ap readNet (sym same) ∙ made-accepted (two-tree t kept .1 two), made-table t kept two)

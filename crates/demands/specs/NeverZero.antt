@@ -9,6 +9,7 @@ use Rattle.rules.specs.Answers.{refused, Named, netNamed, tableNamed, neither}
 use Rattle.rules.specs.Multiplicity.{multiplicityCall}
 use Rattle.rules.specs.Marking.{markingCall}
 use Rattle.rules.specs.Settling.{settleCall, makeCall}
+use Rattle.rules.specs.ShallowSettling.{settleShallowCall, makeShallowCall}
 use Rattle.rules.specs.Checking.{turnedDown, checkCall}
 use Rattle.rules.specs.TableWriting.{writeTableCall}
 use Rattle.rules.specs.Lister.{listing}
@@ -18,6 +19,7 @@ use Rattle.demands.specs.Numbers.{not-given}
 use Rattle.demands.specs.MultiplicityNumbers.{multiplicity-numbers, multiplicityNumbers}
 use Rattle.demands.specs.MarkingNumbers.{marking-numbers, markingNumbers}
 use Rattle.demands.specs.SettlingNumbers.{make-numbers, makeNumbers, settle-numbers, settleNumbers}
+use Rattle.demands.specs.ShallowRefusals.{make-shallow-numbers, settle-shallow-numbers}
 use Rattle.demands.specs.CheckingNumbers.{check-numbers, checkNumbers}
 use Rattle.demands.specs.TableWritingNumbers.{write-table-numbers, writeTableNumbers}
 use Rattle.demands.specs.ListingNumbers.{listing-numbers}
@@ -28,6 +30,8 @@ pub never-0 : (place : ℕ)
     × ((m n : ℕ) (cells marks : List ℕ) → markingCall m n cells marks .answer ≡ refused 0 place → ⊥)
     × ((s cells marks output : List ℕ) → settleCall s cells marks output .answer ≡ refused 0 place → ⊥)
     × ((s cells marks output : List ℕ) → makeCall s cells marks output .answer ≡ refused 0 place → ⊥)
+    × ((s cells marks output : List ℕ) → settleShallowCall s cells marks output .answer ≡ refused 0 place → ⊥)
+    × ((s cells marks output : List ℕ) → makeShallowCall s cells marks output .answer ≡ refused 0 place → ⊥)
     × ((s r cells : List ℕ) (named : Named) → checkCall s r cells .answer ≡ turnedDown named 0 place → ⊥)
     × ((s output : List ℕ) → writeTableCall s output .answer ≡ refused 0 place → ⊥)
     × ((s : List ℕ) (k : ℕ) → listing s k ≡ refused 0 place → ⊥)
@@ -37,6 +41,8 @@ never-0 place = (
   λ m n cells marks. not-given markingNumbers _ (marking-numbers m n cells marks) 0 place refl,
   λ s cells marks output. not-given settleNumbers _ (settle-numbers s cells marks output) 0 place refl,
   λ s cells marks output. not-given makeNumbers _ (make-numbers s cells marks output) 0 place refl,
+  λ s cells marks output. not-given settleNumbers _ (settle-shallow-numbers s cells marks output) 0 place refl,
+  λ s cells marks output. not-given makeNumbers _ (make-shallow-numbers s cells marks output) 0 place refl,
   λ s r cells named e. no-0 named (check-numbers s r cells named 0 place e),
   λ s output. not-given writeTableNumbers _ (write-table-numbers s output) 0 place refl,
   λ s k. not-given netNumbers _ (listing-numbers s k) 0 place refl,

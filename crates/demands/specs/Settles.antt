@@ -14,7 +14,7 @@ use Rattle.rules.specs.Printed.{printedNet}
 use Rattle.rules.specs.Marks.{marksLength, storedMarks}
 use Rattle.rules.specs.Kept.{KeptNet}
 use Rattle.rules.specs.Answers.{Answer, accepted, refused, written}
-use Rattle.rules.specs.Settling.{Made, settledNet, settledInto, settleCall}
+use Rattle.rules.specs.Settling.{Made, settledNet, madeInto, settleCall}
 use Rattle.rules.specs.Reading.{readNet, tableOfNet}
 use Rattle.laws.specs.Settling.{WholeTwo, marksOfTable, settle-accepted, into-marked, marked-tree, sheet-written}
 use Rattle.demands.specs.FirstLines.{threeLines, three-lines, same-lines}
@@ -32,22 +32,26 @@ sheetIn (refused number place) output = refused number place
 abbrev pub sheetOf : Made → Answer (List ℕ)
 sheetOf made = sheetIn (made .answer) (made .output)
 
--- "Needed: m to the n bytes, 2 to the n bytes, and the settled sheet's length"
-pub record Long (t : Table) (cells marks output : List ℕ) : Type 0 where
+-- "Needed: m to the n bytes, 2 to the n bytes, and the settled sheet's length": for any net that may be made of a table, ..
+pub record LongFor (netFor : Table → Net) (t : Table) (cells marks output : List ℕ) : Type 0 where
   pub cells-fit : t .header .levels ^ t .header .inputs ≤ length cells
   pub marks-fit : marksLength (t .header .inputs) ≤ length marks
-  pub output-fits : length (printedNet (settledNet t)) ≤ length output
+  pub output-fits : length (printedNet (netFor t)) ≤ length output
 
--- a table whose whole group has mark 2, and long buffers: the sheet of its settled net is written
-pub settled-written : (t : Table) (cells marks output : List ℕ) → WholeTwo t → Long t cells marks output
-    → sheetOf (settledInto t cells marks output) ≡ accepted (printedNet (settledNet t))
+-- .. and for the settled net
+abbrev pub Long : Table → List ℕ → List ℕ → List ℕ → Type 0
+Long t cells marks output = LongFor settledNet t cells marks output
+
+-- a table whose whole group has mark 2, and long buffers: the sheet of the net made of it is written
+pub net-written : (netFor : Table → Net) (t : Table) (cells marks output : List ℕ) → WholeTwo t → LongFor netFor t cells marks output
+    → sheetOf (madeInto netFor t cells marks output) ≡ accepted (printedNet (netFor t))
 unfolding sheetIn
-settled-written t cells marks output two long =
+net-written netFor t cells marks output two long =
     ap sheetOf
-    (into-marked t cells marks output (long .cells-fit) (long .marks-fit)
-    ∙ marked-tree t cells marks output two
-    ∙ sheet-written (printedNet (settledNet t)) (written cells (t .inks)) (written marks (storedMarks (marksOfTable t))) output (long .output-fits))
-    ∙ ap accepted (written-front output (printedNet (settledNet t)))
+    (into-marked netFor t cells marks output (long .cells-fit) (long .marks-fit)
+    ∙ marked-tree netFor t cells marks output two
+    ∙ sheet-written (printedNet (netFor t)) (written cells (t .inks)) (written marks (storedMarks (marksOfTable t))) output (long .output-fits))
+    ∙ ap accepted (written-front output (printedNet (netFor t)))
 
 -- ---- the demand
 
@@ -59,7 +63,7 @@ module _ (s : List ℕ) (net : Net) (reads : readNet s ≡ accepted net) where
   pub settles : (cells marks output : List ℕ) → Long (tableOfNet net) cells marks output
       → sheetOf (settleCall s cells marks output) ≡ accepted (printedNet (settledNet (tableOfNet net)))
   settles cells marks output long =
-      ap sheetOf (settle-accepted s cells marks output net reads) ∙ settled-written (tableOfNet net) cells marks output (net-whole-two net kept-net) long
+      ap sheetOf (settle-accepted s cells marks output net reads) ∙ net-written settledNet (tableOfNet net) cells marks output (net-whole-two net kept-net) long
 
   -- .. which is accepted, ..
   pub settled-accepted : readNet (printedNet (settledNet (tableOfNet net))) ≡ accepted (settledNet (tableOfNet net))

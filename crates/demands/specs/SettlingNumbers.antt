@@ -7,11 +7,11 @@ use native.Mathlib.Decide.{ℕ-discrete}
 use lib.ListN.{length}
 use lib.Dec.{ltb}
 use Rattle.rules.specs.Lists.{all, any}
-use Rattle.rules.specs.Sheets.{Table}
+use Rattle.rules.specs.Sheets.{Net, Table}
 use Rattle.rules.specs.Marks.{marksLength}
 use Rattle.rules.specs.Answers.{refused}
 use Rattle.rules.specs.Reading.{readNet, readTable, tableOfNet}
-use Rattle.rules.specs.Settling.{Made, writtenSheet, afterMarks, settledInto, settleCall, makeCall}
+use Rattle.rules.specs.Settling.{Made, settledNet, writtenSheet, afterMarks, madeInto, settleCall, makeCall}
 use Rattle.laws.specs.Distinct.{In, wider}
 use Rattle.laws.specs.Settling.{WholeTwo, marked-16, marked-tree}
 use Rattle.readback.specs.Numbers.{netNumbers, tableNumbers, net-refusal, table-refusal}
@@ -35,16 +35,16 @@ sheet-numbers numbers h15 sheet cells marks output =
     by-test (MadeGives numbers) (ltb (length output) (length sheet)) _ _ (refuses numbers 15 _ h15) (accepts numbers _)
 
 -- 13, 14, 15, and 16 where the whole group has another mark than 2
-into-numbers : (numbers : List ℕ) → In 13 numbers → In 14 numbers → In 15 numbers → (t : Table) → ((WholeTwo t → ⊥) → In 16 numbers)
-    → (cells marks output : List ℕ) → Gives numbers (settledInto t cells marks output .answer)
-unfolding settledInto
-into-numbers numbers h13 h14 h15 t h16 cells marks output =
+pub into-numbers : (netFor : Table → Net) (numbers : List ℕ) → In 13 numbers → In 14 numbers → In 15 numbers → (t : Table) → ((WholeTwo t → ⊥) → In 16 numbers)
+    → (cells marks output : List ℕ) → Gives numbers (madeInto netFor t cells marks output .answer)
+unfolding madeInto
+into-numbers netFor numbers h13 h14 h15 t h16 cells marks output =
     by-test (MadeGives numbers) (ltb (length cells) (t .header .levels ^ t .header .inputs)) _ _ (refuses numbers 13 _ h13)
     (by-test (MadeGives numbers) (ltb (length marks) (marksLength (t .header .inputs))) _ _ (refuses numbers 14 _ h14) (marked (ℕ-discrete _ 2)))
   where
-    marked : Dec (WholeTwo t) → Gives numbers (afterMarks t cells marks output .answer)
-    marked (yes two) = subst⁻¹ (MadeGives numbers) (marked-tree t cells marks output two) (sheet-numbers numbers h15 _ _ _ output)
-    marked (no other) = subst⁻¹ (MadeGives numbers) (marked-16 t cells marks output other) (refuses numbers 16 _ (h16 other))
+    marked : Dec (WholeTwo t) → Gives numbers (afterMarks netFor t cells marks output .answer)
+    marked (yes two) = subst⁻¹ (MadeGives numbers) (marked-tree netFor t cells marks output two) (sheet-numbers numbers h15 _ _ _ output)
+    marked (no other) = subst⁻¹ (MadeGives numbers) (marked-16 netFor t cells marks output other) (refuses numbers 16 _ (h16 other))
 
 module _ (s cells marks output : List ℕ) where
   -- settling gives no 16: a net's table has a tree
@@ -52,14 +52,14 @@ module _ (s cells marks output : List ℕ) where
   unfolding settleCall any all
   settle-numbers =
       by-answer (MadeGives settleNumbers) (readNet s) _ _
-      (λ net e. into-numbers settleNumbers refl refl refl (tableOfNet net) (λ other. absurd (other (net-whole-two net (net-accepted s net e .1)))) cells marks output)
+      (λ net e. into-numbers settledNet settleNumbers refl refl refl (tableOfNet net) (λ other. absurd (other (net-whole-two net (net-accepted s net e .1)))) cells marks output)
       (λ number place e. refuses settleNumbers number place (wider netNumbers settleNumbers refl number (net-refusal s number place e)))
 
   pub make-numbers : Gives makeNumbers (makeCall s cells marks output .answer)
   unfolding makeCall any all
   make-numbers =
       by-answer (MadeGives makeNumbers) (readTable s) _ _
-      (λ t _. into-numbers makeNumbers refl refl refl t (λ _. refl) cells marks output)
+      (λ t _. into-numbers settledNet makeNumbers refl refl refl t (λ _. refl) cells marks output)
       (λ number place e. refuses makeNumbers number place (wider tableNumbers makeNumbers refl number (table-refusal s number place e)))
 
   -- "Settling never gives 16."

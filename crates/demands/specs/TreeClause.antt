@@ -31,7 +31,7 @@ abbrev pub TreeAgrees : Tree → Table → Type 0
 TreeAgrees tree t = (ls : List ℕ) → Given (t .header) ls → treeValueAt (t .header .levels) tree ls ≡ inkAt t ls
 
 -- it is so at every index exactly when it is so at every assignment
-agrees-all : (t : Table) → KeptHeader (t .header) → (tree : Tree) → TreeFor t tree
+pub agrees-all : (t : Table) → KeptHeader (t .header) → (tree : Tree) → TreeFor t tree
     → ((p : ℕ) → p < t .header .levels ^ t .header .inputs → treeValue (t .header .levels) (t .header .inputs) tree p ≡ inkIn (t .inks) p) ↔ TreeAgrees tree t
 unfolding inkAt
 agrees-all t kept tree is =

@@ -1,3 +1,3 @@
 pub mod Filled
 pub mod Growth
-pub mod SettledNet
+pub mod MadeNet

@@ -1,4 +1,4 @@
-// The settled net: document 01's choice of a wiring of all inputs, filled.
+// The settled net of a table.
 ghost use mathlib.Core.Path.{_≡_};
 ghost use mathlib.Core.Bool.{true};
 ghost use Prim.Native.Nat.{ℕ, _^_, _≤_, _<_};
@@ -7,18 +7,17 @@ ghost use Rattle.rules.specs.Limits.{sizeFits};
 ghost use Rattle.rules.specs.Groups.{wholeGroup};
 ghost use Rattle.rules.specs.Marks.{markIn, marksOf};
 ghost use Rattle.rules.specs.Answers.{inkIn};
-ghost use Rattle.filling.specs.SettledNet.{MarksIn, SettledNet};
-use crate::fill;
+ghost use Rattle.wirings.specs.declared.choice.Choice.the-variants.{Settled};
+ghost use Rattle.filling.specs.MadeNet.{MarksIn, MadeNet};
+use crate::chosen;
 use nets::forms;
-use radix::powers;
-use wirings::choose;
+use wirings::choice::Choice;
 
-// The settled net of a table that has a tree: the whole group has mark 2.
+// The settled net of a table that has a tree: the whole group has mark 2. This choice looks at no layers.
 pub fn settled_net(m: usize, n: usize, cells: &[u8], marks: &[u8]) -> forms::Net
     requires { ⌜ (sizeFits m n ≡ true) × (m ^ n ≤ length (now cells)) × ((p : ℕ) → p < m ^ n → inkIn (now cells) p < m)
         × (MarksIn m n (inkIn (now cells)) (now marks)) × (markIn (marksOf m n (inkIn (now cells))) (wholeGroup n) ≡ 2) ⌝ }
-    ensures { λ r. ⌜ SettledNet m n (inkIn (now (cells .entry))) r ⌝ }
+    ensures { λ r. ⌜ MadeNet Settled m n (inkIn (now (cells .entry))) r ⌝ }
 {
-    let wiring = choose::choose(n, marks, powers::power(2, n) - 1);
-    fill::fill(m, n, cells, wiring)
+    chosen::chosen_net(Choice::Settled, m, n, cells, marks, &marks[0..0])
 }

@@ -7,7 +7,11 @@ pub mod Distinct
 pub mod Finds
 pub mod FirstPlaces
 pub mod Levels
+pub mod Layers
 pub mod Settling
+pub mod ShallowSettling
+pub mod ButSheet
+pub mod Shallower
 pub mod Checking
 pub mod TableWriting
 pub mod Pastes
@@ -24,3 +28,5 @@ pub mod Answers
 pub mod Fresh
 pub mod BareCells
 pub mod Multiplicity
+pub mod Extremes
+pub mod Listed

@@ -1,4 +1,4 @@
--- What settling and making come to, one law for each outcome.
+-- What settling and making come to, one law for each outcome, whatever net is made of a table.
 -- Assumes nothing.
 use Prim.Native.Nat.{ℕ, _^_, _≤_, _<_}
 use mathlib.Core.Path.{_≡_}
@@ -11,7 +11,7 @@ use Rattle.rules.specs.Groups.{wholeGroup}
 use Rattle.rules.specs.Marks.{markIn, marksOf, marksLength, storedMarks, noTreePlace}
 use Rattle.rules.specs.Answers.{accepted, refused, inkIn, written}
 use Rattle.rules.specs.Reading.{readNet, readTable, tableOfNet}
-use Rattle.rules.specs.Settling.{settledNet, writtenSheet, afterMarks, settledInto, settleCall, makeCall}
+use Rattle.rules.specs.Settling.{settledNet, writtenSheet, afterMarks, madeInto, settleCall, makeCall}
 
 -- the marks of a table
 abbrev pub marksOfTable : Table → List ℕ
@@ -21,26 +21,26 @@ marksOfTable t = marksOf (t .header .levels) (t .header .inputs) (inkIn (t .inks
 abbrev pub WholeTwo : Table → Type 0
 WholeTwo t = markIn (marksOfTable t) (wholeGroup (t .header .inputs)) ≡ 2
 
-module _ (t : Table) (cells marks output : List ℕ) where
+module _ (netFor : Table → Net) (t : Table) (cells marks output : List ℕ) where
   pub into-13 : length cells < t .header .levels ^ t .header .inputs
-      → settledInto t cells marks output
+      → madeInto netFor t cells marks output
       ≡ record { answer = refused 13 (t .header .levels ^ t .header .inputs); cells = cells; marks = marks; output = output }
-  unfolding settledInto
-  into-13 h = rw (lt-ltb _ _ h, settledInto)
+  unfolding madeInto
+  into-13 h = rw (lt-ltb _ _ h, madeInto)
 
   pub into-14 : t .header .levels ^ t .header .inputs ≤ length cells → length marks < marksLength (t .header .inputs)
-      → settledInto t cells marks output
+      → madeInto netFor t cells marks output
       ≡ record { answer = refused 14 (marksLength (t .header .inputs)); cells = cells; marks = marks; output = output }
-  unfolding settledInto
-  into-14 h k = rw (le-ltb _ _ h, lt-ltb _ _ k, settledInto)
+  unfolding madeInto
+  into-14 h k = rw (le-ltb _ _ h, lt-ltb _ _ k, madeInto)
 
   pub into-marked : t .header .levels ^ t .header .inputs ≤ length cells → marksLength (t .header .inputs) ≤ length marks
-      → settledInto t cells marks output ≡ afterMarks t cells marks output
-  unfolding settledInto
-  into-marked h k = rw (le-ltb _ _ h, le-ltb _ _ k, settledInto)
+      → madeInto netFor t cells marks output ≡ afterMarks netFor t cells marks output
+  unfolding madeInto
+  into-marked h k = rw (le-ltb _ _ h, le-ltb _ _ k, madeInto)
 
   pub marked-16 : (WholeTwo t → ⊥)
-      → afterMarks t cells marks output
+      → afterMarks netFor t cells marks output
       ≡ record {
         answer = refused 16 (noTreePlace (t .header .inputs) (marksOfTable t));
         cells = written cells (t .inks);
@@ -51,8 +51,8 @@ module _ (t : Table) (cells marks output : List ℕ) where
   marked-16 h = rw (ne-eqb _ _ h, afterMarks)
 
   pub marked-tree : WholeTwo t
-      → afterMarks t cells marks output
-      ≡ writtenSheet (printedNet (settledNet t)) (written cells (t .inks)) (written marks (storedMarks (marksOfTable t))) output
+      → afterMarks netFor t cells marks output
+      ≡ writtenSheet (printedNet (netFor t)) (written cells (t .inks)) (written marks (storedMarks (marksOfTable t))) output
   unfolding afterMarks
   marked-tree h = rw (eq-eqb _ _ h, afterMarks)
 
@@ -75,7 +75,7 @@ module _ (s cells marks output : List ℕ) where
   unfolding settleCall
   settle-refused number place e = rw (e, settleCall)
 
-  pub settle-accepted : (net : Net) → readNet s ≡ accepted net → settleCall s cells marks output ≡ settledInto (tableOfNet net) cells marks output
+  pub settle-accepted : (net : Net) → readNet s ≡ accepted net → settleCall s cells marks output ≡ madeInto settledNet (tableOfNet net) cells marks output
   unfolding settleCall
   settle-accepted net e = rw (e, settleCall)
 
@@ -84,6 +84,6 @@ module _ (s cells marks output : List ℕ) where
   unfolding makeCall
   make-refused number place e = rw (e, makeCall)
 
-  pub make-accepted : (t : Table) → readTable s ≡ accepted t → makeCall s cells marks output ≡ settledInto t cells marks output
+  pub make-accepted : (t : Table) → readTable s ≡ accepted t → makeCall s cells marks output ≡ madeInto settledNet t cells marks output
   unfolding makeCall
   make-accepted t e = rw (e, makeCall)

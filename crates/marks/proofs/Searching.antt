@@ -1,4 +1,4 @@
--- The loop of `split_of` over plain numbers: the search goes on from the first-listed input and the part `part` of the others.
+-- The loop of a search for A over plain numbers: it goes on from the first-listed input and the part `part` of the others.
 -- Assumes nothing.
 use Prim.Native.Nat.{ℕ, _+_, _-_, _^_, _≤_, _<_}
 use mathlib.Core.Path.{_≡_, refl, sym, ap, _∙_}
@@ -9,102 +9,146 @@ use native.Mathlib.Decide.{ℕ-discrete}
 use native.Mathlib.Omega.{arith}
 use lib.Bits.{and-self}
 use lib.Dec.{eqb}
+use lib.ListN.{getD}
 use lib.Pow.{pow-pos}
 use Rattle.rules.specs.Lists.{range, firstPlace}
 use Rattle.rules.specs.Groups.{member}
-use Rattle.rules.specs.Marks.{inside, markIn, partsAt}
+use Rattle.rules.specs.Marks.{inside, partsAt}
 use Rattle.rules.specs.Wirings.{firstInput}
-use Rattle.rules.specs.Settled.{splitOf}
+use Rattle.rules.specs.Shallow.{splitLayers}
 use Rattle.trees.specs.MarkTwo.{isA}
 use Rattle.trees.specs.MarkRule.{parts-at-holds}
 use Rattle.radix.specs.Parts.{Part, Next, without-first}
+use Rattle.marks.specs.Fewest.{bothTwo}
 use Rattle.marks.specs.Splits.{holds-part, part-holds, skip-to}
 use Rattle.laws.specs.FirstPlaces.{stop-at}
 
--- the search from A on is the search, where A is the first-listed input and the part `part` of the others
-pub record Sought (marks : List ℕ) (g rest part : ℕ) : Type 0 where
-  pub low : part ≤ rest
-  pub is-part : Part part rest
-  pub left : (n : ℕ) → g < 2 ^ n → let a = (g - rest) + part in a + firstPlace (isA n marks g) (range a (g - a)) ≡ splitOf n marks g
+-- ---- what is looked for
 
-module _ (marks : List ℕ) (g rest : ℕ) (some : 0 < g) (is-rest : (n : ℕ) → g < 2 ^ n → rest ≡ g - 2 ^ firstInput n g) where
-  abbrev both : ℕ → Bool
-  both a = eqb (markIn marks a) 2 && eqb (markIn marks (g - a)) 2
+-- A test for A, which only a part of g that holds the first-listed input passes; `look` is what the code tests of such a part.
+pub record Looked (g : ℕ) (test : ℕ → ℕ → Bool) (look : ℕ → Bool) : Type 0 where
+  pub within : (n a : ℕ) → test n a ≡ true → (inside n a g ≡ true) × (member (firstInput n g) a ≡ true)
+  pub at-part : (n a : ℕ) → inside n a g ≡ true → member (firstInput n g) a ≡ true → test n a ≡ look a
 
+module _ (marks : List ℕ) (g : ℕ) where
+  -- document 01's A
+  abbrev pub settledTest : ℕ → ℕ → Bool
+  settledTest n a = isA n marks g a
+
+  pub settled-looked : Looked g settledTest (bothTwo marks g)
+  unfolding partsAt
+  settled-looked =
+      record {
+        within = λ n a e. let sides = and-eq-true-iff (partsAt n marks g a) _ .0 e in (parts-at-holds n marks g a (sides .0) .0, sides .1);
+        at-part = λ n a is-inside is-held. rw (is-inside, is-held) (and-true _);
+      }
+
+  -- the A that keeps its group shallowest
+  module _ (layers : List ℕ) where
+    abbrev pub keeps : ℕ → Bool
+    keeps a = bothTwo marks g a && eqb (splitLayers layers g a) (getD layers g 0)
+
+    abbrev pub shallowTest : ℕ → ℕ → Bool
+    shallowTest n a = isA n marks g a && eqb (splitLayers layers g a) (getD layers g 0)
+
+    pub shallow-looked : Looked g shallowTest keeps
+    shallow-looked =
+        record {
+          within = λ n a e. settled-looked .within n a (and-eq-true-iff (isA n marks g a) _ .0 e .0);
+          at-part = λ n a is-inside is-held.
+              ap (λ (t : Bool). t && eqb (splitLayers layers g a) (getD layers g 0)) (settled-looked .at-part n a is-inside is-held);
+        }
+
+-- what does not pass, by what would follow
+fails : (test : Bool) → (test ≡ true → ⊥) → test ≡ false
+fails true h = absurd (h refl)
+fails false h = refl
+
+-- ---- the parts that hold the first-listed input
+
+module _ (g rest : ℕ) (some : 0 < g) (is-rest : (n : ℕ) → g < 2 ^ n → rest ≡ g - 2 ^ firstInput n g) where
   module _ (n : ℕ) (g< : g < 2 ^ n) where
     -- the first-listed input by itself
-    first : g - rest ≡ 2 ^ firstInput n g
+    pub first : g - rest ≡ 2 ^ firstInput n g
     first = omega (arith, is-rest n g<, without-first n g some g< .0)
 
-    rest-of : rest ≡ g - 2 ^ firstInput n g
-    rest-of = is-rest n g<
+    -- such a part is the first-listed input and a part of the others, ..
+    pub is-part-of : (u : ℕ) → u < g → inside n u g ≡ true → member (firstInput n g) u ≡ true → (g - rest ≤ u) × Part (u - (g - rest)) rest
+    is-part-of u u< is-inside is-held = let is = holds-part n g some g< u (omega arith) is-inside is-held in rw (first, is-rest n g<) is
 
-    -- what passes is the first-listed input and a part of the others
-    passes : (u : ℕ) → u < g → isA n marks g u ≡ true → (g - rest ≤ u) × Part (u - (g - rest)) rest
-    passes u u< e =
-        let sides = and-eq-true-iff _ _ .0 e in
-        let is = holds-part n g some g< u (omega arith) (parts-at-holds n marks g u (sides .0) .0) (sides .1) in
-        rw (first, rest-of) is
+    -- .. and those two together are such a part
+    pub part-at : (part : ℕ) → part < rest → Part part rest
+        → (0 < (g - rest) + part) × ((g - rest) + part < g) × (inside n ((g - rest) + part) g ≡ true) × (member (firstInput n g) ((g - rest) + part) ≡ true)
+    part-at part more is-part =
+        let holds = part-holds n g some g< part (rw (← (is-rest n g<)) is-part) in (
+          omega (arith, first, pow-pos (firstInput n g)),
+          omega (arith, more, first, is-rest n g<, without-first n g some g< .0),
+          rw first (holds .0),
+          rw first (holds .1),
+        )
 
-  -- what does not pass, by what would follow
-  fails : (test : Bool) → (test ≡ true → ⊥) → test ≡ false
-  fails true h = absurd (h refl)
-  fails false h = refl
+-- ---- the search
 
-  pub sought-none : Sought marks g rest 0
-  unfolding splitOf
+-- the search from A on is the search, where A is the first-listed input and the part `part` of the others
+pub record Sought (test : ℕ → ℕ → Bool) (g rest part : ℕ) : Type 0 where
+  pub low : part ≤ rest
+  pub is-part : Part part rest
+  pub left : (n : ℕ) → g < 2 ^ n →
+      let a = (g - rest) + part in
+      a + firstPlace (test n) (range a (g - a)) ≡ 1 + firstPlace (test n) (range 1 (g - 1))
+
+module _ (test : ℕ → ℕ → Bool) (look : ℕ → Bool) (g rest : ℕ) (looked : Looked g test look) (some : 0 < g)
+    (is-rest : (n : ℕ) → g < 2 ^ n → rest ≡ g - 2 ^ firstInput n g) where
+  -- what passes is the first-listed input and a part of the others
+  passes : (n : ℕ) → g < 2 ^ n → (u : ℕ) → u < g → test n u ≡ true → (g - rest ≤ u) × Part (u - (g - rest)) rest
+  passes n g< u u< e = let is = looked .within n u e in is-part-of g rest some is-rest n g< u u< (is .0) (is .1)
+
+  pub sought-none : Sought test g rest 0
   sought-none =
       record {
         low = omega arith;
         is-part = refl;
         left = λ n g<.
-            sym (skip-to (isA n marks g) 1 ((g - rest) + 0) g (omega (arith, first n g<, pow-pos (firstInput n g))) (omega arith)
+            sym (skip-to (test n) 1 ((g - rest) + 0) g (omega (arith, first g rest some is-rest n g<, pow-pos (firstInput n g))) (omega arith)
             (λ u low high. fails _ (λ e. omega (arith, passes n g< u (omega arith) e .0))));
       }
 
-  pub sought-all : (part : ℕ) → Sought marks g rest part → rest ≤ part → (n : ℕ) → g < 2 ^ n → g ≡ splitOf n marks g
+  pub sought-all : (part : ℕ) → Sought test g rest part → rest ≤ part → (n : ℕ) → g < 2 ^ n → g ≡ 1 + firstPlace (test n) (range 1 (g - 1))
   unfolding firstPlace range
   sought-all part s end n g< =
       let a : ℕ = (g - rest) + part in
       let none : g - a ≡ 0 = omega (arith, s .low, end) in
-      let all : a ≡ g = omega (arith, s .low, end, first n g<, without-first n g some g< .0, rest-of n g<) in
-      sym all ∙ sym (add-zero a) ∙ ap (λ (k : ℕ). a + firstPlace (isA n marks g) (range a k)) (sym none) ∙ s .left n g<
+      let all : a ≡ g = omega (arith, s .low, end, first g rest some is-rest n g<, without-first n g some g< .0, is-rest n g<) in
+      sym all ∙ sym (add-zero a) ∙ ap (λ (k : ℕ). a + firstPlace (test n) (range a k)) (sym none) ∙ s .left n g<
 
-  module _ (part : ℕ) (s : Sought marks g rest part) (more : part < rest) where
+  module _ (part : ℕ) (s : Sought test g rest part) (more : part < rest) where
     -- the part of g that is looked at
-    pub here : (n : ℕ) → g < 2 ^ n → (0 < (g - rest) + part) × ((g - rest) + part < g) × (isA n marks g ((g - rest) + part) ≡ both ((g - rest) + part))
-    unfolding partsAt
+    pub here : (n : ℕ) → g < 2 ^ n → (0 < (g - rest) + part) × ((g - rest) + part < g) × (test n ((g - rest) + part) ≡ look ((g - rest) + part))
     here n g< =
-        let holds = part-holds n g some g< part (rw (← (rest-of n g<)) (s .is-part)) in
-        let a : ℕ = (g - rest) + part in
-        let is-inside : inside n a g ≡ true = rw (first n g<) (holds .0) in
-        let is-held : member (firstInput n g) a ≡ true = rw (first n g<) (holds .1) in (
-          omega (arith, first n g<, pow-pos (firstInput n g)),
-          omega (arith, more, first n g<, rest-of n g<, without-first n g some g< .0),
-          rw (is-inside, is-held) (and-true _),
-        )
+        let at = part-at g rest some is-rest n g< part more (s .is-part) in
+        (at .0, at .1, looked .at-part n ((g - rest) + part) (at .2) (at .3))
 
-    pub sought-found : both ((g - rest) + part) ≡ true → (n : ℕ) → g < 2 ^ n → (g - rest) + part ≡ splitOf n marks g
-    sought-found two n g< =
+    pub sought-found : look ((g - rest) + part) ≡ true → (n : ℕ) → g < 2 ^ n → (g - rest) + part ≡ 1 + firstPlace (test n) (range 1 (g - 1))
+    sought-found found n g< =
         let is = here n g< in
-        sym (stop-at (isA n marks g) ((g - rest) + part) g (is .1) (is .2 ∙ two)) ∙ s .left n g<
+        sym (stop-at (test n) ((g - rest) + part) g (is .1) (is .2 ∙ found)) ∙ s .left n g<
 
-    pub sought-next : both ((g - rest) + part) ≡ false → (next : ℕ) → Next rest part next → Sought marks g rest next
-    sought-next two next after =
+    pub sought-next : look ((g - rest) + part) ≡ false → (next : ℕ) → Next rest part next → Sought test g rest next
+    sought-next missed next after =
         let in-rest = after .least rest more (and-self rest) in
         record {
           low = in-rest;
           is-part = after .part;
           left = λ n g<.
-              sym (skip-to (isA n marks g) ((g - rest) + part) ((g - rest) + next) g (omega (arith, after .above)) (omega (arith, in-rest, rest-of n g<))
+              sym (skip-to (test n) ((g - rest) + part) ((g - rest) + next) g (omega (arith, after .above)) (omega (arith, in-rest, is-rest n g<))
               (λ u low high. none n g< u low high (ℕ-discrete u ((g - rest) + part))))
               ∙ s .left n g<;
         }
       where
         -- nothing between the two passes
-        none : (n : ℕ) → g < 2 ^ n → (u : ℕ) → (g - rest) + part ≤ u → u < (g - rest) + next → Dec (u ≡ (g - rest) + part) → isA n marks g u ≡ false
-        none n g< u low high (yes e) = ap (isA n marks g) e ∙ here n g< .2 ∙ two
+        none : (n : ℕ) → g < 2 ^ n → (u : ℕ) → (g - rest) + part ≤ u → u < (g - rest) + next → Dec (u ≡ (g - rest) + part) → test n u ≡ false
+        none n g< u low high (yes e) = ap (test n) e ∙ here n g< .2 ∙ missed
         none n g< u low high (no ne) =
-            fails (isA n marks g u) λ e.
-            let is = passes n g< u (omega (arith, after .least rest more (and-self rest), rest-of n g<)) e in
+            fails (test n u) λ e.
+            let is = passes n g< u (omega (arith, after .least rest more (and-self rest), is-rest n g<)) e in
             omega (arith, after .least (u - (g - rest)) (omega arith) (is .1))

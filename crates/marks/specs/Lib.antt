@@ -1,4 +1,5 @@
 pub mod Answers
+pub mod Fewest
 pub mod Marking
 pub mod Rule
 pub mod Splits

@@ -1,6 +1,7 @@
-// Marks: how they are stored, the split of a group, one group's mark, and the marking call.
+// Marks: how they are stored, the split of a group, its fewest layers, one group's mark, and the marking call.
 pub mod call;
 pub mod group;
+pub mod layers;
 pub mod marking;
 pub mod place;
 pub mod split;

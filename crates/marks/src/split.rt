@@ -12,7 +12,7 @@ use crate::stored;
 use radix::members;
 
 // Have a and the rest of g both mark 2?
-fn both_two(marks: &[u8], g: usize, a: usize) -> bool
+pub fn both_two(marks: &[u8], g: usize, a: usize) -> bool
     requires { ⌜ (0 < a) × (a < g) × (g ≤ length (held (now marks))) ⌝ }
     ensures { λ r. ⌜ r ≡ (eqb (markIn (held (now (marks .entry))) a) 2 && eqb (markIn (held (now (marks .entry))) (g - a)) 2) ⌝ }
 {

@@ -15,7 +15,7 @@ use Rattle.rules.specs.Value.{gateValue, withGates}
 use Rattle.laws.specs.Ranges.{map-range-length, map-range-suc}
 use Rattle.nets.specs.declared.forms.Net.{Net}
 use Rattle.nets.specs.Forms.{gateOf, gatesOf}
-use Rattle.nets.specs.Sound.{levels-pos, gates-count}
+use Rattle.nets.specs.Sound.{Sound, levels-pos, gates-count}
 use Rattle.nets.specs.Evaluating.{Ready, Valued}
 use Rattle.nets.specs.Values.{with-snoc, with-length, below-all, with-below, AreLevels}
 
@@ -44,6 +44,12 @@ module _ (f : ℕ → Gate) where
       let e : from + suc k ≡ suc from + k = omega arith in
       let e′ : i + suc k ≡ suc i + k = omega arith in
       rw (e, e′) (back-at (suc i) (suc from) count k (omega arith) (b .2))
+
+-- the references of a gate are earlier ones
+pub refers-back : (net : Net) → Sound net → (k : ℕ) → k < net .gates
+    → (getD (net .left) k 0 < net .inputs + k) × (getD (net .right) k 0 < net .inputs + k)
+unfolding gatesOf gateOf
+refers-back net sound k turn = rw zero-add at (back-at (gateOf net) (net .inputs) 0 (net .gates) k turn (sound .gates .rules .back))
 
 -- ---- the turn
 
@@ -93,8 +99,7 @@ module _ (net : Net) (vs : List ℕ) (ready : Ready net vs) where
 
   module _ (k : ℕ) (turn : k < net .gates) where
     pub refers : (getD (net .left) k 0 < net .inputs + k) × (getD (net .right) k 0 < net .inputs + k)
-    unfolding gatesOf gateOf
-    refers = rw zero-add at (back-at (gateOf net) (net .inputs) 0 (net .gates) k turn (ready .sound .gates .rules .back))
+    refers = refers-back net (ready .sound) k turn
 
     digits-length : length (take (net .levels * net .levels) (drop (k * (net .levels * net .levels)) (net .digits))) ≡ net .levels * net .levels
     unfolding gateOf

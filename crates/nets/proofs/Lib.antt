@@ -1,3 +1,4 @@
 mod Cells
+mod Depths
 mod Gates
 mod Stepping

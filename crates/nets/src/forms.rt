@@ -5,6 +5,9 @@ use radix::limits::MOST_DIGITS;
 use radix::limits::MOST_GATES;
 use radix::limits::MOST_INPUTS;
 
+// The inputs and the gates of a net.
+pub const MOST_WIRES: usize = MOST_INPUTS + MOST_GATES;
+
 // A sheet's first three lines. Names stay in the sheet: name i is the `lens[i]` bytes from `starts[i]` on.
 pub struct Header {
     pub levels: usize,

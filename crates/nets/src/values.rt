@@ -3,9 +3,9 @@ ghost use Prim.Native.Nat.{_^_, _≤_};
 ghost use lib.ListN.{length};
 ghost use Rattle.nets.specs.Sound.{Sound};
 ghost use Rattle.nets.specs.Evaluating.{netOf, Ready, Valued, Tabled};
+use crate::forms::MOST_WIRES;
 use crate::forms::Net;
 use crate::levels::next_levels;
-use radix::limits;
 
 // The net's value at the assignment whose n levels stand at the front of `values`; each gate's value is put behind them. The
 // digits of gate k begin at `from`.
@@ -33,9 +33,6 @@ pub fn value(
     }
     values[n + gates - 1]
 }
-
-// The inputs and the gates of a net.
-const MOST_WIRES: usize = limits::MOST_INPUTS + limits::MOST_GATES;
 
 // As `table`, for a net whose parts are lent one by one.
 fn fill(

@@ -17,6 +17,7 @@ use Rattle.trees.specs.Members.{member-single, single-below, join-below, size-s
 use Rattle.trees.specs.Levels.{part-below, part-part, part-mix}
 use Rattle.trees.specs.Classes.{Few, class-part, few-classes}
 use Rattle.trees.specs.Wirings.{tree-part, necessity, gate-sufficiency, fill-filled}
+use Rattle.trees.specs.GateLists.{fill-wiring}
 use Rattle.trees.specs.MarkRule.{Way, to-none, to-two, to-one, way, marked, three-way}
 use Rattle.trees.specs.MarkTwo.{wiring-mark, settled-wiring-of}
 
@@ -66,12 +67,6 @@ module _ (m n : ℕ) (pos : 0 < m) (f : ℕ → ℕ) (x : ℕ) (x< : x < 2 ^ n) 
       go (to-none _ e) = absurd (omega arith)
       go (to-two _ few _ e) = few
       go (to-one _ few _ _ e) = few
-
--- the class rule fills the wiring that it is given
-fill-wiring : (m n : ℕ) (f : ℕ → ℕ) (last : Bool) (w : Wiring) → wiringIn (fill m n f last w) ≡ w
-unfolding fill
-fill-wiring m n f last (input i) = refl
-fill-wiring m n f last (gate a b) = ap₂ gate (fill-wiring m n f false a) (fill-wiring m n f false b)
 
 module _ (m n : ℕ) (pos : 0 < m) (f : ℕ → ℕ) (inks : (p : ℕ) → p < m ^ n → f p < m) (x : ℕ) (x< : x < 2 ^ n) where
   -- what the last gate of a wiring of X gives: the ink, or the class

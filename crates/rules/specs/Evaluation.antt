@@ -13,17 +13,21 @@ use Rattle.rules.specs.Marks as marks
 use Rattle.rules.specs.Wirings as wirings
 use Rattle.rules.specs.Filling as filling
 use Rattle.rules.specs.Settled as settled
+use Rattle.rules.specs.Layers as layers
+use Rattle.rules.specs.Shallow as shallow
 use Rattle.rules.specs.Answers as answers
 use Rattle.rules.specs.Reading as reading
 use Rattle.rules.specs.BareCells as bareCells
 use Rattle.rules.specs.Multiplicity as multiplicity
 use Rattle.rules.specs.Marking as marking
 use Rattle.rules.specs.Settling as settling
+use Rattle.rules.specs.ShallowSettling as shallowSettling
+use Rattle.rules.specs.Shallower as shallower
 use Rattle.rules.specs.Checking as checking
 use Rattle.rules.specs.TableWriting as tableWriting
 use Rattle.rules.specs.Programs as programs
 use Rattle.rules.specs.Lister as lister
 
 unfoldable pub computing : Unit {0}
-unfolding lists.computing text.computing limits.computing fields.computing sheets.computing printed.computing value.computing groups.computing marks.computing wirings.computing filling.computing settled.computing answers.computing reading.computing bareCells.computing multiplicity.computing marking.computing settling.computing checking.computing tableWriting.computing programs.computing lister.computing
+unfolding lists.computing text.computing limits.computing fields.computing sheets.computing printed.computing value.computing groups.computing marks.computing wirings.computing filling.computing settled.computing layers.computing shallow.computing answers.computing reading.computing bareCells.computing multiplicity.computing marking.computing settling.computing shallowSettling.computing shallower.computing checking.computing tableWriting.computing programs.computing lister.computing
 computing = tt

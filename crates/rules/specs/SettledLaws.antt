@@ -21,7 +21,7 @@ use Rattle.rules.specs.Settled.{splitOf}
 -- ---- "A of lowest number"
 
 -- The first place of a range that passes is the least number that does, where one does.
-first-in-range : (test : ℕ → Bool) (from count a : ℕ) → from ≤ a → a < from + count → test a ≡ true
+pub first-in-range : (test : ℕ → Bool) (from count a : ℕ) → from ≤ a → a < from + count → test a ≡ true
     → (test (from + firstPlace test (range from count)) ≡ true) × (from + firstPlace test (range from count) ≤ a)
 unfolding firstPlace range
 first-in-range test from zero a l h e = absurd (omega arith)
@@ -55,14 +55,14 @@ pub record MayBeA (n : ℕ) (marks : List ℕ) (g a : ℕ) : Type 0 where
 
 module _ (n : ℕ) (marks : List ℕ) (g : ℕ) where
   -- what `splitOf` tests
-  abbrev isA : ℕ → Bool
+  abbrev pub isA : ℕ → Bool
   isA a = partsAt n marks g a && member (firstInput n g) a
 
-  tested : (a : ℕ) → MayBeA n marks g a → isA a ≡ true
+  pub tested : (a : ℕ) → MayBeA n marks g a → isA a ≡ true
   unfolding partsAt
   tested a is = rw (is .part, is .two, is .rest-two, is .holds-first)
 
-  may-be : (a : ℕ) → 0 < a → a < g → isA a ≡ true → MayBeA n marks g a
+  pub may-be : (a : ℕ) → 0 < a → a < g → isA a ≡ true → MayBeA n marks g a
   unfolding partsAt
   may-be a some less e =
       let (parts, first) = and-eq-true-iff (partsAt n marks g a) (member (firstInput n g) a) .0 e in

@@ -1,5 +1,6 @@
 -- Document 01, section 'Settling and making': the two calls, with '.. because of the state'. Their answer, and what each buffer lent to
--- them holds afterwards, on accepted and on refused inputs alike.
+-- them holds afterwards, on accepted and on refused inputs alike. What follows the reading is said of any net that may be made of a table, so
+-- that a call which makes another net has the same order of refusals.
 -- Assumes nothing.
 use Prim.Native.Nat.{ℕ, _^_}
 use mathlib.Core.Bool.{true, false}
@@ -39,28 +40,28 @@ writtenSheet sheet cells marks output =
     ]
 
 -- "15 and 16 leave cells and marks written where the call has them, the output untouched." 16: no tree
-unfoldable pub afterMarks : Table → List ℕ → List ℕ → List ℕ → Made
-afterMarks t cells marks output =
+unfoldable pub afterMarks : (Table → Net) → Table → List ℕ → List ℕ → List ℕ → Made
+afterMarks netFor t cells marks output =
     let n = t .header .inputs in
     let all-marks = marksOf (t .header .levels) n (inkIn (t .inks)) in
     let cells-then = written cells (t .inks) in
     let marks-then = written marks (storedMarks all-marks) in
     elim (eqb (markIn all-marks (wholeGroup n)) 2) [
       | false ↦ record { answer = refused 16 (noTreePlace n all-marks); cells = cells-then; marks = marks-then; output = output }
-      | true ↦ writtenSheet (printedNet (settledNet t)) cells-then marks-then output
+      | true ↦ writtenSheet (printedNet (netFor t)) cells-then marks-then output
     ]
 
 -- "Judged in this order after the input": 13: cells buffer short; 14: marks buffer short; then 16, then 15.
--- "Needed: m to the n bytes, 2 to the n bytes, and the settled sheet's length".
-unfoldable pub settledInto : Table → List ℕ → List ℕ → List ℕ → Made
-settledInto t cells marks output =
+-- "Needed: m to the n bytes, 2 to the n bytes, and the settled sheet's length". `netFor` is the net that is made of a table.
+unfoldable pub madeInto : (Table → Net) → Table → List ℕ → List ℕ → List ℕ → Made
+madeInto netFor t cells marks output =
     let need = t .header .levels ^ t .header .inputs in
     let marks-need = marksLength (t .header .inputs) in
     elim (ltb (length cells) need) [
       | true ↦ record { answer = refused 13 need; cells = cells; marks = marks; output = output }
       | false ↦ elim (ltb (length marks) marks-need) [
         | true ↦ record { answer = refused 14 marks-need; cells = cells; marks = marks; output = output }
-        | false ↦ afterMarks t cells marks output
+        | false ↦ afterMarks netFor t cells marks output
       ]
     ]
 
@@ -70,7 +71,7 @@ unfoldable pub settleCall : List ℕ → List ℕ → List ℕ → List ℕ → 
 settleCall sheet cells marks output =
     elim (readNet sheet) [
       | refused number place ↦ record { answer = refused number place; cells = cells; marks = marks; output = output }
-      | accepted net ↦ settledInto (tableOfNet net) cells marks output
+      | accepted net ↦ madeInto settledNet (tableOfNet net) cells marks output
     ]
 
 -- "*Making* does the same from a table sheet."
@@ -78,10 +79,10 @@ unfoldable pub makeCall : List ℕ → List ℕ → List ℕ → List ℕ → Ma
 makeCall sheet cells marks output =
     elim (readTable sheet) [
       | refused number place ↦ record { answer = refused number place; cells = cells; marks = marks; output = output }
-      | accepted t ↦ settledInto t cells marks output
+      | accepted t ↦ madeInto settledNet t cells marks output
     ]
 
 -- all of this file computes
 unfoldable pub computing : Unit {0}
-unfolding settledNet writtenSheet afterMarks settledInto settleCall makeCall
+unfolding settledNet writtenSheet afterMarks madeInto settleCall makeCall
 computing = tt

@@ -14,7 +14,7 @@ use Rattle.rules.specs.Printed.{printedNet}
 use Rattle.rules.specs.Groups.{wholeGroup}
 use Rattle.rules.specs.Marks.{markIn, marksLength, storedMarks}
 use Rattle.rules.specs.Answers.{Answer, accepted, refused, written}
-use Rattle.rules.specs.Settling.{Made, settledNet, writtenSheet, settledInto, settleCall, makeCall}
+use Rattle.rules.specs.Settling.{Made, settledNet, writtenSheet, madeInto, settleCall, makeCall}
 use Rattle.rules.specs.Reading.{readNet, readTable, tableOfNet}
 use Rattle.rules.specs.Programs.{programOutput, zeros}
 use Rattle.laws.specs.Settling.{WholeTwo, marksOfTable, into-13, into-14, into-marked, marked-16, marked-tree, sheet-15, sheet-written, settle-refused, settle-accepted, make-refused, make-accepted}
@@ -54,19 +54,19 @@ module _ (output : List ℕ) where
       go (no h) = subst⁻¹ (Fits output) (sheet-15 sheet cells marks output (lt-of-not-le h)) (refusal-fits 15 _ cells marks)
 
   module _ (t : Table) (cells marks : List ℕ) where
-    into-fits : Fits output (settledInto t cells marks output)
+    into-fits : Fits output (madeInto settledNet t cells marks output)
     into-fits =
         go (decLe (t .header .levels ^ t .header .inputs) (length cells)) (decLe (marksLength (t .header .inputs)) (length marks))
         (ℕ-discrete (markIn (marksOfTable t) (wholeGroup (t .header .inputs))) 2)
       where
         go : Dec (t .header .levels ^ t .header .inputs ≤ length cells) → Dec (marksLength (t .header .inputs) ≤ length marks) → Dec (WholeTwo t)
-            → Fits output (settledInto t cells marks output)
-        go (no h) d e = subst⁻¹ (Fits output) (into-13 t cells marks output (lt-of-not-le h)) (refusal-fits 13 _ cells marks)
-        go (yes h) (no k) e = subst⁻¹ (Fits output) (into-14 t cells marks output h (lt-of-not-le k)) (refusal-fits 14 _ cells marks)
+            → Fits output (madeInto settledNet t cells marks output)
+        go (no h) d e = subst⁻¹ (Fits output) (into-13 settledNet t cells marks output (lt-of-not-le h)) (refusal-fits 13 _ cells marks)
+        go (yes h) (no k) e = subst⁻¹ (Fits output) (into-14 settledNet t cells marks output h (lt-of-not-le k)) (refusal-fits 14 _ cells marks)
         go (yes h) (yes k) (no other) =
-            subst⁻¹ (Fits output) (into-marked t cells marks output h k ∙ marked-16 t cells marks output other) (refusal-fits 16 _ (written cells (t .inks)) (written marks (storedMarks (marksOfTable t))))
+            subst⁻¹ (Fits output) (into-marked settledNet t cells marks output h k ∙ marked-16 settledNet t cells marks output other) (refusal-fits 16 _ (written cells (t .inks)) (written marks (storedMarks (marksOfTable t))))
         go (yes h) (yes k) (yes two) =
-            subst⁻¹ (Fits output) (into-marked t cells marks output h k ∙ marked-tree t cells marks output two)
+            subst⁻¹ (Fits output) (into-marked settledNet t cells marks output h k ∙ marked-tree settledNet t cells marks output two)
             (sheet-fits (printedNet (settledNet t)) (written cells (t .inks)) (written marks (storedMarks (marksOfTable t))))
 
   module _ (s cells marks : List ℕ) where

@@ -1,35 +1,22 @@
-// Settling and making. Any sheet and buffers of any length may come in.
+// Settling and making: document 01's calls. Any sheet and buffers of any length may come in.
 ghost use mathlib.Core.Path.{_≡_};
 ghost use Rattle.rules.specs.Settling.{settleCall, makeCall};
-ghost use Rattle.answers.specs.Answers.{madeOf};
-ghost use Rattle.accepted.specs.Taken.{NetTaken};
+ghost use Rattle.laws.specs.ShallowSettling.{plain};
+ghost use Rattle.answers.specs.Answers.{answerOf, madeOf};
+ghost use Rattle.answers.specs.Layered.{layeredOf};
+use crate::chosen;
 use answers::answer::Answer;
-use answers::outcome::Outcome;
-use net_reading::net;
-use nets::forms::Header;
-use nets::forms::Net;
-use nets::values;
-use radix::limits;
-use radix::powers;
-use synthesis::into;
-use table_reading::sheet;
+use answers::layered::Layered;
+use wirings::choice::Choice;
 
-// The net's table goes into an array of its own first: a refusal must change no buffer.
-fn settle_net(
-    s: &[u8],
-    header: Header,
-    gates: Net,
-    cells: &mut [u8],
-    marks: &mut [u8],
-    out: &mut [u8],
-) -> Answer
-    requires { ⌜ NetTaken (now s) header gates ⌝ }
-    ensures { λ r. ⌜ madeOf r (now (cells .exit)) (now (marks .exit)) (now (out .exit))
-        ≡ settleCall (now (s .entry)) (now (cells .entry)) (now (marks .entry)) (now (out .entry)) ⌝ }
+// The answer without the count of layers.
+fn length_alone(answer: Layered) -> Answer
+    ensures { λ r. ⌜ answerOf r ≡ plain (layeredOf answer) ⌝ }
 {
-    let mut inks = [0u8; limits::MOST_CELLS];
-    let count = values::table(gates, &mut inks);
-    into::settle_into(s, header, &inks[0..count], cells, marks, out)
+    match answer {
+        Layered::Accepted { length, layers } => Answer::Accepted(length),
+        Layered::Refused { number, place } => Answer::Refused { number, place },
+    }
 }
 
 // Reads a net sheet, and writes its table, its marks and its settled net sheet.
@@ -37,14 +24,7 @@ pub fn settle(s: &[u8], cells: &mut [u8], marks: &mut [u8], out: &mut [u8]) -> A
     ensures { λ r. ⌜ madeOf r (now (cells .exit)) (now (marks .exit)) (now (out .exit))
         ≡ settleCall (now (s .entry)) (now (cells .entry)) (now (marks .entry)) (now (out .entry)) ⌝ }
 {
-    let read = net::read_net(s);
-    let outcome = read.outcome;
-    let header = read.header;
-    let gates = read.net;
-    match outcome {
-        Outcome::Refused { number, place } => Answer::Refused { number, place },
-        Outcome::Accepted => settle_net(s, header, gates, cells, marks, out),
-    }
+    length_alone(chosen::settle_by(Choice::Settled, s, cells, marks, out))
 }
 
 // Reads a table sheet, and writes its table, its marks and its settled net sheet.
@@ -52,15 +32,5 @@ pub fn make(s: &[u8], cells: &mut [u8], marks: &mut [u8], out: &mut [u8]) -> Ans
     ensures { λ r. ⌜ madeOf r (now (cells .exit)) (now (marks .exit)) (now (out .exit))
         ≡ makeCall (now (s .entry)) (now (cells .entry)) (now (marks .entry)) (now (out .entry)) ⌝ }
 {
-    let mut inks = [0u8; limits::MOST_CELLS];
-    let read = sheet::read_table(s, &mut inks);
-    let outcome = read.outcome;
-    let header = read.header;
-    match outcome {
-        Outcome::Refused { number, place } => Answer::Refused { number, place },
-        Outcome::Accepted => {
-            let count = powers::power(header.levels, header.inputs);
-            into::settle_into(s, header, &inks[0..count], cells, marks, out)
-        }
-    }
+    length_alone(chosen::make_by(Choice::Settled, s, cells, marks, out))
 }

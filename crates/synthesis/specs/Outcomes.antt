@@ -1,22 +1,26 @@
--- A table by a header's names in a sheet, and its inks: what settling asks of it, and its outcomes.
+-- A table by a header's names in a sheet, and its inks: what making a net of it asks, and its outcomes.
 -- Assumes nothing.
 use Prim.Native.Nat.{ℕ, _^_, _≤_, _<_}
-use mathlib.Core.Path.{_≡_, sym, _∙_, subst, subst⁻¹}
+use mathlib.Core.Path.{_≡_, refl, sym, ap, ap₂, _∙_, subst, subst⁻¹, subst₂}
 use mathlib.Core.Bool.{true}
 use mathlib.Core.List.{List}
 use native.Mathlib.Omega.{arith}
 use lib.ListN.{length}
 use Rattle.rules.specs.Limits.{sizeFits, mostSettled}
 use Rattle.rules.specs.Printed.{printedNet}
-use Rattle.rules.specs.Kept.{KeptNet}
-use Rattle.rules.specs.Marks.{markIn, marksOf, marksLength, noTreePlace}
+use Rattle.rules.specs.Kept.{IsNet, KeptNet}
+use Rattle.rules.specs.Marks.{markIn, marksOf, marksLength, noTreePlace, storedMarks}
 use Rattle.rules.specs.Groups.{wholeGroup}
-use Rattle.rules.specs.Answers.{refused, inkIn, written}
-use Rattle.rules.specs.Settling.{settledNet, writtenSheet, afterMarks, settledInto}
+use Rattle.rules.specs.Answers.{onward, refused, inkIn, written}
+use Rattle.rules.specs.Sheets.{Net, Table}
+use Rattle.rules.specs.Layers.{layers}
+use Rattle.rules.specs.Settling.{Made, settledNet, writtenSheet, afterMarks}
+use Rattle.rules.specs.ShallowSettling.{LayeredMade, layered, layeredInto, netLayers, shallowNet, withLayers}
 use Rattle.laws.specs.Settling.{marksOfTable, into-13, into-14, into-marked, marked-16, marked-tree}
 use Rattle.nets.specs.declared.forms.Header.{Header}
-use Rattle.nets.specs.declared.forms.Net.{Net}
-use Rattle.nets.specs.Forms.{headerOf, netIn, tableIn}
+use Rattle.nets.specs.declared.forms.Net as own
+use Rattle.nets.specs.Sound.{Sound}
+use Rattle.nets.specs.Forms.{gatesOf, headerOf, netIn, tableIn}
 use Rattle.laws.specs.Sizes.{sized, kept-fits}
 use Rattle.answers.specs.declared.answer.Answer.{Answer}
 use Rattle.marks.specs.Stored.{held}
@@ -24,10 +28,33 @@ use Rattle.marks.specs.Marking.{Marking}
 use Rattle.net_printing.specs.Gates.{GatesInside}
 use Rattle.net_printing.specs.Kept.{gates-inside}
 use Rattle.readback.specs.Length.{net-length}
-use Rattle.filling.specs.SettledNet.{MarksIn, SettledNet, marks-in}
+use Rattle.wirings.specs.declared.choice.Choice.{Choice}
+use Rattle.wirings.specs.declared.choice.Choice.the-variants.{Settled, Shallow}
+use Rattle.filling.specs.MadeNet.{gatesBy, MarksIn, MadeNet, marks-in}
 use Rattle.accepted.specs.Taken.{Given}
-use Rattle.answers.specs.Answers.{madeOf}
+use Rattle.answers.specs.Answers.{answerOf, madeOf}
+use Rattle.answers.specs.declared.layered.Layered.{Layered}
+use Rattle.answers.specs.Layered.{layeredMadeOf, layeredOf}
 use Rattle.marks.specs.Place.{place-agree}
+
+-- the net that a choice makes of a table
+abbrev pub netBy : Choice → Table → Net
+netBy Settled = settledNet
+netBy Shallow = shallowNet
+
+-- its header is the table's, and its gates are those of the choice
+netBy-is : (choice : Choice) (t : Table)
+    → netBy choice t ≡ record { header = t .header; gates = gatesBy choice (t .header .levels) (t .header .inputs) (inkIn (t .inks)) }
+unfolding settledNet shallowNet
+netBy-is Settled t = refl
+netBy-is Shallow t = refl
+
+-- a refusal has no count of layers
+refused-layers : (count number place : ℕ) (cells marks output : List ℕ)
+    → withLayers count (record { answer = refused number place; cells = cells; marks = marks; output = output })
+    ≡ record { answer = refused number place; cells = cells; marks = marks; output = output }
+unfolding withLayers layered onward
+refused-layers count number place cells marks output = refl
 
 module _ (s : List ℕ) (h : Header) (inks : List ℕ) (given : Given s h inks) where
   pub given-size : sizeFits (h .levels) (h .inputs) ≡ true
@@ -42,47 +69,65 @@ module _ (s : List ℕ) (h : Header) (inks : List ℕ) (given : Given s h inks) 
   unfolding headerOf
   given-below p l = given .kept .below p (subst⁻¹ (λ (k : ℕ). p < k) given-count l)
 
-  -- ---- its settled net
+  -- ---- the net that is made of it
 
-  module _ (net : Net) (is : SettledNet (h .levels) (h .inputs) (inkIn inks) net) where
-    settled-is : netIn s h net ≡ settledNet (tableIn s h inks)
-    unfolding settledNet headerOf
-    settled-is = λ i. record { header = headerOf s h; gates = is .gates i }
-
-    settled-kept : KeptNet (netIn s h net)
+  module _ (choice : Choice) (net : own.Net) (is : MadeNet choice (h .levels) (h .inputs) (inkIn inks) net) where
+    made-is : netIn s h net ≡ netBy choice (tableIn s h inks)
     unfolding headerOf
-    settled-kept = record { header = given .kept .header; gates = is .kept }
+    made-is = (λ i. record { header = headerOf s h; gates = is .gates i }) ∙ sym (netBy-is choice (tableIn s h inks))
 
-    pub settled-inside : GatesInside net
-    settled-inside = gates-inside s h net (is .levels) settled-kept
+    made-kept : KeptNet (netIn s h net)
+    unfolding headerOf
+    made-kept = record { header = given .kept .header; gates = is .kept }
 
-    pub settled-short : length (printedNet (netIn s h net)) ≤ mostSettled
-    settled-short = net-length (netIn s h net) settled-kept
+    pub made-inside : GatesInside net
+    made-inside = gates-inside s h net (is .levels) made-kept
+
+    pub made-short : length (printedNet (netIn s h net)) ≤ mostSettled
+    made-short = net-length (netIn s h net) made-kept
+
+    pub made-sound : Sound net
+    made-sound = record {
+      size = subst₂ (λ (m n : ℕ). sizeFits m n ≡ true) (sym (is .levels)) (sym (is .inputs)) given-size;
+      gates = subst₂ (λ (m n : ℕ). IsNet m n (gatesOf net)) (sym (is .levels)) (sym (is .inputs)) (is .kept);
+    }
+
+    -- the layers that are counted are those of that net
+    pub made-layers : (count : ℕ) → count ≡ layers (net .inputs) (gatesOf net) → count ≡ netLayers (netBy choice (tableIn s h inks))
+    unfolding netLayers headerOf
+    made-layers count e = e ∙ ap (λ (n : ℕ). layers n (gatesOf net)) (is .inputs) ∙ ap netLayers made-is
 
   -- ---- the outcomes
 
-  module _ (cells marks output : List ℕ) where
+  module _ (choice : Choice) (cells marks output : List ℕ) where
+    -- with the layers of the net
+    abbrev counted : Made → LayeredMade
+    counted = withLayers (netLayers (netBy choice (tableIn s h inks)))
+
     pub given-13 : length cells < length inks
-        → record { answer = refused 13 (length inks); cells = cells; marks = marks; output = output } ≡ settledInto (tableIn s h inks) cells marks output
-    unfolding headerOf
+        → record { answer = refused 13 (length inks); cells = cells; marks = marks; output = output } ≡ layeredInto (netBy choice) (tableIn s h inks) cells marks output
+    unfolding headerOf layeredInto
     given-13 l =
         (λ i. record { answer = refused 13 (given-count i); cells = cells; marks = marks; output = output })
-        ∙ sym (into-13 (tableIn s h inks) cells marks output (subst (λ (k : ℕ). length cells < k) given-count l))
+        ∙ sym (refused-layers _ _ _ cells marks output)
+        ∙ ap counted (sym (into-13 (netBy choice) (tableIn s h inks) cells marks output (subst (λ (k : ℕ). length cells < k) given-count l)))
 
     module _ (room : length inks ≤ length cells) (need : ℕ) (is : need ≡ marksLength (h .inputs)) where
       cells-fit : h .levels ^ h .inputs ≤ length cells
       cells-fit = subst (λ (k : ℕ). k ≤ length cells) given-count room
 
       pub given-14 : length marks < need
-          → record { answer = refused 14 need; cells = cells; marks = marks; output = output } ≡ settledInto (tableIn s h inks) cells marks output
-      unfolding headerOf
+          → record { answer = refused 14 need; cells = cells; marks = marks; output = output } ≡ layeredInto (netBy choice) (tableIn s h inks) cells marks output
+      unfolding headerOf layeredInto
       given-14 l =
           (λ i. record { answer = refused 14 (is i); cells = cells; marks = marks; output = output })
-          ∙ sym (into-14 (tableIn s h inks) cells marks output cells-fit (subst (λ (k : ℕ). length marks < k) is l))
+          ∙ sym (refused-layers _ _ _ cells marks output)
+          ∙ ap counted (sym (into-14 (netBy choice) (tableIn s h inks) cells marks output cells-fit (subst (λ (k : ℕ). length marks < k) is l)))
 
-      pub given-marked : need ≤ length marks → afterMarks (tableIn s h inks) cells marks output ≡ settledInto (tableIn s h inks) cells marks output
-      unfolding headerOf
-      given-marked l = sym (into-marked (tableIn s h inks) cells marks output cells-fit (subst (λ (k : ℕ). k ≤ length marks) is l))
+      pub given-marked : need ≤ length marks
+          → counted (afterMarks (netBy choice) (tableIn s h inks) cells marks output) ≡ layeredInto (netBy choice) (tableIn s h inks) cells marks output
+      unfolding headerOf layeredInto
+      given-marked l = ap counted (sym (into-marked (netBy choice) (tableIn s h inks) cells marks output cells-fit (subst (λ (k : ℕ). k ≤ length marks) is l)))
 
   -- ---- the outcomes once the cells and the marks are written
 
@@ -95,25 +140,31 @@ module _ (s : List ℕ) (h : Header) (inks : List ℕ) (given : Given s h inks) 
       marks-held =
           marks-in (h .levels) (h .inputs) (omega (arith, sized (h .levels) (h .inputs) given-size .levels-least)) (inkIn inks) marks marks-then (did .buffer) room
 
-      pub given-16 : (cells cells-then output : List ℕ) → cells-then ≡ written cells inks → (mark ≡ 2 → ⊥)
+      pub given-16 : (choice : Choice) (cells cells-then output : List ℕ) → cells-then ≡ written cells inks → (mark ≡ 2 → ⊥)
           → (place : ℕ) → place ≡ noTreePlace (h .inputs) (held marks-then)
-          → record { answer = refused 16 place; cells = cells-then; marks = marks-then; output = output } ≡ afterMarks (tableIn s h inks) cells marks output
+          → record { answer = refused 16 place; cells = cells-then; marks = marks-then; output = output }
+          ≡ withLayers (netLayers (netBy choice (tableIn s h inks))) (afterMarks (netBy choice) (tableIn s h inks) cells marks output)
       unfolding headerOf
-      given-16 cells cells-then output copied other place e =
+      given-16 choice cells cells-then output copied other place e =
           (λ i. record {
             answer = refused 16 ((e ∙ place-agree (h .inputs) (held marks-then) (marksOfTable (tableIn s h inks)) (marks-held .same)) i);
             cells = copied i;
             marks = did .buffer i;
             output = output;
           })
-          ∙ sym (marked-16 (tableIn s h inks) cells marks output (λ two. other (did .answer ∙ two)))
+          ∙ sym (refused-layers _ _ _ (written cells inks) (written marks (storedMarks (marksOfTable (tableIn s h inks)))) output)
+          ∙ ap (withLayers (netLayers (netBy choice (tableIn s h inks)))) (sym (marked-16 (netBy choice) (tableIn s h inks) cells marks output (λ two. other (did .answer ∙ two))))
 
-    pub given-tree : (cells cells-then output : List ℕ) → cells-then ≡ written cells inks → mark ≡ 2
-        → (net : Net) → SettledNet (h .levels) (h .inputs) (inkIn inks) net → (r : Answer) (after : List ℕ)
+    pub given-tree : (choice : Choice) (cells cells-then output : List ℕ) → cells-then ≡ written cells inks → mark ≡ 2
+        → (net : own.Net) → MadeNet choice (h .levels) (h .inputs) (inkIn inks) net → (r : Answer) (after : List ℕ)
         → ((own-cells own-marks : List ℕ) → madeOf r own-cells own-marks after ≡ writtenSheet (printedNet (netIn s h net)) own-cells own-marks output)
-        → madeOf r cells-then marks-then after ≡ afterMarks (tableIn s h inks) cells marks output
-    unfolding headerOf
-    given-tree cells cells-then output copied two net is r after wrote =
-        wrote cells-then marks-then
-        ∙ (λ i. writtenSheet (printedNet (settled-is net is i)) (copied i) (did .buffer i) output)
-        ∙ sym (marked-tree (tableIn s h inks) cells marks output (given-two two))
+        → (count : ℕ) → count ≡ layers (net .inputs) (gatesOf net) → (answer : Layered) → layeredOf answer ≡ layered count (answerOf r)
+        → layeredMadeOf answer cells-then marks-then after
+        ≡ withLayers (netLayers (netBy choice (tableIn s h inks))) (afterMarks (netBy choice) (tableIn s h inks) cells marks output)
+    unfolding headerOf withLayers
+    given-tree choice cells cells-then output copied two net is r after wrote count counts answer given-answer =
+        (λ i. record { answer = given-answer i; cells = cells-then; marks = marks-then; output = after })
+        ∙ ap₂ withLayers (made-layers choice net is count counts)
+        (wrote cells-then marks-then
+        ∙ (λ i. writtenSheet (printedNet (made-is choice net is i)) (copied i) (did .buffer i) output)
+        ∙ sym (marked-tree (netBy choice) (tableIn s h inks) cells marks output (given-two two)))

@@ -11,6 +11,8 @@ pub mod Classes
 pub mod Forest
 pub mod Homes
 pub mod NetTree
+pub mod UsedOnce
+pub mod EquallyLong
 pub mod Digits
 pub mod Joins
 pub mod Carried
@@ -30,3 +32,10 @@ pub mod TreeExistence
 pub mod Uniqueness
 pub mod DistinctInks
 pub mod NetTables
+pub mod LinesTree
+pub mod Layers
+pub mod FewestLayers
+pub mod Choices
+pub mod Shallow
+pub mod ShallowNet
+pub mod ShallowTables

@@ -58,7 +58,7 @@ parts-at-holds n marks g a h =
     (first .0, eqb-true _ _ (first .1), eqb-true _ _ (both .1))
 
 -- a group that the search finds and its rest are two parts
-parts-of : (n : ℕ) (marks : List ℕ) (g a : ℕ) → g < 2 ^ n → 0 < a → a < g → partsAt n marks g a ≡ true
+unfoldable pub parts-of : (n : ℕ) (marks : List ℕ) (g a : ℕ) → g < 2 ^ n → 0 < a → a < g → partsAt n marks g a ≡ true
     → PartsIntoTwos n (markIn marks) g
 parts-of n marks g a g< some less h =
     let held = parts-at-holds n marks g a h in

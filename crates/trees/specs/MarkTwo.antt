@@ -34,7 +34,7 @@ part-is-A n marks g g< parts holds =
     mem-any (isA n marks g) (mem-range 1 (g - 1) (parts .a) (omega arith) (omega arith)) (rw (parts-found n marks g g< parts, holds))
 
 -- what the first of two parts does not hold, the second does
-in-other-part : (i n : ℕ) (mark : ℕ → ℕ) (g : ℕ) → g < 2 ^ n → i < n → member i g ≡ true → (parts : PartsIntoTwos n mark g)
+pub in-other-part : (i n : ℕ) (mark : ℕ → ℕ) (g : ℕ) → g < 2 ^ n → i < n → member i g ≡ true → (parts : PartsIntoTwos n mark g)
     → member i (parts .a) ≡ false → member i (parts .b) ≡ true
 in-other-part i n mark g g< i< is parts misses =
     let either = member-join i n (parts .a) (parts .b) (omega arith) (omega arith) (parts .apart) i< in
@@ -148,8 +148,8 @@ module _ (n : ℕ) (mark : ℕ → ℕ) (leaves : ℕ) (split : ℕ → ℕ) (sp
       go w true one rest = single-wiring g g< (eqb-true _ _ one)
       go w false several rest = rest (eqb-false _ _ several)
 
-  -- a choice that takes the same parts gives the same wiring
-  pub wiring-agree : (other : ℕ → ℕ) → ((g : ℕ) → g < 2 ^ n → split g ≡ other g) → (fuel g : ℕ) → g < 2 ^ n → inside n g leaves ≡ true → mark g ≡ 2
+  -- a choice that takes the same parts of groups of mark 2 gives the same wiring
+  pub wiring-agree : (other : ℕ → ℕ) → ((g : ℕ) → g < 2 ^ n → mark g ≡ 2 → split g ≡ other g) → (fuel g : ℕ) → g < 2 ^ n → inside n g leaves ≡ true → mark g ≡ 2
       → wiringBy n split fuel g ≡ wiringBy n other fuel g
   unfolding wiringBy
   wiring-agree other same zero g g< g-in two = refl
@@ -157,8 +157,8 @@ module _ (n : ℕ) (mark : ℕ → ℕ) (leaves : ℕ) (split : ℕ → ℕ) (sp
       λ several.
       let half = parted g g< g-in two several in
       ap₂ gate
-      (wiring-agree other same fuel _ (a-below g g< g-in two several) (a-inside g g< g-in two several) (half .two-a) ∙ ap (wiringBy n other fuel) (same g g<))
-      (wiring-agree other same fuel _ (b-below g g< g-in two several) (b-inside g g< g-in two several) (half .two-b) ∙ ap (λ (a : ℕ). wiringBy n other fuel (g - a)) (same g g<))
+      (wiring-agree other same fuel _ (a-below g g< g-in two several) (a-inside g g< g-in two several) (half .two-a) ∙ ap (wiringBy n other fuel) (same g g< two))
+      (wiring-agree other same fuel _ (b-below g g< g-in two several) (b-inside g g< g-in two several) (half .two-b) ∙ ap (λ (a : ℕ). wiringBy n other fuel (g - a)) (same g g< two))
     where
       go : {w v : Wiring} (b : Bool) → eqb (size n g) 1 ≡ b → (size n g ≢ 1 → w ≡ v)
           → _≡_ {A = Wiring} (elim b [ true ↦ input (firstInput n g) | false ↦ w ]) (elim b [ true ↦ input (firstInput n g) | false ↦ v ])
@@ -188,14 +188,11 @@ module _ (m n : ℕ) (pos : 0 < m) (f : ℕ → ℕ) where
       go (to-two some few why e) = record { some = some; few = few; why = why }
       go (to-one _ _ _ _ e) = absurd (omega arith)
 
-  -- a wiring with few classes at each gate gives mark 2
-  pub wiring-mark : (w : Wiring) → EachOnce n w → EachGate (Few m n f) w → marked m n pos f (groupOf w) ≡ 2
-  unfolding groupOf
-  wiring-mark (input i) once few = three-way m n pos f _ (group-below n (input i) once) .single (size-single i n once)
-  wiring-mark (gate a b) once few =
-      let two-a = wiring-mark a (once .1) (few .1) in
-      let two-b = wiring-mark b (once .2) (few .2) in
-      three-way m n pos f _ (group-below n (gate a b) once) .parted (few .0) (record {
+  -- a gate that joins two wirings of mark 2 parts its group into twos
+  unfoldable pub gate-twos : (a b : Wiring) → EachOnce n (gate a b) → marked m n pos f (groupOf a) ≡ 2 → marked m n pos f (groupOf b) ≡ 2
+      → PartsIntoTwos n (marked m n pos f) (groupOf a + groupOf b)
+  gate-twos a b once two-a two-b =
+      record {
         a = groupOf a;
         b = groupOf b;
         joined = refl;
@@ -204,7 +201,15 @@ module _ (m n : ℕ) (pos : 0 < m) (f : ℕ → ℕ) where
         some-b = two-says _ (group-below n b (once .2)) two-b .some;
         two-a = two-a;
         two-b = two-b;
-      })
+      }
+
+  -- a wiring with few classes at each gate gives mark 2
+  pub wiring-mark : (w : Wiring) → EachOnce n w → EachGate (Few m n f) w → marked m n pos f (groupOf w) ≡ 2
+  unfolding groupOf
+  wiring-mark (input i) once few = three-way m n pos f _ (group-below n (input i) once) .single (size-single i n once)
+  wiring-mark (gate a b) once few =
+      three-way m n pos f _ (group-below n (gate a b) once) .parted (few .0)
+      (gate-twos a b once (wiring-mark a (once .1) (few .1)) (wiring-mark b (once .2) (few .2)))
 
   -- mark 2 with several members: document 01's A, and the rest
   pub split-two : (g : ℕ) → g < 2 ^ n → marked m n pos f g ≡ 2 → size n g ≢ 1 → Split n (marked m n pos f) g (splitOf n (marksOf m n f) g)

@@ -27,6 +27,8 @@ use Rattle.trees.specs.Homes.{Home, Grown, groupAt, grown-inputs, grown-
 -- the tree that a gate list is
 pub record TreeOf (m n : ℕ) (gates : List Gate) : Type 0 where
   pub tree : Tree
+  -- it is the last gate's
+  pub last : tree ≡ treeAt (withTrees (inputTrees n) gates) (n + length gates - 1)
   pub once : EachOnce n (wiringIn tree)
   pub filled : Filled m tree
   -- its leaves are the inputs that the gates use
@@ -36,7 +38,7 @@ pub record TreeOf (m n : ℕ) (gates : List Gate) : Type 0 where
 -- ---- the references
 
 -- the last gate's reference, and what is past it, is not used; `k` references stand before the gates
-past-unused : (k : ℕ) (gates : List Gate) → RefersBack k gates → (r : ℕ) → k + length gates ≤ suc r → NotIn r (usedBy gates)
+pub past-unused : (k : ℕ) (gates : List Gate) → RefersBack k gates → (r : ℕ) → k + length gates ≤ suc r → NotIn r (usedBy gates)
 unfolding usedBy any
 past-unused k [] back r h = refl
 past-unused k (g ∷ gates) back r h =
@@ -44,7 +46,7 @@ past-unused k (g ∷ gates) back r h =
     (λ e. omega arith, not-in-cons r (g .right) (usedBy gates) .1 (λ e. omega arith, past-unused (suc k) gates (back .2) r (omega arith)))
 
 -- each gate uses two references
-used-length : (gates : List Gate) → length (usedBy gates) ≡ length gates + length gates
+pub used-length : (gates : List Gate) → length (usedBy gates) ≡ length gates + length gates
 unfolding usedBy
 used-length [] = refl
 used-length (g ∷ gates) = omega (arith, used-length gates)
@@ -112,6 +114,7 @@ net-is-tree m n gates some rules used =
     let last< : last < length (withTrees (inputTrees n) gates) = omega (arith, forest-length m n gates rules) in
     record {
       tree = treeAt (withTrees (inputTrees n) gates) last;
+      last = refl;
       once = trees .once last last<;
       filled = trees .filled last last<;
       leaves = λ i i<. last-member m n gates rules i i< some used;

@@ -50,7 +50,7 @@ module _ (n : ℕ) where
 
   -- ---- how many lines
 
-  lines-length : (before : ℕ) (t : Tree) → length (treeGates n before t) ≡ gatesOf t
+  pub lines-length : (before : ℕ) (t : Tree) → length (treeGates n before t) ≡ gatesOf t
   unfolding treeGates gatesIn
   lines-length before (leaf i) = refl
   lines-length before (node digits a b) = simp (length-append, lines-length before a, lines-length (before + gatesOf a) b)
@@ -66,7 +66,7 @@ module _ (n : ℕ) where
   reference-back before (leaf i) once = omega arith
   reference-back before (node digits a b) once = omega arith
 
-  lines-back : (before : ℕ) (t : Tree) → EachOnce n (wiringIn t) → RefersBack (n + before) (treeGates n before t)
+  pub lines-back : (before : ℕ) (t : Tree) → EachOnce n (wiringIn t) → RefersBack (n + before) (treeGates n before t)
   unfolding treeGates
   lines-back before (leaf i) once = tt
   lines-back before (node digits a b) once =

@@ -1,4 +1,4 @@
--- What the settled choice asks of the marks, and what it gives.
+-- What a choice of parts asks of the marks, and what it gives.
 -- Assumes nothing.
 use Prim.Native.Nat.{ℕ, _+_, _-_, _^_, _≤_, _<_}
 use mathlib.Core.Path.{_≡_, ap, ap₂, _∙_, subst, subst⁻¹}
@@ -10,43 +10,39 @@ use lib.ListN.{length}
 use Rattle.rules.specs.Limits.{mostInputs}
 use Rattle.rules.specs.Groups.{size}
 use Rattle.rules.specs.Marks.{inside, markIn}
-use Rattle.rules.specs.Wirings.{Link, linksOf}
-use Rattle.rules.specs.Settled.{splitOf, settledWiring}
+use Rattle.rules.specs.Wirings.{Link, linksOf, wiringBy}
 use Rattle.trees.specs.Members.{member-inside, size-le}
 use Rattle.trees.specs.MarkTwo.{Splits, inside-trans, two-some, parted, parted-sizes, a-below, b-below, a-inside, b-inside}
 use Rattle.wirings.specs.declared.forms.Wiring.{Wiring}
 use Rattle.wirings.specs.Links.{linksIn, none-in, Linked}
 use Rattle.wirings.specs.Added.{Added, added-several}
 
--- Group g has mark 2, and every group of mark 2 with several members inside it parts into two of mark 2 where `splitOf` says.
-pub record Choosable (n : ℕ) (marks : List ℕ) (g : ℕ) : Type 0 where
+-- Group g has mark 2, and every group of mark 2 with several members inside it parts into two of mark 2 where `split` says.
+pub record Choosable (n : ℕ) (marks : List ℕ) (split : ℕ → ℕ) (g : ℕ) : Type 0 where
   pub inputs : n ≤ mostInputs
   pub room : 2 ^ n ≤ length marks
   pub below : g < 2 ^ n
   pub two : markIn marks g ≡ 2
-  pub splits : Splits n (markIn marks) g (splitOf n marks)
+  pub splits : Splits n (markIn marks) g split
 
--- the links of the settled wiring of the group `leaves`
-pub record Chosen (n : ℕ) (marks : List ℕ) (leaves : ℕ) (w : Wiring) : Type 0 where
+-- the links of the group `leaves`, wired by the choice
+pub record Chosen (n : ℕ) (split : ℕ → ℕ) (leaves : ℕ) (w : Wiring) : Type 0 where
   pub count : w .gates + 1 ≡ size n leaves
-  pub links : linksIn w ≡ linksOf n 0 (settledWiring n marks leaves)
+  pub links : linksIn w ≡ linksOf n 0 (wiringBy n split n leaves)
 
 -- it is not empty
-pub ready-some : (n : ℕ) (marks : List ℕ) (g : ℕ) → Choosable n marks g → 0 < g
-ready-some n marks g ready =
-    two-some n (markIn marks) g (splitOf n marks) (ready .splits) g (ready .below) (member-inside n g g (λ i i< is. is)) (ready .two)
+pub ready-some : (n : ℕ) (marks : List ℕ) (split : ℕ → ℕ) (g : ℕ) → Choosable n marks split g → 0 < g
+ready-some n marks split g ready =
+    two-some n (markIn marks) g split (ready .splits) g (ready .below) (member-inside n g g (λ i i< is. is)) (ready .two)
 
 -- a group inside it has the same choice
-splits-in : (n : ℕ) (marks : List ℕ) (g : ℕ) → Choosable n marks g → (h : ℕ) → inside n h g ≡ true → Splits n (markIn marks) h (splitOf n marks)
-splits-in n marks g ready h h-in k k< k-in two several = ready .splits k k< (inside-trans n k h g k-in h-in) two several
+splits-in : (n : ℕ) (marks : List ℕ) (split : ℕ → ℕ) (g : ℕ) → Choosable n marks split g → (h : ℕ) → inside n h g ≡ true → Splits n (markIn marks) h split
+splits-in n marks split g ready h h-in k k< k-in two several = ready .splits k k< (inside-trans n k h g k-in h-in) two several
 
 -- a group of several members, and the part that the code has found
-module _ (n : ℕ) (marks : List ℕ) (g : ℕ) (ready : Choosable n marks g) (several : size n g ≢ 1) (a : ℕ) (is : a ≡ splitOf n marks g) where
+module _ (n : ℕ) (marks : List ℕ) (split : ℕ → ℕ) (g : ℕ) (ready : Choosable n marks split g) (several : size n g ≢ 1) (a : ℕ) (is : a ≡ split g) where
   abbrev mark : ℕ → ℕ
   mark = markIn marks
-
-  abbrev split : ℕ → ℕ
-  split = splitOf n marks
 
   g-in : inside n g g ≡ true
   g-in = member-inside n g g (λ i i< is. is)
@@ -58,26 +54,26 @@ module _ (n : ℕ) (marks : List ℕ) (g : ℕ) (ready : Choosable n marks g) (s
   part-sizes = rw is (parted-sizes n mark g split (ready .splits) g (ready .below) g-in (ready .two) several)
 
   -- both parts are such groups too
-  pub left-choosable : Choosable n marks a
+  pub left-choosable : Choosable n marks split a
   left-choosable =
-      subst⁻¹ (Choosable n marks) is
+      subst⁻¹ (Choosable n marks split) is
       (record {
         inputs = ready .inputs;
         room = ready .room;
         below = a-below n mark g split (ready .splits) g (ready .below) g-in (ready .two) several;
         two = parted n mark g split (ready .splits) g (ready .below) g-in (ready .two) several .two-a;
-        splits = splits-in n marks g ready (split g) (a-inside n mark g split (ready .splits) g (ready .below) g-in (ready .two) several);
+        splits = splits-in n marks split g ready (split g) (a-inside n mark g split (ready .splits) g (ready .below) g-in (ready .two) several);
       })
 
-  pub right-choosable : Choosable n marks (g - a)
+  pub right-choosable : Choosable n marks split (g - a)
   right-choosable =
-      subst⁻¹ (λ (x : ℕ). Choosable n marks (g - x)) is
+      subst⁻¹ (λ (x : ℕ). Choosable n marks split (g - x)) is
       (record {
         inputs = ready .inputs;
         room = ready .room;
         below = b-below n mark g split (ready .splits) g (ready .below) g-in (ready .two) several;
         two = parted n mark g split (ready .splits) g (ready .below) g-in (ready .two) several .two-b;
-        splits = splits-in n marks g ready (g - split g) (b-inside n mark g split (ready .splits) g (ready .below) g-in (ready .two) several);
+        splits = splits-in n marks split g ready (g - split g) (b-inside n mark g split (ready .splits) g (ready .below) g-in (ready .two) several);
       })
 
   -- A's links, B's, and the group's own
@@ -90,12 +86,11 @@ module _ (n : ℕ) (marks : List ℕ) (g : ℕ) (ready : Choosable n marks g) (s
       own
 
 -- all links, added to a wiring that has none
-pub chosen : (n : ℕ) (marks : List ℕ) (leaves : ℕ) (none w : Wiring) (reference : ℕ) → none .gates ≡ 0
-    → Added n (splitOf n marks) leaves none w reference → Chosen n marks leaves w
-unfolding settledWiring
-chosen n marks leaves none w reference empty added =
+pub chosen : (n : ℕ) (split : ℕ → ℕ) (leaves : ℕ) (none w : Wiring) (reference : ℕ) → none .gates ≡ 0
+    → Added n split leaves none w reference → Chosen n split leaves w
+chosen n split leaves none w reference empty added =
     record {
       count = added .count ∙ ap (λ (k : ℕ). k + size n leaves) empty ∙ zero-add (size n leaves);
       links = added .links n (size-le n leaves)
-          ∙ ap₂ (λ (ls : List Link) (k : ℕ). ls ++ linksOf n k (settledWiring n marks leaves)) (none-in none empty) empty;
+          ∙ ap₂ (λ (ls : List Link) (k : ℕ). ls ++ linksOf n k (wiringBy n split n leaves)) (none-in none empty) empty;
     }

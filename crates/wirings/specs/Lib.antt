@@ -1,3 +1,4 @@
+pub mod Choice
 pub mod Added
 pub mod Chosen
 pub mod Links

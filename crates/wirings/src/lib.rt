@@ -1,3 +1,4 @@
-// A wiring by value, and document 01's choice of one.
+// A wiring by value, and choices of one.
+pub mod choice;
 pub mod choose;
 pub mod forms;

@@ -119,6 +119,29 @@ fn making(m: usize, n: usize, kind: TableKind) -> f64 {
     proved.as_secs_f64() / plain.as_secs_f64()
 }
 
+/// Shallow making against making, both the library's. A table without a tree is refused by both after its marks.
+fn shallow_making(m: usize, n: usize, kind: TableKind) -> f64 {
+    let mut generator = Generator::new(16);
+    let sheets: Vec<Vec<u8>> = (0..TABLES)
+        .map(|_| generator.table_sheet(m, n, kind))
+        .collect();
+    for sheet in &sheets {
+        let (shallow, settled) = (sitgurp::made_shallow(sheet), sitgurp::made(sheet));
+        assert_eq!(
+            shallow.map(|(net, _)| sitgurp::table_of(&net)),
+            settled.map(|net| sitgurp::table_of(&net)),
+            "both refuse, or make a net with the same table"
+        );
+    }
+    let shallow = least(&sheets, |sheet| {
+        black_box(sitgurp::made_shallow(black_box(sheet))).ok();
+    });
+    let settled = least(&sheets, |sheet| {
+        black_box(sitgurp::made(black_box(sheet))).ok();
+    });
+    shallow.as_secs_f64() / settled.as_secs_f64()
+}
+
 /// Reading alone: with no cells buffer making reads the whole sheet and is then refused with 13.
 fn reading(m: usize, n: usize, kind: TableKind) -> f64 {
     let mut generator = Generator::new(13);
@@ -159,6 +182,10 @@ fn checking(m: usize, n: usize, _kind: TableKind) -> f64 {
 fn main() {
     report("marking, proved / plain", marking);
     report("making, proved / plain", making);
+    report(
+        "shallow making / making; at 2 11 it is to be 3 at most",
+        shallow_making,
+    );
     report(
         "counting every group's classes, proved / second implementation",
         counting,

@@ -12,32 +12,40 @@ pub enum Kind {
     Marking,
     Settle,
     Make,
+    SettleShallow,
+    MakeShallow,
+    Shallower,
     Check,
     WriteTable,
     Listing,
 }
 
 impl Kind {
-    pub const ALL: [Kind; 9] = [
+    pub const ALL: [Kind; 12] = [
         Kind::Multiplicity,
         Kind::Multiplicities,
         Kind::FewestLevels,
         Kind::Marking,
         Kind::Settle,
         Kind::Make,
+        Kind::SettleShallow,
+        Kind::MakeShallow,
+        Kind::Shallower,
         Kind::Check,
         Kind::WriteTable,
         Kind::Listing,
     ];
 
-    /// The refusals that document 01 has for this call; of the two that ask a table sheet's multiplicities, the sheet's.
+    /// The refusals that document 01 has for this call; of the two that ask a table sheet's multiplicities, the sheet's. The shallower of
+    /// two is had without a number.
     pub fn refusals(self) -> &'static [usize] {
         match self {
             Kind::Multiplicity => &[9, 10, 11],
             Kind::Multiplicities | Kind::FewestLevels => &[1, 2, 3, 4, 5, 6],
             Kind::Marking => &[9, 10, 14],
-            Kind::Settle => &[1, 2, 3, 4, 6, 7, 8, 13, 14, 15],
-            Kind::Make => &[1, 2, 3, 4, 5, 6, 13, 14, 15, 16],
+            Kind::Settle | Kind::SettleShallow => &[1, 2, 3, 4, 6, 7, 8, 13, 14, 15],
+            Kind::Make | Kind::MakeShallow => &[1, 2, 3, 4, 5, 6, 13, 14, 15, 16],
+            Kind::Shallower => &[],
             Kind::Check => &[1, 2, 3, 4, 5, 6, 7, 8, 12, 13],
             Kind::WriteTable => &[1, 2, 3, 4, 6, 7, 8, 15],
             Kind::Listing => &[1, 2, 3, 4, 6, 7, 8],
@@ -65,14 +73,11 @@ impl Call {
             Kind::Multiplicities => multiplicities(&mut inputs),
             Kind::FewestLevels => fewest_levels(&mut inputs),
             Kind::Marking => marking(&mut inputs),
-            Kind::Settle => {
-                let sheet = inputs.net_sheet();
-                from_sheet(&mut inputs, &sheet, sitgurp::settle, reference::settle)
-            }
-            Kind::Make => {
-                let sheet = inputs.table_sheet();
-                from_sheet(&mut inputs, &sheet, sitgurp::make, reference::make)
-            }
+            Kind::Settle => settle(&mut inputs),
+            Kind::Make => make(&mut inputs),
+            Kind::SettleShallow => settle_shallow(&mut inputs),
+            Kind::MakeShallow => make_shallow(&mut inputs),
+            Kind::Shallower => shallower(&mut inputs),
             Kind::Check => check(&mut inputs),
             Kind::WriteTable => write_table(&mut inputs),
             Kind::Listing => listing(&mut inputs),
@@ -93,9 +98,16 @@ impl Call {
 
 type Both = (String, Given, Given);
 
-/// A call of the proved library on three buffers, and the same of the second implementation.
-type Proved = fn(&[u8], &mut [u8], &mut [u8], &mut [u8]) -> Result<usize, sitgurp::Refusal>;
-type Second = fn(&[u8], &mut [u8], &mut [u8], &mut [u8]) -> Result<usize, reference::Refusal>;
+/// A call of either implementation on three buffers.
+type OnBuffers<T, R> = fn(&[u8], &mut [u8], &mut [u8], &mut [u8]) -> Result<T, R>;
+
+/// A call by both, and the shape in which an accepted answer of each is compared.
+struct FromSheet<T, S> {
+    proved: OnBuffers<T, sitgurp::Refusal>,
+    second: OnBuffers<S, reference::Refusal>,
+    of_proved: fn(T) -> Answer,
+    of_second: fn(S) -> Answer,
+}
 
 /// A sheet as a Rust byte string, and the lengths of the buffers.
 fn in_words(sheets: &[&[u8]], buffers: &[Vec<u8>]) -> String {
@@ -187,8 +199,68 @@ fn marking(inputs: &mut Inputs) -> Both {
     )
 }
 
+fn settle(inputs: &mut Inputs) -> Both {
+    let sheet = inputs.net_sheet();
+    let call = FromSheet {
+        proved: sitgurp::settle,
+        second: reference::settle,
+        of_proved: Answer::Value,
+        of_second: Answer::Value,
+    };
+    from_sheet(inputs, &sheet, call)
+}
+
+fn make(inputs: &mut Inputs) -> Both {
+    let sheet = inputs.table_sheet();
+    let call = FromSheet {
+        proved: sitgurp::make,
+        second: reference::make,
+        of_proved: Answer::Value,
+        of_second: Answer::Value,
+    };
+    from_sheet(inputs, &sheet, call)
+}
+
+fn settle_shallow(inputs: &mut Inputs) -> Both {
+    let sheet = inputs.net_sheet();
+    let call = FromSheet {
+        proved: sitgurp::settle_shallow,
+        second: reference::settle_shallow,
+        of_proved: |answer| Answer::Layered(answer.length, answer.layers),
+        of_second: |answer| Answer::Layered(answer.length, answer.layers),
+    };
+    from_sheet(inputs, &sheet, call)
+}
+
+fn make_shallow(inputs: &mut Inputs) -> Both {
+    let sheet = inputs.table_sheet();
+    let call = FromSheet {
+        proved: sitgurp::make_shallow,
+        second: reference::make_shallow,
+        of_proved: |answer| Answer::Layered(answer.length, answer.layers),
+        of_second: |answer| Answer::Layered(answer.length, answer.layers),
+    };
+    from_sheet(inputs, &sheet, call)
+}
+
+/// The shallower of two sheets: at the front of which of them the part lies that is handed back, and its length.
+fn shallower(inputs: &mut Inputs) -> Both {
+    let (first, second) = (inputs.net_sheet(), inputs.other_net_sheet());
+    let part = |part: &[u8]| {
+        let in_sheet = |sheet: &[u8]| sheet.as_ptr() == part.as_ptr();
+        let which = [&first, &second].iter().position(|sheet| in_sheet(sheet));
+        Answer::Part(which, part.len())
+    };
+    both(
+        in_words(&[&first, &second], &[]),
+        vec![],
+        |_| part(sitgurp::shallower(&first, &second)),
+        |_| part(reference::shallower(&first, &second)),
+    )
+}
+
 /// Settling or making.
-fn from_sheet(inputs: &mut Inputs, sheet: &[u8], proved: Proved, second: Second) -> Both {
+fn from_sheet<T, S>(inputs: &mut Inputs, sheet: &[u8], call: FromSheet<T, S>) -> Both {
     // what the output needs is the settled sheet's length, which is near the net sheet's own
     let output = sheet.len().min(MOST_NET_SHEET);
     let buffers = vec![
@@ -201,11 +273,13 @@ fn from_sheet(inputs: &mut Inputs, sheet: &[u8], proved: Proved, second: Second)
         buffers,
         |buffers| {
             let [cells, marks, output] = three(buffers);
-            Answer::of_proved(proved(sheet, cells, marks, output), Answer::Value)
+            let answer = (call.proved)(sheet, cells, marks, output);
+            Answer::of_proved(answer, call.of_proved)
         },
         |buffers| {
             let [cells, marks, output] = three(buffers);
-            Answer::of_second(second(sheet, cells, marks, output), Answer::Value)
+            let answer = (call.second)(sheet, cells, marks, output);
+            Answer::of_second(answer, call.of_second)
         },
     )
 }

@@ -9,6 +9,10 @@ pub enum Answer {
     Value(usize),
     Agree,
     Differ(usize),
+    /// A sheet's length and the layers of its net.
+    Layered(usize, usize),
+    /// The part of one of two sheets, counted from 0, that begins where the sheet begins, and its length.
+    Part(Option<usize>, usize),
     /// Every group's number of classes.
     Counts(Vec<usize>),
     /// The lister's turns: where a line begins and how long it is, or that none is left.
@@ -117,6 +121,12 @@ mod tests {
             Answer::Value(4),
             Answer::Agree,
             Answer::Differ(4),
+            Answer::Layered(4, 2),
+            Answer::Layered(4, 3),
+            Answer::Part(Some(0), 4),
+            Answer::Part(Some(0), 0),
+            Answer::Part(Some(1), 4),
+            Answer::Part(None, 4),
             Answer::Counts(vec![0, 2, 2, 2]),
             Answer::Counts(vec![0, 2, 2, 1]),
             Answer::Turns(vec![Some((4, 8)), None]),

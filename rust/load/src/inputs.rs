@@ -50,6 +50,16 @@ impl Inputs {
         self.perhaps_damaged(good)
     }
 
+    /// A net sheet beside another: of the same size, so that they are often level, or of any.
+    pub fn other_net_sheet(&mut self) -> Vec<u8> {
+        let (m, n) = match self.below(2) {
+            0 => (self.m, self.n),
+            _ => self.generator.size(),
+        };
+        let good = self.generator.net_sheet(m, n);
+        self.perhaps_damaged(good)
+    }
+
     pub fn table_sheet(&mut self) -> Vec<u8> {
         let kind = *self.generator.rng.pick(&TableKind::ALL);
         let good = self.generator.table_sheet(self.m, self.n, kind);

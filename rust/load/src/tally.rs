@@ -44,13 +44,16 @@ impl Tally {
     }
 }
 
-/// `number: count` of every refusal that was seen.
+/// `number: count` of every refusal that was seen, or that there is none.
 fn refusals(ends: &[u64; ENDS]) -> String {
     let seen = (1..ENDS).filter(|&number| ends[number] > 0);
     let counts: Vec<String> = seen
         .map(|number| format!("{number}: {}", ends[number]))
         .collect();
-    counts.join(" ")
+    match counts[..] {
+        [] => "none".to_string(),
+        _ => counts.join(" "),
+    }
 }
 
 impl fmt::Display for Tally {
@@ -112,6 +115,6 @@ mod tests {
         tally.count(Kind::Check, (2, 3), 12);
         let text = tally.to_string();
         assert!(text.contains("Check: 4 calls, 3 accepted at 2 sizes; refused:\n    12: 1\n"));
-        assert!(text.contains("Settle: 0 calls, 0 accepted at 0 sizes; refused:\n    \n"));
+        assert!(text.contains("Settle: 0 calls, 0 accepted at 0 sizes; refused:\n    none\n"));
     }
 }

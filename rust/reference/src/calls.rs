@@ -1,4 +1,4 @@
-//! Every call of document 01, with the buffers lent to it.
+//! Every call of document 01, and of document 02, with the buffers lent to it.
 //!
 //! "15 and 16 leave cells and marks written where the call has them, the output
 //! untouched. Every other refusal changes no buffer." "Longer buffers keep their
@@ -7,9 +7,10 @@
 use crate::groups::{self, whole};
 use crate::limits::cell_count;
 use crate::marks::{self, first_stuck, marks_of};
-use crate::net::Table;
+use crate::net::{Net, Table};
 use crate::refusal::{self, require, Refusal};
 use crate::settled::settled_net;
+use crate::shallow::shallow_net;
 use crate::sheet::{print_net_sheet, print_table_sheet, read_net_sheet, read_table_sheet, Header};
 
 /// What a check answers: "agreement or the lowest index that differs".
@@ -17,6 +18,14 @@ use crate::sheet::{print_net_sheet, print_table_sheet, read_net_sheet, read_tabl
 pub enum Verdict {
     Agree,
     Differ(u64),
+}
+
+/// What a shallow making or settling answers: the length of the sheet that it
+/// wrote, and "the answer carries the count" of layers too.
+#[derive(Clone, Copy, Debug, PartialEq, Eq)]
+pub struct Layered {
+    pub length: usize,
+    pub layers: usize,
 }
 
 /// "The multiplicity call gives the true number of classes, however large."
@@ -62,7 +71,8 @@ pub fn settle(
     out: &mut [u8],
 ) -> Result<usize, Refusal> {
     let (header, net) = read_net_sheet(sheet)?;
-    write_settled(&header, &net.table(), cells, marks, out)
+    let written = write_tree(settled_net, &header, &net.table(), cells, marks, out)?;
+    Ok(written.length)
 }
 
 /// A table sheet to the settled net sheet of its table.
@@ -74,25 +84,57 @@ pub fn make(
     out: &mut [u8],
 ) -> Result<usize, Refusal> {
     let (header, table) = read_table_sheet(sheet)?;
-    write_settled(&header, &table, cells, marks, out)
+    let written = write_tree(settled_net, &header, &table, cells, marks, out)?;
+    Ok(written.length)
 }
 
+/// A net sheet to the sheet of the shallow net of its table: "a making and a
+/// settling that choose the tree with the fewest layers and are otherwise as
+/// document 01 has them". Refusals 1 to 8, 13, 14, 15.
+pub fn settle_shallow(
+    sheet: &[u8],
+    cells: &mut [u8],
+    marks: &mut [u8],
+    out: &mut [u8],
+) -> Result<Layered, Refusal> {
+    let (header, net) = read_net_sheet(sheet)?;
+    write_tree(shallow_net, &header, &net.table(), cells, marks, out)
+}
+
+/// A table sheet to the sheet of the shallow net of its table.
+/// Refusals 1 to 6, 13, 14, 16, 15.
+pub fn make_shallow(
+    sheet: &[u8],
+    cells: &mut [u8],
+    marks: &mut [u8],
+    out: &mut [u8],
+) -> Result<Layered, Refusal> {
+    let (header, table) = read_table_sheet(sheet)?;
+    write_tree(shallow_net, &header, &table, cells, marks, out)
+}
+
+/// The tree chosen for a table with these marks; none if it has no tree.
+type Choice = fn(&Table, &[u8]) -> Option<Net>;
+
 /// What settling and making share: the table into the cells, the marks into the
-/// marks, the settled sheet into the output.
-fn write_settled(
+/// marks, the sheet of the chosen tree into the output.
+fn write_tree(
+    choice: Choice,
     header: &Header,
     table: &Table,
     cells: &mut [u8],
     marks: &mut [u8],
     out: &mut [u8],
-) -> Result<usize, Refusal> {
+) -> Result<Layered, Refusal> {
     require(refusal::CELLS_SHORT, cells.len(), table.inks.len())?;
     require(refusal::MARKS_SHORT, marks.len(), marks::needed(table.n))?;
     let of_groups = marks_of(table);
     put(cells, &table.inks);
     marks::store(&of_groups, marks);
-    let net = settled_net(table, &of_groups).ok_or_else(|| no_tree(&of_groups, table.n))?;
-    write_sheet(&print_net_sheet(header, &net), out)
+    let net = choice(table, &of_groups).ok_or_else(|| no_tree(&of_groups, table.n))?;
+    let length = write_sheet(&print_net_sheet(header, &net), out)?;
+    let layers = net.layers();
+    Ok(Layered { length, layers })
 }
 
 fn no_tree(marks: &[u8], n: usize) -> Refusal {
@@ -118,6 +160,22 @@ pub fn check(net_sheet: &[u8], table_sheet: &[u8], cells: &mut [u8]) -> Result<V
         Some(index) => Verdict::Differ(index as u64),
         None => Verdict::Agree,
     })
+}
+
+/// "A call takes two net sheets and hands back the shallower sheet itself, the
+/// first when level. An unreadable sheet loses to a readable one, and two
+/// unreadable ones give an empty part of the first; in this call alone [..] no
+/// number is given." Each sheet is taken as it is wired, whatever m, n and the
+/// names of the other.
+pub fn shallower<'a>(first: &'a [u8], second: &'a [u8]) -> &'a [u8] {
+    let layers = |sheet| read_net_sheet(sheet).ok().map(|(_, net)| net.layers());
+    match (layers(first), layers(second)) {
+        (None, None) => &first[..0],
+        (None, Some(_)) => second,
+        (Some(_), None) => first,
+        (Some(one), Some(other)) if other < one => second,
+        (Some(_), Some(_)) => first,
+    }
 }
 
 /// A net sheet to the table sheet of its table. Refusals 1 to 8, 15.

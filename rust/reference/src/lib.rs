@@ -14,6 +14,7 @@
 //! | `groups`   | "Groups": alike, classes, multiplicity                    |
 //! | `marks`    | "Marks", and how a mark is stored                         |
 //! | `settled`  | "The settled net"                                         |
+//! | `shallow`  | document 02, "Shallow nets": the tree of fewest layers    |
 //! | `calls`    | every call with the buffers lent to it                    |
 //! | `lister`   | "Listing"                                                 |
 //! | `programs` | "Two programs"                                            |
@@ -35,10 +36,12 @@ pub mod programs;
 pub mod refusal;
 pub mod rng;
 pub mod settled;
+pub mod shallow;
 pub mod sheet;
 
 pub use calls::{
-    check, fewest_levels, make, marking, multiplicities, multiplicity, settle, write_table, Verdict,
+    check, fewest_levels, make, make_shallow, marking, multiplicities, multiplicity, settle,
+    settle_shallow, shallower, write_table, Layered, Verdict,
 };
 pub use limits::allowed_sizes;
 pub use lister::Lister;

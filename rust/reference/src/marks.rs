@@ -46,19 +46,22 @@ pub fn fewest_levels(table: &Table) -> usize {
         .expect("with as many as the largest multiplicity every group has mark 2")
 }
 
-/// A split of a group into (A, B), both of mark 2, "A holding its first-listed
-/// input, A of lowest number". As one of the two parts of any split holds the
+/// The splits of a group into (A, B), both of mark 2, A holding its first-listed
+/// input, by rising number of A. As one of the two parts of any split holds the
 /// first-listed input, the group has a split at all exactly when it has one of
 /// these.
+pub fn splits(marks: &[u8], group: usize, n: usize) -> impl Iterator<Item = (usize, usize)> + '_ {
+    let first = members(group, n).first().copied();
+    let holds_first = move |a| first.is_some_and(|first| is_member(a, first));
+    let parts = (1..group).filter(move |&a| a & group == a && holds_first(a));
+    let splits = parts.map(move |a| (a, group - a));
+    splits.filter(|&(a, b)| marks[a] == TREE && marks[b] == TREE)
+}
+
+/// The split of the settled net: "A holding its first-listed input, A of lowest
+/// number".
 pub fn split(marks: &[u8], group: usize, n: usize) -> Option<(usize, usize)> {
-    let first = *members(group, n).first()?;
-    for a in 1..group {
-        let is_part = a & group == a;
-        if is_part && is_member(a, first) && marks[a] == TREE && marks[group - a] == TREE {
-            return Some((a, group - a));
-        }
-    }
-    None
+    splits(marks, group, n).next()
 }
 
 /// The place of refusal 16: "the group of fewest members, then lowest number,

@@ -78,6 +78,28 @@ impl Net {
             .expect("every net has a gate, as n is 2 or more")
     }
 
+    /// "The layers of a net are the most gates on a way from an input to the
+    /// output."
+    pub fn layers(&self) -> usize {
+        let ways = (0..self.n).map(|input| self.gates_on_the_way(input));
+        ways.max().expect("every net has an input")
+    }
+
+    /// How many gates are passed from an input to the output: the one that refers
+    /// to the input, the one that refers to that gate, and so on. A gate refers
+    /// to earlier ones, so they come up in this order.
+    fn gates_on_the_way(&self, input: usize) -> usize {
+        let mut end = Wire::Input(input);
+        let mut passed = 0;
+        for (number, gate) in (1..).zip(&self.gates) {
+            if gate.left == end || gate.right == end {
+                end = Wire::Gate(number);
+                passed += 1;
+            }
+        }
+        passed
+    }
+
     /// "Its table lists the values over all assignments in index order."
     pub fn table(&self) -> Table {
         Table::of(self.m, self.n, |levels| self.value(levels))

@@ -1,4 +1,5 @@
-//! "The settled net": the one net that document 01 fixes for a table.
+//! "The settled net": the one net that document 01 fixes for a table; and how
+//! the gates of a tree are written and filled, however its groups are parted.
 
 use crate::groups::{classes, members, whole};
 use crate::marks::{split, TREE};
@@ -7,12 +8,21 @@ use crate::net::{count_up, place_in_count, Gate, Net, Table, Wire};
 /// The settled net of a table with these marks; none if the whole group's mark
 /// is not 2.
 pub fn settled_net(table: &Table, marks: &[u8]) -> Option<Net> {
+    net_by(table, marks, &|group| split(marks, group, table.n))
+}
+
+/// How a group of mark 2 with several members is parted, as (A, B).
+type Splitting<'a> = &'a dyn Fn(usize) -> Option<(usize, usize)>;
+
+/// The net of a table with these marks whose groups are parted so; none if the
+/// whole group's mark is not 2.
+pub fn net_by(table: &Table, marks: &[u8], splitting: Splitting) -> Option<Net> {
     let whole = whole(table.n);
     if marks[whole] != TREE {
         return None;
     }
     let mut gates = Vec::new();
-    add_gates(table, marks, whole, &mut gates);
+    add_gates(table, splitting, whole, &mut gates);
     Some(Net {
         m: table.m,
         n: table.n,
@@ -20,16 +30,15 @@ pub fn settled_net(table: &Table, marks: &[u8]) -> Option<Net> {
     })
 }
 
-/// "Gate lines: A's, then B's, then the group's own. A single input is wired by
-/// name." Answers the wire that carries the group.
-fn add_gates(table: &Table, marks: &[u8], group: usize, gates: &mut Vec<Gate>) -> Wire {
+/// "A goes left. Gate lines: A's, then B's, then the group's own. A single input
+/// is wired by name." Answers the wire that carries the group.
+fn add_gates(table: &Table, splitting: Splitting, group: usize, gates: &mut Vec<Gate>) -> Wire {
     if let [input] = members(group, table.n)[..] {
         return Wire::Input(input);
     }
-    let (a, b) =
-        split(marks, group, table.n).expect("a group of mark 2 with several members has a split");
-    let left = add_gates(table, marks, a, gates);
-    let right = add_gates(table, marks, b, gates);
+    let (a, b) = splitting(group).expect("a group of mark 2 with several members has a split");
+    let left = add_gates(table, splitting, a, gates);
+    let right = add_gates(table, splitting, b, gates);
     let digits = digits(table, group, a, b);
     gates.push(Gate {
         left,

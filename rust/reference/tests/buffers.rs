@@ -4,7 +4,9 @@
 mod common;
 
 use common::*;
-use reference::{check, make, marking, settle, write_table, Refusal, Verdict};
+use reference::{
+    check, make, make_shallow, marking, settle, settle_shallow, write_table, Refusal, Verdict,
+};
 
 /// A lent buffer with something in it: no two neighbours are equal, and none is
 /// a level, a mark or a byte of a sheet.
@@ -25,6 +27,24 @@ fn lengths(need: usize) -> [usize; 5] {
 }
 
 type Call = fn(&[u8], &mut [u8], &mut [u8], &mut [u8]) -> Result<usize, Refusal>;
+
+fn settle_shallow_length(
+    sheet: &[u8],
+    cells: &mut [u8],
+    marks: &mut [u8],
+    out: &mut [u8],
+) -> Result<usize, Refusal> {
+    settle_shallow(sheet, cells, marks, out).map(|answer| answer.length)
+}
+
+fn make_shallow_length(
+    sheet: &[u8],
+    cells: &mut [u8],
+    marks: &mut [u8],
+    out: &mut [u8],
+) -> Result<usize, Refusal> {
+    make_shallow(sheet, cells, marks, out).map(|answer| answer.length)
+}
 
 /// A sheet with what settling or making is to write from it.
 struct Example {
@@ -119,14 +139,37 @@ fn make_at_every_length() {
 #[test]
 fn make_without_a_tree_at_every_length() {
     let rule = |x: &[usize]| usize::from(x.iter().sum::<usize>() >= 2);
-    Example {
-        call: make,
-        sheet: rule_sheet(2, "a b c", rule),
-        cells: vec![0, 0, 0, 1, 0, 1, 1, 1],
-        marks: vec![0, 2, 2, 0, 2, 0, 0, 1],
-        result: Err(of_neither(16, 7)),
+    for call in [make as Call, make_shallow_length] {
+        Example {
+            call,
+            sheet: rule_sheet(2, "a b c", rule),
+            cells: vec![0, 0, 0, 1, 0, 1, 1, 1],
+            marks: vec![0, 2, 2, 0, 2, 0, 0, 1],
+            result: Err(of_neither(16, 7)),
+        }
+        .assert_all_lengths();
     }
-    .assert_all_lengths();
+}
+
+/// The exclusive or of four inputs, whose shallow net is not the settled one.
+#[test]
+fn shallow_calls_at_every_length() {
+    let rule = |x: &[usize]| x.iter().sum::<usize>() % 2;
+    let table = rule_sheet(2, "a b c d", rule);
+    let net = net_sheet(2, "a b c d", "b d 1001/a 1 1001/c 2 0110");
+    for (call, sheet) in [
+        (make_shallow_length as Call, table),
+        (settle_shallow_length, net),
+    ] {
+        Example {
+            call,
+            sheet,
+            cells: inks_of(2, 4, rule),
+            marks: [vec![0], vec![2; 15]].concat(),
+            result: Ok(net_sheet(2, "a b c d", "a b 0110/c d 0110/1 2 0110")),
+        }
+        .assert_all_lengths();
+    }
 }
 
 /// The lengths needed at the largest sizes.
@@ -174,7 +217,12 @@ fn a_refused_sheet_changes_no_buffer() {
     ];
     for sheet in sheets.map(lines) {
         for length in [0, 1, 100] {
-            for call in [settle as Call, make] {
+            for call in [
+                settle as Call,
+                make,
+                settle_shallow_length,
+                make_shallow_length,
+            ] {
                 let (mut c, mut k, mut o) = (lent(length), lent(length), lent(length));
                 let refusal = call(&sheet, &mut c, &mut k, &mut o).expect_err("a bad sheet");
                 assert!((1..=8).contains(&refusal.number));

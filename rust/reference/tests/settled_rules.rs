@@ -1,11 +1,12 @@
 //! Every sentence of "The settled net", held against the settled sheet itself at
-//! every size: the wiring, the order of the gate lines, the digits.
+//! every size: the wiring, the order of the gate lines, the digits. And the same
+//! of the shallow net, whose wiring alone is another.
 
 mod common;
 
 use common::*;
 use reference::generate::{Generator, TableKind};
-use reference::{allowed_sizes, make, marking};
+use reference::{allowed_sizes, make, make_shallow, marking};
 
 /// A gate line as it stands on the sheet, with the group of inputs below it.
 struct Line {
@@ -16,7 +17,15 @@ struct Line {
     right_group: usize,
 }
 
-struct Settled {
+/// Which of a table's trees is made.
+#[derive(Clone, Copy, PartialEq, Eq)]
+enum Choice {
+    Settled,
+    Shallow,
+}
+
+struct Made {
+    choice: Choice,
     m: usize,
     n: usize,
     names: Vec<String>,
@@ -25,18 +34,25 @@ struct Settled {
     gates: Vec<Line>,
 }
 
-impl Settled {
+impl Made {
     /// Makes the table; none if it has no tree.
-    fn made_from(m: usize, n: usize, inks: Vec<u8>) -> Option<Settled> {
+    fn from(choice: Choice, m: usize, n: usize, inks: Vec<u8>) -> Option<Made> {
         // The first-listed name is not the first in the alphabet.
         let names: Vec<String> = (0..n).map(|input| format!("z{}", n - input)).collect();
         let mut marks = vec![9; 1 << n];
         marking(m as u64, n as u64, &inks, &mut marks).expect("good cells");
         let sheet = table_sheet(m, &names.join(" "), &inks);
         let (mut cells, mut k, mut out) = ([7; CELLS], [7; MARKS], [7; NET_SHEET]);
-        let length = make(&sheet, &mut cells, &mut k, &mut out).ok()?;
+        let (length, layers) = match choice {
+            Choice::Settled => (make(&sheet, &mut cells, &mut k, &mut out).ok()?, None),
+            Choice::Shallow => {
+                let answer = make_shallow(&sheet, &mut cells, &mut k, &mut out).ok()?;
+                (answer.length, Some(answer.layers))
+            }
+        };
         let text = String::from_utf8(out[..length].to_vec()).expect("ASCII");
-        let mut settled = Settled {
+        let mut made = Made {
+            choice,
             m,
             n,
             names,
@@ -44,8 +60,10 @@ impl Settled {
             marks,
             gates: Vec::new(),
         };
-        text.lines().skip(4).for_each(|line| settled.add(line));
-        Some(settled)
+        text.lines().skip(4).for_each(|line| made.add(line));
+        let output = made.gates.len().to_string();
+        assert!(layers.is_none_or(|layers| layers == made.layers(&output)));
+        Some(made)
     }
 
     fn add(&mut self, line: &str) {
@@ -109,18 +127,44 @@ impl Settled {
         [left, right, vec![own]].concat()
     }
 
-    /// "A holding its first-listed input, A of lowest number", both of mark 2.
-    fn assert_split(&self, gate: &Line) {
-        let (a, b) = (gate.left_group, gate.right_group);
-        let first = 1 << (a | b).trailing_zeros();
-        let good = |a: usize| {
-            let b = gate.left_group + gate.right_group - a;
-            a & first != 0 && self.marks[a] == 2 && self.marks[b] == 2
-        };
-        let lowest = (1..a | b)
-            .filter(|part| part & !(a | b) == 0)
-            .find(|&a| good(a));
-        assert_eq!(lowest, Some(a));
+    /// The gates on the longest way from an input to a reference.
+    fn layers(&self, reference: &str) -> usize {
+        let gate = self.gate(reference);
+        gate.map_or(0, |gate| {
+            1 + self.layers(&gate.left).max(self.layers(&gate.right))
+        })
+    }
+
+    /// The parts of a group that leave a group of mark 2 and have mark 2.
+    fn parts(&self, group: usize) -> impl Iterator<Item = usize> + '_ {
+        let parts = (1..group).filter(move |part| part & !group == 0);
+        parts.filter(move |part| self.marks[*part] == 2 && self.marks[group - part] == 2)
+    }
+
+    /// The fewest layers of each group of mark 2, by all its parts.
+    fn fewest(&self) -> Vec<usize> {
+        let mut fewest: Vec<usize> = Vec::new();
+        for group in 0..1 << self.n {
+            let of_parts = self
+                .parts(group)
+                .map(|part| fewest[part].max(fewest[group - part]) + 1);
+            fewest.push(of_parts.min().unwrap_or(0));
+        }
+        fewest
+    }
+
+    /// "A holding its first-listed input, A of lowest number", both of mark 2; of
+    /// a shallow net "the part A of lowest number that keeps its own group
+    /// shallowest".
+    fn assert_split(&self, gate: &Line, fewest: &[usize]) {
+        let group = gate.left_group | gate.right_group;
+        let first = 1 << group.trailing_zeros();
+        let shallowest = |a: usize| fewest[a].max(fewest[group - a]) < fewest[group];
+        let lowest = self
+            .parts(group)
+            .filter(|a| a & first != 0)
+            .find(|&a| self.choice == Choice::Settled || shallowest(a));
+        assert_eq!(lowest, Some(gate.left_group));
     }
 
     /// Every assignment of all inputs in which the inputs outside the group
@@ -184,15 +228,17 @@ impl Settled {
         for number in 1..self.gates.len() {
             self.assert_classes(number);
         }
-        self.gates.iter().for_each(|gate| self.assert_split(gate));
+        let fewest = self.fewest();
+        for gate in &self.gates {
+            self.assert_split(gate, &fewest);
+        }
         let free = self.gates.iter().map(|gate| self.assert_free_digits(gate));
         free.sum()
     }
 }
 
-#[test]
-fn every_settled_sheet_keeps_the_rules() {
-    let seed = 141;
+/// Counts the sheets and their free digits.
+fn assert_every_size(choice: Choice, seed: u64) -> (usize, usize) {
     println!("seed {seed}");
     let mut generator = Generator::new(seed);
     let (mut sheets, mut free) = (0, 0);
@@ -207,12 +253,24 @@ fn every_settled_sheet_keeps_the_rules() {
                 _ => TableKind::OfNet,
             };
             let inks = generator.table(m, n, kind).inks;
-            if let Some(settled) = Settled::made_from(m, n, inks) {
-                free += settled.assert_rules();
+            if let Some(made) = Made::from(choice, m, n, inks) {
+                free += made.assert_rules();
                 sheets += 1;
             }
         }
     }
-    println!("{sheets} settled sheets, {free} free digits");
+    println!("{sheets} sheets, {free} free digits");
+    (sheets, free)
+}
+
+#[test]
+fn every_settled_sheet_keeps_the_rules() {
+    let (sheets, free) = assert_every_size(Choice::Settled, 141);
+    assert!(sheets > 500 && free > 500);
+}
+
+#[test]
+fn every_shallow_sheet_keeps_the_rules() {
+    let (sheets, free) = assert_every_size(Choice::Shallow, 142);
     assert!(sheets > 500 && free > 500);
 }

@@ -8,6 +8,23 @@ pub struct Answer {
     pub value: usize,
 }
 
+/// As [`Answer`], with the layers of the net that was written; 0 where the call is refused.
+#[repr(C)]
+#[derive(Clone, Copy)]
+pub struct Shallow {
+    pub number: usize,
+    pub value: usize,
+    pub layers: usize,
+}
+
+/// `which` is 1 for the first sheet, 2 for the second, 0 for an empty part of the first, and `length` is that part's.
+#[repr(C)]
+#[derive(Clone, Copy)]
+pub struct Which {
+    pub which: usize,
+    pub length: usize,
+}
+
 /// `kind` is 0 for agreement, 1 where `value` is the lowest index that differs, 2 for a refusal with `number` at place
 /// `value` that names the net sheet (1), the table sheet (2) or neither (0).
 #[repr(C)]
@@ -30,7 +47,7 @@ pub struct Turn {
 }
 
 /// Settling and making: a sheet, then the cells, the marks and the output lent.
-pub type SheetCall = unsafe extern "C" fn(
+pub type SheetCall<A> = unsafe extern "C" fn(
     sheet: *const u8,
     sheet_length: usize,
     cells: *mut u8,
@@ -39,7 +56,7 @@ pub type SheetCall = unsafe extern "C" fn(
     marks_length: usize,
     output: *mut u8,
     output_length: usize,
-) -> Answer;
+) -> A;
 
 extern "C" {
     pub fn sitgurp_multiplicity(
@@ -77,6 +94,32 @@ extern "C" {
         output: *mut u8,
         output_length: usize,
     ) -> Answer;
+    pub fn sitgurp_settle_shallow(
+        sheet: *const u8,
+        sheet_length: usize,
+        cells: *mut u8,
+        cells_length: usize,
+        marks: *mut u8,
+        marks_length: usize,
+        output: *mut u8,
+        output_length: usize,
+    ) -> Shallow;
+    pub fn sitgurp_make_shallow(
+        sheet: *const u8,
+        sheet_length: usize,
+        cells: *mut u8,
+        cells_length: usize,
+        marks: *mut u8,
+        marks_length: usize,
+        output: *mut u8,
+        output_length: usize,
+    ) -> Shallow;
+    pub fn sitgurp_shallower(
+        first: *const u8,
+        first_length: usize,
+        second: *const u8,
+        second_length: usize,
+    ) -> Which;
     pub fn sitgurp_check(
         net_sheet: *const u8,
         net_sheet_length: usize,

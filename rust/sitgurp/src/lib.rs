@@ -1,8 +1,9 @@
 //! Safe Rust over the proved Sitgurp library: tables of shades, and the trees of two-input gates that compute them.
 //!
 //! Every call is the library's; nothing here decides what the library decides. Buffers are lent as in document 01, and
-//! [`settled`], [`made`] and [`table_of`] lend buffers of the sizes that always suffice. [`multiplicities`] and [`fewest_levels`] put
-//! together what calls of the library answer about a table without a tree.
+//! [`settled`], [`made`] and [`table_of`] lend buffers of the sizes that always suffice. [`settled_shallow`] and [`made_shallow`] give the
+//! tree of fewest layers in place of the settled one. [`multiplicities`] and [`fewest_levels`] put together what calls of the library
+//! answer about a table without a tree.
 //!
 //! ```
 //! let sheet = b"levels inputs\n2 3\na b c\nleft right table\na b 0110\n1 c 0110\n";
@@ -29,10 +30,14 @@ mod counting;
 mod ffi;
 mod lister;
 mod refusal;
+mod shallow;
 
 pub use counting::{fewest_levels, multiplicities};
 pub use lister::Lister;
 pub use refusal::{Named, Refusal};
+pub use shallow::{
+    made_shallow, make_shallow, settle_shallow, settled_shallow, shallower, Layered,
+};
 
 /// The most cells that a table has, and so the cells buffer that always suffices.
 pub const MOST_CELLS: usize = 2_187;
@@ -104,13 +109,13 @@ pub fn make(
     answered(answer, Named::Table, sheet)
 }
 
-fn lent(
-    call: ffi::SheetCall,
+fn lent<A>(
+    call: ffi::SheetCall<A>,
     sheet: &[u8],
     cells: &mut [u8],
     marks: &mut [u8],
     output: &mut [u8],
-) -> ffi::Answer {
+) -> A {
     unsafe {
         call(
             sheet.as_ptr(),

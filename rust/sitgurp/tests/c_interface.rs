@@ -66,6 +66,8 @@ fn c_type(rust: &str) -> String {
         "*const u8" => "const uint8_t *",
         "*mut u8" => "uint8_t *",
         "Answer" => "sitgurp_answer",
+        "Shallow" => "sitgurp_shallow",
+        "Which" => "sitgurp_which",
         "Verdict" => "sitgurp_verdict",
         "Turn" => "sitgurp_turn",
         other => panic!("type {other}"),
@@ -116,11 +118,13 @@ fn in_c(text: &str) -> Vec<Declared> {
 fn in_rattle(text: &str) -> Vec<(String, Vec<String>, String)> {
     let declarations = text.split("pub extern \"C\" fn ").skip(1).map(|part| {
         let (name, rest) = part.split_once('(').expect("parameters");
+        // two slices with one lifetime are lent as any others
+        let name = name.trim_end_matches("<'a>");
         let (parameters, rest) = rest.split_once(')').expect("an end");
         let parameters = parameters.split(',').filter_map(|one| one.split_once(':'));
         let types = parameters.flat_map(|(_, of)| match of.trim() {
             "usize" => vec!["size_t"],
-            "&[u8]" => vec!["const uint8_t *", "size_t"],
+            "&[u8]" | "&'a [u8]" => vec!["const uint8_t *", "size_t"],
             "&mut [u8]" => vec!["uint8_t *", "size_t"],
             other => panic!("type {other}"),
         });
@@ -151,7 +155,7 @@ fn the_header_declares_what_rust_and_the_proved_crate_declare() {
         (name, types, result)
     });
     assert_eq!(rattle, c_types.collect::<Vec<_>>());
-    assert_eq!(rattle.len(), 7);
+    assert_eq!(rattle.len(), 10);
 }
 
 #[test]

@@ -1,7 +1,7 @@
 //! The examples of docs/REFUSALS.md: they are the list of crates/rules/specs/Refusals.antt, in its order; the library gives each its
 //! number, its place and its buffers; and the mark in the document stands at the place.
 
-use sitgurp::{Lister, Named, Refusal};
+use sitgurp::{Layered, Lister, Named, Refusal};
 use std::collections::BTreeSet;
 use std::path::Path;
 
@@ -208,6 +208,9 @@ fn refused<T: std::fmt::Debug>(answer: Result<T, Refusal>) -> (usize, usize, Nam
     (refusal.number, refusal.place, refusal.named)
 }
 
+/// A call on a sheet, the cells, the marks and the output.
+type SheetCall<T> = fn(&[u8], &mut [u8], &mut [u8], &mut [u8]) -> Result<T, Refusal>;
+
 /// The library gives what the example says, and leaves the buffers as it says.
 fn holds(example: &Example) {
     let texts: Vec<&[u8]> = example.texts.iter().map(|text| text.as_bytes()).collect();
@@ -219,6 +222,8 @@ fn holds(example: &Example) {
         "net" => {
             let settled = sitgurp::settle(texts[0], &mut cells, &mut marks, &mut output);
             assert_eq!(refused(settled), due(Named::Net));
+            let shallow = sitgurp::settle_shallow(texts[0], &mut cells, &mut marks, &mut output);
+            assert_eq!(refused(shallow), due(Named::Net));
             let checked = sitgurp::check(texts[0], b"", &mut cells);
             assert_eq!(refused(checked), due(Named::Net));
             let written = sitgurp::write_table(texts[0], &mut output);
@@ -228,6 +233,8 @@ fn holds(example: &Example) {
         "table" => {
             let made = sitgurp::make(texts[0], &mut cells, &mut marks, &mut output);
             assert_eq!(refused(made), due(Named::Table));
+            let shallow = sitgurp::make_shallow(texts[0], &mut cells, &mut marks, &mut output);
+            assert_eq!(refused(shallow), due(Named::Table));
             let checked = sitgurp::check(NET.as_bytes(), texts[0], &mut cells);
             assert_eq!(refused(checked), due(Named::Table));
         }
@@ -264,16 +271,23 @@ fn holds(example: &Example) {
             assert_eq!(refused(written), due(Named::Neither));
         }
         kind => {
-            let call = match kind {
-                "settle" => sitgurp::settle,
-                "make" => sitgurp::make,
+            // a shallow call refuses as the call that it stands beside
+            let (call, shallow): (SheetCall<usize>, SheetCall<Layered>) = match kind {
+                "settle" => (sitgurp::settle, sitgurp::settle_shallow),
+                "make" => (sitgurp::make, sitgurp::make_shallow),
                 other => panic!("an example of {other:?}"),
             };
-            (cells, marks, output) = (nines(numbers[0]), nines(numbers[1]), nines(numbers[2]));
-            let answer = call(texts[0], &mut cells, &mut marks, &mut output);
-            assert_eq!(refused(answer), due(Named::Neither));
-            assert_eq!(cells, bytes(&example.texts[1]));
-            assert_eq!(marks, bytes(&example.texts[2]));
+            for shallowly in [false, true] {
+                (cells, marks, output) = (nines(numbers[0]), nines(numbers[1]), nines(numbers[2]));
+                let answer = match shallowly {
+                    false => refused(call(texts[0], &mut cells, &mut marks, &mut output)),
+                    true => refused(shallow(texts[0], &mut cells, &mut marks, &mut output)),
+                };
+                assert_eq!(answer, due(Named::Neither));
+                assert_eq!(cells, bytes(&example.texts[1]));
+                assert_eq!(marks, bytes(&example.texts[2]));
+                assert_eq!(output, nines(numbers[2]));
+            }
             (cells, marks) = (nines(0), nines(0));
         }
     }

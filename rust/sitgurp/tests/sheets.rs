@@ -3,46 +3,31 @@
 
 mod common;
 
-use common::{due, full, got};
+use common::{around, due, full, got, same_call, sizes, Lengths, ENOUGH};
 use reference::damage::byte_damages;
 use reference::generate::{Generator, TableKind};
-use sitgurp::{MOST_CELLS, MOST_MARKS, MOST_NET_SHEET};
+use sitgurp::MOST_CELLS;
 
 const SEED: u64 = 65_536;
 
-/// The lengths of the three buffers that settling and making are lent.
-#[derive(Clone, Copy, Debug)]
-struct Lengths(usize, usize, usize);
-
-const ENOUGH: Lengths = Lengths(MOST_CELLS, MOST_MARKS, MOST_NET_SHEET);
-
-type Call<T> = fn(&[u8], &mut [u8], &mut [u8], &mut [u8]) -> T;
-
-/// Both implementations on the same sheet and buffers: the answers and all lent bytes are equal.
-fn same_call(
-    proved: Call<Result<usize, sitgurp::Refusal>>,
-    second: Call<Result<usize, reference::refusal::Refusal>>,
-    sheet: &[u8],
-    Lengths(cells, marks, output): Lengths,
-) -> Result<usize, common::Back> {
-    let mut ours = [full(cells), full(marks), full(output)];
-    let mut theirs = ours.clone();
-    let [cells, marks, output] = &mut ours;
-    let answer = got(proved(sheet, cells, marks, output));
-    let [cells, marks, output] = &mut theirs;
-    let expected = due(second(sheet, cells, marks, output));
-    let text = String::from_utf8_lossy(sheet);
-    assert_eq!(answer, expected, "sheet {text:?}");
-    assert!(ours == theirs, "buffers differ, sheet {text:?}");
-    answer
-}
-
 fn same_settle(sheet: &[u8], lengths: Lengths) -> Result<usize, common::Back> {
-    same_call(sitgurp::settle, reference::settle, sheet, lengths)
+    same_call(
+        sitgurp::settle,
+        reference::settle,
+        |length| length,
+        sheet,
+        lengths,
+    )
 }
 
 fn same_make(sheet: &[u8], lengths: Lengths) -> Result<usize, common::Back> {
-    same_call(sitgurp::make, reference::make, sheet, lengths)
+    same_call(
+        sitgurp::make,
+        reference::make,
+        |length| length,
+        sheet,
+        lengths,
+    )
 }
 
 fn same_check(net: &[u8], table: &[u8], length: usize) {
@@ -77,28 +62,6 @@ fn same_lines(sheet: &[u8]) {
         }
         (ours, theirs) => assert_eq!(ours.err(), theirs.err()),
     }
-}
-
-/// Lengths around a need, from nothing to past it.
-fn around(need: usize) -> Vec<usize> {
-    let mut lengths = vec![
-        0,
-        1,
-        need / 2,
-        need.saturating_sub(1),
-        need,
-        need + 1,
-        need + 37,
-    ];
-    lengths.dedup();
-    lengths
-}
-
-fn sizes() -> Vec<(usize, usize)> {
-    reference::allowed_sizes()
-        .into_iter()
-        .map(|(m, n)| (m as usize, n as usize))
-        .collect()
 }
 
 #[test]

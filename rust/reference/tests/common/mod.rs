@@ -4,7 +4,7 @@
 #![allow(dead_code)] // every test file uses its own part of this one
 
 use reference::limits::{MOST_CELLS, MOST_INPUTS, MOST_NET_SHEET_BYTES};
-use reference::{make, settle, write_table, Refusal, Sheet};
+use reference::{make, make_shallow, settle, settle_shallow, write_table, Refusal, Sheet};
 use std::collections::{HashMap, HashSet};
 
 /// Longer than any need of any allowed size: cells, marks, a net sheet, a table
@@ -87,6 +87,20 @@ pub fn made(sheet: &[u8]) -> Result<Vec<u8>, Refusal> {
     let (mut cells, mut marks, mut out) = ([7; CELLS], [7; MARKS], [7; NET_SHEET]);
     let length = make(sheet, &mut cells, &mut marks, &mut out)?;
     Ok(out[..length].to_vec())
+}
+
+/// The shallow net sheet of a net sheet, and its layers.
+pub fn settled_shallow(sheet: &[u8]) -> Result<(Vec<u8>, usize), Refusal> {
+    let (mut cells, mut marks, mut out) = ([7; CELLS], [7; MARKS], [7; NET_SHEET]);
+    let answer = settle_shallow(sheet, &mut cells, &mut marks, &mut out)?;
+    Ok((out[..answer.length].to_vec(), answer.layers))
+}
+
+/// The shallow net sheet of a table sheet, and its layers.
+pub fn made_shallow(sheet: &[u8]) -> Result<(Vec<u8>, usize), Refusal> {
+    let (mut cells, mut marks, mut out) = ([7; CELLS], [7; MARKS], [7; NET_SHEET]);
+    let answer = make_shallow(sheet, &mut cells, &mut marks, &mut out)?;
+    Ok((out[..answer.length].to_vec(), answer.layers))
 }
 
 pub fn table_written(sheet: &[u8]) -> Result<Vec<u8>, Refusal> {

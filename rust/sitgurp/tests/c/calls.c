@@ -36,6 +36,13 @@ static int failures = 0;
 /* ink 1 when at least two of a b c are 1 */
 #define MAJORITY                                                                                                             \
     "levels inputs\n2 3\na b c ink\n0 0 0 0\n0 0 1 0\n0 1 0 0\n0 1 1 1\n1 0 0 0\n1 0 1 1\n1 1 0 1\n1 1 1 1\n"
+/* 2 levels, a b c d, the sum modulo 2: in three layers, in two, and its table */
+#define HEADER4 "levels inputs\n2 4\na b c d\n"
+#define CHAIN HEADER4 "left right table\nd c 0110\n1 b 0110\n2 a 0110\n"
+#define SHALLOW HEADER4 "left right table\na b 0110\nc d 0110\n1 2 0110\n"
+#define TABLE4                                                                                                               \
+    "levels inputs\n2 4\na b c d ink\n0 0 0 0 0\n0 0 0 1 1\n0 0 1 0 1\n0 0 1 1 0\n0 1 0 0 1\n0 1 0 1 0\n0 1 1 0 0\n"          \
+    "0 1 1 1 1\n1 0 0 0 1\n1 0 0 1 0\n1 0 1 0 0\n1 0 1 1 1\n1 1 0 0 0\n1 1 0 1 1\n1 1 1 0 1\n1 1 1 1 0\n"
 /* the name b twice */
 #define BAD_NAMES "levels inputs\n2 3\na b b ink\n"
 /* input a twice */
@@ -46,8 +53,11 @@ static const uint8_t sum_marks[8] = {0, 2, 2, 2, 2, 2, 2, 2};
 static const uint8_t majority_cells[8] = {0, 0, 0, 1, 0, 1, 1, 1};
 static const uint8_t majority_marks[8] = {0, 2, 2, 0, 2, 0, 0, 1};
 
-static uint8_t cells[8 + SPARE];
-static uint8_t marks[8 + SPARE];
+static const uint8_t sum4_cells[16] = {0, 1, 1, 0, 1, 0, 0, 1, 1, 0, 0, 1, 0, 1, 1, 0};
+static const uint8_t sum4_marks[16] = {0, 2, 2, 2, 2, 2, 2, 2, 2, 2, 2, 2, 2, 2, 2, 2};
+
+static uint8_t cells[16 + SPARE];
+static uint8_t marks[16 + SPARE];
 static uint8_t output[sizeof(TABLE) + SPARE];
 
 static void fill(void) {
@@ -73,6 +83,12 @@ static int output_holds(const char *text) { return holds(output, sizeof output, 
 static int untouched(void) { return cells_hold(cells, 0) && marks_hold(marks, 0) && output_holds(""); }
 
 static int is(sitgurp_answer answer, size_t number, size_t value) { return answer.number == number && answer.value == value; }
+
+static int has(sitgurp_shallow answer, size_t number, size_t value, size_t layers) {
+    return answer.number == number && answer.value == value && answer.layers == layers;
+}
+
+static int is_part(sitgurp_which part, size_t which, size_t length) { return part.which == which && part.length == length; }
 
 static int says(sitgurp_verdict verdict, size_t kind, size_t named, size_t number, size_t value) {
     return verdict.kind == kind && verdict.named == named && verdict.number == number && verdict.value == value;
@@ -141,6 +157,50 @@ static void make(void) {
     fill();
     HOLDS(is(sitgurp_make(TEXT(TABLE), cells, sizeof cells, marks, sizeof marks, output, length), 0, length));
     HOLDS(cells_hold(sum_cells, 8) && marks_hold(sum_marks, 8) && output_holds(SETTLED));
+}
+
+static void settle_shallow(void) {
+    const size_t length = sizeof(SHALLOW) - 1;
+    fill();
+    HOLDS(has(sitgurp_settle_shallow(TEXT(BAD_NET), cells, 0, marks, 0, output, 0), 8, 43, 0));
+    HOLDS(has(sitgurp_settle_shallow(TEXT(""), cells, sizeof cells, marks, sizeof marks, output, sizeof output), 1, 0, 0));
+    HOLDS(has(sitgurp_settle_shallow(TEXT(CHAIN), cells, 15, marks, 15, output, 0), 13, 16, 0));
+    HOLDS(has(sitgurp_settle_shallow(TEXT(CHAIN), cells, 16, marks, 15, output, 0), 14, 16, 0));
+    HOLDS(untouched());
+    HOLDS(has(sitgurp_settle_shallow(TEXT(CHAIN), cells, 16, marks, 16, output, length - 1), 15, length, 0));
+    HOLDS(cells_hold(sum4_cells, 16) && marks_hold(sum4_marks, 16) && output_holds(""));
+    fill();
+    HOLDS(has(sitgurp_settle_shallow(TEXT(CHAIN), cells, sizeof cells, marks, sizeof marks, output, sizeof output), 0, length, 2));
+    HOLDS(cells_hold(sum4_cells, 16) && marks_hold(sum4_marks, 16) && output_holds(SHALLOW));
+}
+
+static void make_shallow(void) {
+    const size_t length = sizeof(SHALLOW) - 1;
+    fill();
+    HOLDS(has(sitgurp_make_shallow(TEXT(BAD_NAMES), cells, 0, marks, 0, output, 0), 4, 22, 0));
+    HOLDS(has(sitgurp_make_shallow(TEXT(MAJORITY), cells, 7, marks, 7, output, 0), 13, 8, 0));
+    HOLDS(has(sitgurp_make_shallow(TEXT(MAJORITY), cells, 8, marks, 7, output, 0), 14, 8, 0));
+    HOLDS(untouched());
+    HOLDS(has(sitgurp_make_shallow(TEXT(MAJORITY), cells, 8, marks, 8, output, 0), 16, 7, 0));
+    HOLDS(cells_hold(majority_cells, 8) && marks_hold(majority_marks, 8) && output_holds(""));
+    fill();
+    HOLDS(has(sitgurp_make_shallow(TEXT(TABLE4), cells, 16, marks, 16, output, length - 1), 15, length, 0));
+    HOLDS(cells_hold(sum4_cells, 16) && marks_hold(sum4_marks, 16) && output_holds(""));
+    fill();
+    HOLDS(has(sitgurp_make_shallow(TEXT(TABLE4), cells, sizeof cells, marks, sizeof marks, output, length), 0, length, 2));
+    HOLDS(cells_hold(sum4_cells, 16) && marks_hold(sum4_marks, 16) && output_holds(SHALLOW));
+}
+
+static void shallower(void) {
+    HOLDS(is_part(sitgurp_shallower(TEXT(SHALLOW), TEXT(CHAIN)), 1, sizeof(SHALLOW) - 1));
+    HOLDS(is_part(sitgurp_shallower(TEXT(CHAIN), TEXT(SHALLOW)), 2, sizeof(SHALLOW) - 1));
+    /* both have two layers */
+    HOLDS(is_part(sitgurp_shallower(TEXT(SHALLOW), TEXT(NET)), 1, sizeof(SHALLOW) - 1));
+    HOLDS(is_part(sitgurp_shallower(TEXT(NET), TEXT(SHALLOW)), 1, sizeof(NET) - 1));
+    HOLDS(is_part(sitgurp_shallower(TEXT(CHAIN), TEXT(BAD_NET)), 1, sizeof(CHAIN) - 1));
+    HOLDS(is_part(sitgurp_shallower(TEXT(BAD_NET), TEXT(CHAIN)), 2, sizeof(CHAIN) - 1));
+    HOLDS(is_part(sitgurp_shallower(TEXT(BAD_NET), TEXT(TABLE)), 0, 0));
+    HOLDS(is_part(sitgurp_shallower(TEXT(""), TEXT("")), 0, 0));
 }
 
 static void check(void) {
@@ -213,6 +273,9 @@ int main(void) {
     marking();
     settle();
     make();
+    settle_shallow();
+    make_shallow();
+    shallower();
     check();
     write_table();
     gate_line();

@@ -2,7 +2,8 @@
 #![allow(dead_code)]
 
 use reference::refusal::{Refusal as Expected, Sheet};
-use sitgurp::{Named, Refusal};
+use sitgurp::{Named, Refusal, MOST_CELLS, MOST_MARKS, MOST_NET_SHEET};
+use std::fmt::Debug;
 
 /// A refusal's number, place and the sheet it names.
 pub type Back = (usize, usize, Named);
@@ -25,4 +26,54 @@ pub fn got<T>(answer: Result<T, Refusal>) -> Result<T, Back> {
 /// A buffer that holds other bytes than any that a call writes in order.
 pub fn full(length: usize) -> Vec<u8> {
     (0..length).map(|k| (k % 251) as u8 ^ 0x5a).collect()
+}
+
+/// The lengths of the three buffers that settling and making are lent.
+#[derive(Clone, Copy, Debug)]
+pub struct Lengths(pub usize, pub usize, pub usize);
+
+pub const ENOUGH: Lengths = Lengths(MOST_CELLS, MOST_MARKS, MOST_NET_SHEET);
+
+type Call<T> = fn(&[u8], &mut [u8], &mut [u8], &mut [u8]) -> T;
+
+/// Both implementations on the same sheet and buffers: the answers, once in one shape, and all lent bytes are equal.
+pub fn same_call<T: Debug + PartialEq, S>(
+    proved: Call<Result<T, Refusal>>,
+    second: Call<Result<S, Expected>>,
+    in_shape: impl FnOnce(S) -> T,
+    sheet: &[u8],
+    Lengths(cells, marks, output): Lengths,
+) -> Result<T, Back> {
+    let mut ours = [full(cells), full(marks), full(output)];
+    let mut theirs = ours.clone();
+    let [cells, marks, output] = &mut ours;
+    let answer = got(proved(sheet, cells, marks, output));
+    let [cells, marks, output] = &mut theirs;
+    let expected = due(second(sheet, cells, marks, output)).map(in_shape);
+    let text = String::from_utf8_lossy(sheet);
+    assert_eq!(answer, expected, "sheet {text:?}");
+    assert!(ours == theirs, "buffers differ, sheet {text:?}");
+    answer
+}
+
+/// Lengths around a need, from nothing to past it.
+pub fn around(need: usize) -> Vec<usize> {
+    let mut lengths = vec![
+        0,
+        1,
+        need / 2,
+        need.saturating_sub(1),
+        need,
+        need + 1,
+        need + 37,
+    ];
+    lengths.dedup();
+    lengths
+}
+
+pub fn sizes() -> Vec<(usize, usize)> {
+    reference::allowed_sizes()
+        .into_iter()
+        .map(|(m, n)| (m as usize, n as usize))
+        .collect()
 }

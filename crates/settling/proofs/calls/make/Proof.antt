@@ -1,56 +1,22 @@
--- `settling::calls::make` meets its contract. Assumes nothing.
-use mathlib.Core.Path.{sym, _∙_}
-use native.Mathlib.Omega.{arith}
-use Rattle.laws.specs.Settling.{make-refused}
-use Rattle.accepted.specs.Taken.{held-size, table-taken, table-refused, inks-given}
-use Rattle.settling.specs.Calls.{table-settled}
+-- `settling::calls::make` meets its contract: the settled choice, without the count of layers. Assumes nothing.
+use mathlib.Core.Path.{_∙_}
+use Rattle.settling.specs.Calls.{made-plain, makes-plain}
 use borrow.Author.Needs.{needs}
 use Rattle.settling.proofs.calls.make.Statement.{statement}
 use Rattle.settling.proofs.calls.make.Tie as tie
 
--- the table's read and each call, from the next
-abbrev at-read : tie.After-enum-told → tie.After-read-table
-at-read c = c .before .before .before .before
+-- the start from the call's buffers, the call from its answer
+abbrev at-start : tie.After-make-by-arg → tie.Start
+at-start c = c .before .before .before .before .before
 
-abbrev at-power : tie.After-settle-into-arg4 → tie.After-power
-at-power c = c .before .before .before .before .before
+abbrev at-make : tie.After-slice-known6 → tie.After-make-by
+at-make c = c .before .before .before .before .before .before
 
-abbrev at-settled : tie.After-slice-known6 → tie.After-settle-into
-at-settled c = c .before .before .before .before .before .before
+make-by-requires : tie.Need-make-by-requires
+make-by-requires c κs = search needs
 
-slice-aggregate-read-table : tie.Need-slice-aggregate-read-table
-slice-aggregate-read-table c = search needs
-
-read-table-requires : tie.Need-read-table-requires
-read-table-requires c κs = omega arith
-
-enum-known-outcome : tie.Need-enum-known-outcome
-enum-known-outcome c = search needs
-
-enum-told : tie.Need-enum-told
-enum-told c = search needs
-
-power-requires : tie.Need-power-requires
-power-requires c κs =
-    let size = held-size _ _ (at-read c .read-table .ensures .held (c .enum-told .given .1) .header) in
-    (omega (arith, size .levels-most), omega (arith, size .inputs-most))
-
-sub-settle-into : tie.Need-sub-settle-into
-sub-settle-into c = search needs
-
-part-settle-into-start : tie.Need-part-settle-into-start
-part-settle-into-start c = search needs
-
-part-settle-into-end : tie.Need-part-settle-into-end
-part-settle-into-end c =
-    let read = at-read (c .before .before) .read-table in
-    omega (arith, c .before .power .ensures, held-size _ _ (read .ensures .held (c .before .before .enum-told .given .1) .header) .cells-most, read .kept)
-
-settle-into-requires : tie.Need-settle-into-requires
-settle-into-requires c κs = inks-given _ _ _ (table-taken _ _ _ (at-read (at-power c .before) .read-table .ensures) (at-power c .before .enum-told .given .1)) _ (at-power c .power .ensures)
-
-returns : tie.Need-returns
-returns c = sym (make-refused _ _ _ _ _ _ (table-refused _ _ _ (c .before .before .before .before .before .read-table .ensures) _ _ (c .before .outcome .given .1)))
+length-alone-requires : tie.Need-length-alone-requires
+length-alone-requires c κs = search needs
 
 same-length : tie.Need-same-length
 same-length c = search needs
@@ -61,27 +27,20 @@ same-length-2 c = search needs
 same-length-3 : tie.Need-same-length-3
 same-length-3 c = search needs
 
-returns-2 : tie.Need-returns-2
-returns-2 c =
-    let power = at-power (at-settled c .before) in
-    at-settled c .settle-into .ensures
-    ∙ table-settled _ _ _ (table-taken _ _ _ (at-read (power .before) .read-table .ensures) (power .before .enum-told .given .1)) _ (power .power .ensures) _ _ _
+returns : tie.Need-returns
+returns c =
+    let did = at-make (c .before) in
+    let a = at-start (did .before .before .before) .args in
+    made-plain (did .make-by .result) (c .length-alone .result) (c .length-alone .ensures) _ _ _ _ (did .make-by .ensures)
+    ∙ makes-plain (a .s .now) (a .cells .now) (a .marks .now) (a .out .now)
 
 pub make-spec : {M : Type 1} → statement M
 make-spec =
     tie.close
     (tie.spec
-    slice-aggregate-read-table
-    read-table-requires
-    enum-known-outcome
-    enum-told
-    power-requires
-    sub-settle-into
-    part-settle-into-start
-    part-settle-into-end
-    settle-into-requires
-    returns
+    make-by-requires
+    length-alone-requires
     same-length
     same-length-2
     same-length-3
-    returns-2)
+    returns)

@@ -1,35 +1,22 @@
--- `settling::calls::settle` meets its contract. Assumes nothing.
-use mathlib.Core.Path.{sym}
-use Rattle.laws.specs.Settling.{settle-refused}
-use Rattle.accepted.specs.Taken.{net-refused, net-taken}
+-- `settling::calls::settle` meets its contract: the settled choice, without the count of layers. Assumes nothing.
+use mathlib.Core.Path.{_∙_}
+use Rattle.settling.specs.Calls.{made-plain, settles-plain}
 use borrow.Author.Needs.{needs}
 use Rattle.settling.proofs.calls.settle.Statement.{statement}
 use Rattle.settling.proofs.calls.settle.Tie as tie
 
--- the sheet's read from the match on it, that match and the call of `settle_net`, each from the next
-abbrev at-read : tie.After-enum-told → tie.After-read-net
-at-read c = c .before .before .before .before
+-- the start from the call's buffers, the call from its answer
+abbrev at-start : tie.After-settle-by-arg → tie.Start
+at-start c = c .before .before .before .before .before
 
-abbrev at-told : tie.After-settle-net-arg3 → tie.After-enum-told
-at-told c = c .before .before .before
+abbrev at-settle : tie.After-slice-known6 → tie.After-settle-by
+at-settle c = c .before .before .before .before .before .before
 
-abbrev at-settled : tie.After-slice-known6 → tie.After-settle-net
-at-settled c = c .before .before .before .before .before .before
+settle-by-requires : tie.Need-settle-by-requires
+settle-by-requires c κs = search needs
 
-read-net-requires : tie.Need-read-net-requires
-read-net-requires c κs = search needs
-
-enum-known-outcome : tie.Need-enum-known-outcome
-enum-known-outcome c = search needs
-
-enum-told : tie.Need-enum-told
-enum-told c = search needs
-
-settle-net-requires : tie.Need-settle-net-requires
-settle-net-requires c κs = net-taken _ _ (at-read (at-told c) .read-net .ensures) (at-told c .enum-told .given .1)
-
-returns : tie.Need-returns
-returns c = sym (settle-refused _ _ _ _ _ _ (net-refused _ _ (c .before .before .before .before .before .read-net .ensures) _ _ (c .before .outcome .given .1)))
+length-alone-requires : tie.Need-length-alone-requires
+length-alone-requires c κs = search needs
 
 same-length : tie.Need-same-length
 same-length c = search needs
@@ -40,19 +27,20 @@ same-length-2 c = search needs
 same-length-3 : tie.Need-same-length-3
 same-length-3 c = search needs
 
-returns-2 : tie.Need-returns-2
-returns-2 c = at-settled c .settle-net .ensures
+returns : tie.Need-returns
+returns c =
+    let did = at-settle (c .before) in
+    let a = at-start (did .before .before .before) .args in
+    made-plain (did .settle-by .result) (c .length-alone .result) (c .length-alone .ensures) _ _ _ _ (did .settle-by .ensures)
+    ∙ settles-plain (a .s .now) (a .cells .now) (a .marks .now) (a .out .now)
 
 pub settle-spec : {M : Type 1} → statement M
 settle-spec =
     tie.close
     (tie.spec
-    read-net-requires
-    enum-known-outcome
-    enum-told
-    settle-net-requires
-    returns
+    settle-by-requires
+    length-alone-requires
     same-length
     same-length-2
     same-length-3
-    returns-2)
+    returns)

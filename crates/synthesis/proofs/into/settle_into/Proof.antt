@@ -18,7 +18,7 @@ abbrev at-settled : tie.After-slice-known6 → tie.After-settle-marked
 at-settled c = c .before .before .before .before .before .before
 
 returns : tie.Need-returns
-returns c = given-13 _ _ _ (at-start (c .before) .pre) _ _ _ (c .if1 .taken)
+returns c = let start = at-start (c .before) in given-13 _ _ _ (start .pre) (start .args .choice) _ _ _ (c .if1 .taken)
 
 marks-length-requires : tie.Need-marks-length-requires
 marks-length-requires c κs =
@@ -27,7 +27,9 @@ marks-length-requires c κs =
     omega (arith, sized (h .levels) (h .inputs) (given-size _ _ _ (start .pre)) .inputs-most)
 
 returns-2 : tie.Need-returns-2
-returns-2 c = given-14 _ _ _ (at-start (c .before .before .before) .pre) _ _ _ (c .before .before .if1 .left) _ (c .before .marks-length .ensures) (c .if2 .taken)
+returns-2 c =
+    let start = at-start (c .before .before .before) in
+    given-14 _ _ _ (start .pre) (start .args .choice) _ _ _ (c .before .before .if1 .left) _ (c .before .marks-length .ensures) (c .if2 .taken)
 
 settle-marked-requires : tie.Need-settle-marked-requires
 settle-marked-requires c κs =
@@ -45,8 +47,10 @@ same-length-3 c = search needs
 returns-3 : tie.Need-returns-3
 returns-3 c =
     let fits = at-fits (at-settled c .before) in
+    let start = at-start (fits .before .before .before) in
+    let a = start .args in
     at-settled c .settle-marked .ensures
-    ∙ given-marked _ _ _ (at-start (fits .before .before .before) .pre) _ _ _ (fits .before .before .if1 .left) _ (fits .before .marks-length .ensures) (fits .if2 .left)
+    ∙ given-marked _ _ _ (start .pre) (a .choice) (a .cells .now) (a .marks .now) (a .out .now) (fits .before .before .if1 .left) _ (fits .before .marks-length .ensures) (fits .if2 .left)
 
 pub settle-into-spec : {M : Type 1} → statement M
 settle-into-spec =

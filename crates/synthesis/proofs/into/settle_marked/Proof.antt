@@ -4,7 +4,7 @@ use native.Mathlib.Nat.{le-of-eq}
 use native.Mathlib.Omega.{arith}
 use Rattle.laws.specs.Sizes.{sized}
 use Rattle.lines.specs.Put.{put-wrote}
-use Rattle.synthesis.specs.Outcomes.{given-size, given-count, given-below, settled-inside, settled-short, given-two, marks-held, given-16, given-tree}
+use Rattle.synthesis.specs.Outcomes.{given-size, given-count, given-below, made-inside, made-short, made-sound, given-two, marks-held, given-16, given-tree}
 use borrow.Author.Needs.{needs}
 use Rattle.synthesis.proofs.into.settle_marked.Statement.{statement}
 use Rattle.synthesis.proofs.into.settle_marked.Tie as tie
@@ -19,11 +19,17 @@ at-copy c = c .before .before .before
 abbrev at-marks : tie.After-slice-known5 → tie.After-mark-all
 at-marks c = c .before .before
 
-abbrev at-tree : tie.After-write-sheet-arg → tie.Else1
-at-tree c = c .before .before .before
+abbrev at-tree : tie.After-made-net → tie.Else1
+at-tree c = c .before .before
+
+abbrev at-sheet : tie.After-slice-known6 → tie.After-write-sheet
+at-sheet c = c .before .before
 
 abbrev marks-start : tie.After-mark-all → tie.Start
 marks-start c = at-start (at-copy (c .before) .before)
+
+abbrev net-start : tie.After-made-net → tie.Start
+net-start c = marks-start (at-marks (at-tree c .before))
 
 copy-requires : tie.Need-copy-requires
 copy-requires c κs = search needs
@@ -52,11 +58,11 @@ returns c =
     let marks = at-marks (c .before .before .before) in
     let start = marks-start marks in
     let did = marks .mark-all in
-    given-16 _ _ _ (start .pre .0) _ _ _ (did .ensures) (omega (arith, start .pre .2, did .kept .1 .1 .1 .0)) _ _ (start .args .out .now) (put-wrote (start .pre .1) (at-copy (marks .before) .copy .ensures) .text) (c .before .before .if1 .taken)
+    given-16 _ _ _ (start .pre .0) _ _ _ (did .ensures) (omega (arith, start .pre .2, did .kept .1 .1 .1 .0)) (start .args .choice) _ _ (start .args .out .now) (put-wrote (start .pre .1) (at-copy (marks .before) .copy .ensures) .text) (c .before .before .if1 .taken)
     _ (c .no-tree-place .ensures)
 
-settled-net-requires : tie.Need-settled-net-requires
-settled-net-requires c κs =
+made-net-requires : tie.Need-made-net-requires
+made-net-requires c κs =
     let start = marks-start (at-marks (c .before .before)) in
     let did = at-marks (c .before .before) .mark-all in
     let g = start .pre .0 in (
@@ -67,11 +73,18 @@ settled-net-requires c κs =
       given-two _ _ _ g _ _ _ (did .ensures) (c .before .if1 .left),
     )
 
+layers-requires : tie.Need-layers-requires
+layers-requires c κs = made-sound _ _ _ (net-start c .pre .0) (net-start c .args .choice) _ (c .made-net .ensures)
+
 write-sheet-requires : tie.Need-write-sheet-requires
 write-sheet-requires c κs =
-    let g = marks-start (at-marks (at-tree c .before)) .pre .0 in
-    let settled = c .before .settled-net in
-    (g .names, settled-inside _ _ _ g _ (settled .ensures), settled-short _ _ _ g _ (settled .ensures))
+    let made = c .before .before in
+    let g = net-start made .pre .0 in
+    let choice = net-start made .args .choice in
+    (g .names, made-inside _ _ _ g choice _ (made .made-net .ensures), made-short _ _ _ g choice _ (made .made-net .ensures))
+
+with-layers-requires : tie.Need-with-layers-requires
+with-layers-requires c κs = search needs
 
 same-length-3 : tie.Need-same-length-3
 same-length-3 c = search needs
@@ -84,12 +97,15 @@ same-length-5 c = search needs
 
 returns-2 : tie.Need-returns-2
 returns-2 c =
-    let tree = at-tree (c .before .before .before) in
+    let wrote = at-sheet (c .before) in
+    let counts = wrote .before .before in
+    let made = counts .before in
+    let tree = at-tree made in
     let marks = at-marks (tree .before) in
     let start = marks-start marks in
     let did = marks .mark-all in
-    given-tree _ _ _ (start .pre .0) _ _ _ (did .ensures) _ _ _ (put-wrote (start .pre .1) (at-copy (marks .before) .copy .ensures) .text) (tree .if1 .left) _ (c .before .before .before .before .settled-net .ensures)
-    (c .before .before .write-sheet .result) _ (c .before .before .write-sheet .ensures)
+    given-tree _ _ _ (start .pre .0) _ _ _ (did .ensures) (start .args .choice) _ _ _ (put-wrote (start .pre .1) (at-copy (marks .before) .copy .ensures) .text) (tree .if1 .left) _ (made .made-net .ensures)
+    (wrote .write-sheet .result) _ (wrote .write-sheet .ensures) (counts .layers .result) (counts .layers .ensures) (c .with-layers .result) (c .with-layers .ensures)
 
 pub settle-marked-spec : {M : Type 1} → statement M
 settle-marked-spec =
@@ -101,8 +117,10 @@ settle-marked-spec =
     same-length
     same-length-2
     returns
-    settled-net-requires
+    made-net-requires
+    layers-requires
     write-sheet-requires
+    with-layers-requires
     same-length-3
     same-length-4
     same-length-5

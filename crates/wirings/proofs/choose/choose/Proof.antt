@@ -5,13 +5,14 @@ use borrow.Author.Needs.{needs}
 use Rattle.trees.specs.Members.{size-le}
 use Rattle.marks.specs.Stored.{held}
 use Rattle.wirings.specs.Links.{noLinks}
+use Rattle.wirings.specs.Choice.{splitBy}
 use Rattle.wirings.specs.Chosen.{chosen}
 use Rattle.wirings.proofs.choose.choose.Statement.{statement}
 use Rattle.wirings.proofs.choose.choose.Tie as tie
 
 -- the function's entry, from the wiring with no gate
 abbrev start : tie.After-no-links → tie.Start
-start c = c .before .before
+start c = c .before .before .before
 
 -- that wiring, from the whole
 abbrev none : tie.After-wire-group → tie.After-no-links
@@ -27,13 +28,13 @@ no-links-requires c κs = search needs
 wire-group-requires : tie.Need-wire-group-requires
 wire-group-requires c κs =
     let s = start c in
-    (s .pre, omega (arith, empty c, size-le (s .args .n) (s .args .leaves)))
+    (s .pre .0, s .pre .1, omega (arith, empty c, size-le (s .args .n) (s .args .leaves)))
 
 returns : tie.Need-returns
 returns c =
     let built = c .before in
     let s = start (none built) in
-    chosen (s .args .n) (held (s .args .marks .now)) (s .args .leaves) (none built .no-links .result) (built .wire-group .result .wiring)
+    chosen (s .args .n) (splitBy (s .args .choice) (s .args .n) (held (s .args .marks .now)) (s .args .fewest .now)) (s .args .leaves) (none built .no-links .result) (built .wire-group .result .wiring)
     (built .wire-group .result .reference) (empty (none built)) (built .wire-group .ensures)
 
 pub choose-spec : {M : Type 1} → statement M

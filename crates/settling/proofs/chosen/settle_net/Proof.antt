@@ -1,11 +1,12 @@
--- `settling::calls::settle_net` meets its contract. Assumes nothing.
+-- `settling::chosen::settle_net` meets its contract. Assumes nothing.
 use mathlib.Core.Path.{_∙_}
 use native.Mathlib.Omega.{arith}
 use Rattle.accepted.specs.Taken.{sound, own-most}
+use Rattle.synthesis.specs.Outcomes.{netBy}
 use Rattle.settling.specs.Calls.{net-given, net-settled}
 use borrow.Author.Needs.{needs}
-use Rattle.settling.proofs.calls.settle_net.Statement.{statement}
-use Rattle.settling.proofs.calls.settle_net.Tie as tie
+use Rattle.settling.proofs.chosen.settle_net.Statement.{statement}
+use Rattle.settling.proofs.chosen.settle_net.Tie as tie
 
 -- the start and each call, from the next
 abbrev at-start : tie.After-inks → tie.Start
@@ -48,7 +49,12 @@ same-length-3 : tie.Need-same-length-3
 same-length-3 c = search needs
 
 returns : tie.Need-returns
-returns c = at-settled c .settle-into .ensures ∙ net-settled _ _ _ (at-start (at-table (at-settled c .before) .before) .pre) _ _ _ (at-table (at-settled c .before) .table .ensures) _ _ _
+returns c =
+    let table = at-table (at-settled c .before) in
+    let start = at-start (table .before) in
+    let a = start .args in
+    at-settled c .settle-into .ensures
+    ∙ net-settled _ _ _ (start .pre) _ _ _ (table .table .ensures) (netBy (a .choice)) (a .cells .now) (a .marks .now) (a .out .now)
 
 pub settle-net-spec : {M : Type 1} → statement M
 settle-net-spec =

@@ -1,0 +1,31 @@
+-- What settling or making of the shallow net answers as three numbers, and its three buffers.
+-- Assumes nothing.
+use Prim.Native.Nat.{ℕ}
+use mathlib.Core.Path.{_≡_, ap, _∙_}
+use mathlib.Core.List.{List}
+use Rattle.rules.specs.Answers.{Answer, accepted, refused}
+use Rattle.rules.specs.ShallowSettling.{Layered, LayeredMade}
+use Rattle.capi.specs.declared.layered.SitgurpShallow.{SitgurpShallow}
+
+-- 0, the length and the layers; or the refusal's number and place
+abbrev pub flatLayered : Answer Layered → SitgurpShallow
+flatLayered (accepted a) = record { number = 0; value = a .length; layers = a .layers }
+flatLayered (refused number place) = record { number = number; value = place; layers = 0 }
+
+-- what the call answers, and its three buffers
+pub record FlatLayered (made : LayeredMade) (r : SitgurpShallow) (cells marks output : List ℕ) : Type 0 where
+  pub answer : r ≡ flatLayered (made .answer)
+  pub cells-then : cells ≡ made .cells
+  pub marks-then : marks ≡ made .marks
+  pub output-then : output ≡ made .output
+
+pub flat-layered : {made : LayeredMade} {answer : Answer Layered} {r : SitgurpShallow} {cells marks output : List ℕ}
+    → record { answer = answer; cells = cells; marks = marks; output = output } ≡ made
+    → r ≡ flatLayered answer → FlatLayered made r cells marks output
+flat-layered did e =
+    record {
+      answer = e ∙ ap (λ (m : LayeredMade). flatLayered (m .answer)) did;
+      cells-then = ap (λ (m : LayeredMade). m .cells) did;
+      marks-then = ap (λ (m : LayeredMade). m .marks) did;
+      output-then = ap (λ (m : LayeredMade). m .output) did;
+    }

@@ -1,0 +1,12 @@
+-- The shallower of two sheets as two numbers: which, and the length of what is handed back.
+-- Assumes nothing.
+use Prim.Native.Nat.{ℕ}
+use mathlib.Core.List.{List}
+use lib.ListN.{length}
+use Rattle.rules.specs.Shallower.{Which, firstSheet, secondSheet, noSheet}
+use Rattle.capi.specs.declared.shallower_sheet.SitgurpWhich.{SitgurpWhich}
+
+abbrev pub flatWhich : Which → List ℕ → List ℕ → SitgurpWhich
+flatWhich firstSheet first second = record { which = 1; length = length first }
+flatWhich secondSheet first second = record { which = 2; length = length second }
+flatWhich noSheet first second = record { which = 0; length = 0 }

@@ -1,0 +1,19 @@
+// Settling of the shallow net for C.
+ghost use Rattle.rules.specs.ShallowSettling.{settleShallowCall};
+ghost use Rattle.capi.specs.Layered.{FlatLayered};
+use crate::layered::SitgurpShallow;
+use crate::layered::flat_layered;
+
+// Settles a net sheet to its shallow net sheet, with the buffers of sitgurp_settle.
+#[no_mangle]
+pub extern "C" fn sitgurp_settle_shallow(
+    sheet: &[u8],
+    cells: &mut [u8],
+    marks: &mut [u8],
+    out: &mut [u8],
+) -> SitgurpShallow
+    ensures { λ r. ⌜ FlatLayered (settleShallowCall (now (sheet .entry)) (now (cells .entry)) (now (marks .entry)) (now (out .entry)))
+        r (now (cells .exit)) (now (marks .exit)) (now (out .exit)) ⌝ }
+{
+    flat_layered(settling::shallow::settle_shallow(sheet, cells, marks, out))
+}

@@ -1,0 +1,196 @@
+-- The net that a choice of parts makes of a table, by value: its gates are the definitions', and they keep the rules of a net sheet.
+-- Assumes nothing.
+use Prim.Native.Nat.{ℕ, _+_, _-_, _^_, _≤_, _<_}
+use mathlib.Core.Path.{_≡_, refl, sym, ap, _∙_, subst⁻¹}
+use mathlib.Core.Logic.{_≢_}
+use mathlib.Core.Bool.{true}
+use mathlib.Core.List.{List}
+use native.Mathlib.Omega.{arith}
+use lib.ListN.{length}
+use Rattle.rules.specs.Limits.{mostInputs, sizeFits}
+use Rattle.rules.specs.Sheets.{Gate}
+use Rattle.rules.specs.Groups.{size, wholeGroup}
+use Rattle.rules.specs.Marks.{markIn, marksOf, marksLength, storedMarks}
+use Rattle.rules.specs.Wirings as rules
+use Rattle.rules.specs.Wirings.{wiringBy, linksOf}
+use Rattle.rules.specs.Filling.{inputGroups, filled}
+use Rattle.rules.specs.Settled.{splitOf, settledWiring, settledGates}
+use Rattle.rules.specs.Shallow.{shallowWiring, shallowGates}
+use Rattle.rules.specs.Answers.{written}
+use Rattle.rules.specs.Kept.{IsNet}
+use Rattle.nets.specs.declared.forms.Net.{Net}
+use Rattle.nets.specs.Forms.{gatesOf}
+use Rattle.laws.specs.Sizes.{sized}
+use Rattle.marks.specs.Stored.{held, held-room, held-written}
+use Rattle.marks.specs.Splits.{split-agree}
+use Rattle.marks.specs.Fewest.{Known, shallow-agree}
+use Rattle.trees.specs.Trees.{WiringOf, EachGate}
+use Rattle.trees.specs.Classes.{Few}
+use Rattle.trees.specs.Members.{member-inside, whole-below, size-whole, size-le}
+use Rattle.trees.specs.MarkRule.{marked, marks-length}
+use Rattle.trees.specs.MarkTwo.{Split, Splits, settled-splits, wiring-of, wiring-agree, each-gate, two-says}
+use Rattle.trees.specs.Fillings.{Fillable, wiring-fillable}
+use Rattle.trees.specs.Existence.{filled-computes}
+use Rattle.trees.specs.Shallow.{shallowPart, shallow-splits}
+use Rattle.wirings.specs.declared.choice.Choice.{Choice}
+use Rattle.wirings.specs.declared.choice.Choice.the-variants.{Settled, Shallow}
+use Rattle.wirings.specs.declared.forms.Wiring.{Wiring}
+use Rattle.wirings.specs.Links.{linksIn}
+use Rattle.wirings.specs.Choice.{splitBy, LayersRoom}
+use Rattle.wirings.specs.Chosen.{Choosable, Chosen}
+use Rattle.filling.specs.Filled.{Filled}
+
+-- the gates of the net that a choice makes of a table
+abbrev pub gatesBy : Choice → ℕ → ℕ → (ℕ → ℕ) → List Gate
+gatesBy Settled m n f = settledGates m n f (marksOf m n f)
+gatesBy Shallow m n f = shallowGates m n f (marksOf m n f)
+
+pub record MadeNet (choice : Choice) (m n : ℕ) (f : ℕ → ℕ) (net : Net) : Type 0 where
+  pub levels : net .levels ≡ m
+  pub inputs : net .inputs ≡ n
+  pub count : net .gates + 1 ≡ n
+  pub gates : gatesOf net ≡ gatesBy choice m n f
+  -- references back, none twice, m·m digits below m
+  pub kept : IsNet m n (gatesOf net)
+
+-- ---- the marks in a buffer, and the fewest layers
+
+-- a buffer that holds every group's mark
+pub record MarksIn (m n : ℕ) (f : ℕ → ℕ) (buffer : List ℕ) : Type 0 where
+  pub room : marksLength n ≤ length buffer
+  pub same : (g : ℕ) → g < 2 ^ n → markIn (held buffer) g ≡ markIn (marksOf m n f) g
+
+-- as after marking
+pub marks-in : (m n : ℕ) → 0 < m → (f : ℕ → ℕ) (before after : List ℕ) → after ≡ written before (storedMarks (marksOf m n f))
+    → marksLength n ≤ length after → MarksIn m n f after
+marks-in m n pos f before after e room =
+    record {
+      room = room;
+      same = λ g g<.
+          ap (λ (l : List ℕ). markIn (held l) g) e ∙ held-written before (marksOf m n f) g (omega (arith, marks-length m n pos f));
+    }
+
+-- what the shallow choice needs besides: the fewest layers of every group of mark 2
+abbrev pub LayersKnown : Choice → ℕ → List ℕ → List ℕ → Type 0
+LayersKnown Settled n marks fewest = Unit {0}
+LayersKnown Shallow n marks fewest = (2 ^ n ≤ length fewest) × Known n marks (2 ^ n) fewest
+
+pub layers-room : (choice : Choice) (n : ℕ) (marks fewest : List ℕ) → LayersKnown choice n marks fewest → LayersRoom choice (wholeGroup n) fewest
+layers-room Settled n marks fewest known = tt
+layers-room Shallow n marks fewest known = omega (arith, whole-below n, known .0)
+
+-- ---- a choice on the marks themselves
+
+-- A's number in each group
+abbrev ownSplit : Choice → ℕ → List ℕ → ℕ → ℕ
+ownSplit Settled n marks = splitOf n marks
+ownSplit Shallow n marks = shallowPart n marks
+
+-- the wiring of all inputs
+abbrev ownWiring : Choice → ℕ → List ℕ → rules.Wiring
+ownWiring choice n marks = wiringBy n (ownSplit choice n marks) n (wholeGroup n)
+
+own-gates : (choice : Choice) (m n : ℕ) (f : ℕ → ℕ) → filled m n f (linksOf n 0 (ownWiring choice n (marksOf m n f))) ≡ gatesBy choice m n f
+unfolding settledGates settledWiring shallowGates shallowWiring
+own-gates Settled m n f = refl
+own-gates Shallow m n f = refl
+
+module _ (choice : Choice) (m n : ℕ) (pos : 0 < m) (f : ℕ → ℕ) where
+  -- it parts a group of mark 2 into two of mark 2
+  own-splits : (leaves : ℕ) → Splits n (marked m n pos f) leaves (ownSplit choice n (marksOf m n f))
+  own-splits = elim choice as (λ c. (leaves : ℕ) → Splits n (marked m n pos f) leaves (ownSplit c n (marksOf m n f))) [
+    | Settled ↦ settled-splits m n pos f
+    | Shallow ↦ shallow-splits m n pos f
+  ]
+
+  -- so the wiring of all inputs has few classes at each gate
+  own-wiring-of : marked m n pos f (wholeGroup n) ≡ 2
+      → WiringOf n (wholeGroup n) (ownWiring choice n (marksOf m n f)) × EachGate (Few m n f) (ownWiring choice n (marksOf m n f))
+  own-wiring-of two =
+      let w = wiring-of n (marked m n pos f) (wholeGroup n) (ownSplit choice n (marksOf m n f)) (own-splits (wholeGroup n)) n (wholeGroup n) (whole-below n)
+      (member-inside n (wholeGroup n) (wholeGroup n) (λ i i< is. is)) (size-le n (wholeGroup n)) two in
+      (w .0, each-gate n (ownWiring choice n (marksOf m n f)) (λ g g< two-g. two-says m n pos f g g< two-g .few) (w .0 .0) (w .1))
+
+-- ---- the same choice on the marks in a buffer
+
+module _ (choice : Choice) (m n : ℕ) (pos : 0 < m) (f : ℕ → ℕ) (buffer fewest : List ℕ) (holds : MarksIn m n f buffer)
+    (known : LayersKnown choice n (held buffer) fewest) where
+  abbrev own : ℕ → ℕ
+  own = ownSplit choice n (marksOf m n f)
+
+  abbrev found : ℕ → ℕ
+  found = splitBy choice n (held buffer) fewest
+
+  -- the part that is found in it is the one on the marks themselves
+  found-own : (g : ℕ) → g < 2 ^ n → markIn (held buffer) g ≡ 2 → found g ≡ own g
+  found-own = elim choice as (λ c. LayersKnown c n (held buffer) fewest
+      → (g : ℕ) → g < 2 ^ n → markIn (held buffer) g ≡ 2 → splitBy c n (held buffer) fewest g ≡ ownSplit c n (marksOf m n f) g) [
+        | Settled ↦ λ _ g g< two. split-agree n (held buffer) (marksOf m n f) g (λ a a<. holds .same a (omega arith))
+        | Shallow ↦ λ layers g g< two. shallow-agree n (held buffer) (marksOf m n f) (holds .same) fewest (layers .1) g g< two
+      ] known
+
+  -- it parts a group of mark 2 into two of mark 2
+  split-held : (g : ℕ) → g < 2 ^ n → markIn (held buffer) g ≡ 2 → size n g ≢ 1 → Split n (markIn (held buffer)) g (found g)
+  split-held g g< two several =
+      let half = own-splits choice m n pos f g g g< (member-inside n g g (λ i i< is. is)) (sym (holds .same g g<) ∙ two) several in
+      subst⁻¹ (Split n (markIn (held buffer)) g) (found-own g g< two)
+      (record {
+        part = half .part;
+        some = half .some;
+        less = half .less;
+        two-a = holds .same _ (omega (arith, half .less)) ∙ half .two-a;
+        two-b = holds .same _ (omega arith) ∙ half .two-b;
+      })
+
+  -- so a group of mark 2 can be wired from it, ..
+  pub choosable : (inputs : n ≤ mostInputs) (leaves : ℕ) → leaves < 2 ^ n → marked m n pos f leaves ≡ 2 → Choosable n (held buffer) found leaves
+  choosable inputs leaves leaves< two =
+      record {
+        inputs = inputs;
+        room = held-room buffer n (holds .room);
+        below = leaves<;
+        two = holds .same leaves leaves< ∙ two;
+        splits = λ g g< g-in two-g several. split-held g g< two-g several;
+      }
+
+  -- .. and the wiring of all inputs is the one from the marks themselves
+  wiring-held : marked m n pos f (wholeGroup n) ≡ 2 → wiringBy n found n (wholeGroup n) ≡ ownWiring choice n (marksOf m n f)
+  wiring-held two =
+      sym (wiring-agree n (marked m n pos f) (wholeGroup n) own (own-splits choice m n pos f (wholeGroup n)) found
+      (λ g g< two-g. sym (found-own g g< (holds .same g g< ∙ two-g))) n (wholeGroup n) (whole-below n)
+      (member-inside n (wholeGroup n) (wholeGroup n) (λ i i< is. is)) two)
+
+-- ---- the net
+
+-- the wiring that is chosen for a table that has a tree
+module _ (choice : Choice) (m n : ℕ) (f : ℕ → ℕ) (fit : sizeFits m n ≡ true) (two : markIn (marksOf m n f) (wholeGroup n) ≡ 2) (buffer fewest : List ℕ)
+    (holds : MarksIn m n f buffer) (known : LayersKnown choice n (held buffer) fewest) (w : Wiring)
+    (chosen : Chosen n (splitBy choice n (held buffer) fewest) (wholeGroup n) w) where
+  pos : 0 < m
+  pos = omega (arith, sized m n fit .levels-least)
+
+  links-are : linksIn w ≡ linksOf n 0 (ownWiring choice n (marksOf m n f))
+  links-are = chosen .links ∙ ap (linksOf n 0) (wiring-held choice m n pos f buffer fewest holds known two)
+
+  pub chosen-count : w .gates + 1 ≡ n
+  chosen-count = chosen .count ∙ size-whole n
+
+  -- can be filled, ..
+  pub chosen-fillable : Fillable m n f (inputGroups n) (linksIn w)
+  chosen-fillable =
+      let of = own-wiring-of choice m n pos f two in
+      subst⁻¹ (Fillable m n f (inputGroups n)) links-are (wiring-fillable m n pos f _ (of .0 .0) (of .1))
+
+  -- .. and filled it is the net that the choice makes
+  pub chosen-made : ((p : ℕ) → p < m ^ n → f p < m) → (net : Net) → Filled m n f w net → MadeNet choice m n f net
+  chosen-made inks net done =
+      let of = own-wiring-of choice m n pos f two in
+      let links : gatesOf net ≡ filled m n f (linksOf n 0 (ownWiring choice n (marksOf m n f))) = done .gates ∙ ap (filled m n f) links-are in
+      record {
+        levels = done .levels;
+        inputs = done .inputs;
+        count = ap (λ (k : ℕ). k + 1) (done .count) ∙ chosen-count;
+        gates = links ∙ own-gates choice m n f;
+        kept = subst⁻¹ (IsNet m n) links
+            (filled-computes m n pos (omega (arith, sized m n fit .inputs-least)) f (ownWiring choice n (marksOf m n f)) (of .0) (of .1) inks .0);
+      }

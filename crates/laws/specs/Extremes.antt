@@ -1,0 +1,62 @@
+-- The largest of some numbers (`most`) and the smallest (`least`): it bounds them all, and is one of them.
+-- Assumes nothing.
+use Prim.Native.Nat.{ℕ, suc, _≤_, _<_, max}
+use mathlib.Core.Path.{_≡_, refl}
+use mathlib.Core.Logic.{⊎-elim}
+use mathlib.Core.List.{List, [], _∷_, _++_, map, List·Memᴰ, List·Memᴰ·head, List·Memᴰ·tail, List·Memᴰ·cases-cons, List·Memᴰ·not-nil, Memᴰ·cast}
+use native.Mathlib.Nat.{max-zero}
+use native.Mathlib.Omega.{arith, min-cases, max-cases}
+use lib.ListN.{length}
+use Rattle.rules.specs.Layers.{most}
+use Rattle.rules.specs.Shallow.{least}
+
+-- ---- the largest
+
+-- none is larger, ..
+pub most-bounds : (x : ℕ) (xs : List ℕ) → List·Memᴰ x xs → x ≤ most xs
+unfolding most
+most-bounds x [] is = absurd (List·Memᴰ·not-nil is)
+most-bounds x (y ∷ xs) is = ⊎-elim (λ e. omega arith) (λ later. omega (arith, most-bounds x xs later)) (List·Memᴰ·cases-cons is)
+
+-- .. and it is one of them
+pub most-listed : (xs : List ℕ) → 0 < length xs → List·Memᴰ (most xs) xs
+unfolding most
+most-listed [] some = absurd (omega arith)
+most-listed (x ∷ []) some = List·Memᴰ·head (max-zero x)
+most-listed (x ∷ y ∷ xs) some =
+    max-cases x (most (y ∷ xs)) _
+    (λ _ later. List·Memᴰ·tail (Memᴰ·cast later (most-listed (y ∷ xs) (omega arith))))
+    (λ _ first. List·Memᴰ·head first)
+
+-- of two lists
+pub most-append : (xs ys : List ℕ) → most (xs ++ ys) ≡ max (most xs) (most ys)
+unfolding most
+most-append [] ys = omega arith
+most-append (x ∷ xs) ys = omega (arith, most-append xs ys)
+
+-- of numbers each one more
+pub most-suc : (xs : List ℕ) → 0 < length xs → most (map suc xs) ≡ suc (most xs)
+unfolding most
+most-suc [] some = absurd (omega arith)
+most-suc (x ∷ []) some = omega arith
+most-suc (x ∷ y ∷ xs) some = omega (arith, most-suc (y ∷ xs) (omega arith))
+
+-- ---- the smallest
+
+-- none is smaller, ..
+pub least-bounds : (x : ℕ) (xs : List ℕ) → List·Memᴰ x xs → least xs ≤ x
+unfolding least
+least-bounds x [] is = absurd (List·Memᴰ·not-nil is)
+least-bounds x (y ∷ []) is = ⊎-elim (λ e. omega arith) (λ later. absurd (List·Memᴰ·not-nil later)) (List·Memᴰ·cases-cons is)
+least-bounds x (y ∷ z ∷ xs) is =
+    ⊎-elim (λ e. omega arith) (λ later. omega (arith, least-bounds x (z ∷ xs) later)) (List·Memᴰ·cases-cons is)
+
+-- .. and it is one of them
+pub least-listed : (xs : List ℕ) → 0 < length xs → List·Memᴰ (least xs) xs
+unfolding least
+least-listed [] some = absurd (omega arith)
+least-listed (x ∷ []) some = List·Memᴰ·head refl
+least-listed (x ∷ y ∷ xs) some =
+    min-cases x (least (y ∷ xs)) _
+    (λ _ first. List·Memᴰ·head first)
+    (λ _ later. List·Memᴰ·tail (Memᴰ·cast later (least-listed (y ∷ xs) (omega arith))))

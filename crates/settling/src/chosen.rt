@@ -1,0 +1,81 @@
+// Settling and making, whichever net is made of the table. Any sheet and buffers of any length may come in.
+ghost use mathlib.Core.Path.{_≡_};
+ghost use Rattle.answers.specs.Layered.{layeredMadeOf};
+ghost use Rattle.accepted.specs.Taken.{NetTaken};
+ghost use Rattle.synthesis.specs.Outcomes.{netBy};
+ghost use Rattle.settling.specs.Calls.{settlesBy, makesBy};
+use answers::layered::Layered;
+use answers::outcome::Outcome;
+use net_reading::net;
+use nets::forms::Header;
+use nets::forms::Net;
+use nets::values;
+use radix::limits;
+use radix::powers;
+use synthesis::into;
+use table_reading::sheet;
+use wirings::choice::Choice;
+
+// The net's table goes into an array of its own first: a refusal must change no buffer.
+fn settle_net(
+    choice: Choice,
+    s: &[u8],
+    header: Header,
+    gates: Net,
+    cells: &mut [u8],
+    marks: &mut [u8],
+    out: &mut [u8],
+) -> Layered
+    requires { ⌜ NetTaken (now s) header gates ⌝ }
+    ensures { λ r. ⌜ layeredMadeOf r (now (cells .exit)) (now (marks .exit)) (now (out .exit))
+        ≡ settlesBy (netBy choice) (now (s .entry)) (now (cells .entry)) (now (marks .entry)) (now (out .entry)) ⌝ }
+{
+    let mut inks = [0u8; limits::MOST_CELLS];
+    let count = values::table(gates, &mut inks);
+    into::settle_into(choice, s, header, &inks[0..count], cells, marks, out)
+}
+
+// Reads a net sheet, and writes its table, its marks and the sheet of the net that is made of its table.
+pub fn settle_by(
+    choice: Choice,
+    s: &[u8],
+    cells: &mut [u8],
+    marks: &mut [u8],
+    out: &mut [u8],
+) -> Layered
+    ensures { λ r. ⌜ layeredMadeOf r (now (cells .exit)) (now (marks .exit)) (now (out .exit))
+        ≡ settlesBy (netBy choice) (now (s .entry)) (now (cells .entry)) (now (marks .entry)) (now (out .entry)) ⌝ }
+{
+    let read = net::read_net(s);
+    let outcome = read.outcome;
+    let header = read.header;
+    let gates = read.net;
+    match outcome {
+        Outcome::Refused { number, place } => Layered::Refused { number, place },
+        Outcome::Accepted => settle_net(choice, s, header, gates, cells, marks, out),
+    }
+}
+
+// Reads a table sheet, and writes its table, its marks and the sheet of the net that is made of it.
+pub fn make_by(
+    choice: Choice,
+    s: &[u8],
+    cells: &mut [u8],
+    marks: &mut [u8],
+    out: &mut [u8],
+) -> Layered
+    ensures { λ r. ⌜ layeredMadeOf r (now (cells .exit)) (now (marks .exit)) (now (out .exit))
+        ≡ makesBy (netBy choice) (now (s .entry)) (now (cells .entry)) (now (marks .entry)) (now (out .entry)) ⌝ }
+{
+    let mut inks = [0u8; limits::MOST_CELLS];
+    let read = sheet::read_table(s, &mut inks);
+    let outcome = read.outcome;
+    let header = read.header;
+    match outcome {
+        Outcome::Refused { number, place } => Layered::Refused { number, place },
+        Outcome::Accepted => {
+            let count = powers::power(header.levels, header.inputs);
+            into::settle_into(choice, s, header, &inks[0..count], cells, marks, out)
+        }
+    }
+}

@@ -1,0 +1,50 @@
+-- `shallower::which::layers_in` meets its contract: the layers of the net that was read. Assumes nothing.
+use mathlib.Core.Path.{_≡_, sym, ap, _∙_}
+use Rattle.rules.specs.Answers.{accepted}
+use Rattle.rules.specs.Layers.{layers}
+use Rattle.rules.specs.ShallowSettling.{netLayers}
+use Rattle.laws.specs.Shallower.{layers-refused, layers-accepted}
+use Rattle.nets.specs.declared.forms.Header.{Header}
+use Rattle.nets.specs.declared.forms.Net.{Net}
+use Rattle.nets.specs.Forms.{gatesOf, headerOf, netIn}
+use Rattle.accepted.specs.Taken.{NetTaken, net-taken, net-refused, sound}
+use borrow.Author.Needs.{needs}
+use Rattle.shallower.proofs.which.layers_in.Statement.{statement}
+use Rattle.shallower.proofs.which.layers_in.Tie as tie
+
+-- the sheet's read, from the match on it
+abbrev at-read : tie.After-enum-told → tie.After-read-net
+at-read c = c .before .before .before
+
+read-net-requires : tie.Need-read-net-requires
+read-net-requires c κs = search needs
+
+enum-known-outcome : tie.Need-enum-known-outcome
+enum-known-outcome c = search needs
+
+enum-told : tie.Need-enum-told
+enum-told c = search needs
+
+-- the net that was read
+taken : (c : tie.After-enum-told) → let read = at-read c in
+    NetTaken (read .before .before .args .s .now) (read .read-net .result .header) (read .read-net .result .net)
+taken c = net-taken _ _ (at-read c .read-net .ensures) (c .enum-told .given .1)
+
+layers-requires : tie.Need-layers-requires
+layers-requires c κs = sound _ _ _ (taken c)
+
+returns : tie.Need-returns
+returns c = sym (layers-refused _ _ _ (net-refused _ _ (c .before .before .before .before .read-net .ensures) _ _ (c .before .outcome .given .1)))
+
+returns-2 : tie.Need-returns-2
+unfolding netLayers headerOf
+returns-2 c =
+    let t = taken (c .before) in
+    let read = at-read (c .before) .read-net .result in
+    ap accepted (c .layers .ensures ∙ ap (λ n. layers n (gatesOf (read .net))) (t .inputs))
+    ∙ sym (layers-accepted _ _ (t .reads))
+
+pub layers-in-spec : {M : Type 1} → statement M
+layers-in-spec =
+    tie.close
+    (tie.spec read-net-requires enum-known-outcome enum-told layers-requires returns returns-2)

@@ -1,0 +1,77 @@
+-- The shallow net of a table under its header. Where the whole group has mark 2 it keeps a net sheet's rules, has exactly the table, and "Every
+-- other tree computing that table has at least as many layers"; its sheet is as long as the settled net's.
+-- Assumes nothing.
+use Prim.Native.Nat.{ℕ, _^_, _≤_, _<_}
+use mathlib.Core.Path.{_≡_, refl, sym, subst⁻¹}
+use mathlib.Core.List.{List}
+use lib.ListN.{length}
+use Rattle.rules.specs.Sheets.{Gate, Net, Table}
+use Rattle.rules.specs.Printed.{printedNet}
+use Rattle.rules.specs.Layers.{layers}
+use Rattle.rules.specs.Kept.{IsNet, KeptNet, KeptTable}
+use Rattle.rules.specs.Answers.{inkIn}
+use Rattle.rules.specs.Reading.{tableOfNet}
+use Rattle.rules.specs.Settling.{settledNet}
+use Rattle.rules.specs.ShallowSettling.{shallowNet, netLayers}
+use Rattle.laws.specs.Settling.{WholeTwo}
+use Rattle.trees.specs.Trees.{Tree, wiringIn, treeValue, Computes}
+use Rattle.trees.specs.Existence.{settled-net}
+use Rattle.trees.specs.TreeExistence.{WholeTree}
+use Rattle.trees.specs.Uniqueness.{table-is, table-at}
+use Rattle.trees.specs.NetTables.{levels-pos, inputs-several, kept-table, net-whole-two}
+use Rattle.trees.specs.EquallyLong.{equally-long}
+use Rattle.trees.specs.Layers.{depth}
+use Rattle.trees.specs.ShallowNet.{shallow-net, shallowest-net, shallowest-tree}
+
+module _ (t : Table) (kept : KeptTable t) (two : WholeTwo t) where
+  pos : 0 < t .header .levels
+  pos = levels-pos (t .header .levels) (kept .header .levels)
+
+  several : 1 < t .header .inputs
+  several = inputs-several (t .header .inputs) (kept .header .inputs)
+
+  inks-below : (p : ℕ) → p < t .header .levels ^ t .header .inputs → inkIn (t .inks) p < t .header .levels
+  inks-below p h = kept .below p (subst⁻¹ (λ (k : ℕ). p < k) (kept .count) h)
+
+  pub shallow-kept : KeptNet (shallowNet t)
+  unfolding shallowNet
+  shallow-kept = record {
+    header = kept .header;
+    gates = shallow-net (t .header .levels) (t .header .inputs) pos several (inkIn (t .inks)) two inks-below .0;
+  }
+
+  pub shallow-has-table : tableOfNet (shallowNet t) ≡ t
+  unfolding tableOfNet shallowNet
+  shallow-has-table =
+      let has = shallow-net (t .header .levels) (t .header .inputs) pos several (inkIn (t .inks)) two inks-below .1 in
+      λ i. record { header = t .header; inks = table-is (t .header .levels) (t .header .inputs) (shallowNet t .gates) (t .inks) (kept .count) has i }
+
+  -- no gate list with the table has fewer layers, whatever its wiring and tables, ..
+  pub shallow-least-gates : (gates : List Gate) → IsNet (t .header .levels) (t .header .inputs) gates → Computes (t .header .levels) (t .header .inputs) gates (inkIn (t .inks))
+      → netLayers (shallowNet t) ≤ layers (t .header .inputs) gates
+  unfolding shallowNet netLayers
+  shallow-least-gates = shallowest-net (t .header .levels) (t .header .inputs) pos several (inkIn (t .inks)) two
+
+  -- .. and no tree
+  pub shallow-least-tree : (tree : Tree) → WholeTree (t .header .levels) (t .header .inputs) tree
+      → ((p : ℕ) → p < t .header .levels ^ t .header .inputs → treeValue (t .header .levels) (t .header .inputs) tree p ≡ inkIn (t .inks) p)
+      → netLayers (shallowNet t) ≤ depth (wiringIn tree)
+  unfolding shallowNet netLayers
+  shallow-least-tree = shallowest-tree (t .header .levels) (t .header .inputs) pos several (inkIn (t .inks)) two
+
+  -- its sheet needs the same room as the settled net's
+  pub shallow-as-long : length (printedNet (shallowNet t)) ≡ length (printedNet (settledNet t))
+  unfolding shallowNet settledNet
+  shallow-as-long =
+      let settled-kept : KeptNet (settledNet t) = record {
+        header = kept .header;
+        gates = settled-net (t .header .levels) (t .header .inputs) pos several (inkIn (t .inks)) inks-below two .0;
+      } in
+      equally-long (shallowNet t) (settledNet t) shallow-kept settled-kept refl
+
+-- no net with the table has fewer layers
+pub shallow-least-net : (net : Net) → KeptNet net → netLayers (shallowNet (tableOfNet net)) ≤ netLayers net
+unfolding netLayers tableOfNet
+shallow-least-net net kept =
+    shallow-least-gates (tableOfNet net) (kept-table net kept) (net-whole-two net kept) (net .gates) (kept .gates)
+    (λ p h. sym (table-at (net .header .levels) (net .header .inputs) (net .gates) p h))

@@ -1,0 +1,40 @@
+-- `wirings::choice::part_of` meets its contract: each choice by its own search. Assumes nothing.
+use mathlib.Core.Path.{subst}
+use borrow.Author.Needs.{needs}
+use Rattle.wirings.specs.declared.choice.Choice.{Choice}
+use Rattle.wirings.specs.Choice.{LayersRoom}
+use Rattle.wirings.proofs.choice.part_of.Statement.{statement}
+use Rattle.wirings.proofs.choice.part_of.Tie as tie
+
+-- the start, from the arm of each choice
+abbrev at-settled : tie.After-enum-told → tie.Start
+at-settled c = c .before .before .before .before
+
+abbrev at-shallow : tie.After-enum-told2 → tie.Start
+at-shallow c = c .before .before .before .before
+
+enum-told : tie.Need-enum-told
+enum-told c = search needs
+
+split-of-requires : tie.Need-split-of-requires
+split-of-requires c κs = search needs
+
+enum-told-2 : tie.Need-enum-told-2
+enum-told-2 c = search needs
+
+shallow-split-requires : tie.Need-shallow-split-requires
+shallow-split-requires c κs =
+    let s = at-shallow c in
+    let (some, small, room, layers) = s .pre in
+    (some, small, room, subst (λ (choice : Choice). LayersRoom choice (s .args .g) (s .args .fewest .now)) (c .enum-told2 .given .1) layers)
+
+returns : tie.Need-returns
+returns c n g< = rw (c .before .enum-told .given .1) (c .split-of .ensures n g<)
+
+returns-2 : tie.Need-returns-2
+returns-2 c n g< = rw (c .before .enum-told2 .given .1) (c .shallow-split .ensures n g<)
+
+pub part-of-spec : {M : Type 1} → statement M
+part-of-spec =
+    tie.close
+    (tie.spec enum-told split-of-requires enum-told-2 shallow-split-requires returns returns-2)

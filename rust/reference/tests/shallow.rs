@@ -1,0 +1,395 @@
+//! Shallow making and settling, against every wiring of a table's inputs: at
+//! small sizes each one is tried, and which of them compute the table is told
+//! without the library's groups and marks.
+
+mod common;
+
+use common::*;
+use reference::damage::byte_damages;
+use reference::generate::{Generator, TableKind};
+use reference::sheet::read_net_sheet;
+use reference::{allowed_sizes, make, make_shallow, settle, settle_shallow};
+use std::collections::{BTreeMap, HashSet};
+
+/// A tree without digits.
+#[derive(Clone, Debug)]
+enum Wiring {
+    Leaf(usize),
+    Node(Box<Wiring>, Box<Wiring>),
+}
+
+/// A gate of a wiring: its group, the part that goes left, and the gates on the
+/// longest way to it from an input, its own counted.
+#[derive(Clone, Copy, Debug)]
+struct Joint {
+    group: usize,
+    left: usize,
+    layers: usize,
+}
+
+impl Wiring {
+    fn group(&self) -> usize {
+        match self {
+            Wiring::Leaf(input) => 1 << input,
+            Wiring::Node(left, right) => left.group() | right.group(),
+        }
+    }
+
+    fn layers(&self) -> usize {
+        match self {
+            Wiring::Leaf(_) => 0,
+            Wiring::Node(left, right) => 1 + left.layers().max(right.layers()),
+        }
+    }
+
+    /// Left's gates, then right's, then the own one.
+    fn joints(&self) -> Vec<Joint> {
+        let Wiring::Node(left, right) = self else {
+            return Vec::new();
+        };
+        let own = Joint {
+            group: self.group(),
+            left: left.group(),
+            layers: self.layers(),
+        };
+        [left.joints(), right.joints(), vec![own]].concat()
+    }
+
+    /// The wiring of a net sheet whose inputs are `a`, `b` and so on.
+    fn of_sheet(sheet: &[u8]) -> Wiring {
+        let text = std::str::from_utf8(sheet).expect("ASCII");
+        let mut gates: Vec<Wiring> = Vec::new();
+        for line in text.lines().skip(4) {
+            let of = |reference: &str| match reference.parse::<usize>() {
+                Ok(number) => gates[number - 1].clone(),
+                Err(_) => Wiring::Leaf(usize::from(reference.as_bytes()[0] - b'a')),
+            };
+            let mut references = line.split(' ').map(of);
+            let mut next = || Box::new(references.next().expect("a reference"));
+            let node = Wiring::Node(next(), next());
+            gates.push(node);
+        }
+        gates.pop().expect("a gate line")
+    }
+}
+
+fn names(n: usize) -> &'static str {
+    &"a b c d e f g h i j k"[..2 * n - 1]
+}
+
+/// Every wiring over a group, the part with the first-listed input on the left.
+fn wirings(group: usize) -> Vec<Wiring> {
+    if group.is_power_of_two() {
+        return vec![Wiring::Leaf(group.trailing_zeros() as usize)];
+    }
+    let first = group & group.wrapping_neg();
+    let mut all = Vec::new();
+    for a in (1..group).filter(|a| a & !group == 0 && a & first != 0) {
+        let rights = wirings(group - a);
+        for left in wirings(a) {
+            for right in &rights {
+                all.push(Wiring::Node(
+                    Box::new(left.clone()),
+                    Box::new(right.clone()),
+                ));
+            }
+        }
+    }
+    all
+}
+
+/// Holds a shallow sheet and its count against the joints of all wirings that
+/// compute the table: no tree has fewer layers, and none has a gate for the same
+/// inputs with fewer layers below it, or as few and a left part of lower number.
+fn assert_shallowest(net: &[u8], count: usize, computing: &[&Vec<Joint>]) {
+    let shallow = Wiring::of_sheet(net);
+    let layers = |joints: &Vec<Joint>| joints.last().expect("a gate").layers;
+    let least = computing.iter().map(|joints| layers(joints)).min();
+    assert_eq!(Some(count), least);
+    assert_eq!(count, shallow.layers());
+    for joint in shallow.joints() {
+        let same_group = computing
+            .iter()
+            .flat_map(|joints| joints.iter())
+            .filter(|other| other.group == joint.group);
+        let best = same_group.map(|other| (other.layers, other.left)).min();
+        assert_eq!(Some((joint.layers, joint.left)), best);
+    }
+}
+
+/// Holds making a table's shallow net against the wirings that compute it;
+/// whether it has layers to spare below the settled one.
+fn assert_table(m: usize, n: usize, inks: &[u8], computing: &[&Vec<Joint>]) -> bool {
+    let sheet = table_sheet(m, names(n), inks);
+    match made_shallow(&sheet) {
+        Ok((net, layers)) => {
+            assert_shallowest(&net, layers, computing);
+            assert_eq!(table_written(&net), Ok(sheet.clone()));
+            assert_eq!(settled_shallow(&net), Ok((net, layers)));
+            let settled = made(&sheet).expect("a tree");
+            layers < Wiring::of_sheet(&settled).layers()
+        }
+        Err(refusal) => {
+            assert!(computing.is_empty());
+            assert_eq!(made(&sheet), Err(refusal));
+            false
+        }
+    }
+}
+
+// ---- two levels: every filling of every wiring
+
+/// A table of two levels, its bit p the ink at index p.
+type Bits = u32;
+
+fn mask(n: usize) -> Bits {
+    Bits::MAX >> (32 - (1 << n))
+}
+
+/// The tables of a wiring under every filling of its gates.
+fn tables_of(wiring: &Wiring, n: usize) -> HashSet<Bits> {
+    match wiring {
+        Wiring::Leaf(input) => {
+            let level = |p: usize| levels_of(p, 2, n)[*input] as Bits;
+            HashSet::from([(0..1 << n).fold(0, |table, p| table | level(p) << p)])
+        }
+        Wiring::Node(left, right) => {
+            let (lefts, rights) = (tables_of(left, n), tables_of(right, n));
+            let mut tables = HashSet::new();
+            for &l in &lefts {
+                for &r in &rights {
+                    let places = [!l & !r, !l & r, l & !r, l & r];
+                    for gate in 0..16 {
+                        let ones = (0..4).filter(|digit| gate >> digit & 1 == 1);
+                        let table = ones.fold(0, |table, digit| table | places[digit]);
+                        tables.insert(table & mask(n));
+                    }
+                }
+            }
+            tables
+        }
+    }
+}
+
+/// For every table that has a tree, the joints of each wiring that computes it.
+fn by_filling(n: usize) -> BTreeMap<Bits, Vec<Vec<Joint>>> {
+    let mut computing: BTreeMap<Bits, Vec<Vec<Joint>>> = BTreeMap::new();
+    for wiring in wirings((1 << n) - 1) {
+        for table in tables_of(&wiring, n) {
+            computing.entry(table).or_default().push(wiring.joints());
+        }
+    }
+    computing
+}
+
+fn inks_of_bits(n: usize, table: Bits) -> Vec<u8> {
+    (0..1 << n).map(|p| (table >> p & 1) as u8).collect()
+}
+
+/// The tables that have a tree, one in so many: how many there are, and of how
+/// many held the settled net has more layers than it need have.
+fn assert_trees(n: usize, step: usize) -> (usize, usize) {
+    let computing = by_filling(n);
+    let spared = computing.iter().step_by(step).filter(|(&table, wirings)| {
+        let wirings: Vec<&Vec<Joint>> = wirings.iter().collect();
+        assert_table(2, n, &inks_of_bits(n, table), &wirings)
+    });
+    let spared = spared.count();
+    println!(
+        "{n} inputs: {} have a tree, {spared} a shallower one",
+        computing.len()
+    );
+    (computing.len(), spared)
+}
+
+#[test]
+fn tables_of_two_levels_against_every_filling() {
+    // as many have a tree as trees.rs finds
+    assert_eq!(assert_trees(2, 1), (16, 0));
+    assert_eq!(assert_trees(3, 1), (152, 0));
+    assert_eq!(assert_trees(4, 1), (2_680, 536));
+    let (trees, spared) = assert_trees(5, 7);
+    assert!(trees == 68_968 && spared > 1_000);
+}
+
+#[test]
+fn the_wirings_are_all_there() {
+    // (2n - 3)!!, sides not told apart
+    let counts = [2, 3, 4, 5, 6].map(|n| wirings((1 << n) - 1).len());
+    assert_eq!(counts, [1, 3, 15, 105, 945]);
+}
+
+#[test]
+fn a_table_without_a_tree_is_refused_as_by_making() {
+    for n in [3, 4] {
+        let computing = by_filling(n);
+        let without = (0..=mask(n)).filter(|table| !computing.contains_key(table));
+        for table in without.step_by(if n == 3 { 1 } else { 37 }) {
+            assert_table(2, n, &inks_of_bits(n, table), &[]);
+        }
+    }
+}
+
+// ---- any levels: a wiring computes a table when its wires can carry it
+
+/// The joints of the wirings whose gates have at most m columns each.
+fn by_columns<'a>(
+    m: usize,
+    n: usize,
+    inks: &[u8],
+    wirings: &'a [Vec<Joint>],
+) -> Vec<&'a Vec<Joint>> {
+    let fits: Vec<bool> = (0..1 << n)
+        .map(|group| count_of_columns(m, n, inks, group) <= m)
+        .collect();
+    wirings
+        .iter()
+        .filter(|joints| joints.iter().all(|joint| fits[joint.group]))
+        .collect()
+}
+
+#[test]
+fn tables_of_more_levels_against_every_wiring() {
+    let seed = 1_024;
+    println!("seed {seed}");
+    let mut generator = Generator::new(seed);
+    let mut spared = 0;
+    for (m, n, rounds) in [
+        (3, 3, 100),
+        (9, 3, 10),
+        (2, 4, 50),
+        (3, 4, 50),
+        (4, 4, 20),
+        (6, 4, 5),
+        (2, 5, 40),
+        (3, 5, 20),
+        (4, 5, 5),
+        (2, 6, 20),
+        (3, 6, 4),
+        (2, 7, 4),
+    ] {
+        let wirings: Vec<Vec<Joint>> = wirings((1 << n) - 1).iter().map(Wiring::joints).collect();
+        for kind in TableKind::ALL {
+            for _ in 0..rounds {
+                let inks = generator.table(m, n, kind).inks;
+                let computing = by_columns(m, n, &inks, &wirings);
+                spared += usize::from(assert_table(m, n, &inks, &computing));
+            }
+        }
+    }
+    println!("{spared} tables have a tree with fewer layers than the settled net");
+    assert!(spared > 100);
+}
+
+/// The first four come out in two layers, where a third would not make the whole
+/// any deeper.
+#[test]
+fn a_group_is_shallow_where_the_whole_has_room_to_spare() {
+    let rule = |x: &[usize]| (x[0] ^ x[1] ^ x[2] ^ x[3]) | (x[4] & (x[5] ^ (x[6] & x[7])));
+    let sheet = rule_sheet(2, names(8), rule);
+    let rest = "g h 0001/f 4 0110/e 5 0001/3 6 0111";
+    let shallow = format!("a b 0110/c d 0110/1 2 0110/{rest}");
+    let settled = format!("c d 0110/b 1 0110/a 2 0110/{rest}");
+    let shallow = net_sheet(2, names(8), &shallow);
+    assert_eq!(made_shallow(&sheet), Ok((shallow.clone(), 4)));
+    let settled = net_sheet(2, names(8), &settled);
+    assert_eq!(made(&sheet), Ok(settled.clone()));
+    assert_eq!(settled_shallow(&settled), Ok((shallow, 4)));
+    assert_eq!(Wiring::of_sheet(&settled).layers(), 4);
+}
+
+/// A sum may be wired in any way, so its layers are the least that n inputs can
+/// have; least and greatest by turns can be wired in one way only.
+#[test]
+fn sums_and_chains() {
+    let layers = [1, 2, 2, 3, 3, 3, 3, 4, 4, 4];
+    for (n, layers) in (2..=11).zip(layers) {
+        let sum = rule_sheet(2, names(n), |x| x.iter().sum::<usize>() % 2);
+        assert_eq!(made_shallow(&sum).expect("a tree").1, layers);
+        let chain = rule_sheet(2, names(n), |x| {
+            (1..n).fold(x[0], |value, k| match k % 2 {
+                0 => value.max(x[k]),
+                _ => value.min(x[k]),
+            })
+        });
+        let (net, layers) = made_shallow(&chain).expect("a tree");
+        assert_eq!((Ok(net), layers), (made(&chain), n - 1));
+    }
+    let gates = "b c 0110/d e 0110/1 2 0110/a 3 0110";
+    let sum = rule_sheet(2, names(5), |x| x.iter().sum::<usize>() % 2);
+    assert_eq!(made_shallow(&sum), Ok((net_sheet(2, names(5), gates), 3)));
+}
+
+/// "Every other tree computing that table has at least as many layers." "The
+/// settled net of document 01 stays the default."
+#[test]
+fn nets_of_every_size() {
+    let seed = 1_025;
+    println!("seed {seed}");
+    let mut generator = Generator::new(seed);
+    for (m, n) in allowed_sizes() {
+        for _ in 0..6 {
+            let net = generator.net_sheet(m as usize, n as usize);
+            let table = table_written(&net).expect("a good net sheet");
+            let (shallow, layers) = settled_shallow(&net).expect("a good net sheet");
+            assert_eq!(made_shallow(&table), Ok((shallow.clone(), layers)));
+            assert_eq!(settled_shallow(&shallow), Ok((shallow.clone(), layers)));
+            assert_eq!(table_written(&shallow), Ok(table));
+            assert_eq!(settled(&shallow), settled(&net));
+            // sheets under one header that use each input and each gate but
+            // the last once are of one length
+            assert_eq!(shallow.len(), net.len());
+            let layers_of = |sheet| read_net_sheet(sheet).expect("a net").1.layers();
+            assert_eq!(layers_of(&shallow), layers);
+            assert!(layers <= layers_of(&net));
+            assert!(layers <= layers_of(&settled(&net).expect("a good net sheet")));
+        }
+    }
+}
+
+/// The shallow call and document 01's on the same sheet and equal buffers: they
+/// refuse alike, and leave the same cells and marks.
+macro_rules! assert_refused_alike {
+    ($shallow:ident, $default:ident, $sheet:expr, $length:expr) => {
+        let lent = || ([9; CELLS], [9; MARKS], [9; NET_SHEET]);
+        let (mut cells, mut marks, mut out) = lent();
+        let answer = $shallow($sheet, &mut cells, &mut marks, &mut out[..$length]);
+        let (mut cells_due, mut marks_due, mut out_due) = lent();
+        let due = $default(
+            $sheet,
+            &mut cells_due,
+            &mut marks_due,
+            &mut out_due[..$length],
+        );
+        assert_eq!(answer.map(|answer| answer.length), due);
+        assert!(cells == cells_due && marks == marks_due);
+        assert!(due.is_ok() || out == out_due);
+    };
+}
+
+#[test]
+fn damaged_sheets_are_refused_as_by_making_and_settling() {
+    let seed = 1_026;
+    println!("seed {seed}");
+    let mut generator = Generator::new(seed);
+    for _ in 0..300 {
+        let (m, n) = generator.size();
+        let net = generator.net_sheet(m, n);
+        let kind = *generator.rng.pick(&TableKind::ALL);
+        let table = generator.table_sheet(m, n, kind);
+        let length = *generator.rng.pick(&[0, 60, 150, NET_SHEET]);
+        for sheet in [&net, &table] {
+            let damaged = generator.damaged(sheet);
+            for sheet in [sheet, &damaged] {
+                assert_refused_alike!(settle_shallow, settle, sheet, length);
+                assert_refused_alike!(make_shallow, make, sheet, length);
+            }
+        }
+    }
+    for sheet in byte_damages(&generator.net_sheet(2, 4)) {
+        assert_refused_alike!(settle_shallow, settle, &sheet, NET_SHEET);
+    }
+    for sheet in byte_damages(&generator.table_sheet(2, 3, TableKind::Random)) {
+        assert_refused_alike!(make_shallow, make, &sheet, NET_SHEET);
+    }
+}
