@@ -22,3 +22,4 @@ pub mod Tests
 pub mod Walks
 pub mod Answers
 pub mod Fresh
+pub mod Totals

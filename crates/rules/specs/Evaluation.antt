@@ -13,6 +13,7 @@ use Rattle.rules.specs.Marks as marks
 use Rattle.rules.specs.Wirings as wirings
 use Rattle.rules.specs.Filling as filling
 use Rattle.rules.specs.Settled as settled
+use Rattle.rules.specs.Family as family
 use Rattle.rules.specs.Answers as answers
 use Rattle.rules.specs.Reading as reading
 use Rattle.rules.specs.BareCells as bareCells
@@ -25,5 +26,5 @@ use Rattle.rules.specs.Programs as programs
 use Rattle.rules.specs.Lister as lister
 
 unfoldable pub computing : Unit {0}
-unfolding lists.computing text.computing limits.computing fields.computing sheets.computing printed.computing value.computing groups.computing marks.computing wirings.computing filling.computing settled.computing answers.computing reading.computing bareCells.computing multiplicity.computing marking.computing settling.computing checking.computing tableWriting.computing programs.computing lister.computing
+unfolding lists.computing text.computing limits.computing fields.computing sheets.computing printed.computing value.computing groups.computing marks.computing wirings.computing filling.computing settled.computing family.computing answers.computing reading.computing bareCells.computing multiplicity.computing marking.computing settling.computing checking.computing tableWriting.computing programs.computing lister.computing
 computing = tt

@@ -1,7 +1,7 @@
 -- Document 01 ("Shade nets: tables, groups and settled trees") as definitions that compute, in the document's own order.
 -- Each definition's comment quotes the sentence that it states, or says what the definition is for. `Lists`, `Text` and
 -- `Fields` are the means; the rest follows the document's sections: Sheets (`Limits`, `Sheets`, `Printed`, `Kept`),
--- `Value`, `Groups`, `Marks`, the settled net (`Wirings`, `Filling`, `Settled`; `SettledLaws` hold its choices to the document's words), then
+-- `Value`, `Groups`, `Marks`, the settled net (`Wirings`, `Filling`, `Settled`; `SettledLaws` hold its choices to the document's words), every wiring of a table (`Family`), then
 -- the calls with what they turn back (`Answers`, `Reading` and `BareCells` are what they share; a file for each call or pair of calls follows), the starred
 -- cases (`Cases`), every refusal by examples (`Refusals`), and what is judged first (`Orders`). `Evaluation` lets all of it compute.
 -- Assumes nothing.
@@ -19,6 +19,7 @@ pub mod Wirings
 pub mod Filling
 pub mod Settled
 pub mod SettledLaws
+pub mod Family
 pub mod Answers
 pub mod Reading
 pub mod BareCells
