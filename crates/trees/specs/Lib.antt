@@ -30,3 +30,4 @@ pub mod TreeExistence
 pub mod Uniqueness
 pub mod DistinctInks
 pub mod NetTables
+pub mod NormalWirings
