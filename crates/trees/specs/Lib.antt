@@ -31,3 +31,4 @@ pub mod Uniqueness
 pub mod DistinctInks
 pub mod NetTables
 pub mod NormalWirings
+pub mod FamilyCounts
