@@ -70,9 +70,12 @@ module _ (n : ℕ) (marks : List ℕ) where
   count-agree : (xs ys : List ℕ) (g : ℕ) → ((a : ℕ) → a < g → countIn xs a ≡ countIn ys a) → countOf n marks xs g ≡ countOf n marks ys g
   unfolding splitCount
   count-agree xs ys g e =
-      rw (count-outcome xs g, count-outcome ys g,
-      total-same (splitCount xs g) (splitCount ys g) (splitsOf n marks g)
-      (λ a is. let split = split-is g a is in rw (e a (split .less), e (g - a) (omega (arith, split .some, split .less)))))
+      rw (
+        count-outcome xs g,
+        count-outcome ys g,
+        total-same (splitCount xs g) (splitCount ys g) (splitsOf n marks g)
+            (λ a is. let split = split-is g a is in rw (e a (split .less), e (g - a) (omega (arith, split .some, split .less)))),
+      )
 
   counts-below-length : (k : ℕ) → length (countsBelow n marks k) ≡ k
   unfolding countsBelow

@@ -32,3 +32,4 @@ pub mod DistinctInks
 pub mod NetTables
 pub mod NormalWirings
 pub mod FamilyCounts
+pub mod Families
