@@ -2,21 +2,21 @@
 -- part and a number below that part's count.
 -- Assumes nothing.
 use Prim.Native.Nat.{ℕ, zero, suc, _+_, _-_, _≤_, _<_}
-use mathlib.Core.Path.{_≡_, refl, sym, ap, ap₂, _∙_, subst, subst⁻¹}
+use mathlib.Core.Path.{_≡_, refl, sym, ap, ap₂, _∙_}
 use mathlib.Core.Logic.{_⊎_, inl, inr}
-use mathlib.Core.Bool.{Bool, true, false, cond, not, true≢false, false≢true}
-use mathlib.Core.List.{List, [], _∷_, _++_, map, map-append, List·Memᴰ, List·Memᴰ·head, List·Memᴰ·tail, List·Memᴰ·cases-cons, List·Memᴰ·not-nil}
-use native.Mathlib.Nat.{zero-add, add-assoc}
+use mathlib.Core.Bool.{Bool, true, false, cond, _||_, true≢false, false≢true}
+use mathlib.Core.List.{List, [], _∷_, _++_, map, List·Memᴰ, List·Memᴰ·head, List·Memᴰ·tail, List·Memᴰ·cases-cons, List·Memᴰ·not-nil}
+use native.Mathlib.Nat.{zero-add, add-zero}
 use native.Mathlib.Omega.{arith}
-use native.Mathlib.Decide.{ℕ-discrete}
 use lib.Dec.{eqb, ltb}
 use borrow.Author.Tests.{eqb-true, eqb-false, eq-eqb, ne-eqb, ltb-true, ltb-false, lt-ltb}
-use Rattle.rules.specs.Lists.{range, any, those}
+use Rattle.rules.specs.Lists.{range, any, those, firstPlace}
 use Rattle.rules.specs.Kept.{Distinct}
 use Rattle.rules.specs.Family.{total, Numbered, numberedAt}
-use Rattle.laws.specs.Tests.{none-iff, none-mem, not-false-true}
-use Rattle.laws.specs.Ranges.{range-append, range-mem}
+use Rattle.laws.specs.Tests.{any-cons, none-mem}
+use Rattle.laws.specs.Ranges.{range-mem}
 use Rattle.laws.specs.Finds.{those-mem}
+use Rattle.laws.specs.FirstPlaces.{first-cons}
 
 -- ---- sums
 
@@ -212,3 +212,23 @@ module _ (count : ℕ → ℕ) where
             below = rw there (rest .below);
             again = rw (there, before-cons, other) (omega (arith, rest .again));
           }
+
+  -- number 0 is the first part's, of those in a range that pass a test
+  pub numbered-first : (test : ℕ → Bool) (from k : ℕ) → any test (range from k) ≡ true → ((a : ℕ) → List·Memᴰ a (those test (range from k)) → 0 < count a)
+      → numberedAt count (those test (range from k)) 0 ≡ record { part = from + firstPlace test (range from k); number = 0 }
+  unfolding range any
+  numbered-first test from zero some positive = absurd (false≢true some)
+  numbered-first test from (suc k) some positive =
+      rw (those-cons test from (range (suc from) k), first-cons test from (range (suc from) k))
+      (go (test from) refl (sym (any-cons test from (range (suc from) k)) ∙ some) (rw (those-cons test from (range (suc from) k)) at positive) (numbered-first test (suc from) k))
+    where
+      go : (t : Bool) → test from ≡ t → (t || any test (range (suc from) k)) ≡ true
+          → ((a : ℕ) → List·Memᴰ a (cond t (from ∷ those test (range (suc from) k)) (those test (range (suc from) k))) → 0 < count a)
+          → (any test (range (suc from) k) ≡ true → ((a : ℕ) → List·Memᴰ a (those test (range (suc from) k)) → 0 < count a)
+          → numberedAt count (those test (range (suc from) k)) 0 ≡ record { part = suc from + firstPlace test (range (suc from) k); number = 0 })
+          → numberedAt count (cond t (from ∷ those test (range (suc from) k)) (those test (range (suc from) k))) 0
+          ≡ record { part = from + cond t 0 (suc (firstPlace test (range (suc from) k))); number = 0 }
+      go true e some positive later = numbered-here from _ 0 (positive from (List·Memᴰ·head refl)) ∙ rw add-zero
+      go false e some positive later =
+          let same : suc from + firstPlace test (range (suc from) k) ≡ from + suc (firstPlace test (range (suc from) k)) = omega arith in
+          later some positive ∙ rw same

@@ -33,3 +33,4 @@ pub mod NetTables
 pub mod NormalWirings
 pub mod FamilyCounts
 pub mod Families
+pub mod FamilyWirings
