@@ -22,4 +22,5 @@ pub mod Tests
 pub mod Walks
 pub mod Answers
 pub mod Fresh
+pub mod Listed
 pub mod Totals

@@ -61,33 +61,6 @@ those-append test (x ∷ xs) ys = rw (those-cons test x (xs ++ ys), those-cons t
     go true = refl
     go false = refl
 
--- each of them passes, ..
-pub those-pass : (test : ℕ → Bool) (xs : List ℕ) (x : ℕ) → List·Memᴰ x (those test xs) → test x ≡ true
-unfolding those
-those-pass test [] x is = absurd (List·Memᴰ·not-nil is)
-those-pass test (y ∷ xs) x is = go (test y) refl (rw (those-cons test y xs) at is) (those-pass test xs x)
-  where
-    go : (t : Bool) → test y ≡ t → List·Memᴰ x (cond t (y ∷ those test xs) (those test xs)) → (List·Memᴰ x (those test xs) → test x ≡ true) → test x ≡ true
-    go false e is later = later is
-    go true e is later = first (List·Memᴰ·cases-cons is)
-      where
-        first : (x ≡ y) ⊎ List·Memᴰ x (those test xs) → test x ≡ true
-        first (inl same) = ap test same ∙ e
-        first (inr is) = later is
-
--- .. and each that passes is one
-pub mem-those : (test : ℕ → Bool) (xs : List ℕ) (x : ℕ) → List·Memᴰ x xs → test x ≡ true → List·Memᴰ x (those test xs)
-mem-those test [] x is passes = absurd (List·Memᴰ·not-nil is)
-mem-those test (y ∷ xs) x is passes =
-    rw (those-cons test y xs) (go (test y) refl (List·Memᴰ·cases-cons is) (λ is. mem-those test xs x is passes))
-  where
-    go : (t : Bool) → test y ≡ t → (x ≡ y) ⊎ List·Memᴰ x xs → (List·Memᴰ x xs → List·Memᴰ x (those test xs))
-        → List·Memᴰ x (cond t (y ∷ those test xs) (those test xs))
-    go true e (inl same) later = List·Memᴰ·head same
-    go true e (inr is) later = List·Memᴰ·tail (later is)
-    go false e (inl same) later = absurd (true≢false (sym passes ∙ ap test same ∙ e))
-    go false e (inr is) later = later is
-
 -- a number that a test finds in a list
 pub any-mem : (x : ℕ) (xs : List ℕ) → any (eqb x) xs ≡ true → List·Memᴰ x xs
 unfolding any

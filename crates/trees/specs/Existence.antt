@@ -14,7 +14,7 @@ use Rattle.rules.specs.Wirings.{Wiring, input, gate, groupOf, linksOf}
 use Rattle.rules.specs.Filling.{filled}
 use Rattle.rules.specs.Settled.{settledWiring, settledGates}
 use Rattle.rules.specs.Kept.{IsNet}
-use Rattle.trees.specs.Trees.{Tree, wiringIn, treeValue, mix, Tells, EachOnce, EachGate, WiringOf, Computes}
+use Rattle.trees.specs.Trees.{Tree, wiringIn, treeValue, mix, Tells, EachOnce, EachGate, WiringOf, Filled, Computes}
 use Rattle.trees.specs.Members.{whole-below, size-single, size-whole}
 use Rattle.trees.specs.Levels.{mix-below, part-mix}
 use Rattle.trees.specs.NetTree.{TreeOf, net-tree, net-whole}
@@ -42,6 +42,13 @@ module _ (m n : ℕ) (pos : 0 < m) (several : 1 < n) (f : ℕ → ℕ) where
           sym (tree-part m n pos f t once (mix m n (wholeGroup n) p y) p (same-part p))
           ∙ has (mix m n (wholeGroup n) p y) (mix-below m n pos (wholeGroup n) p y (whole-below n))
 
+  -- a tree over all inputs that has the table: each gate's group has at most m classes
+  pub tree-few : (t : Tree) → EachOnce n (wiringIn t) → groupOf (wiringIn t) ≡ wholeGroup n → Filled m t
+      → ((p : ℕ) → p < m ^ n → treeValue m n t p ≡ f p) → EachGate (Few m n f) (wiringIn t)
+  tree-few t once whole filled has =
+      necessity m n pos f t once filled
+      (subst (λ (g : ℕ). Tells m n f g (treeValue m n t)) (sym whole) (tells-whole t once whole has))
+
   -- a net with the table gives the whole group mark 2
   pub net-marks : (gates : List Gate) → IsNet m n gates → Computes m n gates f → marked m n pos f (wholeGroup n) ≡ 2
   net-marks gates net has =
@@ -49,9 +56,7 @@ module _ (m n : ℕ) (pos : 0 < m) (several : 1 < n) (f : ℕ → ℕ) where
       let whole : groupOf (wiringIn (t .tree)) ≡ wholeGroup n = net-whole m n gates several net in
       subst (λ (g : ℕ). marked m n pos f g ≡ 2) whole
       (wiring-mark m n pos f (wiringIn (t .tree)) (t .once)
-      (necessity m n pos f (t .tree) (t .once) (t .filled)
-      (subst (λ (g : ℕ). Tells m n f g (treeValue m n (t .tree))) (sym whole)
-      (tells-whole (t .tree) (t .once) whole (λ p h. sym (t .same p) ∙ has p h)))))
+      (tree-few (t .tree) (t .once) whole (t .filled) (λ p h. sym (t .same p) ∙ has p h)))
 
   -- a wiring of all inputs with few classes at each gate: its filling is a net, and has the table
   pub filled-computes : (w : Wiring) → WiringOf n (wholeGroup n) w → EachGate (Few m n f) w → ((p : ℕ) → p < m ^ n → f p < m)

@@ -20,7 +20,8 @@ use Rattle.rules.specs.SettledLaws.{MayBeA}
 use Rattle.rules.specs.Family.{total, splitsOf, countIn, splitCount, countOf, countsBelow, countsOf}
 use Rattle.laws.specs.Ranges.{range-append, mem-range, range-mem}
 use Rattle.laws.specs.Finds.{those-mem}
-use Rattle.laws.specs.Totals.{total-append, total-most, total-same, those-append, those-pass, mem-those, those-range-distinct}
+use Rattle.laws.specs.Totals.{total-append, total-most, total-same, those-append}
+use Rattle.laws.specs.Listed.{mem-those, those-pass}
 use Rattle.trees.specs.Members.{size-zero}
 use Rattle.trees.specs.MarkRule.{parts-at-holds}
 use Rattle.trees.specs.MarkTwo.{isA}
@@ -40,7 +41,7 @@ module _ (n : ℕ) (marks : List ℕ) where
     unfolding splitsOf
     split-is is =
         let between = range-mem 1 (g - 1) a (those-mem (isA n marks g) (range 1 (g - 1)) a is) in
-        let both = and-eq-true-iff (partsAt n marks g a) (member (firstInput n g) a) .0 (those-pass (isA n marks g) (range 1 (g - 1)) a is) in
+        let both = and-eq-true-iff (partsAt n marks g a) (member (firstInput n g) a) .0 (those-pass (isA n marks g) a (range 1 (g - 1)) is) in
         let held = parts-at-holds n marks g a (both .0) in
         record { some = omega arith; less = omega arith; part = held .0; two = held .1; rest-two = held .2; holds-first = both .1 }
 
@@ -48,7 +49,7 @@ module _ (n : ℕ) (marks : List ℕ) where
     pub is-split : MayBeA n marks g a → List·Memᴰ a (splitsOf n marks g)
     unfolding splitsOf partsAt
     is-split is =
-        mem-those (isA n marks g) (range 1 (g - 1)) a (mem-range 1 (g - 1) a (omega (arith, is .some)) (omega (arith, is .less)))
+        mem-those (isA n marks g) a (range 1 (g - 1)) (mem-range 1 (g - 1) a (omega (arith, is .some)) (omega (arith, is .less)))
         (rw (is .part, is .two, is .rest-two, is .holds-first))
 
   -- ---- the list

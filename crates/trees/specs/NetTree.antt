@@ -27,6 +27,8 @@ use Rattle.trees.specs.Homes.{Home, Grown, groupAt, grown-inputs, grown-
 -- the tree that a gate list is
 pub record TreeOf (m n : ℕ) (gates : List Gate) : Type 0 where
   pub tree : Tree
+  -- it is the last gate's
+  pub last : tree ≡ treeAt (withTrees (inputTrees n) gates) (n + length gates - 1)
   pub once : EachOnce n (wiringIn tree)
   pub filled : Filled m tree
   -- its leaves are the inputs that the gates use
@@ -112,6 +114,7 @@ net-is-tree m n gates some rules used =
     let last< : last < length (withTrees (inputTrees n) gates) = omega (arith, forest-length m n gates rules) in
     record {
       tree = treeAt (withTrees (inputTrees n) gates) last;
+      last = refl;
       once = trees .once last last<;
       filled = trees .filled last last<;
       leaves = λ i i<. last-member m n gates rules i i< some used;
