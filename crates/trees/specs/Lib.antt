@@ -34,3 +34,5 @@ pub mod NormalWirings
 pub mod FamilyCounts
 pub mod Families
 pub mod FamilyWirings
+pub mod GateGroups
+pub mod FamilyNets
