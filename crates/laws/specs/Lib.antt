@@ -24,3 +24,4 @@ pub mod Answers
 pub mod Fresh
 pub mod Listed
 pub mod Totals
+pub mod Sums

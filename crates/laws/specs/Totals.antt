@@ -20,10 +20,11 @@ use Rattle.laws.specs.FirstPlaces.{first-cons}
 
 -- ---- sums
 
-pub total-append : (xs ys : List ℕ) → total (xs ++ ys) ≡ total xs + total ys
+-- of a function over two lists joined
+pub total-parts : (f : ℕ → ℕ) (xs ys : List ℕ) → total (map f (xs ++ ys)) ≡ total (map f xs) + total (map f ys)
 unfolding total
-total-append [] ys = omega arith
-total-append (x ∷ xs) ys = omega (arith, total-append xs ys)
+total-parts f [] ys = omega arith
+total-parts f (x ∷ xs) ys = omega (arith, total-parts f xs ys)
 
 -- each of the numbers is at most their sum
 pub total-most : (f : ℕ → ℕ) (xs : List ℕ) (x : ℕ) → List·Memᴰ x xs → f x ≤ total (map f xs)

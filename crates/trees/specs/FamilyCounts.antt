@@ -4,7 +4,7 @@ use Prim.Native.Nat.{ℕ, zero, suc, _+_, _-_, _^_, _≤_, _<_}
 use mathlib.Core.Path.{_≡_, refl, sym, _∙_, ap, ap₂}
 use mathlib.Core.Logic.{_≢_}
 use mathlib.Core.Bool.{Bool, true, false, _&&_, and-eq-true-iff}
-use mathlib.Core.List.{List, [], _∷_, _++_, map, map-append, List·Memᴰ}
+use mathlib.Core.List.{List, [], _∷_, _++_, map, List·Memᴰ}
 use native.Mathlib.Omega.{arith}
 use native.Mathlib.Numerals.{add-one}
 use native.Mathlib.Decide.{ℕ-discrete}
@@ -20,7 +20,7 @@ use Rattle.rules.specs.SettledLaws.{MayBeA}
 use Rattle.rules.specs.Family.{total, splitsOf, countIn, splitCount, countOf, countsBelow, countsOf}
 use Rattle.laws.specs.Ranges.{range-append, mem-range, range-mem}
 use Rattle.laws.specs.Finds.{those-mem}
-use Rattle.laws.specs.Totals.{total-append, total-most, total-same, those-append}
+use Rattle.laws.specs.Totals.{total-parts, total-most, total-same, those-append}
 use Rattle.laws.specs.Listed.{mem-those, those-pass}
 use Rattle.trees.specs.Members.{size-zero}
 use Rattle.trees.specs.MarkRule.{parts-at-holds}
@@ -158,4 +158,4 @@ module _ (n : ℕ) (marks : List ℕ) where
         let parts : those (isA n marks g) (range 1 (g - 1)) ≡ those (isA n marks g) (range 1 k) ++ those (isA n marks g) (range (1 + k) (g - 1 - k)) =
         ap (λ (j : ℕ). those (isA n marks g) (range 1 j)) (sym rest)
         ∙ ap (those (isA n marks g)) (range-append 1 k (g - 1 - k)) ∙ those-append (isA n marks g) (range 1 k) (range (1 + k) (g - 1 - k)) in
-        rw (count-several g g< two several, parts, map-append, total-append) (omega arith)
+        rw (count-several g g< two several, parts, total-parts) (omega arith)

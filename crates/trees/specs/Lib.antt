@@ -36,3 +36,4 @@ pub mod Families
 pub mod FamilyWirings
 pub mod GateGroups
 pub mod FamilyNets
+pub mod FamilyBounds
