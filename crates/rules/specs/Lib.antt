@@ -32,5 +32,6 @@ pub mod Programs
 pub mod Lister
 pub mod Evaluation
 pub mod Cases
+pub mod FamilyCases
 pub mod Refusals
 pub mod Orders
