@@ -2,22 +2,20 @@
 -- and the number of a wiring. Marks are any list here.
 -- Assumes nothing.
 use Prim.Native.Nat.{ℕ, zero, suc, _+_, _-_, _*_, _/_, _%_, _^_, _≤_, _<_}
-use mathlib.Core.Path.{_≡_, refl, sym, _∙_, ap, ap₂, subst, subst⁻¹}
+use mathlib.Core.Path.{_≡_, refl, sym, _∙_, ap, ap₂}
 use mathlib.Core.Logic.{_≢_}
-use mathlib.Core.Bool.{true, false}
-use mathlib.Core.List.{List, map, List·Memᴰ}
+use mathlib.Core.List.{List}
 use native.Mathlib.Nat.{div-lt-iff-lt-mul, mod-lt, div-add-mod', mul-zero}
 use native.Mathlib.Omega.{arith}
 use native.Mathlib.Decide.{ℕ-discrete}
 use lib.Arith.{digits-lt, digits-div, digits-mod}
-use lib.Dec.{eqb}
-use borrow.Author.Tests.{ne-eqb, eq-eqb}
+use borrow.Author.Tests.{ne-eqb}
 use Rattle.rules.specs.Kept.{Distinct}
 use Rattle.rules.specs.Groups.{size}
 use Rattle.rules.specs.Marks.{markIn}
 use Rattle.rules.specs.Wirings.{Wiring, input, gate, groupOf, firstInput}
 use Rattle.rules.specs.SettledLaws.{MayBeA}
-use Rattle.rules.specs.Family.{total, splitsOf, splitCount, countsOf, Numbered, numberedAt, familyWiring}
+use Rattle.rules.specs.Family.{splitsOf, splitCount, countsOf, Numbered, numberedAt, familyWiring}
 use Rattle.laws.specs.Totals.{before, before-below, numbered-before, Placed, numbered-placed, those-range-distinct}
 use Rattle.trees.specs.Trees.{EachOnce, WiringOf}
 use Rattle.trees.specs.Members.{size-single, size-one, size-join, size-pos, rest-apart}

@@ -5,17 +5,16 @@ use Prim.Native.Nat.{ℕ, zero, suc, _+_, _-_, _*_, _/_, _%_, _^_, _≤_, _<_}
 use mathlib.Core.Path.{_≡_, refl, sym, ap, ap₂, _∙_}
 use mathlib.Core.Logic.{_≢_}
 use mathlib.Core.Bool.{Bool, true, false, not, cond, _&&_, _||_, and-true, and-false}
-use mathlib.Core.List.{List, [], _∷_, map, List·Memᴰ}
+use mathlib.Core.List.{List, [], _∷_, map}
 use native.Mathlib.Nat.{mul-le-mul, add-zero, zero-add}
 use native.Mathlib.Omega.{arith}
 use native.Mathlib.Decide.{ℕ-discrete, decLt}
 use lib.ListN.{length, List·getD-eq-default}
 use lib.Dec.{leb, ltb}
-use lib.Pow.{pow-pos}
 use borrow.Author.Tests.{leb-true, ltb-true}
 use Rattle.rules.specs.Lists.{range, all, those}
 use Rattle.rules.specs.Groups.{member, size}
-use Rattle.rules.specs.Marks.{inside, markIn}
+use Rattle.rules.specs.Marks.{inside}
 use Rattle.rules.specs.Wirings.{firstInput}
 use Rattle.rules.specs.SettledLaws.{MayBeA}
 use Rattle.rules.specs.Family.{total, splitsOf, splitCount, countsOf}

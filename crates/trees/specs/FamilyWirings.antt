@@ -1,18 +1,15 @@
 -- The family of a table: a group's numbers below its count, and the group's wirings with few classes at each gate, up to sides. A group has
 -- count 0 exactly when its mark is not 2, and its number 0 is the settled wiring.
 -- Assumes nothing.
-use Prim.Native.Nat.{ℕ, zero, suc, _-_, _/_, _%_, _^_, _<_, _≤_}
+use Prim.Native.Nat.{ℕ, zero, suc, _-_, _^_, _<_}
 use mathlib.Core.Path.{_≡_, refl, sym, _∙_, ap, ap₂}
 use mathlib.Core.Logic.{_≢_, _↔_, ⊎-elim}
-use mathlib.Core.Bool.{Bool, true, false}
 use native.Mathlib.Nat.{mul-pos, zero-div, zero-mod}
 use native.Mathlib.Omega.{arith}
 use native.Mathlib.Decide.{ℕ-discrete}
-use lib.Dec.{eqb}
 use borrow.Author.Tests.{ne-eqb}
-use Rattle.rules.specs.Lists.{range, those}
 use Rattle.rules.specs.Groups.{size}
-use Rattle.rules.specs.Marks.{markIn, marksOf}
+use Rattle.rules.specs.Marks.{marksOf}
 use Rattle.rules.specs.Wirings.{Wiring, input, gate, groupOf, firstInput, wiringBy}
 use Rattle.rules.specs.Settled.{splitOf, settledWiring}
 use Rattle.rules.specs.Family.{splitsOf, splitCount, numberedAt, familyWiring}

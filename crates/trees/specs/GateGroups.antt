@@ -1,14 +1,14 @@
 -- The groups of a net's gates are the groups that the gates of its tree join, and those of a wiring's links, filled, are the wiring's. So two nets
 -- are one wiring exactly when their trees differ only in which side is left.
 -- Assumes nothing.
-use Prim.Native.Nat.{ℕ, zero, suc, _+_, _-_, _≤_, _<_}
-use mathlib.Core.Path.{_≡_, refl, sym, ap, ap₂, _∙_, subst, subst⁻¹}
-use mathlib.Core.Logic.{_↔_, _⊎_, inl, inr, ⊎-elim}
-use mathlib.Core.Bool.{true, false, true≢false}
+use Prim.Native.Nat.{ℕ, _+_, _-_, _≤_, _<_}
+use mathlib.Core.Path.{_≡_, refl, sym, ap, ap₂, _∙_, subst}
+use mathlib.Core.Logic.{_↔_, ⊎-elim}
+use mathlib.Core.Bool.{true≢false}
 use mathlib.Core.List.{List, [], _∷_, _++_, append-assoc, append-nil, List·Memᴰ, List·Memᴰ·head, List·Memᴰ·append-cases, List·Memᴰ·eq-of-singleton, List·Memᴰ·not-nil, Memᴰ·append-left, Memᴰ·append-right}
 use native.Mathlib.Omega.{arith}
 use native.Mathlib.Decide.{decLt, ℕ-discrete}
-use lib.ListN.{length, getD, List·getD-append}
+use lib.ListN.{length, List·getD-append}
 use lib.Seq.{getD-append-seam}
 use lib.Dec.{eqb}
 use borrow.Author.Tests.{eq-eqb}
@@ -24,8 +24,8 @@ use Rattle.laws.specs.Distinct.{NotIn, not-in-two}
 use Rattle.laws.specs.Totals.{any-mem}
 use Rattle.trees.specs.Trees.{Tree, leaf, wiringIn, EachOnce}
 use Rattle.trees.specs.Forest.{treeAt, joined, withTrees, inputTrees, trees-length, inputs-length, input-at}
-use Rattle.trees.specs.NetTree.{TreeOf, net-tree, net-whole, net-uses-gates, net-uses-inputs}
-use Rattle.trees.specs.Fillings.{linkGroup, withGroups, groups-append, ownLink, Grouped, inputs-grouped, grouped-after, groupsAfter, groupsBelow, left-group, right-group}
+use Rattle.trees.specs.NetTree.{net-tree, net-whole, net-uses-gates, net-uses-inputs}
+use Rattle.trees.specs.Fillings.{linkGroup, withGroups, groups-append, ownLink, Grouped, inputs-grouped, grouped-after, groupsAfter, left-group, right-group}
 use Rattle.trees.specs.GateLinks.{linkOf, treeGroup, groupsIn, group-at, groups-joined, inputs-in}
 use Rattle.trees.specs.NormalWirings.{groupsJoined, Joins, SameGates, joins-left, joins-right, joins-own, joins-cases, joins-none, Turned, turned-same, same-turned}
 

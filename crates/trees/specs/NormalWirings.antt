@@ -1,20 +1,19 @@
 -- A wiring is known, up to which side is left, by its leaves and by the groups that its gates join. Its normal form has the first-listed input
 -- of every gate's group on the left.
 -- Assumes nothing.
-use Prim.Native.Nat.{ℕ, _+_, _^_, _≤_, _<_}
+use Prim.Native.Nat.{ℕ, _+_, _^_, _<_}
 use mathlib.Core.Path.{_≡_, refl, sym, ap, ap₂, _∙_, subst, subst⁻¹}
 use mathlib.Core.Logic.{_↔_, _⊎_, inl, inr, ⊎-elim}
-use mathlib.Core.Bool.{Bool, true, false, _&&_, _||_, true≢false}
+use mathlib.Core.Bool.{Bool, true, false, _&&_, true≢false}
 use mathlib.Core.List.{List, [], _∷_, _++_, List·Memᴰ, List·Memᴰ·head, List·Memᴰ·append-cases, List·Memᴰ·eq-of-singleton, List·Memᴰ·not-nil, Memᴰ·append-left, Memᴰ·append-right}
 use native.Mathlib.Nat.{add-comm}
 use native.Mathlib.Omega.{arith}
-use lib.Dec.{eqb}
-use borrow.Author.Tests.{eqb-true, eq-eqb}
+use borrow.Author.Tests.{eqb-true}
 use Rattle.rules.specs.Groups.{member}
 use Rattle.rules.specs.Marks.{inside}
 use Rattle.rules.specs.Wirings.{Wiring, input, gate, groupOf, firstInput}
-use Rattle.trees.specs.Trees.{Apart, EachOnce, EachGate}
-use Rattle.trees.specs.Members.{member-ext, member-single, member-join, join-below, inside-member, member-inside, inside-le, inside-join, first-member}
+use Rattle.trees.specs.Trees.{EachOnce, EachGate}
+use Rattle.trees.specs.Members.{member-single, member-join, inside-member, member-inside, inside-le, inside-join, first-member}
 use Rattle.trees.specs.Joins.{apart-sym}
 use Rattle.trees.specs.Wirings.{group-below, group-some}
 use Rattle.trees.specs.Carried.{first-single}
