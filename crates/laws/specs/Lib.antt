@@ -30,3 +30,5 @@ pub mod BareCells
 pub mod Multiplicity
 pub mod Extremes
 pub mod Listed
+pub mod Totals
+pub mod Sums

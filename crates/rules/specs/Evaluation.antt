@@ -15,6 +15,7 @@ use Rattle.rules.specs.Filling as filling
 use Rattle.rules.specs.Settled as settled
 use Rattle.rules.specs.Layers as layers
 use Rattle.rules.specs.Shallow as shallow
+use Rattle.rules.specs.Family as family
 use Rattle.rules.specs.Answers as answers
 use Rattle.rules.specs.Reading as reading
 use Rattle.rules.specs.BareCells as bareCells
@@ -29,5 +30,5 @@ use Rattle.rules.specs.Programs as programs
 use Rattle.rules.specs.Lister as lister
 
 unfoldable pub computing : Unit {0}
-unfolding lists.computing text.computing limits.computing fields.computing sheets.computing printed.computing value.computing groups.computing marks.computing wirings.computing filling.computing settled.computing layers.computing shallow.computing answers.computing reading.computing bareCells.computing multiplicity.computing marking.computing settling.computing shallowSettling.computing shallower.computing checking.computing tableWriting.computing programs.computing lister.computing
+unfolding lists.computing text.computing limits.computing fields.computing sheets.computing printed.computing value.computing groups.computing marks.computing wirings.computing filling.computing settled.computing layers.computing shallow.computing family.computing answers.computing reading.computing bareCells.computing multiplicity.computing marking.computing settling.computing shallowSettling.computing shallower.computing checking.computing tableWriting.computing programs.computing lister.computing
 computing = tt

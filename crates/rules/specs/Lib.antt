@@ -2,8 +2,10 @@
 -- Each definition's comment quotes the sentence that it states, or says what the definition is for. `Lists`, `Text` and
 -- `Fields` are the means; the rest follows the document's sections: Sheets (`Limits`, `Sheets`, `Printed`, `Kept`),
 -- `Value`, `Groups`, `Marks`, the settled net (`Wirings`, `Filling`, `Settled`; `SettledLaws` hold its choices to the document's words), then
--- the calls with what they turn back (`Answers`, `Reading` and `BareCells` are what they share; a file for each call or pair of calls follows), the starred
--- cases (`Cases`), every refusal by examples (`Refusals`), and what is judged first (`Orders`). `Evaluation` lets all of it compute.
+-- the calls with what they turn back (`Answers`, `Reading` and `BareCells` are what they share; a file for each call or pair of calls
+-- follows), the starred cases (`Cases`), every refusal by examples (`Refusals`), and what is judged first (`Orders`). Of document 02: shallow
+-- nets (`Layers`, `Shallow`, `ShallowSettling`, `Shallower`, with `ShallowCases`) and every wiring of a table (`Family`, with `FamilyCases`).
+-- `Evaluation` lets all of it compute.
 -- Assumes nothing.
 pub mod Lists
 pub mod Text
@@ -21,6 +23,7 @@ pub mod Settled
 pub mod SettledLaws
 pub mod Layers
 pub mod Shallow
+pub mod Family
 pub mod Answers
 pub mod Reading
 pub mod BareCells
@@ -36,5 +39,6 @@ pub mod Lister
 pub mod Evaluation
 pub mod Cases
 pub mod ShallowCases
+pub mod FamilyCases
 pub mod Refusals
 pub mod Orders

@@ -36,7 +36,7 @@ unfoldable pub withGroups : List ℕ → List Link → List ℕ
 withGroups groups [] = groups
 withGroups groups (l ∷ links) = withGroups (groups ++ (linkGroup groups l ∷ [])) links
 
-groups-append : (groups : List ℕ) (xs ys : List Link) → withGroups groups (xs ++ ys) ≡ withGroups (withGroups groups xs) ys
+pub groups-append : (groups : List ℕ) (xs ys : List Link) → withGroups groups (xs ++ ys) ≡ withGroups (withGroups groups xs) ys
 unfolding withGroups
 groups-append groups [] ys = refl
 groups-append groups (x ∷ xs) ys = groups-append (groups ++ (linkGroup groups x ∷ [])) xs ys
@@ -65,25 +65,25 @@ links-length n before (gate a b) =
 
 module _ (n : ℕ) where
   -- a gate's own line
-  abbrev ownLink : ℕ → Wiring → Wiring → Link
+  abbrev pub ownLink : ℕ → Wiring → Wiring → Link
   ownLink before a b = record { left = referenceTo n before a; right = referenceTo n (before + gatesIn a) b }
 
   -- `groups` has the groups of the references before a wiring's lines: the inputs' first
-  abbrev Grouped : ℕ → List ℕ → Type 0
+  abbrev pub Grouped : ℕ → List ℕ → Type 0
   Grouped before groups = (length groups ≡ n + before) × ((i : ℕ) → i < n → getD groups i 0 ≡ 2 ^ i)
 
   -- and a wiring's lines add its gates' groups
-  abbrev groupsAfter : List ℕ → ℕ → Wiring → List ℕ
+  abbrev pub groupsAfter : List ℕ → ℕ → Wiring → List ℕ
   groupsAfter groups before w = withGroups groups (linksOf n before w)
 
-  grouped-after : (before : ℕ) (groups : List ℕ) (w : Wiring) → Grouped before groups → Grouped (before + gatesIn w) (groupsAfter groups before w)
+  pub grouped-after : (before : ℕ) (groups : List ℕ) (w : Wiring) → Grouped before groups → Grouped (before + gatesIn w) (groupsAfter groups before w)
   grouped-after before groups w grouped = (
     omega (arith, groups-length groups (linksOf n before w), links-length n before w, grouped .0),
     λ i h. groups-earlier groups (linksOf n before w) i (omega arith) ∙ grouped .1 i h,
   )
 
   -- the groups after the lines below a gate
-  abbrev groupsBelow : List ℕ → ℕ → Wiring → Wiring → List ℕ
+  abbrev pub groupsBelow : List ℕ → ℕ → Wiring → Wiring → List ℕ
   groupsBelow groups before a b = groupsAfter (groupsAfter groups before a) (before + gatesIn a) b
 
   -- before any line there are the inputs' groups
@@ -118,10 +118,10 @@ module _ (n : ℕ) where
 
   -- the same of both sides of a gate
   module _ (before : ℕ) (groups : List ℕ) (a b : Wiring) (once : EachOnce n (gate a b)) (grouped : Grouped before groups) where
-    left-group : getD (groupsBelow groups before a b) (referenceTo n before a) 0 ≡ groupOf a
+    pub left-group : getD (groupsBelow groups before a b) (referenceTo n before a) 0 ≡ groupOf a
     left-group = left-kept before groups a b (once .1) grouped ∙ group-at-reference before groups a (once .1) grouped
 
-    right-group : getD (groupsBelow groups before a b) (referenceTo n (before + gatesIn a) b) 0 ≡ groupOf b
+    pub right-group : getD (groupsBelow groups before a b) (referenceTo n (before + gatesIn a) b) 0 ≡ groupOf b
     right-group =
         group-at-reference (before + gatesIn a) (groupsAfter groups before a) b (once .2) (grouped-after before groups a grouped)
 

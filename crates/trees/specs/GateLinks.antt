@@ -26,7 +26,7 @@ use Rattle.trees.specs.Homes.{Grown, grown-inputs, sides-apart, grown-sn
 use Rattle.trees.specs.Fillings.{linkGroup, withGroups, groups-earlier, inputs-grouped, Fillable}
 
 -- a gate line without its table
-abbrev linkOf : Gate → Link
+abbrev pub linkOf : Gate → Link
 linkOf g = record { left = g .left; right = g .right }
 
 -- the links of a gate list
@@ -34,24 +34,29 @@ abbrev pub gateLinks : List Gate → List Link
 gateLinks gates = map linkOf gates
 
 -- the group of the inputs below a tree
-abbrev treeGroup : Tree → ℕ
+abbrev pub treeGroup : Tree → ℕ
 treeGroup t = groupOf (wiringIn t)
 
 -- the groups of all references
-abbrev groupsIn : List Tree → List ℕ
+abbrev pub groupsIn : List Tree → List ℕ
 groupsIn forest = map treeGroup forest
 
 -- a reference's group is its tree's
-group-at : (forest : List Tree) (r : ℕ) → r < length forest → getD (groupsIn forest) r 0 ≡ treeGroup (treeAt forest r)
+pub group-at : (forest : List Tree) (r : ℕ) → r < length forest → getD (groupsIn forest) r 0 ≡ treeGroup (treeAt forest r)
 group-at forest r h = map-at treeGroup forest r (leaf 0) 0 h
 
 -- one gate more
-groups-joined : (forest : List Tree) (g : Gate) → g .left < length forest → g .right < length forest
+pub groups-joined : (forest : List Tree) (g : Gate) → g .left < length forest → g .right < length forest
     → groupsIn forest ++ (linkGroup (groupsIn forest) (linkOf g) ∷ []) ≡ groupsIn (forest ++ (joined forest g ∷ []))
 unfolding groupOf
 groups-joined forest g l< r< =
     ap (λ (k : ℕ). groupsIn forest ++ (k ∷ [])) (ap₂ (λ (a b : ℕ). a + b) (group-at forest (g .left) l<) (group-at forest (g .right) r<))
     ∙ sym (map-append treeGroup forest (joined forest g ∷ []))
+
+-- the inputs' trees have the inputs' groups
+pub inputs-in : (n : ℕ) → groupsIn (inputTrees n) ≡ inputGroups n
+unfolding inputTrees inputGroups groupOf
+inputs-in n = map-map treeGroup leaf (range 0 n)
 
 module _ (m n : ℕ) (f : ℕ → ℕ) where
   -- every reference's group has at most m classes
@@ -102,18 +107,13 @@ module _ (m n : ℕ) (f : ℕ → ℕ) where
         (subst (λ (gs : List ℕ). AllFew gs (gateLinks gates)) grow (λ r h. few r (omega arith))) in
         (omega arith, omega arith, parts, subst⁻¹ (λ (gs : List ℕ). Fillable m n f gs (gateLinks gates)) grow rest)
 
-    -- the inputs' trees have the inputs' groups
-    inputs-in : groupsIn (inputTrees n) ≡ inputGroups n
-    unfolding inputTrees inputGroups groupOf
-    inputs-in = map-map treeGroup leaf (range 0 n)
-
     pub gates-fillable : (gates : List Gate) → GateRules m n gates
         → ((k : ℕ) → k < length gates → Few m n f (getD (withGroups (inputGroups n) (gateLinks gates)) (n + k) 0))
         → Fillable m n f (inputGroups n) (gateLinks gates)
     gates-fillable gates rules few =
-        subst (λ (gs : List ℕ). Fillable m n f gs (gateLinks gates)) inputs-in
+        subst (λ (gs : List ℕ). Fillable m n f gs (gateLinks gates)) (inputs-in n)
         (fillable-gates gates [] (inputTrees n) (grown-inputs m n) (rw inputs-length (rules .back)) (rules .once) (rules .tables)
-        (subst⁻¹ (λ (gs : List ℕ). AllFew gs (gateLinks gates)) inputs-in all))
+        (subst⁻¹ (λ (gs : List ℕ). AllFew gs (gateLinks gates)) (inputs-in n) all))
       where
         count : length (gateLinks gates) ≡ length gates
         count = length-map gates linkOf

@@ -39,3 +39,10 @@ pub mod Choices
 pub mod Shallow
 pub mod ShallowNet
 pub mod ShallowTables
+pub mod NormalWirings
+pub mod FamilyCounts
+pub mod Families
+pub mod FamilyWirings
+pub mod GateGroups
+pub mod FamilyNets
+pub mod FamilyBounds
