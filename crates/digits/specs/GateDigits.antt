@@ -1,10 +1,10 @@
 -- A gate's digits from the samples of its two wires alone: the digit at (u, v) is what the gate gives at the sum of left's sample u
 -- and right's sample v, and 0 where one of the two has no such sample.
 -- Assumes nothing.
-use Prim.Native.Nat.{ℕ, zero, suc, _+_, _*_, _/_, _%_, _≤_, _<_}
+use Prim.Native.Nat.{ℕ, _+_, _*_, _/_, _%_, _≤_, _<_}
 use mathlib.Core.Path.{_≡_, refl, sym, ap, _∙_, subst₂}
 use mathlib.Core.Bool.{Bool, true, false, cond}
-use mathlib.Core.List.{List, [], _∷_, map}
+use mathlib.Core.List.{List, map}
 use native.Mathlib.Nat.{zero-add, mod-lt, div-add-mod', div-lt-iff-lt-mul}
 use native.Mathlib.Decide.{decLt}
 use native.Mathlib.Omega.{arith}
@@ -19,6 +19,7 @@ use Rattle.laws.specs.Ranges.{map-range-length, map-range-at}
 use Rattle.trees.specs.DigitRule.{Parts, DigitRule, digit-rule}
 use Rattle.digits.specs.Sums.{sum-left, sum-right, sum-own}
 use Rattle.digits.specs.Samples.{samples, samples-own, Sampled, sampled}
+use Rattle.laws.specs.FirstPlaces.{place-at-most}
 
 -- ---- the definition
 
@@ -38,15 +39,6 @@ sampledDigit left right own u v = cond (ltb u (length left)) (cond (ltb v (lengt
 -- "left's level slowest"
 unfoldable pub sampledDigits : ℕ → List ℕ → List ℕ → (ℕ → ℕ) → List ℕ
 sampledDigits m left right own = map (λ k. sampledDigit left right own (k / m) (k % m)) (range 0 (m * m))
-
-place-at-most : (test : ℕ → Bool) (xs : List ℕ) → firstPlace test xs ≤ length xs
-unfolding firstPlace
-place-at-most test [] = omega arith
-place-at-most test (x ∷ xs) = go (test x) (place-at-most test xs)
-  where
-    go : (b : Bool) → firstPlace test xs ≤ length xs → elim b as (λ _. ℕ) [ true ↦ zero | false ↦ suc (firstPlace test xs) ] ≤ suc (length xs)
-    go true later = omega arith
-    go false later = omega arith
 
 -- a class's number is at most the number of classes
 pub given-at-most : (f : ℕ → ℕ) (ys firsts : List ℕ) (p : ℕ) → givenFrom f ys firsts false p ≤ length firsts

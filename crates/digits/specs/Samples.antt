@@ -17,7 +17,7 @@ use Rattle.rules.specs.Sheets.{level}
 use Rattle.rules.specs.Groups.{member, points, part, size, classes, multiplicity}
 use Rattle.rules.specs.Wirings.{firstInput}
 use Rattle.rules.specs.Filling.{carried, classNumber}
-use Rattle.laws.specs.Concat.{map-same}
+use Rattle.laws.specs.Concat.{map-same, concat-single}
 use Rattle.laws.specs.Ranges.{map-range-length, map-range-at}
 use Rattle.radix.specs.Fronts.{Front}
 use Rattle.groups.specs.Firsts.{Counted}
@@ -35,11 +35,6 @@ points-none : (m n g : ℕ) → ((i : ℕ) → i < n → member i g ≡ false) �
 unfolding points concatMap
 points-none m zero g none = refl
 points-none m (suc n) g none = rw (points-none m n g (λ i h. none i (le-step h)), none n (le-refl (suc n)), zero-mul)
-
-concat-single : (f : ℕ → ℕ) (xs : List ℕ) → concatMap (λ x. f x ∷ []) xs ≡ map f xs
-unfolding concatMap
-concat-single f [] = refl
-concat-single f (x ∷ xs) = ap {B = List ℕ} (λ r. f x ∷ r) (concat-single f xs)
 
 level-alone : (m l : ℕ) → 0 * m + l ≡ l * m ^ 0
 level-alone m l = rw (zero-mul, zero-add, pow-zero, mul-one)

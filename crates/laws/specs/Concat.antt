@@ -4,6 +4,7 @@ use Prim.Native.Nat.{ℕ, _*_}
 use mathlib.Core.Path.{_≡_, refl, sym, ap, _∙_}
 use mathlib.Core.Logic.{_⊎_, inl, inr}
 use mathlib.Core.List.{List, [], _∷_, _++_, map, append-assoc, List·Memᴰ, List·Memᴰ·head, List·Memᴰ·tail, List·Memᴰ·append-cases, Memᴰ·append-left, Memᴰ·append-right, List·Memᴰ·not-nil}
+use Rattle.rules.specs.Lists.{concatMap}
 pub use mathlib.Core.List.{map-append}
 use native.Mathlib.Nat.{zero-mul, suc-mul, add-comm}
 use lib.ListN.{length, length-append}
@@ -65,3 +66,8 @@ module _ {A B : Type 0} (f : A → List B) where
       go : List·Memᴰ y (f x) ⊎ List·Memᴰ y (concatMap f xs) → (List·Memᴰ y (concatMap f xs) → Source xs) → Source (x ∷ xs)
       go (inl i) rest = (x, List·Memᴰ·head refl, i)
       go (inr i) rest = let s = rest i in (s .0, List·Memᴰ·tail (s .1), s .2)
+
+pub concat-single : (f : ℕ → ℕ) (xs : List ℕ) → concatMap (λ x. f x ∷ []) xs ≡ map f xs
+unfolding concatMap
+concat-single f [] = refl
+concat-single f (x ∷ xs) = ap {B = List ℕ} (λ r. f x ∷ r) (concat-single f xs)

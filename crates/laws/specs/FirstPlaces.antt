@@ -132,3 +132,12 @@ unfolding firstPlace range
 stop-at test b c h e =
     let count : c - b ≡ suc (c - b - 1) = omega arith in
     rw (count, e, firstPlace) (add-zero b)
+
+pub place-at-most : (test : ℕ → Bool) (xs : List ℕ) → firstPlace test xs ≤ length xs
+unfolding firstPlace
+place-at-most test [] = omega arith
+place-at-most test (x ∷ xs) = go (test x) (place-at-most test xs)
+  where
+    go : (b : Bool) → firstPlace test xs ≤ length xs → elim b as (λ _. ℕ) [ true ↦ zero | false ↦ suc (firstPlace test xs) ] ≤ suc (length xs)
+    go true later = omega arith
+    go false later = omega arith
