@@ -1,8 +1,9 @@
 //! What a good engineer writes in an afternoon: offset lists for each group, an early exit at the first difference, splits by
 //! subset enumeration. Not the second implementation, which is plain rather than quick.
 
+use crate::plain_sheets::read_table;
 use reference::net::{Gate, Net, Wire};
-use reference::sheet::{print_net_sheet, read_table_sheet};
+use reference::sheet::print_net_sheet;
 
 /// The offsets of a group's assignments into the cells, first-listed member slowest.
 fn offsets(m: usize, n: usize, group: usize, out: &mut Vec<usize>) {
@@ -156,13 +157,13 @@ fn add_gates(
 
 /// A table sheet's settled net sheet, or nothing where there is no tree.
 pub fn making(sheet: &[u8]) -> Option<Vec<u8>> {
-    let (header, table) = read_table_sheet(sheet).ok()?;
+    let (header, inks) = read_table(sheet)?;
     let (m, n) = (header.m, header.n);
     let mut marks = vec![0; 1 << n];
-    if marking(m, n, &table.inks, &mut marks) != 2 {
+    if marking(m, n, &inks, &mut marks) != 2 {
         return None;
     }
     let mut gates = Vec::new();
-    add_gates(m, n, &table.inks, &marks, (1 << n) - 1, &mut gates);
+    add_gates(m, n, &inks, &marks, (1 << n) - 1, &mut gates);
     Some(print_net_sheet(&header, &Net { m, n, gates }))
 }

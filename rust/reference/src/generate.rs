@@ -2,7 +2,7 @@
 //! gives the same sheets.
 
 use crate::limits::{allowed_sizes, MOST_NAME_BYTES};
-use crate::net::{Gate, Net, Table, Wire};
+use crate::net::{all_inputs, place_in_count, Gate, Net, Table, Wire};
 use crate::rng::Rng;
 use crate::sheet::{print_net_sheet, print_table_sheet, Header};
 
@@ -21,16 +21,25 @@ pub enum TableKind {
     Sum,
     /// Least and greatest by turns down the list of inputs.
     MinMaxChain,
+    /// One random gate after another, each with one more input, in any order.
+    AnyChain,
+    /// All 0 but for a few cells near the end.
+    FewCells,
+    /// Random inks that hang on three inputs alone.
+    ThreeMatter,
 }
 
 impl TableKind {
-    pub const ALL: [TableKind; 6] = [
+    pub const ALL: [TableKind; 9] = [
         TableKind::OfNet,
         TableKind::OneInkChanged,
         TableKind::Random,
         TableKind::Constant,
         TableKind::Sum,
         TableKind::MinMaxChain,
+        TableKind::AnyChain,
+        TableKind::FewCells,
+        TableKind::ThreeMatter,
     ];
 }
 
@@ -126,6 +135,9 @@ impl Generator {
             }
             TableKind::Sum => Table::of(m, n, |levels| sum(levels, m)),
             TableKind::MinMaxChain => Table::of(m, n, min_max_chain),
+            TableKind::AnyChain => self.any_chain(m, n).table(),
+            TableKind::FewCells => self.few_cells(m, n),
+            TableKind::ThreeMatter => self.three_matter(m, n),
         }
     }
 
@@ -143,6 +155,50 @@ impl Generator {
             *ink = self.rng.level(m);
         }
         table
+    }
+
+    /// The inputs in a random order, each joined to the gate before it, on
+    /// either side.
+    fn any_chain(&mut self, m: usize, n: usize) -> Net {
+        let mut inputs: Vec<Wire> = (0..n).map(Wire::Input).collect();
+        self.rng.shuffle(&mut inputs);
+        let mut end = inputs[0];
+        let mut gates = Vec::new();
+        for &input in &inputs[1..] {
+            let (left, right) = match self.rng.below(2) {
+                0 => (end, input),
+                _ => (input, end),
+            };
+            let digits = self.digits(m);
+            gates.push(Gate {
+                left,
+                right,
+                digits,
+            });
+            end = Wire::Gate(gates.len());
+        }
+        Net { m, n, gates }
+    }
+
+    /// One to four cells of the last eighth are not 0.
+    fn few_cells(&mut self, m: usize, n: usize) -> Table {
+        let mut table = Table::of(m, n, |_| 0);
+        let cells = table.inks.len();
+        for _ in 0..1 + self.rng.below(4) {
+            let from_the_end = self.rng.below(cells.div_ceil(8));
+            table.inks[cells - 1 - from_the_end] = 1 + self.rng.level(m - 1);
+        }
+        table
+    }
+
+    fn three_matter(&mut self, m: usize, n: usize) -> Table {
+        let mut inputs = all_inputs(n);
+        self.rng.shuffle(&mut inputs);
+        inputs.truncate(3);
+        let inner = self.random_table(m, inputs.len());
+        Table::of(m, n, |levels| {
+            inner.inks[place_in_count(levels, &inputs, m)]
+        })
     }
 
     /// A good net sheet.

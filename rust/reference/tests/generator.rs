@@ -5,6 +5,7 @@ mod common;
 use common::*;
 use reference::damage::{byte_damages, Damage};
 use reference::generate::{Generator, TableKind};
+use reference::net::Table;
 use reference::sheet::{print_net_sheet, print_table_sheet, read_net_sheet, read_table_sheet};
 use reference::{allowed_sizes, Refusal};
 use std::collections::HashMap;
@@ -76,11 +77,42 @@ fn tables_are_made_or_refused_as_their_kind_tells() {
                 TableKind::Random if n >= 4 => {
                     assert_eq!(result.expect_err("no tree").number, 16, "{m} {n}")
                 }
-                TableKind::Random | TableKind::OneInkChanged => {}
+                TableKind::Random
+                | TableKind::OneInkChanged
+                | TableKind::FewCells
+                | TableKind::ThreeMatter => {}
                 _ => assert!(result.is_ok(), "{m} {n} {kind:?}"),
             }
         }
     }
+}
+
+/// Whether some two assignments that differ at this input alone differ in ink.
+fn matters(table: &Table, input: usize) -> bool {
+    let (m, n) = (table.m, table.n);
+    let weight = m.pow((n - 1 - input) as u32);
+    (0..table.inks.len()).any(|index| {
+        let level = index / weight % m;
+        table.inks[index] != table.inks[index - level * weight]
+    })
+}
+
+#[test]
+fn few_cells_near_the_end_and_three_inputs_that_matter() {
+    let mut generator = Generator::new(92);
+    for (m, n) in allowed_sizes() {
+        let (m, n) = (m as usize, n as usize);
+        let inks = generator.table(m, n, TableKind::FewCells).inks;
+        let zeros = inks.iter().take_while(|&&ink| ink == 0).count();
+        let others = inks.iter().filter(|&&ink| ink != 0).count();
+        assert!((1..=4).contains(&others));
+        assert!(zeros + inks.len().div_ceil(8) >= inks.len());
+        let table = generator.table(m, n, TableKind::ThreeMatter);
+        let matter = (0..n).filter(|&input| matters(&table, input)).count();
+        assert!(matter <= 3);
+    }
+    let table = generator.table(2, 11, TableKind::ThreeMatter);
+    assert!((0..11).any(|input| matters(&table, input)));
 }
 
 /// The end of the run of bytes that starts at the refused place.

@@ -1,0 +1,222 @@
+//! The stack that each call of the C interface takes: `cargo run --offline --release -q -p bench --bin stack`. It is no test.
+//!
+//! A thread's stack is painted below where it stands, a call is made, and the lowest place where the paint is gone says how deep the
+//! call went. So what is measured is the deepest byte written; the frames of the measuring are in it, some hundred bytes.
+
+// the C interface itself, without the safe functions over it
+#[allow(dead_code)]
+#[path = "../../../sitgurp/src/ffi.rs"]
+mod ffi;
+
+use reference::generate::{Generator, TableKind};
+use reference::sheet::{print_net_sheet, print_table_sheet};
+use std::hint::black_box;
+use std::thread;
+
+/// The largest size for each number of levels.
+const SIZES: [(usize, usize); 8] = [
+    (2, 11),
+    (3, 7),
+    (4, 5),
+    (5, 4),
+    (6, 4),
+    (7, 3),
+    (8, 3),
+    (9, 3),
+];
+const STACK: usize = 8 << 20;
+const PAINTED: usize = 6 << 20;
+/// Left unpainted below the painter's own place, for its own frame.
+const GAP: usize = 512;
+const PAINT: u64 = 0xa5c3_965a_3c69_e187;
+
+/// What a call is lent: a table, the sheets of it, and buffers that suffice.
+struct Lent {
+    m: usize,
+    n: usize,
+    bare: Vec<u8>,
+    table: Vec<u8>,
+    net: Vec<u8>,
+    cells: Vec<u8>,
+    marks: Vec<u8>,
+    output: Vec<u8>,
+}
+
+impl Lent {
+    /// A table of a kind, and beside it its own net or, where it has none, another under the same header.
+    fn new(m: usize, n: usize, kind: TableKind) -> Lent {
+        let mut generator = Generator::new(17);
+        let header = generator.header(m, n);
+        let table = generator.table(m, n, kind);
+        let sheet = print_table_sheet(&header, &table);
+        let mut other = || print_net_sheet(&header, &generator.net(m, n));
+        Lent {
+            m,
+            n,
+            net: sitgurp::made(&sheet).unwrap_or_else(|_| other()),
+            bare: table.inks,
+            table: sheet,
+            cells: vec![0; sitgurp::MOST_CELLS],
+            marks: vec![0; sitgurp::MOST_MARKS],
+            output: vec![0; sitgurp::MOST_TABLE_SHEET],
+        }
+    }
+
+    /// A call on the table sheet or on the net sheet, with all three buffers.
+    fn sheet_call<A>(&mut self, call: ffi::SheetCall<A>, of_net: bool) {
+        let sheet = if of_net { &self.net } else { &self.table };
+        let (cells, marks, output) = (&mut self.cells, &mut self.marks, &mut self.output);
+        let answer = unsafe {
+            call(
+                sheet.as_ptr(),
+                sheet.len(),
+                cells.as_mut_ptr(),
+                cells.len(),
+                marks.as_mut_ptr(),
+                marks.len(),
+                output.as_mut_ptr(),
+                output.len(),
+            )
+        };
+        black_box(answer);
+    }
+}
+
+type Call = fn(&mut Lent);
+
+const CALLS: [(&str, Call); 10] = [
+    ("sitgurp_multiplicity", multiplicity),
+    ("sitgurp_marking", marking),
+    ("sitgurp_settle", |lent| {
+        lent.sheet_call(ffi::sitgurp_settle, true)
+    }),
+    ("sitgurp_make", |lent| {
+        lent.sheet_call(ffi::sitgurp_make, false)
+    }),
+    ("sitgurp_settle_shallow", |lent| {
+        lent.sheet_call(ffi::sitgurp_settle_shallow, true)
+    }),
+    ("sitgurp_make_shallow", |lent| {
+        lent.sheet_call(ffi::sitgurp_make_shallow, false)
+    }),
+    ("sitgurp_shallower", shallower),
+    ("sitgurp_check", check),
+    ("sitgurp_write_table", write_table),
+    ("sitgurp_gate_line", gate_line),
+];
+
+/// Of half the inputs and of all of them.
+fn multiplicity(lent: &mut Lent) {
+    let bare = &lent.bare;
+    for members in [lent.n / 2, lent.n] {
+        let group = (1 << members) - 1;
+        black_box(unsafe {
+            ffi::sitgurp_multiplicity(lent.m, lent.n, bare.as_ptr(), bare.len(), group)
+        });
+    }
+}
+
+fn marking(lent: &mut Lent) {
+    let (bare, marks) = (&lent.bare, &mut lent.marks);
+    black_box(unsafe {
+        ffi::sitgurp_marking(
+            lent.m,
+            lent.n,
+            bare.as_ptr(),
+            bare.len(),
+            marks.as_mut_ptr(),
+            marks.len(),
+        )
+    });
+}
+
+fn shallower(lent: &mut Lent) {
+    let net = &lent.net;
+    black_box(unsafe { ffi::sitgurp_shallower(net.as_ptr(), net.len(), net.as_ptr(), net.len()) });
+}
+
+fn check(lent: &mut Lent) {
+    let (net, table, cells) = (&lent.net, &lent.table, &mut lent.cells);
+    black_box(unsafe {
+        ffi::sitgurp_check(
+            net.as_ptr(),
+            net.len(),
+            table.as_ptr(),
+            table.len(),
+            cells.as_mut_ptr(),
+            cells.len(),
+        )
+    });
+}
+
+fn write_table(lent: &mut Lent) {
+    let (net, output) = (&lent.net, &mut lent.output);
+    black_box(unsafe {
+        ffi::sitgurp_write_table(net.as_ptr(), net.len(), output.as_mut_ptr(), output.len())
+    });
+}
+
+fn gate_line(lent: &mut Lent) {
+    let net = &lent.net;
+    black_box(unsafe { ffi::sitgurp_gate_line(net.as_ptr(), net.len(), lent.n - 2) });
+}
+
+/// Words of paint from an address on.
+#[inline(never)]
+fn paint(from: usize, words: usize) {
+    for word in 0..words {
+        unsafe { ((from + 8 * word) as *mut u64).write_volatile(PAINT) };
+    }
+}
+
+/// How many words of paint are left from an address on.
+#[inline(never)]
+fn left(from: usize, words: usize) -> usize {
+    let painted =
+        |word: &usize| unsafe { ((from + 8 * word) as *const u64).read_volatile() } == PAINT;
+    (0..words).take_while(painted).count()
+}
+
+/// The bytes of stack below this function's own place that a call writes. The thread's stack must be far longer than what is painted.
+#[inline(never)]
+fn depth(call: Call, lent: &mut Lent) -> usize {
+    let here = 0u8;
+    let top = (black_box(&raw const here) as usize - GAP) & !7;
+    let bottom = top - PAINTED;
+    paint(bottom, PAINTED / 8);
+    call(lent);
+    let left = left(bottom, PAINTED / 8);
+    assert!(left > 0, "the call went below the paint");
+    GAP + top - (bottom + 8 * left)
+}
+
+/// A thread of its own for each call, so that its whole stack is there to be painted.
+fn on_a_thread(call: Call, lent: &mut Lent) -> usize {
+    thread::scope(|scope| {
+        let thread = thread::Builder::new().stack_size(STACK);
+        let measured = thread.spawn_scoped(scope, || depth(call, lent));
+        measured.expect("a thread").join().expect("a depth")
+    })
+}
+
+fn main() {
+    let mut deepest = (0, "", (0, 0));
+    println!("{:26}{:>8}  at m n", "call", "bytes");
+    for (name, call) in CALLS {
+        let mut most = (0, (0, 0));
+        for (m, n) in SIZES {
+            for kind in TableKind::ALL {
+                let bytes = on_a_thread(call, &mut Lent::new(m, n, kind));
+                // the first of the deepest
+                if bytes > most.0 {
+                    most = (bytes, (m, n));
+                }
+            }
+        }
+        let (bytes, (m, n)) = most;
+        println!("{name:26}{bytes:>8}  {m} {n}");
+        deepest = deepest.max((bytes, name, (m, n)));
+    }
+    let (bytes, name, (m, n)) = deepest;
+    println!("the largest: {bytes} bytes, {name} at {m} {n}");
+}

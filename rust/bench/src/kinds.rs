@@ -1,0 +1,38 @@
+//! What is timed on: the kinds of table, and some tables and sheets of each.
+
+use reference::generate::{Generator, TableKind};
+
+pub const SIZES: [(usize, usize); 5] = [(2, 11), (3, 7), (4, 5), (5, 4), (9, 3)];
+pub const KINDS: [(&str, TableKind); 9] = [
+    ("random", TableKind::Random),
+    ("tree", TableKind::OfNet),
+    ("sum", TableKind::Sum),
+    ("chain", TableKind::MinMaxChain),
+    ("constant", TableKind::Constant),
+    ("any chain", TableKind::AnyChain),
+    ("few cells", TableKind::FewCells),
+    ("one other", TableKind::OneInkChanged),
+    ("three", TableKind::ThreeMatter),
+];
+/// So many tables of a kind are timed together.
+pub const TABLES: usize = 5;
+
+pub fn names() -> [&'static str; KINDS.len()] {
+    KINDS.map(|(name, _)| name)
+}
+
+/// The cells of so many tables.
+pub fn tables(seed: u64, m: usize, n: usize, kind: TableKind, count: usize) -> Vec<Vec<u8>> {
+    let mut generator = Generator::new(seed);
+    (0..count)
+        .map(|_| generator.table(m, n, kind).inks)
+        .collect()
+}
+
+/// Some table sheets.
+pub fn sheets(seed: u64, m: usize, n: usize, kind: TableKind) -> Vec<Vec<u8>> {
+    let mut generator = Generator::new(seed);
+    (0..TABLES)
+        .map(|_| generator.table_sheet(m, n, kind))
+        .collect()
+}

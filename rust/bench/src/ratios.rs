@@ -1,0 +1,157 @@
+//! One ratio for each thing that is timed. Before its time is taken, what both give is compared.
+
+use crate::kinds::{sheets, tables, TABLES};
+use crate::timing::{least, ratio};
+use crate::{plain, plain_sheets};
+use reference::generate::{Generator, TableKind};
+use reference::sheet::{print_net_sheet, read_table_sheet};
+use sitgurp::Verdict;
+use std::hint::black_box;
+use std::time::Duration;
+
+/// The library's time to mark so many tables, and plain Rust's.
+pub fn marking_times(m: usize, n: usize, kind: TableKind, count: usize) -> (Duration, Duration) {
+    let tables = tables(11, m, n, kind, count);
+    let mut marks = vec![0u8; 1 << n];
+    let mut plain_marks = vec![0u8; 1 << n];
+    for cells in &tables {
+        sitgurp::marking(m, n, cells, &mut marks).expect("bare cells are good");
+        plain::marking(m, n, cells, &mut plain_marks);
+        assert_eq!(marks, plain_marks, "both mark alike");
+    }
+    let proved = least(&tables, |cells| {
+        black_box(sitgurp::marking(m, n, black_box(cells), &mut marks)).ok();
+    });
+    let plain = least(&tables, |cells| {
+        black_box(plain::marking(m, n, black_box(cells), &mut plain_marks));
+    });
+    (proved, plain)
+}
+
+pub fn marking(m: usize, n: usize, kind: TableKind) -> f64 {
+    let (proved, plain) = marking_times(m, n, kind, TABLES);
+    ratio(proved, plain)
+}
+
+/// Every group's number of classes, one call a group.
+pub fn counting(m: usize, n: usize, kind: TableKind) -> f64 {
+    let tables = tables(15, m, n, kind, TABLES);
+    let groups = 1..1usize << n;
+    let proved = |cells: &[u8], group| sitgurp::multiplicity(m, n, cells, group).ok();
+    let second = |cells: &[u8], group| {
+        let count = reference::multiplicity(m as u64, n as u64, cells, group as u64);
+        count.ok().map(|count| count as usize)
+    };
+    for cells in &tables {
+        for group in groups.clone() {
+            let counts = (proved(cells, group), second(cells, group));
+            assert_eq!(counts.0, counts.1, "both count alike");
+        }
+    }
+    let all_groups = |count: &dyn Fn(&[u8], usize) -> Option<usize>| {
+        least(&tables, |cells| {
+            for group in groups.clone() {
+                black_box(count(black_box(cells), group));
+            }
+        })
+    };
+    ratio(all_groups(&proved), all_groups(&second))
+}
+
+pub fn making(m: usize, n: usize, kind: TableKind) -> f64 {
+    let sheets = sheets(12, m, n, kind);
+    for sheet in &sheets {
+        let (made, plain) = (sitgurp::made(sheet).ok(), plain::making(sheet));
+        assert_eq!(made, plain, "both make alike");
+    }
+    let proved = least(&sheets, |sheet| {
+        black_box(sitgurp::made(black_box(sheet))).ok();
+    });
+    let plain = least(&sheets, |sheet| {
+        black_box(plain::making(black_box(sheet)));
+    });
+    ratio(proved, plain)
+}
+
+/// Shallow making against making, both the library's. A table without a tree is refused by both after its marks.
+pub fn shallow_making(m: usize, n: usize, kind: TableKind) -> f64 {
+    let sheets = sheets(16, m, n, kind);
+    for sheet in &sheets {
+        let (shallow, settled) = (sitgurp::made_shallow(sheet), sitgurp::made(sheet));
+        assert_eq!(
+            shallow.map(|(net, _)| sitgurp::table_of(&net)),
+            settled.map(|net| sitgurp::table_of(&net)),
+            "both refuse, or make a net with the same table"
+        );
+    }
+    let shallow = least(&sheets, |sheet| {
+        black_box(sitgurp::made_shallow(black_box(sheet))).ok();
+    });
+    let settled = least(&sheets, |sheet| {
+        black_box(sitgurp::made(black_box(sheet))).ok();
+    });
+    ratio(shallow, settled)
+}
+
+/// What the library's time is held against: plain Rust, or the second implementation.
+#[derive(Clone, Copy, PartialEq, Eq)]
+pub enum Against {
+    Plain,
+    Second,
+}
+
+/// Reading alone: with no cells buffer making reads the whole sheet and is then refused with 13.
+pub fn reading(m: usize, n: usize, kind: TableKind, against: Against) -> f64 {
+    let sheets = sheets(13, m, n, kind);
+    let proved = least(&sheets, |sheet| {
+        black_box(sitgurp::make(black_box(sheet), &mut [], &mut [], &mut [])).ok();
+    });
+    let other = match against {
+        Against::Plain => least(&sheets, |sheet| {
+            black_box(plain_sheets::read_table(black_box(sheet))).expect("a good sheet");
+        }),
+        Against::Second => least(&sheets, |sheet| {
+            black_box(reference::make(black_box(sheet), &mut [], &mut [], &mut [])).ok();
+        }),
+    };
+    ratio(proved, other)
+}
+
+/// A table sheet, and beside it its own net; where it has none, a net under the same header.
+fn net_and_table(sheet: Vec<u8>, generator: &mut Generator) -> (Vec<u8>, Vec<u8>) {
+    let net = sitgurp::made(&sheet).unwrap_or_else(|_| {
+        let (header, _) = read_table_sheet(&sheet).expect("a good sheet");
+        print_net_sheet(&header, &generator.net(header.m, header.n))
+    });
+    (net, sheet)
+}
+
+/// A net sheet against a table sheet. A table with a tree is checked to its last cell, any other to the first that differs.
+pub fn checking(m: usize, n: usize, kind: TableKind, against: Against) -> f64 {
+    let mut generator = Generator::new(14);
+    let sheets = sheets(14, m, n, kind).into_iter();
+    let sheets: Vec<(Vec<u8>, Vec<u8>)> = sheets
+        .map(|sheet| net_and_table(sheet, &mut generator))
+        .collect();
+    let mut cells = vec![0; sitgurp::MOST_CELLS];
+    for (net, table) in &sheets {
+        let verdict = match sitgurp::check(net, table, &mut cells).expect("good sheets") {
+            Verdict::Agree => None,
+            Verdict::Differ(index) => Some(index),
+        };
+        let plain = plain_sheets::check(net, table, &mut cells);
+        assert_eq!(plain, Some(verdict), "both say the same");
+    }
+    let proved = least(&sheets, |(net, table)| {
+        black_box(sitgurp::check(black_box(net), table, &mut cells)).ok();
+    });
+    let other = match against {
+        Against::Plain => least(&sheets, |(net, table)| {
+            black_box(plain_sheets::check(black_box(net), table, &mut cells));
+        }),
+        Against::Second => least(&sheets, |(net, table)| {
+            black_box(reference::check(black_box(net), table, &mut cells)).ok();
+        }),
+    };
+    ratio(proved, other)
+}

@@ -1,0 +1,47 @@
+//! Times in one run, and tables of ratios.
+
+use std::time::{Duration, Instant};
+
+const ROUNDS: usize = 7;
+
+/// The least time of several rounds over all inputs.
+pub fn least<T>(inputs: &[T], mut work: impl FnMut(&T)) -> Duration {
+    (0..ROUNDS)
+        .map(|_| {
+            let start = Instant::now();
+            inputs.iter().for_each(&mut work);
+            start.elapsed()
+        })
+        .min()
+        .expect("some rounds")
+}
+
+pub fn ratio(one: Duration, other: Duration) -> f64 {
+    one.as_secs_f64() / other.as_secs_f64()
+}
+
+fn geometric_mean(ratios: &[f64]) -> f64 {
+    (ratios.iter().map(|ratio| ratio.ln()).sum::<f64>() / ratios.len() as f64).exp()
+}
+
+/// A line of ratios, one a column, and their geometric mean.
+fn line(name: &str, ratios: &[f64]) {
+    print!("{name:8}");
+    ratios.iter().for_each(|ratio| print!("{ratio:>10.2}"));
+    println!("{:>10.2}", geometric_mean(ratios));
+}
+
+/// A table of ratios: the columns' names, and the rows as they come.
+pub fn report(
+    title: &str,
+    corner: &str,
+    columns: &[&str],
+    rows: impl Iterator<Item = (String, Vec<f64>)>,
+) {
+    println!("{title}");
+    print!("{corner:8}");
+    columns.iter().for_each(|name| print!("{name:>10}"));
+    println!("{:>10}", "mean");
+    rows.for_each(|(name, ratios)| line(&name, &ratios));
+    println!();
+}
