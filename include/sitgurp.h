@@ -116,6 +116,24 @@ sitgurp_shallow sitgurp_make_shallow(const uint8_t *sheet, size_t sheet_length, 
                                      size_t marks_length, uint8_t *output, size_t output_length);
 
 /*
+ * How many trees compute the table of a table sheet, with the cells and the marks of sitgurp_make and no output. Trees that differ only in which
+ * side is left, in gate numbers or in gate tables count once. A table with no tree has count 0, and is not refused. The count is 64 bits wide; within
+ * the sizes of a sheet it is at most 654,729,075.
+ * Refusals: 1 to 6 (the sheet), 13 (cells too short), 14 (marks too short); the value of 13 and 14 is the length needed. A refusal changes no byte.
+ */
+sitgurp_answer sitgurp_family_count(const uint8_t *sheet, size_t sheet_length, uint8_t *cells, size_t cells_length, uint8_t *marks,
+                                    size_t marks_length);
+
+/*
+ * Makes the net sheet of the tree of that number, from 0, with the buffers of sitgurp_make. Number 0 is the settled net. Answers the sheet's length.
+ * The number is 64 bits wide, and so is the value of 17.
+ * Refusals: 1 to 6 (the sheet), 13, 14, 17 (the number is not below the count of trees; value is the number), 15. 17 and 15 leave cells and marks
+ * written and output as it was; every other refusal changes no byte.
+ */
+sitgurp_answer sitgurp_family_tree(const uint8_t *sheet, size_t sheet_length, uint64_t number, uint8_t *cells, size_t cells_length,
+                                   uint8_t *marks, size_t marks_length, uint8_t *output, size_t output_length);
+
+/*
  * Which of two net sheets has the net of fewer layers, as the two are wired and whatever their levels, inputs and names: the first when
  * level. A sheet that is refused loses to one that is accepted; where both are refused, an empty part of the first. Writes nothing.
  */

@@ -1,6 +1,7 @@
 pub mod Flat
 pub mod Marking
 pub mod GateLine
+pub mod Counted
 pub mod Made
 pub mod Layered
 pub mod Shallower

@@ -1,5 +1,7 @@
 // The calls for C and Rust, over numbers and byte slices, a file for each. include/sitgurp.h declares them.
 pub mod check;
+pub mod family_count;
+pub mod family_tree;
 pub mod flat;
 pub mod gate_line;
 pub mod layered;

@@ -91,7 +91,7 @@ pub record Ample (cells marks output : List ℕ) : Type 0 where
   pub output-most : mostSettled ≤ length output
 
 -- a call that left a sheet did not refuse
-no-refusal : (made : Made) (sheet : List ℕ) (number place : ℕ) → sheetOf made ≡ accepted sheet → made .answer ≡ refused number place → ⊥
+pub no-refusal : (made : Made) (sheet : List ℕ) (number place : ℕ) → sheetOf made ≡ accepted sheet → made .answer ≡ refused number place → ⊥
 unfolding sheetIn
 no-refusal made sheet number place e d = not-refused sheet number place (sym e ∙ ap (λ (a : Answer ℕ). sheetIn a (made .output)) d)
 

@@ -11,6 +11,8 @@ pub mod CheckingNumbers
 pub mod TableWritingNumbers
 pub mod ListingNumbers
 pub mod ShallowRefusals
+pub mod FamilyOutcomes
+pub mod FamilyNumbers
 pub mod NeverZero
 pub mod Makes
 pub mod Checks
@@ -24,3 +26,11 @@ pub mod Lengths
 pub mod Counting
 pub mod ShallowLengths
 pub mod RoomToSpare
+pub mod FamilyTables
+pub mod FamilyCounting
+pub mod FamilyTrees
+pub mod FamilySheets
+pub mod FamilyLengths
+pub mod FamilyTreeClause
+pub mod FamilyOrder
+pub mod FamilyRules

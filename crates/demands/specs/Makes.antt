@@ -17,7 +17,7 @@ use Rattle.rules.specs.Printed.{printedNet}
 use Rattle.rules.specs.Marks.{marksLength, storedMarks, noTreePlace}
 use Rattle.rules.specs.Kept.{KeptNet, KeptTable}
 use Rattle.rules.specs.Answers.{accepted, refused, inkIn, written}
-use Rattle.rules.specs.Settling.{Made, settledNet, writtenSheet, afterMarks, madeInto, settleCall, makeCall}
+use Rattle.rules.specs.Settling.{Made, settledNet, writtenSheet, afterMarks, roomFor, madeInto, settleCall, makeCall}
 use Rattle.rules.specs.Reading.{readNet, readTable, tableOfNet}
 use Rattle.laws.specs.Settling.{WholeTwo, marksOfTable, make-accepted, into-marked, marked-16, marked-tree}
 use Rattle.trees.specs.Existence.{TreeExists, tree-exists, settled-net}
@@ -27,7 +27,7 @@ use Rattle.readback.specs.Length.{net-length}
 use Rattle.readback.specs.ReadBack.{net-read-back, net-accepted, table-accepted}
 use Rattle.demands.specs.Settles.{sheetIn, sheetOf, Long, net-written, settles, table-path}
 use Rattle.laws.specs.Answers.{accepted-inj, not-refused, written-front}
-use Rattle.demands.specs.Numbers.{not-given}
+use Rattle.demands.specs.Numbers.{by-answer, not-given}
 use Rattle.laws.specs.Tests.{by-test}
 use Rattle.demands.specs.SettlingNumbers.{sheet-numbers}
 
@@ -96,8 +96,7 @@ pub into-accepted : (netFor : Table → Net) (t : Table) (cells marks output she
     → WholeTwo t × (printedNet (netFor t) ≡ sheet)
 unfolding madeInto sheetIn writtenSheet
 into-accepted netFor t cells marks output sheet =
-    by-test Wrote (ltb (length cells) (t .header .levels ^ t .header .inputs)) _ _ (λ e. absurd (not-refused sheet 13 _ (sym e)))
-    (by-test Wrote (ltb (length marks) (marksLength (t .header .inputs))) _ _ (λ e. absurd (not-refused sheet 14 _ (sym e))) (marked (ℕ-discrete _ 2)))
+    by-answer Wrote (roomFor t cells marks) _ _ (λ _ _. marked (ℕ-discrete _ 2)) (λ number place _ e. absurd (not-refused sheet number place (sym e)))
   where
     Wrote : Made → Type 0
     Wrote made = sheetOf made ≡ accepted sheet → WholeTwo t × (printedNet (netFor t) ≡ sheet)

@@ -10,6 +10,7 @@ use Rattle.rules.specs.Multiplicity.{multiplicityCall}
 use Rattle.rules.specs.Marking.{markingCall}
 use Rattle.rules.specs.Settling.{settleCall, makeCall}
 use Rattle.rules.specs.ShallowSettling.{settleShallowCall, makeShallowCall}
+use Rattle.rules.specs.FamilyCalls.{familyCountCall, familyTreeCall}
 use Rattle.rules.specs.Checking.{turnedDown, checkCall}
 use Rattle.rules.specs.TableWriting.{writeTableCall}
 use Rattle.rules.specs.Lister.{listing}
@@ -20,6 +21,8 @@ use Rattle.demands.specs.MultiplicityNumbers.{multiplicity-numbers, mult
 use Rattle.demands.specs.MarkingNumbers.{marking-numbers, markingNumbers}
 use Rattle.demands.specs.SettlingNumbers.{make-numbers, makeNumbers, settle-numbers, settleNumbers}
 use Rattle.demands.specs.ShallowRefusals.{make-shallow-numbers, settle-shallow-numbers}
+use Rattle.demands.specs.FamilyOutcomes.{judgedNumbers}
+use Rattle.demands.specs.FamilyNumbers.{family-count-numbers, family-tree-numbers, familyTreeNumbers}
 use Rattle.demands.specs.CheckingNumbers.{check-numbers, checkNumbers}
 use Rattle.demands.specs.TableWritingNumbers.{write-table-numbers, writeTableNumbers}
 use Rattle.demands.specs.ListingNumbers.{listing-numbers}
@@ -32,6 +35,8 @@ pub never-0 : (place : ℕ)
     × ((s cells marks output : List ℕ) → makeCall s cells marks output .answer ≡ refused 0 place → ⊥)
     × ((s cells marks output : List ℕ) → settleShallowCall s cells marks output .answer ≡ refused 0 place → ⊥)
     × ((s cells marks output : List ℕ) → makeShallowCall s cells marks output .answer ≡ refused 0 place → ⊥)
+    × ((s cells marks : List ℕ) → familyCountCall s cells marks .answer ≡ refused 0 place → ⊥)
+    × ((s : List ℕ) (r : ℕ) (cells marks output : List ℕ) → familyTreeCall s r cells marks output .answer ≡ refused 0 place → ⊥)
     × ((s r cells : List ℕ) (named : Named) → checkCall s r cells .answer ≡ turnedDown named 0 place → ⊥)
     × ((s output : List ℕ) → writeTableCall s output .answer ≡ refused 0 place → ⊥)
     × ((s : List ℕ) (k : ℕ) → listing s k ≡ refused 0 place → ⊥)
@@ -43,6 +48,8 @@ never-0 place = (
   λ s cells marks output. not-given makeNumbers _ (make-numbers s cells marks output) 0 place refl,
   λ s cells marks output. not-given settleNumbers _ (settle-shallow-numbers s cells marks output) 0 place refl,
   λ s cells marks output. not-given makeNumbers _ (make-shallow-numbers s cells marks output) 0 place refl,
+  λ s cells marks. not-given judgedNumbers _ (family-count-numbers s cells marks) 0 place refl,
+  λ s r cells marks output. not-given familyTreeNumbers _ (family-tree-numbers s r cells marks output) 0 place refl,
   λ s r cells named e. no-0 named (check-numbers s r cells named 0 place e),
   λ s output. not-given writeTableNumbers _ (write-table-numbers s output) 0 place refl,
   λ s k. not-given netNumbers _ (listing-numbers s k) 0 place refl,

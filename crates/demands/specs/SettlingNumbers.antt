@@ -11,7 +11,7 @@ use Rattle.rules.specs.Sheets.{Net, Table}
 use Rattle.rules.specs.Marks.{marksLength}
 use Rattle.rules.specs.Answers.{refused}
 use Rattle.rules.specs.Reading.{readNet, readTable, tableOfNet}
-use Rattle.rules.specs.Settling.{Made, settledNet, writtenSheet, afterMarks, madeInto, settleCall, makeCall}
+use Rattle.rules.specs.Settling.{Made, settledNet, writtenSheet, afterMarks, roomFor, madeInto, settleCall, makeCall}
 use Rattle.laws.specs.Distinct.{In, wider}
 use Rattle.laws.specs.Settling.{WholeTwo, marked-16, marked-tree}
 use Rattle.readback.specs.Numbers.{netNumbers, tableNumbers, net-refusal, table-refusal}
@@ -34,13 +34,20 @@ unfolding writtenSheet
 sheet-numbers numbers h15 sheet cells marks output =
     by-test (MadeGives numbers) (ltb (length output) (length sheet)) _ _ (refuses numbers 15 _ h15) (accepts numbers _)
 
+-- 13 or 14, among whatever numbers the rest of the call has
+pub room-numbers : (t : Table) (cells marks : List ℕ) (numbers : List ℕ) → In 13 numbers → In 14 numbers → Gives numbers (roomFor t cells marks)
+unfolding roomFor
+room-numbers t cells marks numbers h13 h14 =
+    by-test (Gives numbers) (ltb (length cells) (t .header .levels ^ t .header .inputs)) _ _ (refuses numbers 13 _ h13)
+    (by-test (Gives numbers) (ltb (length marks) (marksLength (t .header .inputs))) _ _ (refuses numbers 14 _ h14) (accepts numbers tt))
+
 -- 13, 14, 15, and 16 where the whole group has another mark than 2
 pub into-numbers : (netFor : Table → Net) (numbers : List ℕ) → In 13 numbers → In 14 numbers → In 15 numbers → (t : Table) → ((WholeTwo t → ⊥) → In 16 numbers)
     → (cells marks output : List ℕ) → Gives numbers (madeInto netFor t cells marks output .answer)
 unfolding madeInto
 into-numbers netFor numbers h13 h14 h15 t h16 cells marks output =
-    by-test (MadeGives numbers) (ltb (length cells) (t .header .levels ^ t .header .inputs)) _ _ (refuses numbers 13 _ h13)
-    (by-test (MadeGives numbers) (ltb (length marks) (marksLength (t .header .inputs))) _ _ (refuses numbers 14 _ h14) (marked (ℕ-discrete _ 2)))
+    by-answer (MadeGives numbers) (roomFor t cells marks) _ _ (λ _ _. marked (ℕ-discrete _ 2))
+    (λ number place e. refuses numbers number place (room-numbers t cells marks numbers h13 h14 number place e))
   where
     marked : Dec (WholeTwo t) → Gives numbers (afterMarks netFor t cells marks output .answer)
     marked (yes two) = subst⁻¹ (MadeGives numbers) (marked-tree netFor t cells marks output two) (sheet-numbers numbers h15 _ _ _ output)

@@ -1,7 +1,7 @@
 -- The net that a choice of parts makes of a table, by value: its gates are the definitions', and they keep the rules of a net sheet.
 -- Assumes nothing.
 use Prim.Native.Nat.{ℕ, _+_, _-_, _^_, _≤_, _<_}
-use mathlib.Core.Path.{_≡_, refl, sym, ap, _∙_, subst⁻¹}
+use mathlib.Core.Path.{_≡_, refl, sym, ap, _∙_, subst, subst⁻¹}
 use mathlib.Core.Logic.{_≢_}
 use mathlib.Core.Bool.{true}
 use mathlib.Core.List.{List}
@@ -45,13 +45,38 @@ abbrev pub gatesBy : Choice → ℕ → ℕ → (ℕ → ℕ) → List Gate
 gatesBy Settled m n f = settledGates m n f (marksOf m n f)
 gatesBy Shallow m n f = shallowGates m n f (marksOf m n f)
 
-pub record MadeNet (choice : Choice) (m n : ℕ) (f : ℕ → ℕ) (net : Net) : Type 0 where
+-- the net of these gates
+pub record NetOf (m n : ℕ) (gates-are : List Gate) (net : Net) : Type 0 where
   pub levels : net .levels ≡ m
   pub inputs : net .inputs ≡ n
   pub count : net .gates + 1 ≡ n
-  pub gates : gatesOf net ≡ gatesBy choice m n f
+  pub gates : gatesOf net ≡ gates-are
   -- references back, none twice, m·m digits below m
   pub kept : IsNet m n (gatesOf net)
+
+abbrev pub MadeNet : Choice → ℕ → ℕ → (ℕ → ℕ) → Net → Type 0
+MadeNet choice m n f net = NetOf m n (gatesBy choice m n f) net
+
+-- ---- a wiring of all inputs with few classes at each gate
+
+module _ (m n : ℕ) (f : ℕ → ℕ) (fit : sizeFits m n ≡ true) (tree : rules.Wiring) (of : WiringOf n (wholeGroup n) tree) (few : EachGate (Few m n f) tree)
+    (w : Wiring) (count : w .gates + 1 ≡ n) (links : linksIn w ≡ linksOf n 0 tree) where
+  -- can be filled, ..
+  pub wiring-fills : Fillable m n f (inputGroups n) (linksIn w)
+  wiring-fills = subst⁻¹ (Fillable m n f (inputGroups n)) links (wiring-fillable m n (omega (arith, sized m n fit .levels-least)) f tree (of .0) few)
+
+  -- .. and filled it is the net of its gates
+  pub wiring-net : ((p : ℕ) → p < m ^ n → f p < m) → (net : Net) → Filled m n f w net → NetOf m n (filled m n f (linksOf n 0 tree)) net
+  wiring-net inks net done =
+      let is : gatesOf net ≡ filled m n f (linksOf n 0 tree) = done .gates ∙ ap (filled m n f) links in
+      record {
+        levels = done .levels;
+        inputs = done .inputs;
+        count = ap (λ (k : ℕ). k + 1) (done .count) ∙ count;
+        gates = is;
+        kept = subst⁻¹ (IsNet m n) is
+            (filled-computes m n (omega (arith, sized m n fit .levels-least)) (omega (arith, sized m n fit .inputs-least)) f tree of few inks .0);
+      }
 
 -- ---- the marks in a buffer, and the fewest layers
 
@@ -177,20 +202,10 @@ module _ (choice : Choice) (m n : ℕ) (f : ℕ → ℕ) (fit : sizeFits m n ≡
 
   -- can be filled, ..
   pub chosen-fillable : Fillable m n f (inputGroups n) (linksIn w)
-  chosen-fillable =
-      let of = own-wiring-of choice m n pos f two in
-      subst⁻¹ (Fillable m n f (inputGroups n)) links-are (wiring-fillable m n pos f _ (of .0 .0) (of .1))
+  chosen-fillable = let of = own-wiring-of choice m n pos f two in wiring-fills m n f fit _ (of .0) (of .1) w chosen-count links-are
 
   -- .. and filled it is the net that the choice makes
   pub chosen-made : ((p : ℕ) → p < m ^ n → f p < m) → (net : Net) → Filled m n f w net → MadeNet choice m n f net
   chosen-made inks net done =
       let of = own-wiring-of choice m n pos f two in
-      let links : gatesOf net ≡ filled m n f (linksOf n 0 (ownWiring choice n (marksOf m n f))) = done .gates ∙ ap (filled m n f) links-are in
-      record {
-        levels = done .levels;
-        inputs = done .inputs;
-        count = ap (λ (k : ℕ). k + 1) (done .count) ∙ chosen-count;
-        gates = links ∙ own-gates choice m n f;
-        kept = subst⁻¹ (IsNet m n) links
-            (filled-computes m n pos (omega (arith, sized m n fit .inputs-least)) f (ownWiring choice n (marksOf m n f)) (of .0) (of .1) inks .0);
-      }
+      subst (λ (gates : List Gate). NetOf m n gates net) (own-gates choice m n f) (wiring-net m n f fit _ (of .0) (of .1) w chosen-count links-are inks net done)

@@ -10,6 +10,7 @@ pub mod Levels
 pub mod Layers
 pub mod Settling
 pub mod ShallowSettling
+pub mod FamilyCalls
 pub mod ButSheet
 pub mod Shallower
 pub mod Checking

@@ -1,8 +1,10 @@
 -- What settling and making come to, one law for each outcome, whatever net is made of a table.
 -- Assumes nothing.
 use Prim.Native.Nat.{ℕ, _^_, _≤_, _<_}
-use mathlib.Core.Path.{_≡_}
+use mathlib.Core.Path.{_≡_, sym, _∙_}
 use mathlib.Core.List.{List}
+use native.Mathlib.Nat.{lt-of-not-le}
+use native.Mathlib.Decide.{decLe}
 use lib.ListN.{length}
 use borrow.Author.Tests.{lt-ltb, le-ltb, eq-eqb, ne-eqb}
 use Rattle.rules.specs.Sheets.{Net, Table}
@@ -11,7 +13,8 @@ use Rattle.rules.specs.Groups.{wholeGroup}
 use Rattle.rules.specs.Marks.{markIn, marksOf, marksLength, storedMarks, noTreePlace}
 use Rattle.rules.specs.Answers.{accepted, refused, inkIn, written}
 use Rattle.rules.specs.Reading.{readNet, readTable, tableOfNet}
-use Rattle.rules.specs.Settling.{settledNet, writtenSheet, afterMarks, madeInto, settleCall, makeCall}
+use Rattle.rules.specs.Settling.{settledNet, writtenSheet, afterMarks, roomFor, madeInto, settleCall, makeCall}
+use Rattle.laws.specs.Answers.{not-refused}
 
 -- the marks of a table
 abbrev pub marksOfTable : Table → List ℕ
@@ -21,23 +24,56 @@ marksOfTable t = marksOf (t .header .levels) (t .header .inputs) (inkIn (t .inks
 abbrev pub WholeTwo : Table → Type 0
 WholeTwo t = markIn (marksOfTable t) (wholeGroup (t .header .inputs)) ≡ 2
 
+-- room for the cells and the marks
+module _ (t : Table) (cells marks : List ℕ) where
+  pub room-13 : length cells < t .header .levels ^ t .header .inputs → roomFor t cells marks ≡ refused 13 (t .header .levels ^ t .header .inputs)
+  unfolding roomFor
+  room-13 h = rw (lt-ltb _ _ h, roomFor)
+
+  pub room-14 : t .header .levels ^ t .header .inputs ≤ length cells → length marks < marksLength (t .header .inputs)
+      → roomFor t cells marks ≡ refused 14 (marksLength (t .header .inputs))
+  unfolding roomFor
+  room-14 h k = rw (le-ltb _ _ h, lt-ltb _ _ k, roomFor)
+
+  pub room-both : t .header .levels ^ t .header .inputs ≤ length cells → marksLength (t .header .inputs) ≤ length marks
+      → roomFor t cells marks ≡ accepted tt
+  unfolding roomFor
+  room-both h k = rw (le-ltb _ _ h, le-ltb _ _ k, roomFor)
+
+  -- where there is room, both lengths suffice
+  pub room-fits : roomFor t cells marks ≡ accepted tt → (t .header .levels ^ t .header .inputs ≤ length cells) × (marksLength (t .header .inputs) ≤ length marks)
+  room-fits e = go (decLe (t .header .levels ^ t .header .inputs) (length cells)) (decLe (marksLength (t .header .inputs)) (length marks))
+    where
+      go : Dec (t .header .levels ^ t .header .inputs ≤ length cells) → Dec (marksLength (t .header .inputs) ≤ length marks)
+          → (t .header .levels ^ t .header .inputs ≤ length cells) × (marksLength (t .header .inputs) ≤ length marks)
+      go (yes h) (yes k) = (h, k)
+      go (yes h) (no k) = absurd (not-refused tt 14 _ (sym e ∙ room-14 h (lt-of-not-le k)))
+      go (no h) _ = absurd (not-refused tt 13 _ (sym e ∙ room-13 (lt-of-not-le h)))
+
 module _ (netFor : Table → Net) (t : Table) (cells marks output : List ℕ) where
+  -- by the room alone
+  pub into-refused : (number place : ℕ) → roomFor t cells marks ≡ refused number place
+      → madeInto netFor t cells marks output ≡ record { answer = refused number place; cells = cells; marks = marks; output = output }
+  unfolding madeInto
+  into-refused number place e = rw (e, madeInto)
+
+  pub into-room : roomFor t cells marks ≡ accepted tt → madeInto netFor t cells marks output ≡ afterMarks netFor t cells marks output
+  unfolding madeInto
+  into-room e = rw (e, madeInto)
+
   pub into-13 : length cells < t .header .levels ^ t .header .inputs
       → madeInto netFor t cells marks output
       ≡ record { answer = refused 13 (t .header .levels ^ t .header .inputs); cells = cells; marks = marks; output = output }
-  unfolding madeInto
-  into-13 h = rw (lt-ltb _ _ h, madeInto)
+  into-13 h = into-refused 13 _ (room-13 t cells marks h)
 
   pub into-14 : t .header .levels ^ t .header .inputs ≤ length cells → length marks < marksLength (t .header .inputs)
       → madeInto netFor t cells marks output
       ≡ record { answer = refused 14 (marksLength (t .header .inputs)); cells = cells; marks = marks; output = output }
-  unfolding madeInto
-  into-14 h k = rw (le-ltb _ _ h, lt-ltb _ _ k, madeInto)
+  into-14 h k = into-refused 14 _ (room-14 t cells marks h k)
 
   pub into-marked : t .header .levels ^ t .header .inputs ≤ length cells → marksLength (t .header .inputs) ≤ length marks
       → madeInto netFor t cells marks output ≡ afterMarks netFor t cells marks output
-  unfolding madeInto
-  into-marked h k = rw (le-ltb _ _ h, le-ltb _ _ k, madeInto)
+  into-marked h k = into-room (room-both t cells marks h k)
 
   pub marked-16 : (WholeTwo t → ⊥)
       → afterMarks netFor t cells marks output

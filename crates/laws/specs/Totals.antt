@@ -6,7 +6,7 @@ use mathlib.Core.Path.{_≡_, refl, sym, ap, ap₂, _∙_}
 use mathlib.Core.Logic.{_⊎_, inl, inr}
 use mathlib.Core.Bool.{Bool, true, false, cond, _||_, false≢true}
 use mathlib.Core.List.{List, [], _∷_, _++_, map, List·Memᴰ, List·Memᴰ·head, List·Memᴰ·tail, List·Memᴰ·cases-cons, List·Memᴰ·not-nil}
-use native.Mathlib.Nat.{zero-add, add-zero}
+use native.Mathlib.Nat.{zero-add, add-zero, suc-add}
 use native.Mathlib.Omega.{arith}
 use lib.Dec.{eqb, ltb}
 use borrow.Author.Tests.{eqb-true, eqb-false, eq-eqb, ne-eqb, ltb-true, ltb-false, lt-ltb}
@@ -61,6 +61,26 @@ those-append test (x ∷ xs) ys = rw (those-cons test x (xs ++ ys), those-cons t
     go : (t : Bool) → cond t (x ∷ (those test xs ++ those test ys)) (those test xs ++ those test ys) ≡ cond t (x ∷ those test xs) (those test xs) ++ those test ys
     go true = refl
     go false = refl
+
+-- numbers that do not pass are passed over
+those-skip : (test : ℕ → Bool) (a count more : ℕ) → ((u : ℕ) → a ≤ u → u < a + count → test u ≡ false)
+    → those test (range a (count + more)) ≡ those test (range (a + count) more)
+unfolding range
+those-skip test a zero more none = rw (zero-add, add-zero)
+those-skip test a (suc count) more none =
+    let here : test a ≡ false = none a (omega arith) (omega arith) in
+    let end : a + suc count ≡ suc a + count = omega arith in
+    rw (end, suc-add, those-cons test a (range (suc a) (count + more)), here) (those-skip test (suc a) count more (λ u low high. none u (omega arith) (omega arith)))
+
+-- so those below c may be taken from b on
+pub those-past : (test : ℕ → Bool) (a b c : ℕ) → a ≤ b → b ≤ c → ((u : ℕ) → a ≤ u → u < b → test u ≡ false)
+    → those test (range a (c - a)) ≡ those test (range b (c - b))
+those-past test a b c ab bc none =
+    let count : c - a ≡ (b - a) + (c - b) = omega arith in
+    let start : a + (b - a) ≡ b = omega arith in
+    ap (λ (k : ℕ). those test (range a k)) count
+    ∙ those-skip test a (b - a) (c - b) (λ u low high. none u low (omega arith))
+    ∙ ap (λ (k : ℕ). those test (range k (c - b))) start
 
 -- a number that a test finds in a list
 pub any-mem : (x : ℕ) (xs : List ℕ) → any (eqb x) xs ≡ true → List·Memᴰ x xs

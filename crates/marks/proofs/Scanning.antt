@@ -13,7 +13,7 @@ use Rattle.rules.specs.Shallow.{splitLayers, fewestOf}
 use Rattle.trees.specs.MarkTwo.{isA}
 use Rattle.radix.specs.Parts.{Part, Next}
 use Rattle.marks.specs.Fewest.{bothTwo, Fewer, LeastByFirst, least-by-first}
-use Rattle.marks.proofs.Searching.{settled-looked, is-part-of, part-at}
+use Rattle.marks.specs.FirstParts.{settled-looked, is-part-of, part-at}
 
 -- the part of g that is the first-listed input and the part s of the others
 abbrev at : ℕ → ℕ → ℕ → ℕ

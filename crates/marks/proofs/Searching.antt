@@ -2,7 +2,7 @@
 -- Assumes nothing.
 use Prim.Native.Nat.{ℕ, _+_, _-_, _^_, _≤_, _<_}
 use mathlib.Core.Path.{_≡_, refl, sym, ap, _∙_}
-use mathlib.Core.Bool.{Bool, true, false, _&&_, and-eq-true-iff, and-true}
+use mathlib.Core.Bool.{Bool, true, false, _&&_, and-eq-true-iff}
 use mathlib.Core.List.{List}
 use native.Mathlib.Nat.{add-zero}
 use native.Mathlib.Decide.{ℕ-discrete}
@@ -12,80 +12,33 @@ use lib.Dec.{eqb}
 use lib.ListN.{getD}
 use lib.Pow.{pow-pos}
 use Rattle.rules.specs.Lists.{range, firstPlace}
-use Rattle.rules.specs.Groups.{member}
-use Rattle.rules.specs.Marks.{inside, partsAt}
 use Rattle.rules.specs.Wirings.{firstInput}
 use Rattle.rules.specs.Shallow.{splitLayers}
 use Rattle.trees.specs.MarkTwo.{isA}
-use Rattle.trees.specs.MarkRule.{parts-at-holds}
 use Rattle.radix.specs.Parts.{Part, Next, without-first}
 use Rattle.marks.specs.Fewest.{bothTwo}
-use Rattle.marks.specs.Splits.{holds-part, part-holds, skip-to}
+use Rattle.marks.specs.Splits.{skip-to}
+use Rattle.marks.specs.FirstParts.{Looked, settled-looked, first, none-below, none-between}
+use Rattle.marks.specs.FirstParts as parts
 use Rattle.laws.specs.FirstPlaces.{stop-at}
 
 -- ---- what is looked for
 
--- A test for A, which only a part of g that holds the first-listed input passes; `look` is what the code tests of such a part.
-pub record Looked (g : ℕ) (test : ℕ → ℕ → Bool) (look : ℕ → Bool) : Type 0 where
-  pub within : (n a : ℕ) → test n a ≡ true → (inside n a g ≡ true) × (member (firstInput n g) a ≡ true)
-  pub at-part : (n a : ℕ) → inside n a g ≡ true → member (firstInput n g) a ≡ true → test n a ≡ look a
+-- the A that keeps its group shallowest
+module _ (marks : List ℕ) (g : ℕ) (layers : List ℕ) where
+  abbrev pub keeps : ℕ → Bool
+  keeps a = bothTwo marks g a && eqb (splitLayers layers g a) (getD layers g 0)
 
-module _ (marks : List ℕ) (g : ℕ) where
-  -- document 01's A
-  abbrev pub settledTest : ℕ → ℕ → Bool
-  settledTest n a = isA n marks g a
+  abbrev pub shallowTest : ℕ → ℕ → Bool
+  shallowTest n a = isA n marks g a && eqb (splitLayers layers g a) (getD layers g 0)
 
-  pub settled-looked : Looked g settledTest (bothTwo marks g)
-  unfolding partsAt
-  settled-looked =
+  pub shallow-looked : Looked g shallowTest keeps
+  shallow-looked =
       record {
-        within = λ n a e. let sides = and-eq-true-iff (partsAt n marks g a) _ .0 e in (parts-at-holds n marks g a (sides .0) .0, sides .1);
-        at-part = λ n a is-inside is-held. rw (is-inside, is-held) (and-true _);
+        within = λ n a e. settled-looked marks g .within n a (and-eq-true-iff (isA n marks g a) _ .0 e .0);
+        at-part = λ n a is-inside is-held.
+            ap (λ (t : Bool). t && eqb (splitLayers layers g a) (getD layers g 0)) (settled-looked marks g .at-part n a is-inside is-held);
       }
-
-  -- the A that keeps its group shallowest
-  module _ (layers : List ℕ) where
-    abbrev pub keeps : ℕ → Bool
-    keeps a = bothTwo marks g a && eqb (splitLayers layers g a) (getD layers g 0)
-
-    abbrev pub shallowTest : ℕ → ℕ → Bool
-    shallowTest n a = isA n marks g a && eqb (splitLayers layers g a) (getD layers g 0)
-
-    pub shallow-looked : Looked g shallowTest keeps
-    shallow-looked =
-        record {
-          within = λ n a e. settled-looked .within n a (and-eq-true-iff (isA n marks g a) _ .0 e .0);
-          at-part = λ n a is-inside is-held.
-              ap (λ (t : Bool). t && eqb (splitLayers layers g a) (getD layers g 0)) (settled-looked .at-part n a is-inside is-held);
-        }
-
--- what does not pass, by what would follow
-fails : (test : Bool) → (test ≡ true → ⊥) → test ≡ false
-fails true h = absurd (h refl)
-fails false h = refl
-
--- ---- the parts that hold the first-listed input
-
-module _ (g rest : ℕ) (some : 0 < g) (is-rest : (n : ℕ) → g < 2 ^ n → rest ≡ g - 2 ^ firstInput n g) where
-  module _ (n : ℕ) (g< : g < 2 ^ n) where
-    -- the first-listed input by itself
-    pub first : g - rest ≡ 2 ^ firstInput n g
-    first = omega (arith, is-rest n g<, without-first n g some g< .0)
-
-    -- such a part is the first-listed input and a part of the others, ..
-    pub is-part-of : (u : ℕ) → u < g → inside n u g ≡ true → member (firstInput n g) u ≡ true → (g - rest ≤ u) × Part (u - (g - rest)) rest
-    is-part-of u u< is-inside is-held = let is = holds-part n g some g< u (omega arith) is-inside is-held in rw (first, is-rest n g<) is
-
-    -- .. and those two together are such a part
-    pub part-at : (part : ℕ) → part < rest → Part part rest
-        → (0 < (g - rest) + part) × ((g - rest) + part < g) × (inside n ((g - rest) + part) g ≡ true) × (member (firstInput n g) ((g - rest) + part) ≡ true)
-    part-at part more is-part =
-        let holds = part-holds n g some g< part (rw (← (is-rest n g<)) is-part) in (
-          omega (arith, first, pow-pos (firstInput n g)),
-          omega (arith, more, first, is-rest n g<, without-first n g some g< .0),
-          rw first (holds .0),
-          rw first (holds .1),
-        )
 
 -- ---- the search
 
@@ -99,10 +52,6 @@ pub record Sought (test : ℕ → ℕ → Bool) (g rest part : ℕ) : Type 0 whe
 
 module _ (test : ℕ → ℕ → Bool) (look : ℕ → Bool) (g rest : ℕ) (looked : Looked g test look) (some : 0 < g)
     (is-rest : (n : ℕ) → g < 2 ^ n → rest ≡ g - 2 ^ firstInput n g) where
-  -- what passes is the first-listed input and a part of the others
-  passes : (n : ℕ) → g < 2 ^ n → (u : ℕ) → u < g → test n u ≡ true → (g - rest ≤ u) × Part (u - (g - rest)) rest
-  passes n g< u u< e = let is = looked .within n u e in is-part-of g rest some is-rest n g< u u< (is .0) (is .1)
-
   pub sought-none : Sought test g rest 0
   sought-none =
       record {
@@ -110,7 +59,7 @@ module _ (test : ℕ → ℕ → Bool) (look : ℕ → Bool) (g rest : ℕ) (loo
         is-part = refl;
         left = λ n g<.
             sym (skip-to (test n) 1 ((g - rest) + 0) g (omega (arith, first g rest some is-rest n g<, pow-pos (firstInput n g))) (omega arith)
-            (λ u low high. fails _ (λ e. omega (arith, passes n g< u (omega arith) e .0))));
+            (λ u low high. none-below g rest some is-rest test look looked n g< u (omega arith)));
       }
 
   pub sought-all : (part : ℕ) → Sought test g rest part → rest ≤ part → (n : ℕ) → g < 2 ^ n → g ≡ 1 + firstPlace (test n) (range 1 (g - 1))
@@ -124,9 +73,7 @@ module _ (test : ℕ → ℕ → Bool) (look : ℕ → Bool) (g rest : ℕ) (loo
   module _ (part : ℕ) (s : Sought test g rest part) (more : part < rest) where
     -- the part of g that is looked at
     pub here : (n : ℕ) → g < 2 ^ n → (0 < (g - rest) + part) × ((g - rest) + part < g) × (test n ((g - rest) + part) ≡ look ((g - rest) + part))
-    here n g< =
-        let at = part-at g rest some is-rest n g< part more (s .is-part) in
-        (at .0, at .1, looked .at-part n ((g - rest) + part) (at .2) (at .3))
+    here n g< = parts.here g rest some is-rest test look looked n g< part more (s .is-part)
 
     pub sought-found : look ((g - rest) + part) ≡ true → (n : ℕ) → g < 2 ^ n → (g - rest) + part ≡ 1 + firstPlace (test n) (range 1 (g - 1))
     sought-found found n g< =
@@ -148,7 +95,4 @@ module _ (test : ℕ → ℕ → Bool) (look : ℕ → Bool) (g rest : ℕ) (loo
         -- nothing between the two passes
         none : (n : ℕ) → g < 2 ^ n → (u : ℕ) → (g - rest) + part ≤ u → u < (g - rest) + next → Dec (u ≡ (g - rest) + part) → test n u ≡ false
         none n g< u low high (yes e) = ap (test n) e ∙ here n g< .2 ∙ missed
-        none n g< u low high (no ne) =
-            fails (test n u) λ e.
-            let is = passes n g< u (omega (arith, after .least rest more (and-self rest), is-rest n g<)) e in
-            omega (arith, after .least (u - (g - rest)) (omega arith) (is .1))
+        none n g< u low high (no ne) = none-between g rest some is-rest test look looked n g< part next more after u (omega arith) high

@@ -7,6 +7,7 @@ use lib.ListN.{length, take, drop, set, length-set, take-append-drop, List·getD
 use lib.Seq.{take-suc-set, drop-set-lt}
 use Rattle.rules.specs.Marks.{markIn, marksLength, storedMarks}
 use Rattle.rules.specs.Answers.{written}
+use Rattle.laws.specs.Answers.{written-front}
 
 -- the marks that a buffer holds, by group number
 unfoldable pub held : List ℕ → List ℕ
@@ -46,7 +47,11 @@ module _ (buffer : List ℕ) where
       ∙ ap₂ (λ (l r : List ℕ). l ++ r) front past
       ∙ ap (λ (k : ℕ). marks ++ drop k before) (sym count)
 
--- a buffer that the marks were written to holds them
+-- a buffer that the marks were written to holds them, and its front, as long as is needed, nothing else
 pub held-written : (before marks : List ℕ) (g : ℕ) → g < length marks → markIn (held (written before (storedMarks marks))) g ≡ markIn marks g
 unfolding held written storedMarks
 held-written before marks g h = List·getD-append marks (drop (length marks) before) 0 g h
+
+pub held-front : (n : ℕ) (before marks buffer : List ℕ) → length marks ≡ 2 ^ n → buffer ≡ written before (storedMarks marks) → held (take (marksLength n) buffer) ≡ marks
+unfolding held storedMarks marksLength
+held-front n before marks buffer count e = (λ i. take (sym count i) (e i)) ∙ written-front before marks

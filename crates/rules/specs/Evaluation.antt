@@ -23,6 +23,7 @@ use Rattle.rules.specs.Multiplicity as multiplicity
 use Rattle.rules.specs.Marking as marking
 use Rattle.rules.specs.Settling as settling
 use Rattle.rules.specs.ShallowSettling as shallowSettling
+use Rattle.rules.specs.FamilyCalls as familyCalls
 use Rattle.rules.specs.Shallower as shallower
 use Rattle.rules.specs.Checking as checking
 use Rattle.rules.specs.TableWriting as tableWriting
@@ -30,5 +31,5 @@ use Rattle.rules.specs.Programs as programs
 use Rattle.rules.specs.Lister as lister
 
 unfoldable pub computing : Unit {0}
-unfolding lists.computing text.computing limits.computing fields.computing sheets.computing printed.computing value.computing groups.computing marks.computing wirings.computing filling.computing settled.computing layers.computing shallow.computing family.computing answers.computing reading.computing bareCells.computing multiplicity.computing marking.computing settling.computing shallowSettling.computing shallower.computing checking.computing tableWriting.computing programs.computing lister.computing
+unfolding lists.computing text.computing limits.computing fields.computing sheets.computing printed.computing value.computing groups.computing marks.computing wirings.computing filling.computing settled.computing layers.computing shallow.computing family.computing answers.computing reading.computing bareCells.computing multiplicity.computing marking.computing settling.computing shallowSettling.computing familyCalls.computing shallower.computing checking.computing tableWriting.computing programs.computing lister.computing
 computing = tt

@@ -1,24 +1,26 @@
--- Families by examples: how many trees, in which order, and which nets are one wiring.
+-- Families by examples: how many trees, in which order, which nets are one wiring, and the two calls. Sheets are written as in `Cases`, with `/` for the
+-- line feed.
 -- Assumes nothing.
 use Prim.Native.Nat.{ℕ}
+use Prim.Native.String.{String}
 use mathlib.Core.Path.{_≡_, refl}
 use mathlib.Core.Bool.{cond, not, _&&_, _||_}
 use mathlib.Core.List.{List, [], _∷_, map}
-use lib.ListN.{replicate}
+use lib.ListN.{replicate, take}
 use lib.Dec.{eqb}
 use Rattle.rules.specs.Lists.{range}
 use Rattle.rules.specs.Sheets.{Gate, Table}
+use Rattle.rules.specs.Printed.{printedTable}
 use Rattle.rules.specs.Groups.{wholeGroup}
 use Rattle.rules.specs.Marks.{inside}
 use Rattle.rules.specs.Wirings.{Wiring, input, gate}
 use Rattle.rules.specs.Family.{treeCount, countsOf, familyWiring, gateGroups}
-use Rattle.rules.specs.Cases.{named, byRule, abc, oneIf, zeroTable, majority, marksOfTable}
+use Rattle.rules.specs.Answers.{accepted}
+use Rattle.rules.specs.FamilyCalls.{countOfTable, familyCountCall, familyTreeCall}
+use Rattle.rules.specs.Cases.{named, byRule, abc, oneIf, zeroTable, majority, marksOfTable, lineEnds, paper}
 use Rattle.rules.specs.Evaluation.{computing}
 
--- how many trees a table has, and the wiring of a number
-unfoldable pub countOfTable : Table → ℕ
-countOfTable t = treeCount (t .header .inputs) (marksOfTable t)
-
+-- the wiring of a number
 unfoldable pub wiringOfTable : Table → ℕ → Wiring
 wiringOfTable t r = let n = t .header .inputs in let marks = marksOfTable t in familyWiring n marks (countsOf n marks) n (wholeGroup n) r
 
@@ -27,12 +29,12 @@ pub three-trees : (countOfTable zeroTable ≡ 3)
     × (wiringOfTable zeroTable 0 ≡ gate (input 0) (gate (input 1) (input 2)))
     × (wiringOfTable zeroTable 1 ≡ gate (gate (input 0) (input 1)) (input 2))
     × (wiringOfTable zeroTable 2 ≡ gate (gate (input 0) (input 2)) (input 1))
-unfolding computing countOfTable wiringOfTable marksOfTable zeroTable abc byRule named
+unfolding computing wiringOfTable marksOfTable zeroTable abc byRule named
 three-trees = (refl, refl, refl, refl)
 
 -- "A table with no tree gets count 0, never 16."
 pub no-trees : countOfTable majority ≡ 0
-unfolding computing countOfTable marksOfTable majority abc byRule named oneIf
+unfolding computing majority abc byRule named oneIf
 no-trees = refl
 
 -- four inputs, every group of mark 2: 15 trees
@@ -61,3 +63,33 @@ pub groups-joined : (gateGroups 4 (joining 0 1 ∷ joining 2 3 ∷ joining 4 5 �
     × (gateGroups 4 (joining 0 1 ∷ joining 4 2 ∷ joining 5 3 ∷ []) ≡ 3 ∷ 7 ∷ 15 ∷ [])
 unfolding computing joining
 groups-joined = (refl, refl, refl)
+
+-- ---- the calls
+
+-- a buffer before the call
+unfoldable pub nines : ℕ → List ℕ
+nines k = replicate k 9
+
+-- "A table with no tree gets count 0, never 16.": accepted, with the cells and marks written, and further bytes kept
+pub none-counted : familyCountCall (printedTable majority) (nines 9) (nines 10)
+    ≡ record { answer = accepted 0; cells = 0 ∷ 0 ∷ 0 ∷ 1 ∷ 0 ∷ 1 ∷ 1 ∷ 1 ∷ 9 ∷ []; marks = 0 ∷ 2 ∷ 2 ∷ 0 ∷ 2 ∷ 0 ∷ 0 ∷ 1 ∷ 9 ∷ 9 ∷ [] }
+unfolding computing nines majority abc byRule named oneIf
+none-counted = refl
+
+pub three-counted : familyCountCall (printedTable zeroTable) (nines 8) (nines 8)
+    ≡ record { answer = accepted 3; cells = replicate 8 0; marks = 0 ∷ replicate 7 2 }
+unfolding computing nines zeroTable abc byRule named
+three-counted = refl
+
+-- the sheet of a number, of all ink 0 over a b c
+abbrev Writes : ℕ → String → Type 0
+Writes number sheet =
+    let made = familyTreeCall (printedTable zeroTable) number (nines 8) (nines 8) (nines 64) in
+    (made .answer ≡ accepted 59) × (take 59 (made .output) ≡ paper sheet)
+
+-- "writes the tree of that number, from 0"; "number 0 is the settled net" (starred case 4)
+pub three-written : Writes 0 "levels inputs/2 3/a b c/left right table/b c 0000/a 1 0000/"
+    × Writes 1 "levels inputs/2 3/a b c/left right table/a b 0000/1 c 0000/"
+    × Writes 2 "levels inputs/2 3/a b c/left right table/a c 0000/1 b 0000/"
+unfolding computing nines zeroTable abc byRule named paper lineEnds
+three-written = ((refl, refl), (refl, refl), (refl, refl))

@@ -4,7 +4,7 @@
 -- `Value`, `Groups`, `Marks`, the settled net (`Wirings`, `Filling`, `Settled`; `SettledLaws` hold its choices to the document's words), then
 -- the calls with what they turn back (`Answers`, `Reading` and `BareCells` are what they share; a file for each call or pair of calls
 -- follows), the starred cases (`Cases`), every refusal by examples (`Refusals`), and what is judged first (`Orders`). Of document 02: shallow
--- nets (`Layers`, `Shallow`, `ShallowSettling`, `Shallower`, with `ShallowCases`) and every wiring of a table (`Family`, with `FamilyCases`).
+-- nets (`Layers`, `Shallow`, `ShallowSettling`, `Shallower`, with `ShallowCases`) and every wiring of a table (`Family`, `FamilyCalls`, with `FamilyCases`).
 -- `Evaluation` lets all of it compute.
 -- Assumes nothing.
 pub mod Lists
@@ -31,6 +31,7 @@ pub mod Multiplicity
 pub mod Marking
 pub mod Settling
 pub mod ShallowSettling
+pub mod FamilyCalls
 pub mod Shallower
 pub mod Checking
 pub mod TableWriting

@@ -11,6 +11,7 @@ use Rattle.rules.specs.Answers.{refused, netNamed, tableNamed, neither}
 use Rattle.rules.specs.Reading.{readNet}
 use Rattle.rules.specs.Multiplicity.{multiplicityCall}
 use Rattle.rules.specs.Settling.{settleCall, makeCall}
+use Rattle.rules.specs.FamilyCalls.{familyCountCall, familyTreeCall}
 use Rattle.rules.specs.Checking.{turnedDown, checkCall}
 use Rattle.rules.specs.Evaluation.{computing}
 
@@ -68,6 +69,24 @@ tree-before-output = refl
 pub marks-before-output : settleCall (printedNet oneGate) (nines 4) [] [] ≡ record { answer = refused 14 4; cells = nines 4; marks = []; output = [] }
 unfolding computing oneGate nines
 marks-before-output = refl
+
+-- ---- the family of trees: 13, 14, 17, 15, and in the count 13, 14
+
+-- both buffers empty, and no tree
+pub counting-cells-before-marks : familyCountCall (printedTable noTree) [] [] ≡ record { answer = refused 13 8; cells = []; marks = [] }
+unfolding computing noTree
+counting-cells-before-marks = refl
+
+-- marks and output empty, and no tree of the number
+pub marks-before-number : familyTreeCall (printedTable noTree) 0 (nines 8) [] [] ≡ record { answer = refused 14 8; cells = nines 8; marks = []; output = [] }
+unfolding computing noTree nines
+marks-before-number = refl
+
+-- the output empty, and no tree of the number; "it takes the place of 16 .. and leaves what 16 leaves"
+pub number-before-output : familyTreeCall (printedTable noTree) 0 (nines 8) (nines 8) []
+    ≡ record { answer = refused 17 0; cells = noTree .inks; marks = 0 ∷ 2 ∷ 2 ∷ 0 ∷ 2 ∷ 0 ∷ 0 ∷ 1 ∷ []; output = [] }
+unfolding computing noTree nines
+number-before-output = refl
 
 -- ---- checking
 

@@ -1,4 +1,4 @@
--- The examples of docs/REFUSALS.md as one theorem, `refusals-hold`: every refusal, 1 to 16, by calls that give it, with its number, its
+-- The examples of docs/REFUSALS.md as one theorem, `refusals-hold`: every refusal, 1 to 17, by calls that give it, with its number, its
 -- place, and what each buffer lent to the call holds afterwards. They compute, so that a reader who believes nothing sees each number
 -- come out. The document's examples are these and no others (rust/sitgurp/tests/refusals.rs).
 -- Assumes nothing.
@@ -15,6 +15,7 @@ use Rattle.rules.specs.BareCells.{bareCells}
 use Rattle.rules.specs.Multiplicity.{multiplicityCall}
 use Rattle.rules.specs.Marking.{markingCall}
 use Rattle.rules.specs.Settling.{settleCall, makeCall}
+use Rattle.rules.specs.FamilyCalls.{familyCountCall, familyTreeCall}
 use Rattle.rules.specs.Checking.{turnedDown, checkCall}
 use Rattle.rules.specs.TableWriting.{writeTableCall}
 use Rattle.rules.specs.Lister.{listing}
@@ -36,6 +37,9 @@ pub record NetBack (sheet : List ℕ) (number place : ℕ) : Type 0 where
 pub record TableBack (sheet : List ℕ) (number place : ℕ) : Type 0 where
   pub making : (cells marks output : List ℕ)
       → makeCall sheet cells marks output ≡ record { answer = refused number place; cells = cells; marks = marks; output = output }
+  pub counting : (cells marks : List ℕ) → familyCountCall sheet cells marks ≡ record { answer = refused number place; cells = cells; marks = marks }
+  pub numbering : (order : ℕ) (cells marks output : List ℕ)
+      → familyTreeCall sheet order cells marks output ≡ record { answer = refused number place; cells = cells; marks = marks; output = output }
   pub checking : (net-sheet cells : List ℕ) (net : Net) → readNet net-sheet ≡ accepted net
       → checkCall net-sheet sheet cells ≡ record { answer = turnedDown tableNamed number place; cells = cells }
 
@@ -56,9 +60,14 @@ net-back e =
     }
 
 pub table-back : {sheet : List ℕ} {number place : ℕ} → readTable sheet ≡ refused number place → TableBack sheet number place
-unfolding makeCall checkCall
+unfolding makeCall familyCountCall familyTreeCall checkCall
 table-back e =
-    record { making = λ cells marks output. rw (e, makeCall); checking = λ net-sheet cells net a. rw (a, e, checkCall) }
+    record {
+      making = λ cells marks output. rw (e, makeCall);
+      counting = λ cells marks. rw (e, familyCountCall);
+      numbering = λ order cells marks output. rw (e, familyTreeCall);
+      checking = λ net-sheet cells net a. rw (a, e, checkCall);
+    }
 
 pub cells-back : {m n : ℕ} {cells : List ℕ} {number place : ℕ} → bareCells m n cells ≡ refused number place → CellsBack m n cells number place
 unfolding multiplicityCall markingCall onward
@@ -79,6 +88,8 @@ pub data Example : Type 0 where
   settle : (sheet : String) (cells marks output number place : ℕ) (cells-then marks-then : String) → Example
   make : (sheet : String) (cells marks output number place : ℕ) (cells-then marks-then : String) → Example
   write : (sheet : String) (output number place : ℕ) → Example
+  count : (sheet : String) (cells marks number place : ℕ) (cells-then marks-then : String) → Example
+  tree : (sheet : String) (order cells marks output number place : ℕ) (cells-then marks-then : String) → Example
 
 -- The common statement: a call's whole result, its answer and every buffer lent to it.
 abbrev pub Comes : Example → Type 0
@@ -114,6 +125,18 @@ Comes (make sheet cells marks output number place cells-then marks-then) =
 -- table writing
 Comes (write sheet output number place) =
     writeTableCall (paper sheet) (nines output) ≡ record { answer = refused number place; output = nines output }
+-- the count of the trees, which has no output; the tree of an order number
+Comes (count sheet cells marks number place cells-then marks-then) =
+    familyCountCall (paper sheet) (nines cells) (nines marks)
+    ≡ record { answer = refused number place; cells = digits (text cells-then); marks = digits (text marks-then) }
+Comes (tree sheet order cells marks output number place cells-then marks-then) =
+    familyTreeCall (paper sheet) order (nines cells) (nines marks) (nines output)
+    ≡ record {
+      answer = refused number place;
+      cells = digits (text cells-then);
+      marks = digits (text marks-then);
+      output = nines output;
+    }
 
 -- every example of a list
 infixr 5 _and_
@@ -175,17 +198,24 @@ refusals =
     ∷ settle "levels inputs/2 2/a b/left right table/a b 0001/" 3 4 48 13 4 "999" "9999"
     ∷ make "levels inputs/2 2/a b ink/0 0 0/0 1 0/1 0 0/1 1 1/" 3 3 0 13 4 "999" "999"
     ∷ check "levels inputs/2 2/a b/left right table/a b 0001/" "levels inputs/2 2/a b ink/0 0 0/0 1 0/1 0 0/1 1 1/" 3 13 4
+    ∷ count "levels inputs/2 2/a b ink/0 0 0/0 1 0/1 0 0/1 1 1/" 3 3 13 4 "999" "999"
     -- 14: the marks buffer
     ∷ settle "levels inputs/2 2/a b/left right table/a b 0001/" 4 3 48 14 4 "9999" "999"
+    ∷ tree "levels inputs/2 2/a b ink/0 0 0/0 1 0/1 0 0/1 1 1/" 1 4 3 0 14 4 "9999" "999"
     ∷ marking 2 2 "0001" 3 14 4
     -- 15: the output
     ∷ settle "levels inputs/2 2/a b/left right table/a b 0001/" 5 6 47 15 48 "00019" "022299"
     ∷ write "levels inputs/2 2/a b/left right table/a b 0001/" 49 15 50
+    ∷ tree "levels inputs/2 2/a b ink/0 0 0/0 1 0/1 0 0/1 1 1/" 0 4 4 47 15 48 "0001" "0222"
     -- 16: no tree, whatever the output; the whole group has mark 1 too, but more members
     ∷ make "levels inputs/2 3/a b c ink/0 0 0 0/0 0 1 0/0 1 0 0/0 1 1 1/1 0 0 0/1 0 1 1/1 1 0 1/1 1 1 1/" 9 9 0 16 7 "000101119" "022020019"
     ∷ make
     "levels inputs/2 4/a b c d ink/0 0 0 0 0/0 0 0 1 1/0 0 1 0 0/0 0 1 1 1/0 1 0 0 0/0 1 0 1 1/0 1 1 0 1/0 1 1 1 0/1 0 0 0 0/1 0 0 1 1/1 0 1 0 1/1 0 1 1 0/1 1 0 0 1/1 1 0 1 0/1 1 1 0 1/1 1 1 1 0/"
     16 16 70 16 7 "0101011001101010" "0220200120000001"
+    -- 17: three trees, 0 to 2; a number past them, whatever the output; no tree, and so none of number 0
+    ∷ tree "levels inputs/2 3/a b c ink/0 0 0 0/0 0 1 0/0 1 0 0/0 1 1 0/1 0 0 0/1 0 1 0/1 1 0 0/1 1 1 0/" 3 8 9 60 17 3 "00000000" "022222229"
+    ∷ tree "levels inputs/2 3/a b c ink/0 0 0 0/0 0 1 0/0 1 0 0/0 1 1 0/1 0 0 0/1 0 1 0/1 1 0 0/1 1 1 0/" 1000000007 9 8 0 17 1000000007 "000000009" "02222222"
+    ∷ tree "levels inputs/2 3/a b c ink/0 0 0 0/0 0 1 0/0 1 0 0/0 1 1 1/1 0 0 0/1 0 1 1/1 1 0 1/1 1 1 1/" 0 8 8 0 17 0 "00010111" "02202001"
     ∷ []
 
 pub refusals-hold : AllCome refusals
@@ -197,5 +227,5 @@ refusals-hold =
     and net-back refl and net-back refl and net-back refl and net-back refl and cells-back refl and cells-back refl and cells-back refl
     and cells-back refl and refl and refl and refl and refl and refl and refl
     and refl and refl and refl and refl and refl and refl and refl
-    and refl
+    and refl and refl and refl and refl and refl and refl and refl
     and none

@@ -51,18 +51,22 @@ afterMarks netFor t cells marks output =
       | true ↦ writtenSheet (printedNet (netFor t)) cells-then marks-then output
     ]
 
--- "Judged in this order after the input": 13: cells buffer short; 14: marks buffer short; then 16, then 15.
--- "Needed: m to the n bytes, 2 to the n bytes, and the settled sheet's length". `netFor` is the net that is made of a table.
-unfoldable pub madeInto : (Table → Net) → Table → List ℕ → List ℕ → List ℕ → Made
-madeInto netFor t cells marks output =
+-- "Judged in this order after the input": 13: cells buffer short; 14: marks buffer short. "Needed: m to the n bytes, 2 to the n bytes"
+unfoldable pub roomFor : Table → List ℕ → List ℕ → Answer (Unit {0})
+roomFor t cells marks =
     let need = t .header .levels ^ t .header .inputs in
     let marks-need = marksLength (t .header .inputs) in
     elim (ltb (length cells) need) [
-      | true ↦ record { answer = refused 13 need; cells = cells; marks = marks; output = output }
-      | false ↦ elim (ltb (length marks) marks-need) [
-        | true ↦ record { answer = refused 14 marks-need; cells = cells; marks = marks; output = output }
-        | false ↦ afterMarks netFor t cells marks output
-      ]
+      | true ↦ refused 13 need
+      | false ↦ elim (ltb (length marks) marks-need) [ true ↦ refused 14 marks-need | false ↦ accepted tt ]
+    ]
+
+-- .. then 16, then 15, which needs "the settled sheet's length". `netFor` is the net that is made of a table.
+unfoldable pub madeInto : (Table → Net) → Table → List ℕ → List ℕ → List ℕ → Made
+madeInto netFor t cells marks output =
+    elim (roomFor t cells marks) [
+      | refused number need ↦ record { answer = refused number need; cells = cells; marks = marks; output = output }
+      | accepted room ↦ afterMarks netFor t cells marks output
     ]
 
 -- "Settling reads a net sheet, writes its table into the cells buffer (one byte a cell), the marks into the marks buffer, and
@@ -84,5 +88,5 @@ makeCall sheet cells marks output =
 
 -- all of this file computes
 unfoldable pub computing : Unit {0}
-unfolding settledNet writtenSheet afterMarks madeInto settleCall makeCall
+unfolding settledNet writtenSheet afterMarks roomFor madeInto settleCall makeCall
 computing = tt

@@ -11,12 +11,12 @@ use Rattle.rules.specs.Printed.{printedNet}
 use Rattle.rules.specs.Kept.{IsNet, KeptNet}
 use Rattle.rules.specs.Marks.{markIn, marksOf, marksLength, noTreePlace, storedMarks}
 use Rattle.rules.specs.Groups.{wholeGroup}
-use Rattle.rules.specs.Answers.{onward, refused, inkIn, written}
-use Rattle.rules.specs.Sheets.{Net, Table}
+use Rattle.rules.specs.Answers.{accepted, onward, refused, inkIn, written}
+use Rattle.rules.specs.Sheets.{Gate, Net, Table}
 use Rattle.rules.specs.Layers.{layers}
-use Rattle.rules.specs.Settling.{Made, settledNet, writtenSheet, afterMarks}
+use Rattle.rules.specs.Settling.{Made, roomFor, settledNet, writtenSheet, afterMarks}
 use Rattle.rules.specs.ShallowSettling.{LayeredMade, layered, layeredInto, netLayers, shallowNet, withLayers}
-use Rattle.laws.specs.Settling.{marksOfTable, into-13, into-14, into-marked, marked-16, marked-tree}
+use Rattle.laws.specs.Settling.{marksOfTable, into-refused, into-room, marked-16, marked-tree}
 use Rattle.nets.specs.declared.forms.Header.{Header}
 use Rattle.nets.specs.declared.forms.Net as own
 use Rattle.nets.specs.Sound.{Sound}
@@ -30,7 +30,7 @@ use Rattle.net_printing.specs.Kept.{gates-inside}
 use Rattle.readback.specs.Length.{net-length}
 use Rattle.wirings.specs.declared.choice.Choice.{Choice}
 use Rattle.wirings.specs.declared.choice.Choice.the-variants.{Settled, Shallow}
-use Rattle.filling.specs.MadeNet.{gatesBy, MarksIn, MadeNet, marks-in}
+use Rattle.filling.specs.MadeNet.{gatesBy, MarksIn, NetOf, MadeNet, marks-in}
 use Rattle.accepted.specs.Taken.{Given}
 use Rattle.answers.specs.Answers.{answerOf, madeOf}
 use Rattle.answers.specs.declared.layered.Layered.{Layered}
@@ -69,12 +69,11 @@ module _ (s : List ℕ) (h : Header) (inks : List ℕ) (given : Given s h inks) 
   unfolding headerOf
   given-below p l = given .kept .below p (subst⁻¹ (λ (k : ℕ). p < k) given-count l)
 
-  -- ---- the net that is made of it
+  -- ---- the net of some gates
 
-  module _ (choice : Choice) (net : own.Net) (is : MadeNet choice (h .levels) (h .inputs) (inkIn inks) net) where
-    made-is : netIn s h net ≡ netBy choice (tableIn s h inks)
-    unfolding headerOf
-    made-is = (λ i. record { header = headerOf s h; gates = is .gates i }) ∙ sym (netBy-is choice (tableIn s h inks))
+  module _ {gates : List Gate} (net : own.Net) (is : NetOf (h .levels) (h .inputs) gates net) where
+    pub net-is : netIn s h net ≡ record { header = headerOf s h; gates = gates }
+    net-is = λ i. record { header = headerOf s h; gates = is .gates i }
 
     made-kept : KeptNet (netIn s h net)
     unfolding headerOf
@@ -92,6 +91,13 @@ module _ (s : List ℕ) (h : Header) (inks : List ℕ) (given : Given s h inks) 
       gates = subst₂ (λ (m n : ℕ). IsNet m n (gatesOf net)) (sym (is .levels)) (sym (is .inputs)) (is .kept);
     }
 
+  -- ---- the net that a choice makes of it
+
+  module _ (choice : Choice) (net : own.Net) (is : MadeNet choice (h .levels) (h .inputs) (inkIn inks) net) where
+    made-is : netIn s h net ≡ netBy choice (tableIn s h inks)
+    unfolding headerOf
+    made-is = net-is net is ∙ sym (netBy-is choice (tableIn s h inks))
+
     -- the layers that are counted are those of that net
     pub made-layers : (count : ℕ) → count ≡ layers (net .inputs) (gatesOf net) → count ≡ netLayers (netBy choice (tableIn s h inks))
     unfolding netLayers headerOf
@@ -104,30 +110,16 @@ module _ (s : List ℕ) (h : Header) (inks : List ℕ) (given : Given s h inks) 
     abbrev counted : Made → LayeredMade
     counted = withLayers (netLayers (netBy choice (tableIn s h inks)))
 
-    pub given-13 : length cells < length inks
-        → record { answer = refused 13 (length inks); cells = cells; marks = marks; output = output } ≡ layeredInto (netBy choice) (tableIn s h inks) cells marks output
-    unfolding headerOf layeredInto
-    given-13 l =
-        (λ i. record { answer = refused 13 (given-count i); cells = cells; marks = marks; output = output })
-        ∙ sym (refused-layers _ _ _ cells marks output)
-        ∙ ap counted (sym (into-13 (netBy choice) (tableIn s h inks) cells marks output (subst (λ (k : ℕ). length cells < k) given-count l)))
+    pub given-refused : (number place : ℕ) → roomFor (tableIn s h inks) cells marks ≡ refused number place
+        → record { answer = refused number place; cells = cells; marks = marks; output = output } ≡ layeredInto (netBy choice) (tableIn s h inks) cells marks output
+    unfolding layeredInto
+    given-refused number place e =
+        sym (refused-layers _ _ _ cells marks output) ∙ ap counted (sym (into-refused (netBy choice) (tableIn s h inks) cells marks output number place e))
 
-    module _ (room : length inks ≤ length cells) (need : ℕ) (is : need ≡ marksLength (h .inputs)) where
-      cells-fit : h .levels ^ h .inputs ≤ length cells
-      cells-fit = subst (λ (k : ℕ). k ≤ length cells) given-count room
-
-      pub given-14 : length marks < need
-          → record { answer = refused 14 need; cells = cells; marks = marks; output = output } ≡ layeredInto (netBy choice) (tableIn s h inks) cells marks output
-      unfolding headerOf layeredInto
-      given-14 l =
-          (λ i. record { answer = refused 14 (is i); cells = cells; marks = marks; output = output })
-          ∙ sym (refused-layers _ _ _ cells marks output)
-          ∙ ap counted (sym (into-14 (netBy choice) (tableIn s h inks) cells marks output cells-fit (subst (λ (k : ℕ). length marks < k) is l)))
-
-      pub given-marked : need ≤ length marks
-          → counted (afterMarks (netBy choice) (tableIn s h inks) cells marks output) ≡ layeredInto (netBy choice) (tableIn s h inks) cells marks output
-      unfolding headerOf layeredInto
-      given-marked l = ap counted (sym (into-marked (netBy choice) (tableIn s h inks) cells marks output cells-fit (subst (λ (k : ℕ). k ≤ length marks) is l)))
+    pub given-marked : roomFor (tableIn s h inks) cells marks ≡ accepted tt
+        → counted (afterMarks (netBy choice) (tableIn s h inks) cells marks output) ≡ layeredInto (netBy choice) (tableIn s h inks) cells marks output
+    unfolding layeredInto
+    given-marked e = ap counted (sym (into-room (netBy choice) (tableIn s h inks) cells marks output e))
 
   -- ---- the outcomes once the cells and the marks are written
 

@@ -10,13 +10,14 @@ ghost use Rattle.answers.specs.Answers.{answerOf};
 ghost use Rattle.answers.specs.Layered.{layeredMadeOf, layeredOf};
 ghost use Rattle.accepted.specs.Taken.{Given};
 ghost use Rattle.synthesis.specs.Outcomes.{netBy};
+use crate::room::room;
 use answers::answer::Answer;
 use answers::layered::Layered;
+use answers::outcome::Outcome;
 use filling::made;
 use lines::put::copy;
 use marks::marking;
 use marks::place;
-use marks::stored;
 use net_printing::output;
 use nets::forms::Header;
 use nets::layers;
@@ -75,19 +76,9 @@ pub fn settle_into(
     ensures { λ r. ⌜ layeredMadeOf r (now (cells .exit)) (now (marks .exit)) (now (out .exit))
         ≡ layeredInto (netBy choice) (tableIn (now (s .entry)) header (now (inks .entry))) (now (cells .entry)) (now (marks .entry)) (now (out .entry)) ⌝ }
 {
-    let need = inks.len();
-    if cells.len() < need {
-        return Layered::Refused {
-            number: 13,
-            place: need,
-        };
+    let judged = room(header, inks, cells, marks);
+    match judged {
+        Outcome::Refused { number, place } => Layered::Refused { number, place },
+        Outcome::Accepted => settle_marked(choice, s, header, inks, cells, marks, out),
     }
-    let marks_need = stored::marks_length(header.inputs);
-    if marks.len() < marks_need {
-        return Layered::Refused {
-            number: 14,
-            place: marks_need,
-        };
-    }
-    settle_marked(choice, s, header, inks, cells, marks, out)
 }

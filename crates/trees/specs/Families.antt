@@ -118,6 +118,31 @@ module _ (n : ℕ) (marks : List ℕ) where
 
   -- ---- from a number to a wiring
 
+  -- a split and a number in it, of the number r of g: each part has a number of its own
+  pub record SplitAt (g r : ℕ) (at : Numbered) : Type 0 where
+    pub split : MayBeA n marks g (at .part)
+    pub rest-some : 0 < counted n marks (g - at .part)
+    pub left : at .number / counted n marks (g - at .part) < counted n marks (at .part)
+    pub right : at .number % counted n marks (g - at .part) < counted n marks (g - at .part)
+    pub again : before (splitCounted n marks g) (splitsOf n marks g) (at .part) + at .number ≡ r
+
+  -- where a number of a group of several members falls
+  pub number-split : (g r : ℕ) → g < 2 ^ n → size n g ≢ 1 → r < counted n marks g → SplitAt g r (numberedAt (splitCounted n marks g) (splitsOf n marks g) r)
+  number-split g r g< several h =
+      let two = counted-two n marks g g< (omega arith) in
+      let placed : Placed (splitCounted n marks g) (splitsOf n marks g) r =
+      numbered-placed (splitCounted n marks g) (splitsOf n marks g) (splits-distinct g) r (rw (count-several n marks g g< two several) at h) in
+      let at : Numbered = numberedAt (splitCounted n marks g) (splitsOf n marks g) r in
+      let small : at .number < counted n marks (at .part) * counted n marks (g - at .part) = unfold splitCount in placed .below in
+      let some : 0 < counted n marks (g - at .part) = factor-some (at .number) (counted n marks (at .part)) (counted n marks (g - at .part)) small in
+      record {
+        split = split-is n marks g (at .part) (placed .listed);
+        rest-some = some;
+        left = div-lt-iff-lt-mul some .1 small;
+        right = mod-lt (at .number) some;
+        again = placed .again;
+      }
+
   -- a wiring that is counted, with its number
   pub record HasNumber (g r : ℕ) (w : Wiring) : Type 0 where
     pub family : InFamily g w
@@ -145,17 +170,13 @@ module _ (n : ℕ) (marks : List ℕ) where
       go (yes one) below = rw (wired-single (suc fuel) g r one) (single-numbered g r g< one h)
       go (no several) below =
           let two = counted-two n marks g g< (omega arith) in
-          let placed : Placed (splitCounted n marks g) (splitsOf n marks g) r =
-          numbered-placed (splitCounted n marks g) (splitsOf n marks g) (splits-distinct g) r (rw (count-several n marks g g< two several) at h) in
+          let placed = number-split g r g< several h in
           let at : Numbered = numberedAt (splitCounted n marks g) (splitsOf n marks g) r in
           let a : ℕ = at .part in
-          let b : ℕ = g - a in
-          let split : MayBeA n marks g a = split-is n marks g a (placed .listed) in
-          let small : at .number < counted n marks a * counted n marks b = unfold splitCount in placed .below in
-          let some : 0 < counted n marks b = factor-some (at .number) (counted n marks a) (counted n marks b) small in
+          let split = placed .split in
           let sizes = split-sizes g a g< split in
-          let left = below a (at .number / counted n marks b) (a-below g a g< split) (omega arith) (div-lt-iff-lt-mul some .1 small) in
-          let right = below b (at .number % counted n marks b) (b-below g a g< split) (omega arith) (mod-lt (at .number) some) in
+          let left = below a (at .number / counted n marks (g - a)) (a-below g a g< split) (omega arith) (placed .left) in
+          let right = below (g - a) (at .number % counted n marks (g - a)) (b-below g a g< split) (omega arith) (placed .right) in
           rw (wired-several fuel g r several) (record {
             family = join-family g a g< split two _ _ (left .family) (right .family);
             number =

@@ -91,6 +91,6 @@ pub chosen : (n : ℕ) (split : ℕ → ℕ) (leaves : ℕ) (none w : Wiring) (r
 chosen n split leaves none w reference empty added =
     record {
       count = added .count ∙ ap (λ (k : ℕ). k + size n leaves) empty ∙ zero-add (size n leaves);
-      links = added .links n (size-le n leaves)
+      links = added .wires n (size-le n leaves) .links
           ∙ ap₂ (λ (ls : List Link) (k : ℕ). ls ++ linksOf n k (wiringBy n split n leaves)) (none-in none empty) empty;
     }

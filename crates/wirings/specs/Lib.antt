@@ -1,4 +1,5 @@
 pub mod Choice
 pub mod Added
+pub mod AddedWiring
 pub mod Chosen
 pub mod Links

@@ -93,6 +93,60 @@ pub fn shallow_making(m: usize, n: usize, kind: TableKind) -> f64 {
     ratio(shallow, settled)
 }
 
+/// Counting a table sheet's trees against marking its bare cells, both the library's.
+pub fn family_counting(m: usize, n: usize, kind: TableKind) -> f64 {
+    let sheets = sheets(18, m, n, kind);
+    let (mut cells, mut marks) = (vec![0; sitgurp::MOST_CELLS], vec![0; sitgurp::MOST_MARKS]);
+    let mut bare = Vec::new();
+    for sheet in &sheets {
+        let count = sitgurp::family_count(sheet, &mut cells, &mut marks).expect("a good sheet");
+        let whole = marks[(1 << n) - 1];
+        assert_eq!(count > 0, whole == 2, "a tree where the mark is 2");
+        bare.push(cells[..m.pow(n as u32)].to_vec());
+    }
+    let counting = least(&sheets, |sheet| {
+        black_box(sitgurp::family_count(
+            black_box(sheet),
+            &mut cells,
+            &mut marks,
+        ))
+        .ok();
+    });
+    let marking = least(&bare, |cells| {
+        black_box(sitgurp::marking(m, n, black_box(cells), &mut marks)).ok();
+    });
+    ratio(counting, marking)
+}
+
+/// The last tree of the family against making, both the library's. A table without a tree is refused by both after its marks.
+pub fn last_tree(m: usize, n: usize, kind: TableKind) -> f64 {
+    let sheets: Vec<(Vec<u8>, u64)> = sheets(19, m, n, kind)
+        .into_iter()
+        .map(|sheet| {
+            let size = sitgurp::Family::of(&sheet).expect("a good sheet").size();
+            (sheet, size.saturating_sub(1))
+        })
+        .collect();
+    let (mut cells, mut marks) = (vec![0; sitgurp::MOST_CELLS], vec![0; sitgurp::MOST_MARKS]);
+    let mut output = vec![0; sitgurp::MOST_NET_SHEET];
+    let last = least(&sheets, |(sheet, number)| {
+        let sheet = black_box(sheet);
+        black_box(sitgurp::family_tree(
+            sheet,
+            *number,
+            &mut cells,
+            &mut marks,
+            &mut output,
+        ))
+        .ok();
+    });
+    let settled = least(&sheets, |(sheet, _)| {
+        let sheet = black_box(sheet);
+        black_box(sitgurp::make(sheet, &mut cells, &mut marks, &mut output)).ok();
+    });
+    ratio(last, settled)
+}
+
 /// What the library's time is held against: plain Rust, or the second implementation.
 #[derive(Clone, Copy, PartialEq, Eq)]
 pub enum Against {

@@ -15,13 +15,15 @@ pub enum Kind {
     SettleShallow,
     MakeShallow,
     Shallower,
+    FamilyCount,
+    FamilyTree,
     Check,
     WriteTable,
     Listing,
 }
 
 impl Kind {
-    pub const ALL: [Kind; 12] = [
+    pub const ALL: [Kind; 14] = [
         Kind::Multiplicity,
         Kind::Multiplicities,
         Kind::FewestLevels,
@@ -31,12 +33,14 @@ impl Kind {
         Kind::SettleShallow,
         Kind::MakeShallow,
         Kind::Shallower,
+        Kind::FamilyCount,
+        Kind::FamilyTree,
         Kind::Check,
         Kind::WriteTable,
         Kind::Listing,
     ];
 
-    /// The refusals that document 01 has for this call; of the two that ask a table sheet's multiplicities, the sheet's. The shallower of
+    /// The refusals that documents 01 and 02 have for this call; of the two that ask a table sheet's multiplicities, the sheet's. The shallower of
     /// two is had without a number.
     pub fn refusals(self) -> &'static [usize] {
         match self {
@@ -46,6 +50,8 @@ impl Kind {
             Kind::Settle | Kind::SettleShallow => &[1, 2, 3, 4, 6, 7, 8, 13, 14, 15],
             Kind::Make | Kind::MakeShallow => &[1, 2, 3, 4, 5, 6, 13, 14, 15, 16],
             Kind::Shallower => &[],
+            Kind::FamilyCount => &[1, 2, 3, 4, 5, 6, 13, 14],
+            Kind::FamilyTree => &[1, 2, 3, 4, 5, 6, 13, 14, 15, 17],
             Kind::Check => &[1, 2, 3, 4, 5, 6, 7, 8, 12, 13],
             Kind::WriteTable => &[1, 2, 3, 4, 6, 7, 8, 15],
             Kind::Listing => &[1, 2, 3, 4, 6, 7, 8],
@@ -78,6 +84,8 @@ impl Call {
             Kind::SettleShallow => settle_shallow(&mut inputs),
             Kind::MakeShallow => make_shallow(&mut inputs),
             Kind::Shallower => shallower(&mut inputs),
+            Kind::FamilyCount => family_count(&mut inputs),
+            Kind::FamilyTree => family_tree(&mut inputs),
             Kind::Check => check(&mut inputs),
             Kind::WriteTable => write_table(&mut inputs),
             Kind::Listing => listing(&mut inputs),
@@ -259,33 +267,81 @@ fn shallower(inputs: &mut Inputs) -> Both {
     )
 }
 
-/// Settling or making.
-fn from_sheet<T, S>(inputs: &mut Inputs, sheet: &[u8], call: FromSheet<T, S>) -> Both {
-    // what the output needs is the settled sheet's length, which is near the net sheet's own
-    let output = sheet.len().min(MOST_NET_SHEET);
+/// The count of a table sheet's trees; a table without a tree is accepted.
+fn family_count(inputs: &mut Inputs) -> Both {
+    let sheet = inputs.table_sheet();
     let buffers = vec![
         inputs.buffer(inputs.cells_needed()),
         inputs.buffer(inputs.marks_needed()),
-        inputs.buffer(output),
     ];
+    both(
+        in_words(&[&sheet], &buffers),
+        buffers,
+        |buffers| {
+            let [cells, marks] = lent(buffers);
+            let count = sitgurp::family_count(&sheet, cells, marks);
+            Answer::of_proved(count, Answer::Count)
+        },
+        |buffers| {
+            let [cells, marks] = lent(buffers);
+            let count = reference::family_count(&sheet, cells, marks);
+            Answer::of_second(count, Answer::Count)
+        },
+    )
+}
+
+fn family_tree(inputs: &mut Inputs) -> Both {
+    let sheet = inputs.table_sheet();
+    let number = inputs.order_number(&sheet);
+    let buffers = sheet_buffers(inputs, &sheet);
+    both(
+        format!("{}\nnumber {number}", in_words(&[&sheet], &buffers)),
+        buffers,
+        |buffers| {
+            let [cells, marks, output] = lent(buffers);
+            let length = sitgurp::family_tree(&sheet, number, cells, marks, output);
+            Answer::of_proved(length, Answer::Value)
+        },
+        |buffers| {
+            let [cells, marks, output] = lent(buffers);
+            let length = reference::family_tree(&sheet, number, cells, marks, output);
+            Answer::of_second(length, Answer::Value)
+        },
+    )
+}
+
+/// Cells, marks and output for a call that writes a net sheet.
+fn sheet_buffers(inputs: &mut Inputs, sheet: &[u8]) -> Vec<Vec<u8>> {
+    // what the output needs is the settled sheet's length, which is near the net sheet's own
+    let output = sheet.len().min(MOST_NET_SHEET);
+    vec![
+        inputs.buffer(inputs.cells_needed()),
+        inputs.buffer(inputs.marks_needed()),
+        inputs.buffer(output),
+    ]
+}
+
+/// Settling or making.
+fn from_sheet<T, S>(inputs: &mut Inputs, sheet: &[u8], call: FromSheet<T, S>) -> Both {
+    let buffers = sheet_buffers(inputs, sheet);
     both(
         in_words(&[sheet], &buffers),
         buffers,
         |buffers| {
-            let [cells, marks, output] = three(buffers);
+            let [cells, marks, output] = lent(buffers);
             let answer = (call.proved)(sheet, cells, marks, output);
             Answer::of_proved(answer, call.of_proved)
         },
         |buffers| {
-            let [cells, marks, output] = three(buffers);
+            let [cells, marks, output] = lent(buffers);
             let answer = (call.second)(sheet, cells, marks, output);
             Answer::of_second(answer, call.of_second)
         },
     )
 }
 
-fn three(buffers: &mut [Vec<u8>]) -> &mut [Vec<u8>; 3] {
-    buffers.try_into().expect("three buffers")
+fn lent<const COUNT: usize>(buffers: &mut [Vec<u8>]) -> &mut [Vec<u8>; COUNT] {
+    buffers.try_into().expect("so many buffers")
 }
 
 fn check(inputs: &mut Inputs) -> Both {

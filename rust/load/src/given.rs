@@ -13,6 +13,8 @@ pub enum Answer {
     Layered(usize, usize),
     /// The part of one of two sheets, counted from 0, that begins where the sheet begins, and its length.
     Part(Option<usize>, usize),
+    /// A number of trees.
+    Count(u64),
     /// Every group's number of classes.
     Counts(Vec<usize>),
     /// The lister's turns: where a line begins and how long it is, or that none is left.
@@ -127,6 +129,8 @@ mod tests {
             Answer::Part(Some(0), 0),
             Answer::Part(Some(1), 4),
             Answer::Part(None, 4),
+            Answer::Count(4),
+            Answer::Count(0),
             Answer::Counts(vec![0, 2, 2, 2]),
             Answer::Counts(vec![0, 2, 2, 1]),
             Answer::Turns(vec![Some((4, 8)), None]),

@@ -66,6 +66,19 @@ impl Inputs {
         self.perhaps_damaged(good)
     }
 
+    /// An order number of a tree of this table sheet, or one at or past their count.
+    pub fn order_number(&mut self, sheet: &[u8]) -> u64 {
+        let count = sitgurp::Family::of(sheet).map_or(0, |family| family.size());
+        match self.below(8) {
+            0 => 0,
+            1 => count,
+            2 => count.saturating_sub(1),
+            3 => count + self.below(1 << 20) as u64,
+            4 => *self.generator.rng.pick(&ODD_NUMBERS) as u64,
+            _ => self.generator.rng.number() % count.max(1),
+        }
+    }
+
     /// A net sheet and a table sheet: the net's own table, the same with an ink changed, or a table sheet of another header.
     pub fn net_and_table_sheet(&mut self) -> (Vec<u8>, Vec<u8>) {
         let header = self.generator.header(self.m, self.n);

@@ -5,7 +5,7 @@ use std::collections::BTreeSet;
 use std::fmt;
 
 /// Refusals are numbered from 1; 0 stands for an accepted call.
-const ENDS: usize = 17;
+const ENDS: usize = 18;
 
 #[derive(Clone, Default)]
 struct Row {
@@ -99,6 +99,7 @@ mod tests {
         assert_eq!(all_but(Kind::Make, 8).unseen(), []);
         for (kind, number) in [
             (Kind::Make, 16),
+            (Kind::FamilyTree, 17),
             (Kind::Multiplicity, 0),
             (Kind::Listing, 8),
         ] {

@@ -2,8 +2,10 @@
 //!
 //! "15 and 16 leave cells and marks written where the call has them, the output
 //! untouched. Every other refusal changes no buffer." "Longer buffers keep their
-//! further bytes."
+//! further bytes." 17 "takes the place of 16 in the second call" of a family "and
+//! leaves what 16 leaves".
 
+use crate::family::{self, family_net};
 use crate::groups::{self, whole};
 use crate::limits::cell_count;
 use crate::marks::{self, first_stuck, marks_of};
@@ -113,6 +115,33 @@ pub fn make_shallow(
     write_tree(shallow_net, &header, &table, cells, marks, out)
 }
 
+/// "One call takes a table sheet with making's cells and marks buffers, no
+/// output, and answers the count of the trees." "A table with no tree gets count
+/// 0, never 16." Refusals 1 to 6, 13, 14.
+pub fn family_count(sheet: &[u8], cells: &mut [u8], marks: &mut [u8]) -> Result<u64, Refusal> {
+    let (_, table) = read_table_sheet(sheet)?;
+    let of_groups = write_marks(&table, cells, marks)?;
+    Ok(family::count(&of_groups, table.n))
+}
+
+/// "The other takes a table sheet, an order number and all of making's buffers,
+/// and writes the tree of that number, from 0." 17: "order number not below the
+/// count, place the number, judged after 14 and before 15".
+/// Refusals 1 to 6, 13, 14, 17, 15.
+pub fn family_tree(
+    sheet: &[u8],
+    number: u64,
+    cells: &mut [u8],
+    marks: &mut [u8],
+    out: &mut [u8],
+) -> Result<usize, Refusal> {
+    let (header, table) = read_table_sheet(sheet)?;
+    let of_groups = write_marks(&table, cells, marks)?;
+    let net = family_net(&table, &of_groups, number)
+        .ok_or_else(|| Refusal::new(refusal::ORDER_NUMBER, number))?;
+    write_sheet(&print_net_sheet(&header, &net), out)
+}
+
 /// The tree chosen for a table with these marks; none if it has no tree.
 type Choice = fn(&Table, &[u8]) -> Option<Net>;
 
@@ -126,15 +155,21 @@ fn write_tree(
     marks: &mut [u8],
     out: &mut [u8],
 ) -> Result<Layered, Refusal> {
+    let of_groups = write_marks(table, cells, marks)?;
+    let net = choice(table, &of_groups).ok_or_else(|| no_tree(&of_groups, table.n))?;
+    let length = write_sheet(&print_net_sheet(header, &net), out)?;
+    let layers = net.layers();
+    Ok(Layered { length, layers })
+}
+
+/// The table into the cells, its marks into the marks; answers the marks.
+fn write_marks(table: &Table, cells: &mut [u8], marks: &mut [u8]) -> Result<Vec<u8>, Refusal> {
     require(refusal::CELLS_SHORT, cells.len(), table.inks.len())?;
     require(refusal::MARKS_SHORT, marks.len(), marks::needed(table.n))?;
     let of_groups = marks_of(table);
     put(cells, &table.inks);
     marks::store(&of_groups, marks);
-    let net = choice(table, &of_groups).ok_or_else(|| no_tree(&of_groups, table.n))?;
-    let length = write_sheet(&print_net_sheet(header, &net), out)?;
-    let layers = net.layers();
-    Ok(Layered { length, layers })
+    Ok(of_groups)
 }
 
 fn no_tree(marks: &[u8], n: usize) -> Refusal {

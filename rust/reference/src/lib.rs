@@ -15,6 +15,7 @@
 //! | `marks`    | "Marks", and how a mark is stored                         |
 //! | `settled`  | "The settled net"                                         |
 //! | `shallow`  | document 02, "Shallow nets": the tree of fewest layers    |
+//! | `family`   | document 02, "The whole family of trees": counts, numbers |
 //! | `calls`    | every call with the buffers lent to it                    |
 //! | `lister`   | "Listing"                                                 |
 //! | `programs` | "Two programs"                                            |
@@ -25,6 +26,7 @@
 
 pub mod calls;
 pub mod damage;
+pub mod family;
 pub mod fields;
 pub mod generate;
 pub mod groups;
@@ -40,8 +42,8 @@ pub mod shallow;
 pub mod sheet;
 
 pub use calls::{
-    check, fewest_levels, make, make_shallow, marking, multiplicities, multiplicity, settle,
-    settle_shallow, shallower, write_table, Layered, Verdict,
+    check, family_count, family_tree, fewest_levels, make, make_shallow, marking, multiplicities,
+    multiplicity, settle, settle_shallow, shallower, write_table, Layered, Verdict,
 };
 pub use limits::allowed_sizes;
 pub use lister::Lister;

@@ -4,7 +4,7 @@
 ///
 /// "A call that refuses either of two sheets judges the net first, and names
 /// the sheet it refuses; 12 names neither." Numbers 1 to 8 are about a sheet
-/// and name it, in the calls with one sheet too; 9 to 16 name neither.
+/// and name it, in the calls with one sheet too; 9 to 17 name neither.
 #[derive(Clone, Copy, Debug, PartialEq, Eq)]
 pub enum Sheet {
     Net,
@@ -19,7 +19,7 @@ pub struct Refusal {
     pub sheet: Sheet,
 }
 
-// The numbers of document 01's two tables.
+// The numbers of document 01's two tables, and those that document 02 adds.
 pub const LAYOUT: u8 = 1;
 pub const LEVELS: u8 = 2;
 pub const INPUTS: u8 = 3;
@@ -36,6 +36,7 @@ pub const CELLS_SHORT: u8 = 13;
 pub const MARKS_SHORT: u8 = 14;
 pub const OUTPUT_SHORT: u8 = 15;
 pub const NO_TREE: u8 = 16;
+pub const ORDER_NUMBER: u8 = 17;
 
 impl Refusal {
     /// A refusal that names no sheet (yet).

@@ -5,7 +5,8 @@ mod common;
 
 use common::*;
 use reference::{
-    check, make, make_shallow, marking, settle, settle_shallow, write_table, Refusal, Verdict,
+    check, family_count, family_tree, make, make_shallow, marking, settle, settle_shallow,
+    write_table, Refusal, Verdict,
 };
 
 /// A lent buffer with something in it: no two neighbours are equal, and none is
@@ -46,18 +47,28 @@ fn make_shallow_length(
     make_shallow(sheet, cells, marks, out).map(|answer| answer.length)
 }
 
+/// The tree of number 2.
+fn third_tree(
+    sheet: &[u8],
+    cells: &mut [u8],
+    marks: &mut [u8],
+    out: &mut [u8],
+) -> Result<usize, Refusal> {
+    family_tree(sheet, 2, cells, marks, out)
+}
+
 /// A sheet with what settling or making is to write from it.
 struct Example {
     call: Call,
     sheet: Vec<u8>,
     cells: Vec<u8>,
     marks: Vec<u8>,
-    /// The settled sheet, or refusal 16.
+    /// The sheet that is written, or refusal 16, or 17 in its place.
     result: Result<Vec<u8>, Refusal>,
 }
 
 impl Example {
-    /// Document 01's order: 13, 14, 16, 15.
+    /// Document 01's order: 13, 14, 16 (or 17), 15.
     fn expected(&self, cells: usize, marks: usize, out: usize) -> Result<usize, Refusal> {
         if cells < self.cells.len() {
             return Err(of_neither(13, self.cells.len() as u64));
@@ -172,6 +183,67 @@ fn shallow_calls_at_every_length() {
     }
 }
 
+/// The exclusive or of three inputs has the tree of number 2; where there is no
+/// such number, 17 comes before 15 and leaves cells and marks written.
+#[test]
+fn a_tree_of_the_family_at_every_length() {
+    let sum = |x: &[usize]| x.iter().sum::<usize>() % 2;
+    let most = |x: &[usize]| usize::from(x.iter().sum::<usize>() >= 2);
+    let tree = net_sheet(2, "a b c", "a c 0110/1 b 0110");
+    Example {
+        call: third_tree,
+        sheet: rule_sheet(2, "a b c", sum),
+        cells: vec![0, 1, 1, 0, 1, 0, 0, 1],
+        marks: vec![0, 2, 2, 2, 2, 2, 2, 2],
+        result: Ok(tree),
+    }
+    .assert_all_lengths();
+    Example {
+        call: third_tree,
+        sheet: rule_sheet(2, "a b c", most),
+        cells: vec![0, 0, 0, 1, 0, 1, 1, 1],
+        marks: vec![0, 2, 2, 0, 2, 0, 0, 1],
+        result: Err(of_neither(17, 2)),
+    }
+    .assert_all_lengths();
+    Example {
+        call: third_tree,
+        sheet: rule_sheet(2, "a b", sum),
+        cells: vec![0, 1, 1, 0],
+        marks: vec![0, 2, 2, 2],
+        result: Err(of_neither(17, 2)),
+    }
+    .assert_all_lengths();
+}
+
+/// Of a table of three inputs with 2 levels.
+fn assert_count_at_every_length(inks: [u8; 8], of_groups: [u8; 8], count: u64) {
+    let sheet = table_sheet(2, "a b c", &inks);
+    for cells in lengths(8) {
+        for marks in lengths(8) {
+            let (mut c, mut k) = (lent(cells), lent(marks));
+            let answer = family_count(&sheet, &mut c, &mut k);
+            match (cells < 8, marks < 8) {
+                (true, _) => assert_eq!(answer, Err(of_neither(13, 8))),
+                (_, true) => assert_eq!(answer, Err(of_neither(14, 8))),
+                _ => assert_eq!(answer, Ok(count)),
+            }
+            if answer.is_ok() {
+                assert_eq!((c, k), (written(cells, &inks), written(marks, &of_groups)));
+            } else {
+                assert_eq!((c, k), (lent(cells), lent(marks)));
+            }
+        }
+    }
+}
+
+/// Count 0 is an answer, and leaves cells and marks written.
+#[test]
+fn the_count_of_a_family_at_every_length() {
+    assert_count_at_every_length([0, 1, 1, 0, 1, 0, 0, 1], [0, 2, 2, 2, 2, 2, 2, 2], 3);
+    assert_count_at_every_length([0, 0, 0, 1, 0, 1, 1, 1], [0, 2, 2, 0, 2, 0, 0, 1], 0);
+}
+
 /// The lengths needed at the largest sizes.
 #[test]
 fn settle_and_make_at_the_largest_sizes() {
@@ -222,12 +294,17 @@ fn a_refused_sheet_changes_no_buffer() {
                 make,
                 settle_shallow_length,
                 make_shallow_length,
+                third_tree,
             ] {
                 let (mut c, mut k, mut o) = (lent(length), lent(length), lent(length));
                 let refusal = call(&sheet, &mut c, &mut k, &mut o).expect_err("a bad sheet");
                 assert!((1..=8).contains(&refusal.number));
                 assert_eq!([c, k, o], [(); 3].map(|_| lent(length)));
             }
+            let (mut c, mut k) = (lent(length), lent(length));
+            let refusal = family_count(&sheet, &mut c, &mut k).expect_err("a bad sheet");
+            assert!((1..=8).contains(&refusal.number));
+            assert_eq!([c, k], [(); 2].map(|_| lent(length)));
             let mut out = lent(length);
             let refusal = write_table(&sheet, &mut out).expect_err("a bad sheet");
             assert!((1..=8).contains(&refusal.number));

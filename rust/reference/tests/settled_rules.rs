@@ -1,12 +1,13 @@
 //! Every sentence of "The settled net", held against the settled sheet itself at
 //! every size: the wiring, the order of the gate lines, the digits. And the same
-//! of the shallow net, whose wiring alone is another.
+//! of the shallow net and of the other trees of the family, whose wiring alone is
+//! another.
 
 mod common;
 
 use common::*;
 use reference::generate::{Generator, TableKind};
-use reference::{allowed_sizes, make, make_shallow, marking};
+use reference::{allowed_sizes, family_count, family_tree, make, make_shallow, marking};
 
 /// A gate line as it stands on the sheet, with the group of inputs below it.
 struct Line {
@@ -22,6 +23,10 @@ struct Line {
 enum Choice {
     Settled,
     Shallow,
+    /// The last of the family.
+    Last,
+    /// One from the middle of the family.
+    Middle,
 }
 
 struct Made {
@@ -48,6 +53,15 @@ impl Made {
             Choice::Shallow => {
                 let answer = make_shallow(&sheet, &mut cells, &mut k, &mut out).ok()?;
                 (answer.length, Some(answer.layers))
+            }
+            Choice::Last | Choice::Middle => {
+                let count = family_count(&sheet, &mut cells, &mut k).expect("good cells");
+                let number = match choice {
+                    Choice::Last => count.checked_sub(1)?,
+                    _ => count / 2,
+                };
+                let length = family_tree(&sheet, number, &mut cells, &mut k, &mut out).ok()?;
+                (length, None)
             }
         };
         let text = String::from_utf8(out[..length].to_vec()).expect("ASCII");
@@ -155,16 +169,19 @@ impl Made {
 
     /// "A holding its first-listed input, A of lowest number", both of mark 2; of
     /// a shallow net "the part A of lowest number that keeps its own group
-    /// shallowest".
+    /// shallowest"; in the last tree of a family A of highest number.
     fn assert_split(&self, gate: &Line, fewest: &[usize]) {
         let group = gate.left_group | gate.right_group;
         let first = 1 << group.trailing_zeros();
-        let shallowest = |a: usize| fewest[a].max(fewest[group - a]) < fewest[group];
-        let lowest = self
-            .parts(group)
-            .filter(|a| a & first != 0)
-            .find(|&a| self.choice == Choice::Settled || shallowest(a));
-        assert_eq!(lowest, Some(gate.left_group));
+        let shallowest = |a: &usize| fewest[*a].max(fewest[group - a]) < fewest[group];
+        let mut parts = self.parts(group).filter(|a| a & first != 0);
+        let due = match self.choice {
+            Choice::Settled => parts.next(),
+            Choice::Shallow => parts.find(shallowest),
+            Choice::Last => parts.last(),
+            Choice::Middle => parts.find(|&a| a == gate.left_group),
+        };
+        assert_eq!(due, Some(gate.left_group));
     }
 
     /// Every assignment of all inputs in which the inputs outside the group
@@ -273,4 +290,12 @@ fn every_settled_sheet_keeps_the_rules() {
 fn every_shallow_sheet_keeps_the_rules() {
     let (sheets, free) = assert_every_size(Choice::Shallow, 142);
     assert!(sheets > 500 && free > 500);
+}
+
+#[test]
+fn other_trees_of_the_family_keep_the_rules() {
+    for (choice, seed) in [(Choice::Last, 143), (Choice::Middle, 144)] {
+        let (sheets, free) = assert_every_size(choice, seed);
+        assert!(sheets > 500 && free > 500);
+    }
 }

@@ -4,78 +4,13 @@
 
 mod common;
 
+use common::wirings::*;
 use common::*;
 use reference::damage::byte_damages;
 use reference::generate::{Generator, TableKind};
 use reference::sheet::read_net_sheet;
 use reference::{allowed_sizes, make, make_shallow, settle, settle_shallow};
-use std::collections::{BTreeMap, HashSet};
-
-/// A tree without digits.
-#[derive(Clone, Debug)]
-enum Wiring {
-    Leaf(usize),
-    Node(Box<Wiring>, Box<Wiring>),
-}
-
-/// A gate of a wiring: its group, the part that goes left, and the gates on the
-/// longest way to it from an input, its own counted.
-#[derive(Clone, Copy, Debug)]
-struct Joint {
-    group: usize,
-    left: usize,
-    layers: usize,
-}
-
-impl Wiring {
-    fn group(&self) -> usize {
-        match self {
-            Wiring::Leaf(input) => 1 << input,
-            Wiring::Node(left, right) => left.group() | right.group(),
-        }
-    }
-
-    fn layers(&self) -> usize {
-        match self {
-            Wiring::Leaf(_) => 0,
-            Wiring::Node(left, right) => 1 + left.layers().max(right.layers()),
-        }
-    }
-
-    /// Left's gates, then right's, then the own one.
-    fn joints(&self) -> Vec<Joint> {
-        let Wiring::Node(left, right) = self else {
-            return Vec::new();
-        };
-        let own = Joint {
-            group: self.group(),
-            left: left.group(),
-            layers: self.layers(),
-        };
-        [left.joints(), right.joints(), vec![own]].concat()
-    }
-
-    /// The wiring of a net sheet whose inputs are `a`, `b` and so on.
-    fn of_sheet(sheet: &[u8]) -> Wiring {
-        let text = std::str::from_utf8(sheet).expect("ASCII");
-        let mut gates: Vec<Wiring> = Vec::new();
-        for line in text.lines().skip(4) {
-            let of = |reference: &str| match reference.parse::<usize>() {
-                Ok(number) => gates[number - 1].clone(),
-                Err(_) => Wiring::Leaf(usize::from(reference.as_bytes()[0] - b'a')),
-            };
-            let mut references = line.split(' ').map(of);
-            let mut next = || Box::new(references.next().expect("a reference"));
-            let node = Wiring::Node(next(), next());
-            gates.push(node);
-        }
-        gates.pop().expect("a gate line")
-    }
-}
-
-fn names(n: usize) -> &'static str {
-    &"a b c d e f g h i j k"[..2 * n - 1]
-}
+use std::collections::BTreeMap;
 
 /// Every wiring over a group, the part with the first-listed input on the left.
 fn wirings(group: usize) -> Vec<Wiring> {
@@ -88,10 +23,7 @@ fn wirings(group: usize) -> Vec<Wiring> {
         let rights = wirings(group - a);
         for left in wirings(a) {
             for right in &rights {
-                all.push(Wiring::Node(
-                    Box::new(left.clone()),
-                    Box::new(right.clone()),
-                ));
+                all.push(Wiring::node(left.clone(), right.clone()));
             }
         }
     }
@@ -139,38 +71,6 @@ fn assert_table(m: usize, n: usize, inks: &[u8], computing: &[&Vec<Joint>]) -> b
 
 // ---- two levels: every filling of every wiring
 
-/// A table of two levels, its bit p the ink at index p.
-type Bits = u32;
-
-fn mask(n: usize) -> Bits {
-    Bits::MAX >> (32 - (1 << n))
-}
-
-/// The tables of a wiring under every filling of its gates.
-fn tables_of(wiring: &Wiring, n: usize) -> HashSet<Bits> {
-    match wiring {
-        Wiring::Leaf(input) => {
-            let level = |p: usize| levels_of(p, 2, n)[*input] as Bits;
-            HashSet::from([(0..1 << n).fold(0, |table, p| table | level(p) << p)])
-        }
-        Wiring::Node(left, right) => {
-            let (lefts, rights) = (tables_of(left, n), tables_of(right, n));
-            let mut tables = HashSet::new();
-            for &l in &lefts {
-                for &r in &rights {
-                    let places = [!l & !r, !l & r, l & !r, l & r];
-                    for gate in 0..16 {
-                        let ones = (0..4).filter(|digit| gate >> digit & 1 == 1);
-                        let table = ones.fold(0, |table, digit| table | places[digit]);
-                        tables.insert(table & mask(n));
-                    }
-                }
-            }
-            tables
-        }
-    }
-}
-
 /// For every table that has a tree, the joints of each wiring that computes it.
 fn by_filling(n: usize) -> BTreeMap<Bits, Vec<Vec<Joint>>> {
     let mut computing: BTreeMap<Bits, Vec<Vec<Joint>>> = BTreeMap::new();
@@ -180,10 +80,6 @@ fn by_filling(n: usize) -> BTreeMap<Bits, Vec<Vec<Joint>>> {
         }
     }
     computing
-}
-
-fn inks_of_bits(n: usize, table: Bits) -> Vec<u8> {
-    (0..1 << n).map(|p| (table >> p & 1) as u8).collect()
 }
 
 /// The tables that have a tree, one in so many: how many there are, and of how
@@ -239,9 +135,7 @@ fn by_columns<'a>(
     inks: &[u8],
     wirings: &'a [Vec<Joint>],
 ) -> Vec<&'a Vec<Joint>> {
-    let fits: Vec<bool> = (0..1 << n)
-        .map(|group| count_of_columns(m, n, inks, group) <= m)
-        .collect();
+    let fits = carried(m, n, inks);
     wirings
         .iter()
         .filter(|joints| joints.iter().all(|joint| fits[joint.group]))

@@ -114,6 +114,25 @@ extern "C" {
         output: *mut u8,
         output_length: usize,
     ) -> Shallow;
+    pub fn sitgurp_family_count(
+        sheet: *const u8,
+        sheet_length: usize,
+        cells: *mut u8,
+        cells_length: usize,
+        marks: *mut u8,
+        marks_length: usize,
+    ) -> Answer;
+    pub fn sitgurp_family_tree(
+        sheet: *const u8,
+        sheet_length: usize,
+        number: u64,
+        cells: *mut u8,
+        cells_length: usize,
+        marks: *mut u8,
+        marks_length: usize,
+        output: *mut u8,
+        output_length: usize,
+    ) -> Answer;
     pub fn sitgurp_shallower(
         first: *const u8,
         first_length: usize,

@@ -57,6 +57,7 @@ impl Refusal {
             14 => "the marks buffer is too short",
             15 => "the output is too short",
             16 => "no tree of two-input gates computes this table",
+            17 => "the table has no tree of this number",
             _ => "unknown refusal",
         }
     }
@@ -99,6 +100,7 @@ impl fmt::Display for Refusal {
             (10, _) => write!(f, " at index {})", self.place),
             (13..=15, _) => write!(f, "; {} bytes are needed)", self.place),
             (16, _) => write!(f, " at group {}: {})", self.place, self.inputs.join(", ")),
+            (17, _) => write!(f, " at number {})", self.place),
             _ => write!(f, ")"),
         }
     }

@@ -63,6 +63,7 @@ type Declared = (String, Vec<(String, String)>, String);
 fn c_type(rust: &str) -> String {
     let known = match rust {
         "usize" => "size_t",
+        "u64" => "uint64_t",
         "*const u8" => "const uint8_t *",
         "*mut u8" => "uint8_t *",
         "Answer" => "sitgurp_answer",
@@ -124,6 +125,7 @@ fn in_rattle(text: &str) -> Vec<(String, Vec<String>, String)> {
         let parameters = parameters.split(',').filter_map(|one| one.split_once(':'));
         let types = parameters.flat_map(|(_, of)| match of.trim() {
             "usize" => vec!["size_t"],
+            "u64" => vec!["uint64_t"],
             "&[u8]" | "&'a [u8]" => vec!["const uint8_t *", "size_t"],
             "&mut [u8]" => vec!["uint8_t *", "size_t"],
             other => panic!("type {other}"),
@@ -155,7 +157,7 @@ fn the_header_declares_what_rust_and_the_proved_crate_declare() {
         (name, types, result)
     });
     assert_eq!(rattle, c_types.collect::<Vec<_>>());
-    assert_eq!(rattle.len(), 10);
+    assert_eq!(rattle.len(), 12);
 }
 
 #[test]

@@ -99,6 +99,8 @@ fn example(kind: &str, body: &str, [number, place]: [usize; 2]) -> Example {
         "marking" => &["levels", "inputs", "marks"],
         "check" => &["cells"],
         "settle" | "make" => &["cells", "marks", "output"],
+        "count" => &["cells", "marks"],
+        "tree" => &["number", "cells", "marks", "output"],
         "write" => &["output"],
         other => panic!("an example of {other:?}"),
     };
@@ -116,8 +118,12 @@ fn example(kind: &str, body: &str, [number, place]: [usize; 2]) -> Example {
     let texts = match kind {
         "bare" | "group" | "marking" => vec![digits(&sheet)],
         "check" => vec![sheet, after.to_string()],
-        "settle" | "make" => {
-            let mut then = [numbers[0], numbers[1]].map(|length| "9".repeat(length));
+        "settle" | "make" | "count" | "tree" => {
+            let lengths = ["cells", "marks"].map(|buffer| {
+                let at = words.iter().position(|word| *word == buffer);
+                numbers[at.expect("a buffer of this call")]
+            });
+            let mut then = lengths.map(|length| "9".repeat(length));
             for line in after.lines() {
                 match line.split_once(' ') {
                     Some(("cells", bytes)) => then[0] = digits(bytes),
@@ -235,6 +241,10 @@ fn holds(example: &Example) {
             assert_eq!(refused(made), due(Named::Table));
             let shallow = sitgurp::make_shallow(texts[0], &mut cells, &mut marks, &mut output);
             assert_eq!(refused(shallow), due(Named::Table));
+            let counted = sitgurp::family_count(texts[0], &mut cells, &mut marks);
+            assert_eq!(refused(counted), due(Named::Table));
+            let tree = sitgurp::family_tree(texts[0], 0, &mut cells, &mut marks, &mut output);
+            assert_eq!(refused(tree), due(Named::Table));
             let checked = sitgurp::check(NET.as_bytes(), texts[0], &mut cells);
             assert_eq!(refused(checked), due(Named::Table));
         }
@@ -259,6 +269,27 @@ fn holds(example: &Example) {
             let bare = bytes(&example.texts[0]);
             let answer = sitgurp::marking(numbers[0], numbers[1], &bare, &mut marks);
             assert_eq!(refused(answer), due(Named::Neither));
+        }
+        "count" => {
+            (cells, marks) = (nines(numbers[0]), nines(numbers[1]));
+            let counted = sitgurp::family_count(texts[0], &mut cells, &mut marks);
+            assert_eq!(refused(counted), due(Named::Neither));
+            assert_eq!(
+                [&cells, &marks],
+                [1, 2].map(|k| bytes(&example.texts[k])).each_ref()
+            );
+            (cells, marks) = (nines(0), nines(0));
+        }
+        "tree" => {
+            (cells, marks, output) = (nines(numbers[1]), nines(numbers[2]), nines(numbers[3]));
+            let number = numbers[0] as u64;
+            let tree = sitgurp::family_tree(texts[0], number, &mut cells, &mut marks, &mut output);
+            assert_eq!(refused(tree), due(Named::Neither));
+            assert_eq!(
+                [&cells, &marks],
+                [1, 2].map(|k| bytes(&example.texts[k])).each_ref()
+            );
+            (cells, marks) = (nines(0), nines(0));
         }
         "check" => {
             cells = nines(numbers[0]);
@@ -305,7 +336,7 @@ fn the_document_has_the_listed_examples() {
     }
     assert_eq!(shown.len(), listed.len());
     let numbers: BTreeSet<usize> = listed.iter().map(|e| e.number_and_place().0).collect();
-    assert_eq!(numbers, (1..=16).collect(), "each number has an example");
+    assert_eq!(numbers, (1..=17).collect(), "each number has an example");
 }
 
 #[test]
@@ -369,5 +400,14 @@ fn a_refusal_in_words() {
             "../../../examples/majority.table"
         ))),
         "no tree of two-input gates computes this table (refusal 16 at group 7: a, b, c)"
+    );
+    let family = sitgurp::Family::of(include_bytes!("../../../examples/seven.table"));
+    let family = family.expect("a table sheet");
+    assert_eq!(
+        said(family.tree(family.size())),
+        format!(
+            "the table has no tree of this number (refusal 17 at number {})",
+            family.size()
+        )
     );
 }

@@ -84,7 +84,7 @@ impl Lent {
 
 type Call = fn(&mut Lent);
 
-const CALLS: [(&str, Call); 10] = [
+const CALLS: [(&str, Call); 12] = [
     ("sitgurp_multiplicity", multiplicity),
     ("sitgurp_marking", marking),
     ("sitgurp_settle", |lent| {
@@ -100,6 +100,8 @@ const CALLS: [(&str, Call); 10] = [
         lent.sheet_call(ffi::sitgurp_make_shallow, false)
     }),
     ("sitgurp_shallower", shallower),
+    ("sitgurp_family_count", family_count),
+    ("sitgurp_family_tree", family_tree),
     ("sitgurp_check", check),
     ("sitgurp_write_table", write_table),
     ("sitgurp_gate_line", gate_line),
@@ -133,6 +135,40 @@ fn marking(lent: &mut Lent) {
 fn shallower(lent: &mut Lent) {
     let net = &lent.net;
     black_box(unsafe { ffi::sitgurp_shallower(net.as_ptr(), net.len(), net.as_ptr(), net.len()) });
+}
+
+fn family_count(lent: &mut Lent) {
+    let (table, cells, marks) = (&lent.table, &mut lent.cells, &mut lent.marks);
+    black_box(unsafe {
+        ffi::sitgurp_family_count(
+            table.as_ptr(),
+            table.len(),
+            cells.as_mut_ptr(),
+            cells.len(),
+            marks.as_mut_ptr(),
+            marks.len(),
+        )
+    });
+}
+
+/// The settled net, and a number that few families have.
+fn family_tree(lent: &mut Lent) {
+    let (table, cells, marks) = (&lent.table, &mut lent.cells, &mut lent.marks);
+    for number in [0, 654_729_074] {
+        black_box(unsafe {
+            ffi::sitgurp_family_tree(
+                table.as_ptr(),
+                table.len(),
+                number,
+                cells.as_mut_ptr(),
+                cells.len(),
+                marks.as_mut_ptr(),
+                marks.len(),
+                lent.output.as_mut_ptr(),
+                lent.output.len(),
+            )
+        });
+    }
 }
 
 fn check(lent: &mut Lent) {

@@ -3,8 +3,13 @@
 //! tested too.
 #![allow(dead_code)] // every test file uses its own part of this one
 
+pub mod wirings;
+
 use reference::limits::{MOST_CELLS, MOST_INPUTS, MOST_NET_SHEET_BYTES};
-use reference::{make, make_shallow, settle, settle_shallow, write_table, Refusal, Sheet};
+use reference::{
+    family_count, family_tree, make, make_shallow, settle, settle_shallow, write_table, Refusal,
+    Sheet,
+};
 use std::collections::{HashMap, HashSet};
 
 /// Longer than any need of any allowed size: cells, marks, a net sheet, a table
@@ -101,6 +106,18 @@ pub fn made_shallow(sheet: &[u8]) -> Result<(Vec<u8>, usize), Refusal> {
     let (mut cells, mut marks, mut out) = ([7; CELLS], [7; MARKS], [7; NET_SHEET]);
     let answer = make_shallow(sheet, &mut cells, &mut marks, &mut out)?;
     Ok((out[..answer.length].to_vec(), answer.layers))
+}
+
+/// The number of a table sheet's trees.
+pub fn counted(sheet: &[u8]) -> Result<u64, Refusal> {
+    family_count(sheet, &mut [7; CELLS], &mut [7; MARKS])
+}
+
+/// The net sheet of a table sheet's tree of this number.
+pub fn numbered(sheet: &[u8], number: u64) -> Result<Vec<u8>, Refusal> {
+    let (mut cells, mut marks, mut out) = ([7; CELLS], [7; MARKS], [7; NET_SHEET]);
+    let length = family_tree(sheet, number, &mut cells, &mut marks, &mut out)?;
+    Ok(out[..length].to_vec())
 }
 
 pub fn table_written(sheet: &[u8]) -> Result<Vec<u8>, Refusal> {

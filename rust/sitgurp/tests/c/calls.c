@@ -203,6 +203,52 @@ static void shallower(void) {
     HOLDS(is_part(sitgurp_shallower(TEXT(""), TEXT("")), 0, 0));
 }
 
+static void family_count(void) {
+    fill();
+    HOLDS(is(sitgurp_family_count(TEXT(BAD_NAMES), cells, 0, marks, 0), 4, 22));
+    HOLDS(is(sitgurp_family_count(TEXT(NET), cells, 8, marks, 8), 1, 23));
+    HOLDS(is(sitgurp_family_count(TEXT(TABLE), cells, 7, marks, 7), 13, 8));
+    HOLDS(is(sitgurp_family_count(TEXT(TABLE), cells, 8, marks, 7), 14, 8));
+    HOLDS(untouched());
+    HOLDS(is(sitgurp_family_count(TEXT(TABLE), cells, 8, marks, 8), 0, 3));
+    HOLDS(cells_hold(sum_cells, 8) && marks_hold(sum_marks, 8) && output_holds(""));
+    fill();
+    HOLDS(is(sitgurp_family_count(TEXT(TABLE4), cells, sizeof cells, marks, sizeof marks), 0, 15));
+    HOLDS(cells_hold(sum4_cells, 16) && marks_hold(sum4_marks, 16) && output_holds(""));
+    fill();
+    /* no tree is no refusal here */
+    HOLDS(is(sitgurp_family_count(TEXT(MAJORITY), cells, sizeof cells, marks, sizeof marks), 0, 0));
+    HOLDS(cells_hold(majority_cells, 8) && marks_hold(majority_marks, 8) && output_holds(""));
+}
+
+static void family_tree(void) {
+    const size_t length = sizeof(SETTLED) - 1;
+    fill();
+    HOLDS(is(sitgurp_family_tree(TEXT(BAD_NAMES), 0, cells, 0, marks, 0, output, 0), 4, 22));
+    HOLDS(is(sitgurp_family_tree(TEXT(MAJORITY), 0, cells, 7, marks, 7, output, 0), 13, 8));
+    HOLDS(is(sitgurp_family_tree(TEXT(MAJORITY), 0, cells, 8, marks, 7, output, 0), 14, 8));
+    HOLDS(untouched());
+    HOLDS(is(sitgurp_family_tree(TEXT(MAJORITY), 0, cells, 8, marks, 8, output, 0), 17, 0));
+    HOLDS(cells_hold(majority_cells, 8) && marks_hold(majority_marks, 8) && output_holds(""));
+    fill();
+    HOLDS(is(sitgurp_family_tree(TEXT(TABLE), 3, cells, 8, marks, 8, output, 0), 17, 3));
+    HOLDS(is(sitgurp_family_tree(TEXT(TABLE), UINT64_MAX, cells, 8, marks, 8, output, length), 17, (size_t)UINT64_MAX));
+    HOLDS(is(sitgurp_family_tree(TEXT(TABLE), 2, cells, 8, marks, 8, output, length - 1), 15, length));
+    HOLDS(cells_hold(sum_cells, 8) && marks_hold(sum_marks, 8) && output_holds(""));
+    fill();
+    HOLDS(is(sitgurp_family_tree(TEXT(TABLE), 0, cells, sizeof cells, marks, sizeof marks, output, length), 0, length));
+    HOLDS(cells_hold(sum_cells, 8) && marks_hold(sum_marks, 8) && output_holds(SETTLED));
+    fill();
+    HOLDS(is(sitgurp_family_tree(TEXT(TABLE), 1, cells, 8, marks, 8, output, sizeof output), 0, length));
+    HOLDS(output_holds(NET));
+    fill();
+    HOLDS(is(sitgurp_family_tree(TEXT(TABLE), 2, cells, 8, marks, 8, output, sizeof output), 0, length));
+    HOLDS(output_holds(HEADER "left right table\na c 0110\n1 b 0110\n"));
+    fill();
+    HOLDS(is(sitgurp_family_tree(TEXT(TABLE4), 3, cells, 16, marks, 16, output, sizeof output), 0, sizeof(SHALLOW) - 1));
+    HOLDS(cells_hold(sum4_cells, 16) && marks_hold(sum4_marks, 16) && output_holds(SHALLOW));
+}
+
 static void check(void) {
     fill();
     HOLDS(says(sitgurp_check(TEXT(BAD_NET), TEXT(BAD_NAMES), cells, 0), 2, 1, 8, 43));
@@ -266,6 +312,12 @@ static void largest(void) {
     /* a sum's settled net takes the last two inputs first, then each earlier one */
     HOLDS(made.value == sizeof settled - 1 && memcmp(net, settled, made.value) == 0);
     HOLDS(says(sitgurp_check(net, made.value, table, sizeof table, most_cells, sizeof most_cells), 0, 0, 0, 0));
+    /* every wiring computes a sum: the most trees that a table can have, and the last of them */
+    HOLDS(is(sitgurp_family_count(table, sizeof table, most_cells, sizeof most_cells, most_marks, sizeof most_marks), 0, 654729075));
+    made = sitgurp_family_tree(table, sizeof table, 654729074, most_cells, sizeof most_cells, most_marks, sizeof most_marks, net,
+                               sizeof net);
+    HOLDS(made.number == 0 && made.value == sizeof settled - 1);
+    HOLDS(says(sitgurp_check(net, made.value, table, sizeof table, most_cells, sizeof most_cells), 0, 0, 0, 0));
 }
 
 int main(void) {
@@ -276,6 +328,8 @@ int main(void) {
     settle_shallow();
     make_shallow();
     shallower();
+    family_count();
+    family_tree();
     check();
     write_table();
     gate_line();

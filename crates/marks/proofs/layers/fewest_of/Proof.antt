@@ -3,7 +3,7 @@ use Prim.Native.Nat.{ℕ, _+_, _-_, _<_}
 use native.Mathlib.Omega.{arith}
 use Rattle.radix.specs.Widths.{mostMembers}
 use Rattle.marks.specs.Stored.{held}
-use Rattle.marks.proofs.Searching.{part-at}
+use Rattle.marks.specs.FirstParts.{part-at}
 use Rattle.marks.proofs.Scanning.{Scanned, scanned-none, scanned-next, scanned-all}
 use Rattle.marks.proofs.layers.fewest_of.Statement.{statement}
 use Rattle.marks.proofs.layers.fewest_of.Tie as tie

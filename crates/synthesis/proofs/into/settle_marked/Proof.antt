@@ -74,14 +74,13 @@ made-net-requires c κs =
     )
 
 layers-requires : tie.Need-layers-requires
-layers-requires c κs = made-sound _ _ _ (net-start c .pre .0) (net-start c .args .choice) _ (c .made-net .ensures)
+layers-requires c κs = made-sound _ _ _ (net-start c .pre .0) _ (c .made-net .ensures)
 
 write-sheet-requires : tie.Need-write-sheet-requires
 write-sheet-requires c κs =
     let made = c .before .before in
     let g = net-start made .pre .0 in
-    let choice = net-start made .args .choice in
-    (g .names, made-inside _ _ _ g choice _ (made .made-net .ensures), made-short _ _ _ g choice _ (made .made-net .ensures))
+    (g .names, made-inside _ _ _ g _ (made .made-net .ensures), made-short _ _ _ g _ (made .made-net .ensures))
 
 with-layers-requires : tie.Need-with-layers-requires
 with-layers-requires c κs = search needs

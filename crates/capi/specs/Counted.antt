@@ -1,0 +1,23 @@
+-- What the count of a table's trees answers as two numbers, and its two buffers.
+-- Assumes nothing.
+use Prim.Native.Nat.{ℕ}
+use mathlib.Core.Path.{_≡_, ap, _∙_}
+use mathlib.Core.List.{List}
+use Rattle.rules.specs.Answers.{Answer}
+use Rattle.rules.specs.FamilyCalls.{Counted}
+use Rattle.capi.specs.declared.flat.SitgurpAnswer.{SitgurpAnswer}
+use Rattle.capi.specs.Flat.{flatOf}
+
+pub record FlatCounted (counted : Counted) (r : SitgurpAnswer) (cells marks : List ℕ) : Type 0 where
+  pub answer : r ≡ flatOf (counted .answer)
+  pub cells-then : cells ≡ counted .cells
+  pub marks-then : marks ≡ counted .marks
+
+pub flat-counted : {counted : Counted} {answer : Answer ℕ} {r : SitgurpAnswer} {cells marks : List ℕ} → record { answer = answer; cells = cells; marks = marks } ≡ counted
+    → r ≡ flatOf answer → FlatCounted counted r cells marks
+flat-counted did e =
+    record {
+      answer = e ∙ ap (λ (c : Counted). flatOf (c .answer)) did;
+      cells-then = ap (λ (c : Counted). c .cells) did;
+      marks-then = ap (λ (c : Counted). c .marks) did;
+    }

@@ -1,0 +1,144 @@
+-- `families::tree::tree_marked` meets its contract. Assumes nothing.
+use Prim.Native.Nat.{ℕ, _-_, _^_}
+use mathlib.Core.Path.{_≡_, sym, subst⁻¹}
+use mathlib.Core.List.{List}
+use native.Mathlib.Nat.{le-of-eq}
+use native.Mathlib.Omega.{arith}
+use borrow.Author.Needs.{needs}
+use lib.ListN.{length, take}
+use Rattle.rules.specs.Limits.{mostInputs}
+use Rattle.rules.specs.Marks.{marksOf}
+use Rattle.rules.specs.Answers.{inkIn}
+use Rattle.marks.specs.Stored.{held}
+use Rattle.synthesis.specs.Outcomes.{given-size, given-count, given-below, made-inside, made-short}
+use Rattle.families.specs.Counts.{CountsKept}
+use Rattle.families.specs.Marked.{none-known, counts-room, marks-front, whole-countable}
+use Rattle.families.specs.Outcomes.{order-past, order-tree}
+use Rattle.families.proofs.tree.tree_marked.Statement.{statement}
+use Rattle.families.proofs.tree.tree_marked.Tie as tie
+
+-- the start, the arguments of the count, the count, the test of the number, the length that the marks need, the net, each from the next
+abbrev at-known : tie.After-slice-known3 → tie.Start
+at-known c = c .before .before .before .before .before
+
+abbrev at-args : tie.After-counts → tie.Start
+at-args c = at-known (c .before .before .before)
+
+abbrev at-start : tie.After-count-marked → tie.Start
+at-start c = at-args (c .before)
+
+abbrev at-count : tie.After-counts2 → tie.After-count-marked
+at-count c = c .before .before .before .before .before
+
+abbrev at-need : tie.After-counts3 → tie.After-marks-length
+at-need c = c .before .before .before
+
+abbrev at-net : tie.After-write-sheet-arg → tie.After-family-net
+at-net c = c .before .before
+
+abbrev at-sheet : tie.After-slice-known6 → tie.After-write-sheet
+at-sheet c = c .before .before
+
+slice-aggregate-count-marked : tie.Need-slice-aggregate-count-marked
+slice-aggregate-count-marked c = search needs
+
+count-marked-requires : tie.Need-count-marked-requires
+count-marked-requires c κs =
+    let start = at-args c in
+    (given-size _ _ _ (start .pre .0), given-count _ _ _ (start .pre .0), start .pre .1, start .pre .2, counts-room _ _ (given-size _ _ _ (start .pre .0)), none-known (2 ^ mostInputs))
+
+same-length : tie.Need-same-length
+same-length c = search needs
+
+same-length-2 : tie.Need-same-length-2
+same-length-2 c = search needs
+
+returns : tie.Need-returns
+returns c =
+    let count = at-count (c .before) in
+    let a = at-start count .args in
+    order-past (a .s .now) (a .header) (a .inks .now) (a .cells .now) (a .marks .now) (count .count-marked .result) _ _ _ (count .count-marked .ensures)
+    (a .order) (a .out .now) (c .if1 .taken)
+
+marks-length-requires : tie.Need-marks-length-requires
+marks-length-requires c κs = search needs
+
+sub-own : tie.Need-sub-own
+sub-own c = search needs
+
+part-own-start : tie.Need-part-own-start
+part-own-start c = search needs
+
+part-own-end : tie.Need-part-own-end
+part-own-end c = search needs
+
+slice-aggregate-family-net : tie.Need-slice-aggregate-family-net
+slice-aggregate-family-net c = search needs
+
+family-net-requires : tie.Need-family-net-requires
+family-net-requires c κs =
+    let need = at-need c in
+    let test = need .before in
+    let count = at-count (test .before) in
+    let start = at-start count in
+    let h = start .args .header in
+    let f = inkIn (start .args .inks .now) in
+    let size = given-size _ _ _ (start .pre .0) in
+    let did = count .count-marked in
+    let own : List ℕ = held (take (need .marks-length .result - 0) (did .last .1 .1 .1 .1 .0)) in
+    let is-own : own ≡ marksOf (h .levels) (h .inputs) f = marks-front (h .levels) (h .inputs) size f _ _ (did .ensures .marked) (need .marks-length .result) (need .marks-length .ensures) in
+    let long : length (did .last .1 .1 .1 .1 .1 .0) ≡ 2 ^ mostInputs = search needs in
+    let kept : CountsKept own (did .last .1 .1 .1 .1 .1 .0) = subst⁻¹ (λ (marks : List ℕ). CountsKept marks (did .last .1 .1 .1 .1 .1 .0)) is-own (did .ensures .kept) in (
+      size,
+      le-of-eq (sym (given-count _ _ _ (start .pre .0))),
+      given-below _ _ _ (start .pre .0),
+      is-own,
+      whole-countable (h .levels) (h .inputs) size f own (did .last .1 .1 .1 .1 .1 .0) is-own (omega (arith, counts-room _ _ size, long)) kept,
+      omega (arith, test .if1 .left, did .ensures .count),
+    )
+
+write-sheet-requires : tie.Need-write-sheet-requires
+write-sheet-requires c κs =
+    let net = at-net c in
+    let g = at-start (at-count (at-need (net .before) .before .before)) .pre .0 in
+    (g .names, made-inside _ _ _ g _ (net .family-net .ensures), made-short _ _ _ g _ (net .family-net .ensures))
+
+same-length-3 : tie.Need-same-length-3
+same-length-3 c = search needs
+
+same-length-4 : tie.Need-same-length-4
+same-length-4 c = search needs
+
+same-length-5 : tie.Need-same-length-5
+same-length-5 c = search needs
+
+returns-2 : tie.Need-returns-2
+returns-2 c =
+    let sheet = at-sheet c in
+    let net = at-net (sheet .before) in
+    let test = at-need (net .before) .before in
+    let count = at-count (test .before) in
+    let a = at-start count .args in
+    order-tree (a .s .now) (a .header) (a .inks .now) (a .cells .now) (a .marks .now) (count .count-marked .result) _ _ _ (count .count-marked .ensures) (a .order) (a .out .now)
+    (at-start count .pre .0) (test .if1 .left) (net .family-net .result) (net .family-net .ensures) (sheet .write-sheet .result) _ (sheet .write-sheet .ensures)
+
+pub tree-marked-spec : {M : Type 1} → statement M
+tree-marked-spec =
+    tie.close
+    (tie.spec
+    slice-aggregate-count-marked
+    count-marked-requires
+    same-length
+    same-length-2
+    returns
+    marks-length-requires
+    sub-own
+    part-own-start
+    part-own-end
+    slice-aggregate-family-net
+    family-net-requires
+    write-sheet-requires
+    same-length-3
+    same-length-4
+    same-length-5
+    returns-2)

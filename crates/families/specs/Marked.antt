@@ -1,0 +1,72 @@
+-- The cells and the marks of a table in their buffers, and the count of its trees.
+-- Assumes nothing.
+use Prim.Native.Nat.{ℕ, zero, suc, _-_, _^_, _≤_, _<_}
+use mathlib.Core.Path.{_≡_, refl, ap, _∙_, subst, subst⁻¹}
+use mathlib.Core.Bool.{true}
+use mathlib.Core.List.{List}
+use native.Mathlib.Nat.{lt-of-lt-of-le, sub-zero}
+use native.Mathlib.Omega.{arith}
+use lib.ListN.{length, getD, replicate, take}
+use lib.Pow.{pow-mono}
+use Rattle.rules.specs.Limits.{mostInputs, sizeFits}
+use Rattle.rules.specs.Groups.{wholeGroup}
+use Rattle.rules.specs.Marks.{marksOf, marksLength, storedMarks}
+use Rattle.rules.specs.Family.{treeCount, countsOf}
+use Rattle.rules.specs.Answers.{inkIn, written}
+use Rattle.laws.specs.Sizes.{sized}
+use Rattle.trees.specs.Members.{whole-below}
+use Rattle.trees.specs.MarkRule.{marks-length}
+use Rattle.marks.specs.Stored.{held, held-front}
+use Rattle.families.specs.Counts.{CountsKept, Countable, CountKept}
+
+-- no count is known yet
+abbrev pub NoneKnown : List ℕ → Type 0
+NoneKnown counts = (g : ℕ) → _≡_ {A = ℕ} (getD counts g 0) 0
+
+pub none-known : (k : ℕ) → NoneKnown (replicate k 0)
+none-known zero g = refl
+none-known (suc k) zero = refl
+none-known (suc k) (suc g) = none-known k g
+
+-- as many as the most inputs need have room for those of every group
+pub counts-room : (m n : ℕ) → sizeFits m n ≡ true → 2 ^ n ≤ 2 ^ mostInputs
+counts-room m n fit = pow-mono {i = n} {j = mostInputs} (sized m n fit .inputs-most)
+
+-- the count, and what is written
+pub record MarkedCount (m n : ℕ) (inks cells marks : List ℕ) (r : ℕ) (cells-then marks-then counts : List ℕ) : Type 0 where
+  pub count : r ≡ treeCount n (marksOf m n (inkIn inks))
+  pub copied : cells-then ≡ written cells inks
+  pub marked : marks-then ≡ written marks (storedMarks (marksOf m n (inkIn inks)))
+  pub kept : CountsKept (marksOf m n (inkIn inks)) counts
+
+module _ (m n : ℕ) (fit : sizeFits m n ≡ true) (f : ℕ → ℕ) where
+  pos : 0 < m
+  pos = omega (arith, sized m n fit .levels-least)
+
+  -- a whole number of inputs
+  whole-some : 0 < wholeGroup n
+  unfolding wholeGroup
+  whole-some = omega (arith, pow-mono {i = 2} {j = n} (sized m n fit .inputs-least))
+
+  -- the front of the marks buffer holds the marks, and nothing else
+  pub marks-front : (before after : List ℕ) → after ≡ written before (storedMarks (marksOf m n f)) → (need : ℕ) → need ≡ marksLength n → held (take (need - 0) after) ≡ marksOf m n f
+  marks-front before after wrote need is =
+      ap (λ (k : ℕ). held (take k after)) (sub-zero need ∙ is) ∙ held-front n before (marksOf m n f) after (marks-length m n pos f) wrote
+
+  module _ (own counts : List ℕ) (front : own ≡ marksOf m n f) (room : 2 ^ n ≤ length counts) (kept : CountsKept own counts) where
+    -- so the whole group's trees can be counted, ..
+    pub whole-countable : Countable own counts (wholeGroup n)
+    whole-countable =
+        record {
+          some = whole-some;
+          below = lt-of-lt-of-le (whole-below n) (pow-mono {i = n} {j = mostInputs} (sized m n fit .inputs-most));
+          marked = subst⁻¹ (λ (l : List ℕ). wholeGroup n < length l) front (omega (arith, whole-below n, marks-length m n pos f));
+          room = omega (arith, whole-below n);
+          kept = kept;
+        }
+
+  -- .. and are the table's
+  pub whole-counted : (own : List ℕ) → own ≡ marksOf m n f → (g : ℕ) → g ≡ wholeGroup n → (r : ℕ) (counts : List ℕ) → CountKept own g r counts → r ≡ treeCount n (marksOf m n f)
+  unfolding treeCount
+  whole-counted own front g whole r counts found =
+      found .count n (subst⁻¹ (λ (k : ℕ). k < 2 ^ n) whole (whole-below n)) ∙ (λ i. getD (countsOf n (front i)) (whole i) 0)

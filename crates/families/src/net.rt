@@ -1,0 +1,35 @@
+// The net of a number: its wiring of all inputs, filled.
+ghost use mathlib.Core.Path.{_≡_};
+ghost use mathlib.Core.Bool.{true};
+ghost use Prim.Native.Nat.{ℕ, _^_, _≤_, _<_};
+ghost use lib.ListN.{length};
+ghost use Rattle.rules.specs.Limits.{sizeFits};
+ghost use Rattle.rules.specs.Groups.{wholeGroup};
+ghost use Rattle.rules.specs.Marks.{marksOf};
+ghost use Rattle.rules.specs.Family.{treeCount, familyGates};
+ghost use Rattle.rules.specs.Answers.{inkIn};
+ghost use Rattle.marks.specs.Stored.{held};
+ghost use Rattle.filling.specs.MadeNet.{NetOf};
+ghost use Rattle.families.specs.Counts.{Countable};
+use crate::numbered;
+use filling::fill;
+use nets::forms;
+use radix::powers;
+
+// The net of number r of a table, which is below its count. `marks` has the table's marks and no further byte.
+pub fn family_net(
+    m: usize,
+    n: usize,
+    cells: &[u8],
+    marks: &[u8],
+    counts: &mut [u64],
+    r: u64,
+) -> forms::Net
+    requires { ⌜ (sizeFits m n ≡ true) × (m ^ n ≤ length (now cells)) × ((p : ℕ) → p < m ^ n → inkIn (now cells) p < m)
+        × (held (now marks) ≡ marksOf m n (inkIn (now cells))) × (Countable (held (now marks)) (now counts) (wholeGroup n))
+        × (r < treeCount n (marksOf m n (inkIn (now cells)))) ⌝ }
+    ensures { λ net. ⌜ NetOf m n (familyGates m n (inkIn (now (cells .entry))) (marksOf m n (inkIn (now (cells .entry)))) r) net ⌝ }
+{
+    let wiring = numbered::wiring_of(n, marks, counts, powers::power(2, n) - 1, r);
+    fill::fill(m, n, cells, wiring)
+}
