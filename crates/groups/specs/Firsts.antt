@@ -1,7 +1,7 @@
 -- The first of each class, found one assignment at a time, and what a count of them that may stop early answers.
 -- Assumes nothing.
 use Prim.Native.Nat.{ℕ, suc, _+_, _^_, _≤_, _<_}
-use mathlib.Core.Path.{_≡_, _∙_}
+use mathlib.Core.Path.{_≡_, ap₂, _∙_}
 use mathlib.Core.Bool.{Bool, true, false}
 use mathlib.Core.List.{List, [], _∷_, _++_}
 use native.Mathlib.Nat.{le-trans, zero-add, pow-le-pow-right}
@@ -18,6 +18,11 @@ use Rattle.trees.specs.Points.{points-length}
 -- the first of each class of the assignments xs, where ys are those of the other inputs
 unfoldable pub classesOver : (ℕ → ℕ) → List ℕ → List ℕ → List ℕ
 classesOver f ys xs = firsts (alikeOver f ys) [] xs
+
+-- the lists of a group's assignments and of the other inputs' give the group's classes
+pub group-over : (m n g : ℕ) (f : ℕ → ℕ) (xs ys : List ℕ) → xs ≡ points m n g → ys ≡ points m n (others n g) → classesOver f ys xs ≡ classes m n f g
+unfolding classesOver classes
+group-over m n g f xs ys e h = ap₂ (λ (us vs : List ℕ). classesOver f us vs) h e
 
 -- A count of `classes` that may stop once there are more than `most`: it is theirs where they are at most so many, and else more than that.
 pub record Counted (most : ℕ) (classes : List ℕ) (count : ℕ) (kept : List ℕ) : Type 0 where

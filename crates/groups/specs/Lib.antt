@@ -1,2 +1,4 @@
+pub mod Differences
 pub mod Firsts
+pub mod Keys
 pub mod Within

@@ -1,7 +1,7 @@
 -- An assignment of a group plus one of the other inputs is inside the cells.
 -- Assumes nothing.
 use Prim.Native.Nat.{ℕ, _+_, _^_, _≤_, _<_}
-use mathlib.Core.Path.{_≡_}
+use mathlib.Core.Path.{_≡_, sym, subst₂}
 use mathlib.Core.List.{List}
 use native.Mathlib.Omega.{arith}
 use lib.ListN.{length, getD}
@@ -29,6 +29,12 @@ pub points-within : (m n : ℕ) → 0 < m → (g : ℕ) → g < 2 ^ n → (b : �
     → (i : ℕ) → i < length (points m n g) → Within b (points m n (others n g)) (getD (points m n g) i 0)
 points-within m n pos g g< b room i i< =
     part-within m n pos g g< b room _ (points-are-parts m n pos g _ (mem-getD (points m n g) i 0 i<) .0)
+
+-- the same of two lists that are those
+pub lists-within : (m n : ℕ) → 0 < m → (g : ℕ) → g < 2 ^ n → (b : ℕ) → m ^ n ≤ b → (xs ys : List ℕ) → xs ≡ points m n g → ys ≡ points m n (others n g)
+    → (i : ℕ) → i < length xs → Within b ys (getD xs i 0)
+lists-within m n pos g g< b room xs ys e h =
+    subst₂ (λ (us vs : List ℕ). (i : ℕ) → i < length us → Within b vs (getD us i 0)) (sym e) (sym h) (points-within m n pos g g< b room)
 
 -- Room to count the classes of a group of m levels and n inputs: the cells, and work arrays for the group's assignments and those of
 -- the other inputs. Offsets are below 2 to the 16.

@@ -6,21 +6,19 @@ ghost use Rattle.rules.specs.Lists.{firstPlace};
 ghost use Rattle.rules.specs.Groups.{alikeOver};
 ghost use Rattle.rules.specs.Answers.{inkIn};
 ghost use Rattle.groups.specs.Within.{Within};
+use crate::differences;
+use crate::differences::Difference;
 
 // Is the ink the same at p and at q for each assignment in ys of the other inputs?
 pub fn alike(cells: &[u8], ys: &[u16], p: usize, q: usize) -> bool
     requires { ⌜ (Within (length (now cells)) (now ys) p) × (Within (length (now cells)) (now ys) q) ⌝ }
     ensures { λ r. ⌜ r ≡ alikeOver (inkIn (now (cells .entry))) (now (ys .entry)) p q ⌝ }
 {
-    let mut k: usize = 0;
-    while k < ys.len() {
-        let y = ys[k] as usize;
-        if cells[p + y] != cells[q + y] {
-            return false;
-        }
-        k += 1;
+    let found = differences::first_difference(cells, ys, p, q);
+    match found {
+        Difference::None => true,
+        Difference::At(_) => false,
     }
-    true
 }
 
 // The number of p's class, where the front `count` of `firsts` are the first of each class; `count` where p is in none.

@@ -8,7 +8,7 @@ ghost use Rattle.rules.specs.Multiplicity.{multiplicityCall};
 ghost use Rattle.answers.specs.Answers.{answerOf};
 ghost use Rattle.laws.specs.Multiplicity.{groupAnswer};
 use crate::bare;
-use crate::classes;
+use crate::keyed;
 use answers::answer::Answer;
 use answers::outcome::Outcome;
 use radix::limits;
@@ -34,7 +34,8 @@ fn group_answer(m: usize, n: usize, cells: &[u8], group: usize) -> Answer
     let mut xs = [0u16; limits::MOST_CELLS];
     let mut ys = [0u16; limits::MOST_CELLS];
     let mut firsts = [0u16; limits::MOST_CELLS];
-    Answer::Accepted(classes::group_classes(
+    let mut keys = [0u32; limits::MOST_CELLS];
+    Answer::Accepted(keyed::keyed_classes(
         m,
         n,
         cells,
@@ -43,6 +44,7 @@ fn group_answer(m: usize, n: usize, cells: &[u8], group: usize) -> Answer
         &mut xs,
         &mut ys,
         &mut firsts,
+        &mut keys,
     ))
 }
 

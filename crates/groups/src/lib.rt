@@ -1,5 +1,8 @@
-// Alike assignments, the classes of a group, bare cells, and the multiplicity call.
+// Two assignments compared, alike assignments, the classes of a group, bare cells, and the multiplicity call.
 pub mod alike;
 pub mod bare;
 pub mod call;
 pub mod classes;
+pub mod differences;
+pub mod keyed;
+pub mod keys;

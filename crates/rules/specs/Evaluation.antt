@@ -9,6 +9,7 @@ use Rattle.rules.specs.Sheets as sheets
 use Rattle.rules.specs.Printed as printed
 use Rattle.rules.specs.Value as value
 use Rattle.rules.specs.Groups as groups
+use Rattle.rules.specs.Differences as differences
 use Rattle.rules.specs.Marks as marks
 use Rattle.rules.specs.Wirings as wirings
 use Rattle.rules.specs.Filling as filling
@@ -31,5 +32,5 @@ use Rattle.rules.specs.Programs as programs
 use Rattle.rules.specs.Lister as lister
 
 unfoldable pub computing : Unit {0}
-unfolding lists.computing text.computing limits.computing fields.computing sheets.computing printed.computing value.computing groups.computing marks.computing wirings.computing filling.computing settled.computing layers.computing shallow.computing family.computing answers.computing reading.computing bareCells.computing multiplicity.computing marking.computing settling.computing shallowSettling.computing familyCalls.computing shallower.computing checking.computing tableWriting.computing programs.computing lister.computing
+unfolding lists.computing text.computing limits.computing fields.computing sheets.computing printed.computing value.computing groups.computing differences.computing marks.computing wirings.computing filling.computing settled.computing layers.computing shallow.computing family.computing answers.computing reading.computing bareCells.computing multiplicity.computing marking.computing settling.computing shallowSettling.computing familyCalls.computing shallower.computing checking.computing tableWriting.computing programs.computing lister.computing
 computing = tt

@@ -4,7 +4,8 @@
 -- `Value`, `Groups`, `Marks`, the settled net (`Wirings`, `Filling`, `Settled`; `SettledLaws` hold its choices to the document's words), then
 -- the calls with what they turn back (`Answers`, `Reading` and `BareCells` are what they share; a file for each call or pair of calls
 -- follows), the starred cases (`Cases`), every refusal by examples (`Refusals`), and what is judged first (`Orders`). Of document 02: shallow
--- nets (`Layers`, `Shallow`, `ShallowSettling`, `Shallower`, with `ShallowCases`) and every wiring of a table (`Family`, `FamilyCalls`, with `FamilyCases`).
+-- nets (`Layers`, `Shallow`, `ShallowSettling`, `Shallower`, with `ShallowCases`), every wiring of a table (`Family`, `FamilyCalls`, with
+-- `FamilyCases`), and the comparison of two assignments (`Differences`, with `DifferenceCases`).
 -- `Evaluation` lets all of it compute.
 -- Assumes nothing.
 pub mod Lists
@@ -16,6 +17,7 @@ pub mod Printed
 pub mod Kept
 pub mod Value
 pub mod Groups
+pub mod Differences
 pub mod Marks
 pub mod Wirings
 pub mod Filling
@@ -41,5 +43,6 @@ pub mod Evaluation
 pub mod Cases
 pub mod ShallowCases
 pub mod FamilyCases
+pub mod DifferenceCases
 pub mod Refusals
 pub mod Orders

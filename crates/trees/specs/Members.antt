@@ -234,6 +234,15 @@ size-join (suc n) a b a< b< apart =
     simp (size-suc, half-join n a b apart)
     (omega (arith, low-join n a b apart, size-join n (a / 2) (b / 2) (omega arith) (omega arith) (half-apart n a b apart)))
 
+-- the other inputs are as many as a group leaves
+pub size-others : (n g : ℕ) → g < 2 ^ n → size n (others n g) ≡ n - size n g
+unfolding others wholeGroup
+size-others n g g< =
+    let apart : Apart n g (others n g) =
+    rest-apart n g (wholeGroup n) g< (whole-below n) (member-inside n g (wholeGroup n) (λ j j< e. member-whole j n j<)) in
+    let all : g + others n g ≡ wholeGroup n = omega arith in
+    omega (arith, size-join n g (others n g) g< (others-below n g) apart, ap (size n) all, size-whole n)
+
 -- a group has at most all inputs
 pub size-le : (n g : ℕ) → size n g ≤ n
 unfolding size those range

@@ -1,100 +1,25 @@
--- `groups::alike::alike` meets its contract. The loop's invariant: what is left of ys decides. Assumes nothing.
-use Prim.Native.Nat.{_+_, _-_, _≤_, _<_}
-use mathlib.Core.Path.{_≡_, refl, sym, _∙_}
-use native.Mathlib.Omega.{arith}
-use borrow.Author.Tests.{eq-eqb, ne-eqb}
-use lib.ListN.{length, getD, drop}
-use Rattle.laws.specs.Walks.{all-next, all-stop, all-end}
-use Rattle.rules.specs.Answers.{inkIn}
-use Rattle.rules.specs.Groups.{alikeOver}
+-- `groups::alike::alike` meets its contract: alike where no difference is told. Assumes nothing.
+use mathlib.Core.Path.{sym, ap, _∙_}
+use Rattle.trees.specs.Differences.{none-alike, some-unlike}
+use Rattle.groups.specs.Differences.{differenceAs}
+use borrow.Author.Needs.{needs}
 use Rattle.groups.proofs.alike.alike.Statement.{statement}
 use Rattle.groups.proofs.alike.alike.Tie as tie
 
-abbrev Inv-loop : tie.InvT-loop
-Inv-loop cells ys p q k₀ k = (k ≤ length ys) × (alikeOver (inkIn cells) (drop k ys) p q ≡ alikeOver (inkIn cells) ys p q)
+first-difference-requires : tie.Need-first-difference-requires
+first-difference-requires c κs = search needs
 
-abbrev μ-loop : tie.MeasureT-loop
-μ-loop cells ys p q k₀ k = length ys - k
+enum-told : tie.Need-enum-told
+enum-told c = search needs
 
--- the start from the loop's head, and a turn's start from its first read and its last
-abbrev at-start : tie.At-loop Inv-loop μ-loop → tie.Start Inv-loop μ-loop
-at-start c = c .before
+enum-told-2 : tie.Need-enum-told-2
+enum-told-2 c = search needs
 
-abbrev at-turn : tie.After-shared-slice-known Inv-loop μ-loop → tie.In-loop Inv-loop μ-loop
-at-turn c = c .before
+returns : tie.Need-returns
+returns c = sym (none-alike _ _ _ _ .0 (sym (c .before .before .first-difference .ensures) ∙ ap differenceAs (c .enum-told .given .1)))
 
-abbrev turn-reads : tie.After-shared-slice-known3 Inv-loop μ-loop → tie.In-loop Inv-loop μ-loop
-turn-reads c = at-turn (c .before .before)
-
-loop-holds : tie.Need-loop-holds Inv-loop μ-loop
-loop-holds c = (omega arith, refl)
-
-mul-y : tie.Need-mul-y Inv-loop μ-loop
-mul-y c = omega arith
-
-shared-slice-read-y : tie.Need-shared-slice-read-y Inv-loop μ-loop
-shared-slice-read-y c = omega arith
-
-cast-y : tie.Need-cast-y Inv-loop μ-loop
-cast-y c = omega (arith, c .shared-slice-known .given (at-turn c .before .loop .k))
-
--- the two cells that a turn looks at are there
-in-cells : (c : tie.In-loop Inv-loop μ-loop) →
-    let a = at-start (c .before) .args in
-    let y = getD (a .ys .now) (c .before .loop .k) 0 in
-    (a .p + y < length (a .cells .now)) × (a .q + y < length (a .cells .now))
-in-cells c = let pre = at-start (c .before) .pre in (pre .0 (c .before .loop .k) (c .loop-test .taken), pre .1 (c .before .loop .k) (c .loop-test .taken))
-
-add-if1 : tie.Need-add-if1 Inv-loop μ-loop
-add-if1 c = omega (arith, in-cells (at-turn c))
-
-shared-slice-read-if1 : tie.Need-shared-slice-read-if1 Inv-loop μ-loop
-shared-slice-read-if1 c = in-cells (at-turn (c .before)) .0
-
-add-if1-2 : tie.Need-add-if1-2 Inv-loop μ-loop
-add-if1-2 c = omega (arith, in-cells (at-turn (c .before)))
-
-shared-slice-read-if1-2 : tie.Need-shared-slice-read-if1-2 Inv-loop μ-loop
-shared-slice-read-if1-2 c = in-cells (turn-reads c) .1
-
-returns : tie.Need-returns Inv-loop μ-loop
-unfolding alikeOver
-returns c =
-    let l = turn-reads (c .before) .before .loop in
-    sym (all-stop _ (at-start (turn-reads (c .before) .before) .args .ys .now) (l .k) (turn-reads (c .before) .loop-test .taken) (ne-eqb _ _ (c .if1 .taken))) ∙ l .inv .1
-
-add-k : tie.Need-add-k Inv-loop μ-loop
-add-k c = omega arith
-
-loop-less : tie.Need-loop-less Inv-loop μ-loop
-loop-less c = omega arith
-
-loop-again : tie.Need-loop-again Inv-loop μ-loop
-unfolding alikeOver
-loop-again c =
-    let l = turn-reads (c .before) .before .loop in
-    (omega arith, all-next _ (at-start (turn-reads (c .before) .before) .args .ys .now) (l .k) (turn-reads (c .before) .loop-test .taken) (eq-eqb _ _ (c .if1 .left)) ∙ l .inv .1)
-
-returns-2 : tie.Need-returns-2 Inv-loop μ-loop
-unfolding alikeOver
-returns-2 c = sym (all-end _ (at-start (c .before) .args .ys .now) (c .before .loop .k) (c .loop-test .left)) ∙ c .before .loop .inv .1
+returns-2 : tie.Need-returns-2
+returns-2 c = sym (some-unlike _ _ _ _ _ (sym (c .before .before .first-difference .ensures) ∙ ap differenceAs (c .enum-told2 .given .1)))
 
 pub alike-spec : {M : Type 1} → statement M
-alike-spec =
-    tie.close
-    (tie.spec
-    Inv-loop
-    μ-loop
-    loop-holds
-    mul-y
-    shared-slice-read-y
-    cast-y
-    add-if1
-    shared-slice-read-if1
-    add-if1-2
-    shared-slice-read-if1-2
-    returns
-    add-k
-    loop-less
-    loop-again
-    returns-2)
+alike-spec = tie.close (tie.spec first-difference-requires enum-told enum-told-2 returns returns-2)

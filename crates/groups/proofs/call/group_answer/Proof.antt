@@ -12,15 +12,15 @@ use borrow.Author.Needs.{needs}
 use Rattle.groups.proofs.call.group_answer.Statement.{statement}
 use Rattle.groups.proofs.call.group_answer.Tie as tie
 
--- the start, the two tests and the call of `group_classes`, each from the next
+-- the start, the two tests and the call of `keyed_classes`, each from the next
 abbrev at-start : tie.After-power → tie.Start
 at-start c = c .before .before .before
 
-abbrev at-fits : tie.After-firsts → tie.Else2
-at-fits c = c .before .before .before
+abbrev at-fits : tie.After-keys → tie.Else2
+at-fits c = c .before .before .before .before
 
-abbrev at-classes : tie.After-firsts2 → tie.After-group-classes
-at-classes c = c .before .before .before
+abbrev at-classes : tie.After-keys2 → tie.After-keyed-classes
+at-classes c = c .before .before .before .before
 
 returns : tie.Need-returns
 returns c = group-empty _ _ _ _ (c .if1 .taken)
@@ -34,17 +34,20 @@ power-requires c κs =
 returns-2 : tie.Need-returns-2
 returns-2 c = group-past _ _ _ _ (omega (arith, c .before .power .ensures, c .if2 .taken))
 
-slice-aggregate-group-classes : tie.Need-slice-aggregate-group-classes
-slice-aggregate-group-classes c = search needs
+slice-aggregate-keyed-classes : tie.Need-slice-aggregate-keyed-classes
+slice-aggregate-keyed-classes c = search needs
 
-slice-aggregate-group-classes-2 : tie.Need-slice-aggregate-group-classes-2
-slice-aggregate-group-classes-2 c = search needs
+slice-aggregate-keyed-classes-2 : tie.Need-slice-aggregate-keyed-classes-2
+slice-aggregate-keyed-classes-2 c = search needs
 
-slice-aggregate-group-classes-3 : tie.Need-slice-aggregate-group-classes-3
-slice-aggregate-group-classes-3 c = search needs
+slice-aggregate-keyed-classes-3 : tie.Need-slice-aggregate-keyed-classes-3
+slice-aggregate-keyed-classes-3 c = search needs
 
-group-classes-requires : tie.Need-group-classes-requires
-group-classes-requires c κs =
+slice-aggregate-keyed-classes-4 : tie.Need-slice-aggregate-keyed-classes-4
+slice-aggregate-keyed-classes-4 c = search needs
+
+keyed-classes-requires : tie.Need-keyed-classes-requires
+keyed-classes-requires c κs =
     let start = at-start (at-fits c .before) in
     let fit = sized (start .args .m) (start .args .n) (start .pre .0) in
     omega (arith, fit .levels-least, fit .levels-most, fit .inputs-most, fit .cells-most, start .pre .1, at-fits c .before .power .ensures)
@@ -57,7 +60,7 @@ returns-3 c =
     let fit = sized (a .m) (a .n) (start .pre .0) in
     let all = le-trans (classes-fit (a .m) (a .n) (omega (arith, fit .levels-least)) (inkIn (a .cells .now)) (a .group)) (fit .cells-most) in
     group-counted _ _ _ _ _ (at-fits (at-classes c .before) .before .before .if1 .left) (omega (arith, at-fits (at-classes c .before) .before .power .ensures, at-fits (at-classes c .before) .if2 .left))
-    (at-classes c .group-classes .ensures .few all)
+    (at-classes c .keyed-classes .ensures .few all)
 
 pub group-answer-spec : {M : Type 1} → statement M
 group-answer-spec =
@@ -66,8 +69,9 @@ group-answer-spec =
     returns
     power-requires
     returns-2
-    slice-aggregate-group-classes
-    slice-aggregate-group-classes-2
-    slice-aggregate-group-classes-3
-    group-classes-requires
+    slice-aggregate-keyed-classes
+    slice-aggregate-keyed-classes-2
+    slice-aggregate-keyed-classes-3
+    slice-aggregate-keyed-classes-4
+    keyed-classes-requires
     returns-3)

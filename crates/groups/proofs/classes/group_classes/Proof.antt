@@ -1,15 +1,14 @@
 -- `groups::classes::group_classes` meets its contract: the two lists of offsets are the assignments of the group and of the other
 -- inputs.
 -- Assumes nothing.
-use Prim.Native.Nat.{ℕ, _<_}
-use mathlib.Core.Path.{_≡_, sym, ap₂, subst, subst₂}
+use Prim.Native.Nat.{ℕ}
+use mathlib.Core.Path.{subst}
 use mathlib.Core.List.{List}
-use lib.ListN.{length, getD}
-use Rattle.rules.specs.Groups.{others, points, classes}
+use lib.ListN.{length}
 use Rattle.rules.specs.Answers.{inkIn}
 use Rattle.radix.specs.Fronts.{fits-in, part-is}
-use Rattle.groups.specs.Firsts.{classesOver, Counted}
-use Rattle.groups.specs.Within.{Within, points-within}
+use Rattle.groups.specs.Firsts.{Counted, group-over}
+use Rattle.groups.specs.Within.{lists-within}
 use borrow.Author.Needs.{needs}
 use Rattle.groups.proofs.classes.group_classes.Statement.{statement}
 use Rattle.groups.proofs.classes.group_classes.Tie as tie
@@ -26,11 +25,6 @@ at-others c = c .before .before .before
 
 abbrev at-parts : tie.After-class-firsts-arg3 → tie.After-xs2
 at-parts c = c .before .before .before .before
-
--- the classes of the two lists are the group's
-of-group : (m n g : ℕ) (f : ℕ → ℕ) (xs ys : List ℕ) → xs ≡ points m n g → ys ≡ points m n (others n g) → classesOver f ys xs ≡ classes m n f g
-unfolding classesOver classes
-of-group m n g f xs ys e h = ap₂ (λ (us vs : List ℕ). classesOver f us vs) h e
 
 offsets-requires : tie.Need-offsets-requires
 offsets-requires c κs = search needs
@@ -60,12 +54,10 @@ class-firsts-requires : tie.Need-class-firsts-requires
 class-firsts-requires c κs =
     let start = at-start (at-offsets (at-others (at-parts c))) in
     let a = start .args in
-    let room = start .pre .0 in (
-      start .pre .1,
-      subst₂ (λ (us vs : List ℕ). (i : ℕ) → i < length us → Within (length (a .cells .now)) vs (getD us i 0))
-          (sym (part-is (at-offsets (at-others (at-parts c)) .offsets .ensures))) (sym (part-is (at-others (at-parts c) .other-offsets .ensures)))
-          (points-within (a .m) (a .n) (room .some) (a .g) (start .pre .2) (length (a .cells .now)) (room .for-cells)),
-    )
+    let room = start .pre .0 in
+    let own = at-offsets (at-others (at-parts c)) .offsets .ensures in
+    let other = at-others (at-parts c) .other-offsets .ensures in
+    (start .pre .1, lists-within (a .m) (a .n) (room .some) (a .g) (start .pre .2) (length (a .cells .now)) (room .for-cells) _ _ (part-is own) (part-is other))
 
 same-length : tie.Need-same-length
 same-length c = search needs
@@ -82,7 +74,7 @@ returns c =
     let a = at-start (at-offsets others) .args in
     let called = c .before .before .class-firsts in
     subst (λ (l : List ℕ). Counted (a .most) l (called .result) (called .last .1 .1 .1 .1 .0))
-    (of-group (a .m) (a .n) (a .g) (inkIn (a .cells .now)) _ _ (part-is (at-offsets others .offsets .ensures)) (part-is (others .other-offsets .ensures)))
+    (group-over (a .m) (a .n) (a .g) (inkIn (a .cells .now)) _ _ (part-is (at-offsets others .offsets .ensures)) (part-is (others .other-offsets .ensures)))
     (called .ensures)
 
 pub group-classes-spec : {M : Type 1} → statement M

@@ -1,0 +1,109 @@
+-- `groups::differences::first_difference` meets its contract. The loop's invariant: the places that are left decide. Assumes nothing.
+use Prim.Native.Nat.{_+_, _-_, _≤_, _<_}
+use mathlib.Core.Path.{_≡_, sym, ap, _∙_}
+use mathlib.Core.Bool.{not}
+use native.Mathlib.Nat.{sub-zero}
+use native.Mathlib.Omega.{arith}
+use borrow.Author.Tests.{eq-eqb, ne-eqb}
+use lib.ListN.{length, getD}
+use Rattle.laws.specs.Walks.{find-next, find-stop, find-end}
+use Rattle.rules.specs.Answers.{inkIn}
+use Rattle.rules.specs.Differences.{differAt, differenceOver}
+use Rattle.rules.specs.Lists.{range, find}
+use Rattle.groups.proofs.differences.first_difference.Statement.{statement}
+use Rattle.groups.proofs.differences.first_difference.Tie as tie
+
+abbrev Inv-loop : tie.InvT-loop
+Inv-loop cells ys p q k₀ k = (k ≤ length ys) × (find (differAt (inkIn cells) ys p q) (range k (length ys - k)) ≡ differenceOver (inkIn cells) ys p q)
+
+abbrev μ-loop : tie.MeasureT-loop
+μ-loop cells ys p q k₀ k = length ys - k
+
+-- the start from the loop's head, and a turn's start from its first read and its last
+abbrev at-start : tie.At-loop Inv-loop μ-loop → tie.Start Inv-loop μ-loop
+at-start c = c .before
+
+abbrev at-turn : tie.After-shared-slice-known Inv-loop μ-loop → tie.In-loop Inv-loop μ-loop
+at-turn c = c .before
+
+abbrev turn-reads : tie.After-shared-slice-known3 Inv-loop μ-loop → tie.In-loop Inv-loop μ-loop
+turn-reads c = at-turn (c .before .before)
+
+loop-holds : tie.Need-loop-holds Inv-loop μ-loop
+unfolding differenceOver
+loop-holds c =
+    let a = c .args in
+    (omega arith, ap (λ j. find (differAt (inkIn (a .cells .now)) (a .ys .now) (a .p) (a .q)) (range 0 j)) (sub-zero (length (a .ys .now))))
+
+mul-y : tie.Need-mul-y Inv-loop μ-loop
+mul-y c = omega arith
+
+shared-slice-read-y : tie.Need-shared-slice-read-y Inv-loop μ-loop
+shared-slice-read-y c = omega arith
+
+cast-y : tie.Need-cast-y Inv-loop μ-loop
+cast-y c = omega (arith, c .shared-slice-known .given (at-turn c .before .loop .k))
+
+-- the two cells that a turn looks at are there
+in-cells : (c : tie.In-loop Inv-loop μ-loop) →
+    let a = at-start (c .before) .args in
+    let y = getD (a .ys .now) (c .before .loop .k) 0 in
+    (a .p + y < length (a .cells .now)) × (a .q + y < length (a .cells .now))
+in-cells c = let pre = at-start (c .before) .pre in (pre .0 (c .before .loop .k) (c .loop-test .taken), pre .1 (c .before .loop .k) (c .loop-test .taken))
+
+add-if1 : tie.Need-add-if1 Inv-loop μ-loop
+add-if1 c = omega (arith, in-cells (at-turn c))
+
+shared-slice-read-if1 : tie.Need-shared-slice-read-if1 Inv-loop μ-loop
+shared-slice-read-if1 c = in-cells (at-turn (c .before)) .0
+
+add-if1-2 : tie.Need-add-if1-2 Inv-loop μ-loop
+add-if1-2 c = omega (arith, in-cells (at-turn (c .before)))
+
+shared-slice-read-if1-2 : tie.Need-shared-slice-read-if1-2 Inv-loop μ-loop
+shared-slice-read-if1-2 c = in-cells (turn-reads c) .1
+
+returns : tie.Need-returns Inv-loop μ-loop
+unfolding differAt
+returns c =
+    let turn = turn-reads (c .before) in
+    let l = turn .before .loop in
+    let ys = at-start (turn .before) .args .ys .now in
+    sym (find-stop _ (l .k) (length ys) (turn .loop-test .taken) (ap not (ne-eqb _ _ (c .if1 .taken)))) ∙ l .inv .1
+
+add-k : tie.Need-add-k Inv-loop μ-loop
+add-k c = omega arith
+
+loop-less : tie.Need-loop-less Inv-loop μ-loop
+loop-less c = omega arith
+
+loop-again : tie.Need-loop-again Inv-loop μ-loop
+unfolding differAt
+loop-again c =
+    let turn = turn-reads (c .before) in
+    let l = turn .before .loop in
+    let ys = at-start (turn .before) .args .ys .now in
+    (omega arith, find-next _ (l .k) (length ys) (turn .loop-test .taken) (ap not (eq-eqb _ _ (c .if1 .left))) ∙ l .inv .1)
+
+returns-2 : tie.Need-returns-2 Inv-loop μ-loop
+returns-2 c = sym (find-end _ (c .before .loop .k) (length (at-start (c .before) .args .ys .now)) (c .loop-test .left)) ∙ c .before .loop .inv .1
+
+pub first-difference-spec : {M : Type 1} → statement M
+first-difference-spec =
+    tie.close
+    (tie.spec
+    Inv-loop
+    μ-loop
+    loop-holds
+    mul-y
+    shared-slice-read-y
+    cast-y
+    add-if1
+    shared-slice-read-if1
+    add-if1-2
+    shared-slice-read-if1-2
+    returns
+    add-k
+    loop-less
+    loop-again
+    returns-2)

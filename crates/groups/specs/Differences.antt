@@ -1,0 +1,10 @@
+-- What the comparison of two assignments answers, in document 02's terms.
+-- Assumes nothing.
+use Prim.Native.Nat.{ℕ}
+use mathlib.Core.Option.{Option, none, some}
+use Rattle.groups.specs.declared.differences.Difference.{Difference}
+use Rattle.groups.specs.declared.differences.Difference.the-variants.{None, At}
+
+abbrev pub differenceAs : Difference → Option ℕ
+differenceAs None = none
+differenceAs (At k) = some k
