@@ -1,7 +1,7 @@
 -- An ink field, by its byte.
 -- Assumes nothing.
 use Prim.Native.Nat.{ℕ, _+_, _-_, _≤_, _<_}
-use mathlib.Core.Path.{_≡_, refl}
+use mathlib.Core.Path.{_≡_, refl, sym, ap, _∙_}
 use mathlib.Core.Bool.{and-false, and-eq-true-iff}
 use mathlib.Core.List.{List, [], _∷_}
 use native.Mathlib.Omega.{arith}
@@ -32,6 +32,11 @@ module _ (m : ℕ) (w : List ℕ) (e : length w ≡ 1) where
   pub ink-good : zeroByte ≤ getD w 0 0 → getD w 0 0 - zeroByte < m → good (getD w 0 0 - zeroByte) ≡ inkField m w
   unfolding inkField isDigit
   ink-good h k = rw (one-byte w e) (simp (le-leb zeroByte (getD w 0 0) h, lt-ltb (getD w 0 0) (zeroByte + m) (omega arith)))
+
+-- the digit of an ink is good
+pub ink-digit : (m ink : ℕ) → ink < m → inkField m ((zeroByte + ink) ∷ []) ≡ good ink
+ink-digit m ink h =
+    sym (ink-good m ((zeroByte + ink) ∷ []) refl (omega arith) (omega arith)) ∙ ap good (omega arith)
 
 -- an ink that was read is a level
 ink-told : (m : ℕ) (w : List ℕ) (ink : ℕ) → inkField m w ≡ good ink → ink < m

@@ -1,6 +1,10 @@
 pub mod Answers
+pub mod Block
+pub mod Blocks
+pub mod Due
 pub mod Inks
 pub mod Levels
 pub mod Parts
+pub mod Plain
 pub mod Row
 pub mod Rows

@@ -6,10 +6,9 @@ use mathlib.Core.List.{List, [], _∷_, _++_}
 use native.Mathlib.Omega.{arith}
 use native.Mathlib.Nat.{sub-zero}
 use native.Mathlib.Numerals.{add-one}
-use lib.ListN.{length, take, drop, set, replicate}
-use lib.Seq.{length-take-le, take-suc-set, take-at}
+use lib.ListN.{length, take, drop, set}
+use lib.Seq.{take-suc-set}
 use Rattle.laws.specs.Bounds.{Below, below-append}
-use Rattle.laws.specs.Levels.{nextLevels, next-length, levels-next, zeros-front}
 use Rattle.rules.specs.Fields.{then}
 use Rattle.rules.specs.Sheets.{levelsAt, levelFields, rowLines}
 use Rattle.fields.specs.Steps.{stepAs, itself}
@@ -29,17 +28,24 @@ unfolding rowLines rowLine
 rows-more m n p count inks t q = sym (then-then (levelFields (levelsAt m n p) t q) _ _)
 
 -- p rows are read, and the rows from here are the rows from the start
-pub record InRows (s : List ℕ) (at m n : ℕ) (cells levels : List ℕ) (place p : ℕ) : Type 0 where
+pub record Reached (s : List ℕ) (at m n : ℕ) (cells : List ℕ) (place p : ℕ) : Type 0 where
   pub most : p ≤ m ^ n
-  pub due : take n levels ≡ levelsAt m n p
   pub inks : Below m (take p cells)
   pub reads : rowLines m n 0 (m ^ n) [] (drop at s) at ≡ rowLines m n p (m ^ n - p) (take p cells) (drop place s) place
 
-pub rows-start : (s : List ℕ) (at m n room : ℕ) (cells : List ℕ) → n ≤ room → InRows s at m n cells (replicate room 0) at 0
-rows-start s at m n room cells h =
-    record { most = omega arith; due = zeros-front m n room h; inks = tt; reads = rw (sub-zero (m ^ n)) refl }
+-- and `levels` begins with the levels of the row that is due
+pub record InRows (s : List ℕ) (at m n : ℕ) (cells levels : List ℕ) (place p : ℕ) : Type 0 where
+  pub reached : Reached s at m n cells place p
+  pub due : take n levels ≡ levelsAt m n p
 
-module _ (s : List ℕ) (at m n : ℕ) (cells levels : List ℕ) (place p : ℕ) (rows : InRows s at m n cells levels place p) where
+pub none-reached : (s : List ℕ) (at m n : ℕ) (cells : List ℕ) → Reached s at m n cells at 0
+none-reached s at m n cells = record { most = omega arith; inks = tt; reads = rw (sub-zero (m ^ n)) refl }
+
+module _ (s : List ℕ) (at m n : ℕ) (cells : List ℕ) (place p : ℕ) (rows : Reached s at m n cells place p) where
+  -- cells past those of the rows read do not count
+  pub reached-kept : (after : List ℕ) → take p after ≡ take p cells → Reached s at m n after place p
+  reached-kept after e = record { most = rows .most; inks = rw e (rows .inks); reads = rw e (rows .reads) }
+
   pub rows-done : m ^ n ≤ p → RowsRead s at m n cells (On 0 place)
   unfolding rowLines
   rows-done done =
@@ -47,7 +53,7 @@ module _ (s : List ℕ) (at m n : ℕ) (cells levels : List ℕ) (place p : ℕ)
       let none-left : m ^ n - p ≡ 0 = omega arith in
       record { reads = rw (rows .reads, none-left, all) refl; held = λ _ _ _. rw (← all) (rows .inks) }
 
-  module _ (more : p < m ^ n) (step : Step) (row : stepAs itself s step ≡ rowLine m (take n levels) (drop place s) place) where
+  module _ (more : p < m ^ n) (step : Step) (row : stepAs itself s step ≡ rowLine m (levelsAt m n p) (drop place s) place) where
     onward : rowLines m n 0 (m ^ n) [] (drop at s) at
         ≡ then (stepAs itself s step) (λ ink. rowLines m n (suc p) (m ^ n - (p + 1)) (take p cells ++ (ink ∷ [])))
     onward =
@@ -55,8 +61,7 @@ module _ (s : List ℕ) (at m n : ℕ) (cells levels : List ℕ) (place p : ℕ)
         rows .reads
         ∙ (ap (λ k. rowLines m n p k (take p cells) (drop place s) place) counted
         ∙ (rows-more m n p (m ^ n - (p + 1)) (take p cells) (drop place s) place
-        ∙ ap (λ x. then x (λ ink. rowLines m n (suc p) (m ^ n - (p + 1)) (take p cells ++ (ink ∷ []))))
-        (ap (λ ls. rowLine m ls (drop place s) place) (sym (rows .due)) ∙ sym row)))
+        ∙ ap (λ x. then x (λ ink. rowLines m n (suc p) (m ^ n - (p + 1)) (take p cells ++ (ink ∷ [])))) (sym row)))
 
     pub rows-back : (number back : ℕ) → step ≡ Back number back → RowsRead s at m n cells step
     unfolding then
@@ -65,20 +70,21 @@ module _ (s : List ℕ) (at m n : ℕ) (cells levels : List ℕ) (place p : ℕ)
 
     module _ (ink next : ℕ) (on : step ≡ On ink next) where
       pub ink-below : ink < m
-      ink-below = row-ink m (take n levels) (drop place s) (drop next s) place ink next (sym row ∙ ap (stepAs itself s) on)
+      ink-below = row-ink m (levelsAt m n p) (drop place s) (drop next s) place ink next (sym row ∙ ap (stepAs itself s) on)
 
-      pub rows-next : (later : List ℕ) → 0 < m → n ≤ length levels → p < length cells
-          → later ≡ nextLevels m (take n levels) ++ drop n levels → InRows s at m n (set cells p ink) later next (p + 1)
+      pub reached-next : p < length cells → Reached s at m n (set cells p ink) next (p + 1)
       unfolding then
-      rows-next later pos room here e =
+      reached-next here =
           record {
             most = omega arith;
-            due =
-                rw (e, take-at (nextLevels m (take n levels)) (drop n levels) n (next-length m (take n levels) ∙ length-take-le n levels room), rows .due, add-one)
-                (sym (levels-next m n p pos));
             inks = rw stored (below-append m (take p cells) (ink ∷ []) (rows .inks) (ink-below, tt));
             reads = rw (onward, on, stored, add-one) refl;
           }
         where
           stored : take (p + 1) (set cells p ink) ≡ take p cells ++ (ink ∷ [])
           stored = rw (add-one) (take-suc-set cells p ink here)
+
+-- the row that was read is the one that `levels` says
+pub row-due : {s : List ℕ} {at m n : ℕ} {cells levels : List ℕ} {place p : ℕ} → InRows s at m n cells levels place p → (step : Step)
+    → stepAs itself s step ≡ rowLine m (take n levels) (drop place s) place → stepAs itself s step ≡ rowLine m (levelsAt m n p) (drop place s) place
+row-due {s} {at} {m} {n} {cells} {levels} {place} rows step row = row ∙ ap (λ ls. rowLine m ls (drop place s) place) (rows .due)

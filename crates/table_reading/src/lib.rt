@@ -1,4 +1,6 @@
 // Reading a table sheet.
+pub mod blocks;
+pub mod due;
 pub mod inks;
 pub mod levels;
 pub mod rows;

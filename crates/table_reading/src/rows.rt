@@ -7,6 +7,7 @@ ghost use Rattle.rules.specs.Limits.{sizeFits};
 ghost use Rattle.fields.specs.Steps.{stepAs, itself};
 ghost use Rattle.table_reading.specs.Row.{rowLine};
 ghost use Rattle.table_reading.specs.Rows.{RowsRead};
+use crate::blocks::due_rows;
 use crate::inks::ink_field;
 use crate::levels::level_field;
 use fields::steps::Step;
@@ -37,15 +38,16 @@ pub fn row(s: &[u8], at: usize, levels: &[u8], n: usize, m: usize) -> Step
     ink_field(s, place, m)
 }
 
-// All rows, from the row of index 0 at `at` on; their inks go to the front of `cells`.
+// All rows, from the row of index 0 at `at` on; their inks go to the front of `cells`. Those that do not stand as they are due are judged field by field.
 pub fn rows(s: &[u8], at: usize, m: usize, n: usize, cells: &mut [u8]) -> Step
     requires { ⌜ (sizeFits m n ≡ true) × (m ^ n ≤ length (now cells)) ⌝ }
     ensures { λ r. ⌜ RowsRead (now (s .entry)) at m n (now (cells .exit)) r ⌝ }
 {
     let mut levels = [0u8; MOST_INPUTS];
     let count = power(m, n);
-    let mut place = at;
-    let mut p: usize = 0;
+    let taken = due_rows(s, at, m, n, &mut levels, cells);
+    let mut place = taken.place;
+    let mut p = taken.rows;
     while p < count {
         let step = row(s, place, &levels, n, m);
         match step {

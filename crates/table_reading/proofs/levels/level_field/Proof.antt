@@ -1,26 +1,31 @@
--- `table_reading::levels::level_field` meets its contract: a plain field is a digit and a space, and any other is judged.
+-- `table_reading::levels::level_field` meets its contract: a field that is tested.
 -- Assumes nothing.
-use native.Mathlib.Omega.{arith}
 use borrow.Author.Needs.{needs}
-use Rattle.table_reading.specs.Levels.{plain-read}
+use Rattle.rules.specs.Sheets.{levelField}
+use Rattle.fields.specs.Judging.{field-tested}
+use Rattle.fields.specs.Steps.{nothing}
 use Rattle.table_reading.proofs.levels.level_field.Statement.{statement}
 use Rattle.table_reading.proofs.levels.level_field.Tie as tie
 
-is-plain-requires : tie.Need-is-plain-requires
-is-plain-requires c κs = search needs
+field-at-requires : tie.Need-field-at-requires
+field-at-requires c κs = search needs
 
-add-t5 : tie.Need-add-t5
-add-t5 c = omega (arith, c .before .is-plain .ensures (c .if1 .taken) .within)
+is-level-requires : tie.Need-is-level-requires
+is-level-requires c κs = search needs
+
+judged-requires : tie.Need-judged-requires
+judged-requires c κs = search needs
+
+after-field-requires : tie.Need-after-field-requires
+after-field-requires c κs = search needs
 
 returns : tie.Need-returns
-returns c = plain-read _ _ _ (c .before .is-plain .ensures (c .if1 .taken))
-
-judged-level-requires : tie.Need-judged-level-requires
-judged-level-requires c κs = search needs
-
-returns-2 : tie.Need-returns-2
-returns-2 c = search needs
+unfolding levelField
+returns c =
+    field-tested nothing _ _ _ _ _ _ _ _ _ (c .after-field .result) (c .before .before .before .field-at .ensures) (c .before .judged .ensures)
+    (rw (c .before .before .is-level .ensures)) (c .after-field .ensures)
 
 pub level-field-spec : {M : Type 1} → statement M
 level-field-spec =
-    tie.close (tie.spec is-plain-requires add-t5 returns judged-level-requires returns-2)
+    tie.close
+    (tie.spec field-at-requires is-level-requires judged-requires after-field-requires returns)

@@ -1,0 +1,94 @@
+-- `table_reading::due::due_ink` meets its contract: it says none, or has compared all bytes of the row.
+-- Assumes nothing.
+use Prim.Native.Nat.{_+_, _*_, _<_}
+use mathlib.Core.Path.{_≡_, sym, _∙_}
+use native.Mathlib.Omega.{arith}
+use borrow.Author.Needs.{needs}
+use borrow.Author.Tests.{not-false}
+use lib.ListN.{take}
+use Rattle.rules.specs.Text.{spaceByte, newlineByte}
+use Rattle.table_reading.specs.Due.{no-ink, same-ink, due-row}
+use Rattle.table_reading.specs.Plain.{Plain, two-plain}
+use Rattle.table_reading.proofs.due.due_ink.Statement.{statement}
+use Rattle.table_reading.proofs.due.due_ink.Tie as tie
+
+-- the start, from where the levels are told; there from the last level, and that from the ink
+abbrev at-start : tie.Else1 → tie.Start
+at-start c = c .before .before .before .before
+
+abbrev at-last : tie.After-two-bytes2 → tie.Else2
+at-last c = c .before
+
+abbrev at-levels : tie.Else2 → tie.Else1
+at-levels c = c .before .before
+
+are-levels-requires : tie.Need-are-levels-requires
+are-levels-requires c κs = search needs
+
+returns : tie.Need-returns
+returns c ink e = no-ink ink e
+
+mul-end : tie.Need-mul-end
+mul-end c = search needs
+
+add-end : tie.Need-add-end
+add-end c = search needs
+
+two-bytes-requires : tie.Need-two-bytes-requires
+two-bytes-requires c κs = search needs
+
+add-if2 : tie.Need-add-if2
+add-if2 c = search needs
+
+returns-2 : tie.Need-returns-2
+returns-2 c ink e = no-ink ink e
+
+add-two-bytes : tie.Need-add-two-bytes
+add-two-bytes c = search needs
+
+two-bytes-requires-2 : tie.Need-two-bytes-requires-2
+two-bytes-requires-2 c κs = search needs
+
+returns-3 : tie.Need-returns-3
+returns-3 c ink e = no-ink ink e
+
+returns-4 : tie.Need-returns-4
+returns-4 c ink e = no-ink ink e
+
+-- the last level and the ink, by their bytes
+level : (c : tie.Else2) → Plain (at-start (at-levels c) .args .s .now) (at-start (at-levels c) .args .at + 2 * at-start (at-levels c) .args .front) (at-start (at-levels c) .args .last) spaceByte
+level c =
+    let start = at-start (at-levels c) in
+    let bytes = c .before .two-bytes .ensures in
+    two-plain _ _ _ spaceByte (omega (arith, start .pre)) (bytes .1) (start .pre .2) (sym (bytes .0) ∙ c .if2 .left)
+
+returns-5 : tie.Need-returns-5
+returns-5 c ink e =
+    let last = at-last (c .before .before) in
+    let start = at-start (at-levels last) in
+    let bytes = c .before .before .two-bytes2 .ensures in
+    let is = same-ink _ ink e in
+    let below : ink < start .args .m = omega (arith, c .if4 .left) in
+    let digit : Plain (start .args .s .now) (start .args .at + 2 * start .args .front + 2) ink newlineByte =
+    two-plain _ _ _ newlineByte (omega (arith, start .pre)) (bytes .1) (omega (arith, start .pre .3)) (omega (arith, bytes .0, c .before .if3 .left)) in
+    let all : start .args .at + 2 * start .args .front + 2 + 2 ≡ start .args .at + (2 * start .args .front + 4) = omega arith in
+    let front = at-levels last .before .are-levels .ensures (not-false _ (at-levels last .if1 .left)) in
+    let stands = due-row (start .args .s .now) (take (start .args .front) (start .args .levels .now)) (start .args .m) (start .args .at) (start .args .at + 2 * start .args .front) (start .args .last) ink front (level last) digit below in
+    rw all at stands
+
+pub due-ink-spec : {M : Type 1} → statement M
+due-ink-spec =
+    tie.close
+    (tie.spec
+    are-levels-requires
+    returns
+    mul-end
+    add-end
+    two-bytes-requires
+    add-if2
+    returns-2
+    add-two-bytes
+    two-bytes-requires-2
+    returns-3
+    returns-4
+    returns-5)
