@@ -5,7 +5,7 @@
  * Bytes are lent as a pointer and a length. A pointer must be good for that many bytes, and must not be null even where the
  * length is 0. Two buffers lent to one call must not overlap, and a buffer must not overlap a sheet.
  *
- * A sheet is any bytes. Levels are written m and inputs n below. A refusal of a sheet (1 to 8) has a place in it, a byte from 0;
+ * A sheet is any bytes. Levels are written m and inputs n below. A refusal of a sheet (1 to 8, 18, 19) has a place in it, a byte from 0;
  * docs/REFUSALS.md says what each number means. Refusals are listed in the order in which they are judged. Where a buffer is
  * longer than needed, its further bytes are kept.
  */
@@ -67,6 +67,18 @@ typedef struct sitgurp_turn {
     size_t first;
     size_t second;
 } sitgurp_turn;
+
+/*
+ * number 0: accepted, and the net's output settles between earliest and latest, in microseconds; named and place are 0. Otherwise number is the
+ * refusal's and place its place, in the net sheet (named 1) or in the arrival sheet (2), and earliest and latest are 0.0.
+ */
+typedef struct sitgurp_arrival_times {
+    size_t named;
+    size_t number;
+    size_t place;
+    double earliest;
+    double latest;
+} sitgurp_arrival_times;
 
 /*
  * The number of classes of a group, however large; within the sizes of a sheet it is at most 256.
@@ -160,6 +172,15 @@ sitgurp_answer sitgurp_write_table(const uint8_t *sheet, size_t sheet_length, ui
  * Refusals: 1 to 4 and 6 to 8 (the sheet), the same at every turn.
  */
 sitgurp_turn sitgurp_gate_line(const uint8_t *sheet, size_t sheet_length, size_t k);
+
+/*
+ * When the output of a net settles: a net sheet, an arrival sheet for its inputs, and the delay of every gate in quarters of a microsecond. The
+ * settling time is the largest, over the inputs, of arrival plus delay times gates on the way; earliest is that of the earliest arrivals, latest
+ * that of the latest. Both are exact, and whatever the arrivals inside their ranges, the output settles between them. Writes nothing.
+ * Refusals: 1 to 4 and 6 to 8 (the net sheet), 1, 18 and 19 (the arrival sheet).
+ */
+sitgurp_arrival_times sitgurp_arrivals(const uint8_t *net_sheet, size_t net_sheet_length, const uint8_t *arrival_sheet,
+                                       size_t arrival_sheet_length, uint8_t delay);
 
 #ifdef __cplusplus
 }

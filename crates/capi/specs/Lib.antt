@@ -7,3 +7,4 @@ pub mod Layered
 pub mod Shallower
 pub mod WriteTable
 pub mod Check
+pub mod ArrivalTimes

@@ -13,6 +13,7 @@ pub mod ListingNumbers
 pub mod ShallowRefusals
 pub mod FamilyOutcomes
 pub mod FamilyNumbers
+pub mod ArrivalNumbers
 pub mod NeverZero
 pub mod Makes
 pub mod Checks
@@ -34,3 +35,4 @@ pub mod FamilyLengths
 pub mod FamilyTreeClause
 pub mod FamilyOrder
 pub mod FamilyRules
+pub mod Arrivals

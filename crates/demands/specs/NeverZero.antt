@@ -14,6 +14,7 @@ use Rattle.rules.specs.FamilyCalls.{familyCountCall, familyTreeCall}
 use Rattle.rules.specs.Checking.{turnedDown, checkCall}
 use Rattle.rules.specs.TableWriting.{writeTableCall}
 use Rattle.rules.specs.Lister.{listing}
+use Rattle.rules.specs.Arrivals.{netRefused, arrivalsRefused, arrivalsCall}
 use Rattle.laws.specs.Distinct.{In}
 use Rattle.readback.specs.Numbers.{netNumbers}
 use Rattle.demands.specs.Numbers.{not-given}
@@ -26,6 +27,7 @@ use Rattle.demands.specs.FamilyNumbers.{family-count-numbers, family-tre
 use Rattle.demands.specs.CheckingNumbers.{check-numbers, checkNumbers}
 use Rattle.demands.specs.TableWritingNumbers.{write-table-numbers, writeTableNumbers}
 use Rattle.demands.specs.ListingNumbers.{listing-numbers}
+use Rattle.demands.specs.ArrivalNumbers.{arrivals-numbers}
 
 -- No call refuses with 0: over C, where 0 says that a call accepted, the two are told apart.
 pub never-0 : (place : ℕ)
@@ -40,6 +42,8 @@ pub never-0 : (place : ℕ)
     × ((s r cells : List ℕ) (named : Named) → checkCall s r cells .answer ≡ turnedDown named 0 place → ⊥)
     × ((s output : List ℕ) → writeTableCall s output .answer ≡ refused 0 place → ⊥)
     × ((s : List ℕ) (k : ℕ) → listing s k ≡ refused 0 place → ⊥)
+    × ((s r : List ℕ) (delay : ℕ) → arrivalsCall s r delay ≡ netRefused 0 place → ⊥)
+    × ((s r : List ℕ) (delay : ℕ) → arrivalsCall s r delay ≡ arrivalsRefused 0 place → ⊥)
 unfolding any
 never-0 place = (
   λ m n cells g. not-given multiplicityNumbers _ (multiplicity-numbers m n cells g) 0 place refl,
@@ -53,6 +57,8 @@ never-0 place = (
   λ s r cells named e. no-0 named (check-numbers s r cells named 0 place e),
   λ s output. not-given writeTableNumbers _ (write-table-numbers s output) 0 place refl,
   λ s k. not-given netNumbers _ (listing-numbers s k) 0 place refl,
+  λ s r delay e. true≢false (sym (arrivals-numbers s r delay .net 0 place e)),
+  λ s r delay e. true≢false (sym (arrivals-numbers s r delay .arrivals 0 place e)),
 )
   where
     no-0 : (named : Named) → In 0 (checkNumbers named) → ⊥

@@ -1,10 +1,10 @@
 -- The largest of some numbers (`most`) and the smallest (`least`): it bounds them all, and is one of them.
 -- Assumes nothing.
-use Prim.Native.Nat.{ℕ, suc, _≤_, _<_, max}
-use mathlib.Core.Path.{_≡_, refl}
+use Prim.Native.Nat.{ℕ, suc, _*_, _≤_, _<_, max}
+use mathlib.Core.Path.{_≡_, refl, sym, ap, _∙_}
 use mathlib.Core.Logic.{⊎-elim}
 use mathlib.Core.List.{List, [], _∷_, _++_, map, List·Memᴰ, List·Memᴰ·head, List·Memᴰ·tail, List·Memᴰ·cases-cons, List·Memᴰ·not-nil, Memᴰ·cast}
-use native.Mathlib.Nat.{max-zero}
+use native.Mathlib.Nat.{max-zero, max-eq-left, max-eq-right, mul-le-mul-right}
 use native.Mathlib.Omega.{arith, min-cases, max-cases}
 use lib.ListN.{length}
 use Rattle.rules.specs.Layers.{most}
@@ -40,6 +40,25 @@ unfolding most
 most-suc [] some = absurd (omega arith)
 most-suc (x ∷ []) some = omega arith
 most-suc (x ∷ y ∷ xs) some = omega (arith, most-suc (y ∷ xs) (omega arith))
+
+-- of larger numbers
+pub most-more : {A : Type 0} (f h : A → ℕ) (xs : List A) → ((x : A) → List·Memᴰ x xs → f x ≤ h x) → most (map f xs) ≤ most (map h xs)
+unfolding most
+most-more f h [] less = omega arith
+most-more f h (x ∷ xs) less =
+    omega (arith, less x (List·Memᴰ·head refl), most-more f h xs (λ y is. less y (List·Memᴰ·tail is)))
+
+-- of numbers each times k
+pub most-times : {A : Type 0} (f : A → ℕ) (k : ℕ) (xs : List A) → most (map (λ x. f x * k) xs) ≡ most (map f xs) * k
+unfolding most
+most-times f k [] = omega arith
+most-times f k (x ∷ xs) = rw (most-times f k xs) (go (f x) (most (map f xs)))
+  where
+    go : (a b : ℕ) → max (a * k) (b * k) ≡ max a b * k
+    go a b =
+        max-cases a b _
+        (λ le e. max-eq-right (mul-le-mul-right k le) ∙ ap (λ (c : ℕ). c * k) (sym e))
+        (λ le e. max-eq-left (mul-le-mul-right k le) ∙ ap (λ (c : ℕ). c * k) (sym e))
 
 -- ---- the smallest
 

@@ -33,3 +33,9 @@ pub mod Extremes
 pub mod Listed
 pub mod Totals
 pub mod Sums
+pub mod Digits
+pub mod Times
+pub mod Quarters
+pub mod Arrivals
+pub mod ArrivalEnds
+pub mod SettlingTimes

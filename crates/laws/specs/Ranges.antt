@@ -8,6 +8,7 @@ use native.Mathlib.Nat.{add-zero, zero-add, add-suc, suc-add, eq-or-lt-of-le}
 use native.Mathlib.Numerals.{add-one}
 use native.Mathlib.Omega.{arith}
 use lib.ListN.{length, getD, length-map, replicate}
+use lib.Seq.{ext-getD}
 use Rattle.rules.specs.Lists.{range}
 use Rattle.laws.specs.Places.{map-at}
 
@@ -77,6 +78,12 @@ range-at from (suc count) (suc k) d h = range-at (suc from) count k d (omega ari
 
 pub map-range-at : {A : Type 0} (f : ℕ → A) (from count k : ℕ) (d : A) → k < count → getD (map f (range from count)) k d ≡ f (from + k)
 map-range-at f from count k d h = map-at f (range from count) k 0 d (rw range-length h) ∙ ap f (range-at from count k 0 h)
+
+-- a list read off place by place
+pub by-places : {A : Type 0} (d : A) (xs : List A) → map (λ i. getD xs i d) (range 0 (length xs)) ≡ xs
+by-places d xs =
+    ext-getD d (map (λ i. getD xs i d) (range 0 (length xs))) xs (map-range-length (λ i. getD xs i d) 0 (length xs))
+    (λ i h. map-range-at (λ i. getD xs i d) 0 (length xs) i d (rw map-range-length at h) ∙ ap (λ k. getD xs k d) (zero-add i))
 
 -- a number between the ends is listed, ..
 pub mem-range : (from count x : ℕ) → from ≤ x → x < from + count → List·Memᴰ x (range from count)

@@ -18,6 +18,11 @@ pub not-false-true : (b : Bool) → (b ≡ false → ⊥) → b ≡ true
 not-false-true true h = refl
 not-false-true false h = absurd (h refl)
 
+-- .. and what is not true is false
+pub not-true-false : (b : Bool) → (b ≡ true → ⊥) → b ≡ false
+not-true-false true h = absurd (h refl)
+not-true-false false h = refl
+
 -- two tests of which neither passes
 pub or-false-iff : (a b : Bool) → ((a || b) ≡ false) ↔ ((a ≡ false) × (b ≡ false))
 or-false-iff true b = (λ e. absurd (true≢false e), λ k. absurd (true≢false (k .0)))

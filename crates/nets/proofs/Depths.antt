@@ -14,14 +14,9 @@ use Rattle.laws.specs.Layers.{gateDepth, withDepths, depths-snoc, layers-depth}
 use Rattle.laws.specs.Ranges.{map-range-suc}
 use Rattle.nets.specs.declared.forms.Net.{Net}
 use Rattle.nets.specs.Forms.{gateOf, gatesOf}
-use Rattle.nets.specs.Room.{mostGates}
-use Rattle.nets.specs.Sound.{Sound, gates-length, gates-count, gates-pos, sound-size}
-use Rattle.nets.proofs.Gates.{refers-back}
-use Rattle.rules.specs.Limits.{mostInputs}
-
--- the inputs and the gates of a net
-abbrev pub mostWires : ℕ
-mostWires = mostInputs + mostGates
+use Rattle.nets.specs.Room.{mostWires}
+use Rattle.nets.specs.Sound.{Sound, gates-length, gates-count, gates-pos, wires-room}
+use Rattle.nets.specs.References.{refers-back}
 
 -- the layers down to the inputs and the first k gates, none more than k
 pub record Depths (net : Net) (k : ℕ) (depths : List ℕ) : Type 0 where
@@ -44,17 +39,13 @@ zeros-front k all h =
     ∙ take-at (replicate k 0) (replicate (all - k) 0) k (length-replicate k 0)
 
 module _ (net : Net) (sound : Sound net) where
-  -- all references have room
-  pub wires-room : net .inputs + net .gates ≤ mostWires
-  wires-room = omega (arith, gates-count net sound, sound-size net sound .inputs-most)
-
   pub depths-none : (depths : List ℕ) → depths ≡ replicate mostWires 0 → Depths net 0 depths
   unfolding range withDepths
   depths-none depths e =
       record {
         low = omega arith;
         long = ap length e;
-        front = rw (e, add-zero) (zeros-front (net .inputs) mostWires (omega (arith, wires-room)));
+        front = rw (e, add-zero) (zeros-front (net .inputs) mostWires (omega (arith, wires-room net sound)));
         small = λ i. rw (e, zero-at mostWires i) (omega arith);
       }
 
@@ -73,7 +64,7 @@ module _ (net : Net) (sound : Sound net) where
     pub depths-more : (d : ℕ) → d ≡ max (getD depths (getD (net .left) k 0) 0) (getD depths (getD (net .right) k 0) 0)
         → Depths net (k + 1) (set depths (net .inputs + k) (1 + d))
     depths-more d e =
-        let room : net .inputs + k < length depths = omega (arith, so-far .long, wires-room) in
+        let room : net .inputs + k < length depths = omega (arith, so-far .long, wires-room net sound) in
         let next : net .inputs + (k + 1) ≡ suc (net .inputs + k) = omega arith in
         record {
           low = omega arith;
@@ -84,7 +75,7 @@ module _ (net : Net) (sound : Sound net) where
         }
       where
         within : (i : ℕ) → Dec (i ≡ net .inputs + k) → getD (set depths (net .inputs + k) (1 + d)) i 0 ≤ k + 1
-        within i (yes at) = rw at (rw (getD-set-same depths (net .inputs + k) (1 + d) 0 (omega (arith, so-far .long, wires-room)))
+        within i (yes at) = rw at (rw (getD-set-same depths (net .inputs + k) (1 + d) 0 (omega (arith, so-far .long, wires-room net sound)))
             (omega (arith, so-far .small (getD (net .left) k 0), so-far .small (getD (net .right) k 0))))
         within i (no other) = rw (getD-set-other depths (net .inputs + k) i (1 + d) 0 other) (omega (arith, so-far .small i))
 

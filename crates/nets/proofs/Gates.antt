@@ -10,12 +10,13 @@ use lib.Seq.{length-take-le, drop-cons, append-snoc, set-at, getD-take, getD-dro
 use lib.Arith.{digits-lt}
 use Rattle.rules.specs.Lists.{range}
 use Rattle.rules.specs.Sheets.{Gate}
-use Rattle.rules.specs.Kept.{GateTable, Tables, RefersBack}
+use Rattle.rules.specs.Kept.{GateTable, Tables}
 use Rattle.rules.specs.Value.{gateValue, withGates}
 use Rattle.laws.specs.Ranges.{map-range-length, map-range-suc}
 use Rattle.nets.specs.declared.forms.Net.{Net}
 use Rattle.nets.specs.Forms.{gateOf, gatesOf}
-use Rattle.nets.specs.Sound.{Sound, levels-pos, gates-count}
+use Rattle.nets.specs.Sound.{levels-pos, gates-count}
+use Rattle.nets.specs.References.{refers-back}
 use Rattle.nets.specs.Evaluating.{Ready, Valued}
 use Rattle.nets.specs.Values.{with-snoc, with-length, below-all, with-below, AreLevels}
 
@@ -35,21 +36,6 @@ module _ (f : ℕ → Gate) where
   tables-front m from zero count h t = tt
   tables-front m from (suc k) zero h t = absurd (omega arith)
   tables-front m from (suc k) (suc count) h t = (t .0, tables-front m (suc from) k count (omega arith) (t .1))
-
-  back-at : (i from count k : ℕ) → k < count → RefersBack i (map f (range from count)) → (f (from + k) .left < i + k) × (f (from + k) .right < i + k)
-  unfolding range
-  back-at i from zero k h b = absurd (omega arith)
-  back-at i from (suc count) zero h b = simp add-zero (b .0, b .1)
-  back-at i from (suc count) (suc k) h b =
-      let e : from + suc k ≡ suc from + k = omega arith in
-      let e′ : i + suc k ≡ suc i + k = omega arith in
-      rw (e, e′) (back-at (suc i) (suc from) count k (omega arith) (b .2))
-
--- the references of a gate are earlier ones
-pub refers-back : (net : Net) → Sound net → (k : ℕ) → k < net .gates
-    → (getD (net .left) k 0 < net .inputs + k) × (getD (net .right) k 0 < net .inputs + k)
-unfolding gatesOf gateOf
-refers-back net sound k turn = rw zero-add at (back-at (gateOf net) (net .inputs) 0 (net .gates) k turn (sound .gates .rules .back))
 
 -- ---- the turn
 

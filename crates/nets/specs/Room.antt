@@ -15,6 +15,10 @@ use Rattle.laws.specs.Sizes.{sized, everySize, at-size}
 abbrev pub mostGates : ℕ
 mostGates = mostInputs - 1
 
+-- its inputs and its gates
+abbrev pub mostWires : ℕ
+mostWires = mostInputs + mostGates
+
 -- the digits of all its gates
 abbrev pub mostDigits : ℕ
 mostDigits = 162

@@ -1,6 +1,6 @@
 -- What reading and settling show of a net.
 -- Assumes nothing.
-use Prim.Native.Nat.{suc, _<_}
+use Prim.Native.Nat.{suc, _+_, _≤_, _<_}
 use mathlib.Core.Path.{_≡_, sym, ap, _∙_}
 use mathlib.Core.Bool.{true}
 use native.Mathlib.Omega.{arith}
@@ -11,6 +11,7 @@ use Rattle.laws.specs.Ranges.{map-range-length}
 use Rattle.laws.specs.Sizes.{Size, sized}
 use Rattle.nets.specs.declared.forms.Net.{Net}
 use Rattle.nets.specs.Forms.{gateOf, gatesOf}
+use Rattle.nets.specs.Room.{mostWires}
 
 -- the net of an accepted sheet
 pub record Sound (net : Net) : Type 0 where
@@ -34,3 +35,7 @@ module _ (net : Net) (sound : Sound net) where
 
   pub gates-pos : 0 < net .gates
   gates-pos = omega (arith, gates-count, sound-size .inputs-least)
+
+  -- all inputs and gates have room
+  pub wires-room : net .inputs + net .gates ≤ mostWires
+  wires-room = omega (arith, gates-count, sound-size .inputs-most)

@@ -22,3 +22,8 @@ pub const MOST_SETTLED: usize = 512;
 
 // The bytes that a program reads at most.
 pub const MOST_READ: usize = 65536;
+
+// The largest time of an arrival sheet, and its digits.
+pub const MOST_TIME: usize = 65535;
+
+pub const MOST_TIME_BYTES: usize = 5;

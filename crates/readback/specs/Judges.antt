@@ -23,7 +23,8 @@ use Rattle.laws.specs.Places.{mem-getD}
 use Rattle.laws.specs.Finds.{found-is, found-only, first-in-range}
 use Rattle.readback.specs.Fields.{isWord, Judges, not-good, judged-good}
 use Rattle.laws.specs.Decimals.{decimal-one}
-use Rattle.readback.specs.Decimals.{high-plain, high-word, digit-iff, digit-byte, digits-word, decimal-word, decimal-injective}
+use Rattle.laws.specs.Digits.{digit-iff, digit-byte}
+use Rattle.readback.specs.Decimals.{high-plain, high-word, digits-word, decimal-word, decimal-injective}
 
 -- the digit of a digit's byte
 byte-digit : (d : ℕ) → digitByte d - 48 ≡ d

@@ -1,8 +1,8 @@
 -- Theorems about sheets: what was printed is read back, what was accepted is what would be printed (`ReadBack`), how long a sheet is (`Length`,
--- `TableLength`), with which numbers (`Numbers`), where and by which bytes (`Fronts`, `Refused`) a sheet is refused. The way to the first: what
+-- `TableLength`), with which numbers (`Among`, `Numbers`), where and by which bytes (`Fronts`, `Refused`) a sheet is refused. The way to the first: what
 -- a reader reads is said once for both directions (`Spells`, `Collects`); then field by field (`Fields`, `Decimals`, `Judges`, `References`),
 -- line by line (`Names`, `Header`, `Gates`), sheet by sheet (`NetSheets`, `TableSheets`). `Lines` and `GateLines` take
--- an accepted sheet as lines.
+-- an accepted sheet as lines. `ArrivalSheets` and `ArrivalRefusals` have the same of arrival sheets.
 -- Assumes nothing.
 pub mod Spells
 pub mod Collects
@@ -15,6 +15,7 @@ pub mod Header
 pub mod Gates
 pub mod NetSheets
 pub mod TableSheets
+pub mod Among
 pub mod Numbers
 pub mod Fronts
 pub mod Refused
@@ -23,3 +24,5 @@ pub mod Length
 pub mod TableLength
 pub mod Lines
 pub mod GateLines
+pub mod ArrivalSheets
+pub mod ArrivalRefusals

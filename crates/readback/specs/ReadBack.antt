@@ -26,12 +26,12 @@ not-accepted number place a e =
 -- a whole sheet that a reader spells
 module _ {A : Type 0} {r : Reader A} {X : Type 0} {f : X → A} {p : X → List ℕ} (spells : SpellsTo Ended r X f p) where
   -- each of the texts is accepted as its value
-  whole-back : (x : X) → answered (r (p x) 0) ≡ accepted (f x)
+  pub whole-back : (x : X) → answered (r (p x) 0) ≡ accepted (f x)
   unfolding answered
   whole-back x = rw (← append-nil (p x), spells .back x [] 0 refl .1) refl
 
   -- what is accepted is one of the texts
-  whole-only : (s : List ℕ) (a : A) → answered (r s 0) ≡ accepted a → (x : X) × (a ≡ f x) × (s ≡ p x)
+  pub whole-only : (s : List ℕ) (a : A) → answered (r s 0) ≡ accepted a → (x : X) × (a ≡ f x) × (s ≡ p x)
   unfolding answered
   whole-only s a e = go (r s 0) refl e
     where

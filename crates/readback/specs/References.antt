@@ -15,7 +15,8 @@ use Rattle.rules.specs.Sheets.{isName, letterFirst, referenceText, referenceOf,
 use Rattle.rules.specs.Kept.{GoodNames}
 use Rattle.laws.specs.Tests.{all-iff}
 use Rattle.readback.specs.Fields.{isWord, Judges}
-use Rattle.readback.specs.Decimals.{digit-iff, decimal-digits, decimal-word, decimal-injective}
+use Rattle.laws.specs.Digits.{digit-iff, decimal-digits}
+use Rattle.readback.specs.Decimals.{decimal-word, decimal-injective}
 use Rattle.readback.specs.Judges.{name-parts, name-word, letter-high, verdict, looking, looking-passes, looking-only}
 use Rattle.readback.specs.Names.{good-name, good-different}
 

@@ -102,14 +102,14 @@ module _ {A : Type 0} {r : Reader A} (front : FromFront r) where
       go (read a rest p) d e = absurd (let z : _≡_ {A = ℕ} 0 1 = cc in omega arith)
       go (turnedBack k p) d e = rw d (cc)
 
-  places-within : PlacesWithin (λ s. answered (r s 0))
+  pub places-within : PlacesWithin (λ s. answered (r s 0))
   places-within s number place e = rw (zero-add (length s)) at (turned-place front s 0 number place (turned s number place e))
 
-  judges-front : JudgesFront (λ s. answered (r s 0))
+  pub judges-front : JudgesFront (λ s. answered (r s 0))
   unfolding answered
   judges-front s t number place e h = ap answered (turned-through front s t number place (turned s number place e) h)
 
-  judges-field : JudgesField (λ s. answered (r s 0))
+  pub judges-field : JudgesField (λ s. answered (r s 0))
   unfolding answered
   judges-field s t number place e h k = ap answered (turned-alike front s t number place (turned s number place e) h k)
 

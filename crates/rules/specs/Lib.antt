@@ -5,7 +5,8 @@
 -- the calls with what they turn back (`Answers`, `Reading` and `BareCells` are what they share; a file for each call or pair of calls
 -- follows), the starred cases (`Cases`), every refusal by examples (`Refusals`), and what is judged first (`Orders`). Of document 02: shallow
 -- nets (`Layers`, `Shallow`, `ShallowSettling`, `Shallower`, with `ShallowCases`), every wiring of a table (`Family`, `FamilyCalls`, with
--- `FamilyCases`), and the comparison of two assignments (`Differences`, with `DifferenceCases`).
+-- `FamilyCases`), the comparison of two assignments (`Differences`, with `DifferenceCases`) and arrival times (`ArrivalSheet`, `Arrivals`, with
+-- `ArrivalCases`).
 -- `Evaluation` lets all of it compute.
 -- Assumes nothing.
 pub mod Lists
@@ -39,10 +40,13 @@ pub mod Checking
 pub mod TableWriting
 pub mod Programs
 pub mod Lister
+pub mod ArrivalSheet
+pub mod Arrivals
 pub mod Evaluation
 pub mod Cases
 pub mod ShallowCases
 pub mod FamilyCases
 pub mod DifferenceCases
+pub mod ArrivalCases
 pub mod Refusals
 pub mod Orders

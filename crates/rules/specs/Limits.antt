@@ -54,6 +54,14 @@ mostTableSheet = 49_274
 abbrev pub mostRead : ℕ
 mostRead = 65_536
 
+-- document 02, K5: "whole numbers of quarter microseconds, 0 to 65,535"
+abbrev pub mostTime : ℕ
+mostTime = 65_535
+
+-- "one common delay, a byte of quarters"
+abbrev pub mostDelay : ℕ
+mostDelay = 255
+
 -- all of this file computes
 unfoldable pub computing : Unit {0}
 unfolding levelsFit inputsFit cellsFit sizeFits

@@ -13,6 +13,7 @@ use Rattle.rules.specs.Multiplicity.{multiplicityCall}
 use Rattle.rules.specs.Settling.{settleCall, makeCall}
 use Rattle.rules.specs.FamilyCalls.{familyCountCall, familyTreeCall}
 use Rattle.rules.specs.Checking.{turnedDown, checkCall}
+use Rattle.rules.specs.Arrivals.{netRefused, arrivalsRefused, arrivalsCall}
 use Rattle.rules.specs.Evaluation.{computing}
 
 -- ---- a sheet
@@ -104,3 +105,15 @@ table-before-headers = refl
 pub headers-before-cells : checkCall (printedNet oneGate) (printedTable noTree) [] ≡ record { answer = turnedDown neither 12 0; cells = [] }
 unfolding computing oneGate noTree
 headers-before-cells = refl
+
+-- ---- arrival times: document 02, K5
+
+-- "The net sheet is judged first, then this one.": neither sheet has a byte
+pub net-before-arrivals : (delay : ℕ) → arrivalsCall [] [] delay ≡ netRefused 1 0
+unfolding computing
+net-before-arrivals delay = refl
+
+-- a wrong name before the time behind it, which is malformed
+pub name-before-time : (delay : ℕ) → arrivalsCall (printedNet oneGate) (text "name from to" ++ newline ∷ (text "b 00 0" ++ newline ∷ [])) delay ≡ arrivalsRefused 18 13
+unfolding computing oneGate
+name-before-time delay = refl

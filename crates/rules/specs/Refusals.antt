@@ -1,4 +1,4 @@
--- The examples of docs/REFUSALS.md as one theorem, `refusals-hold`: every refusal, 1 to 17, by calls that give it, with its number, its
+-- The examples of docs/REFUSALS.md as one theorem, `refusals-hold`: every refusal, 1 to 19, by calls that give it, with its number, its
 -- place, and what each buffer lent to the call holds afterwards. They compute, so that a reader who believes nothing sees each number
 -- come out. The document's examples are these and no others (rust/sitgurp/tests/refusals.rs).
 -- Assumes nothing.
@@ -19,8 +19,10 @@ use Rattle.rules.specs.FamilyCalls.{familyCountCall, familyTreeCall}
 use Rattle.rules.specs.Checking.{turnedDown, checkCall}
 use Rattle.rules.specs.TableWriting.{writeTableCall}
 use Rattle.rules.specs.Lister.{listing}
+use Rattle.rules.specs.ArrivalSheet.{readArrivals}
+use Rattle.rules.specs.Arrivals.{arrivalsCall, arrivalsRefused, netRefused}
 use Rattle.rules.specs.Evaluation.{computing}
-use Rattle.rules.specs.Cases.{lineEnds, paper, digits}
+use Rattle.rules.specs.Cases.{lineEnds, paper, digits, named}
 
 -- ---- what an example says
 
@@ -32,6 +34,7 @@ pub record NetBack (sheet : List ℕ) (number place : ℕ) : Type 0 where
       → checkCall sheet table-sheet cells ≡ record { answer = turnedDown netNamed number place; cells = cells }
   pub writing : (output : List ℕ) → writeTableCall sheet output ≡ record { answer = refused number place; output = output }
   pub turn : (k : ℕ) → listing sheet k ≡ refused number place
+  pub arriving : (arrival-sheet : List ℕ) (delay : ℕ) → arrivalsCall sheet arrival-sheet delay ≡ netRefused number place
 
 -- A table sheet that is turned back: the same, in a check behind every accepted net sheet.
 pub record TableBack (sheet : List ℕ) (number place : ℕ) : Type 0 where
@@ -43,6 +46,11 @@ pub record TableBack (sheet : List ℕ) (number place : ℕ) : Type 0 where
   pub checking : (net-sheet cells : List ℕ) (net : Net) → readNet net-sheet ≡ accepted net
       → checkCall net-sheet sheet cells ≡ record { answer = turnedDown tableNamed number place; cells = cells }
 
+-- An arrival sheet for inputs of these names that is turned back: the same behind every accepted net sheet with these names, whatever the delay.
+pub record ArrivalsBack (names : List (List ℕ)) (sheet : List ℕ) (number place : ℕ) : Type 0 where
+  pub arriving : (net-sheet : List ℕ) (net : Net) (delay : ℕ) → readNet net-sheet ≡ accepted net → net .header .names ≡ names
+      → arrivalsCall net-sheet sheet delay ≡ arrivalsRefused number place
+
 -- Bare cells that are turned back: the same for every group and every marks buffer.
 pub record CellsBack (m n : ℕ) (cells : List ℕ) (number place : ℕ) : Type 0 where
   pub counting : (g : ℕ) → multiplicityCall m n cells g ≡ refused number place
@@ -50,13 +58,14 @@ pub record CellsBack (m n : ℕ) (cells : List ℕ) (number place : ℕ) : Type 
 
 -- What is read decides all of these.
 pub net-back : {sheet : List ℕ} {number place : ℕ} → readNet sheet ≡ refused number place → NetBack sheet number place
-unfolding settleCall checkCall writeTableCall listing onward
+unfolding settleCall checkCall writeTableCall listing onward arrivalsCall
 net-back e =
     record {
       settling = λ cells marks output. rw (e, settleCall);
       checking = λ table-sheet cells. rw (e, checkCall);
       writing = λ output. rw (e, writeTableCall);
       turn = λ k. rw (e, listing);
+      arriving = λ arrival-sheet delay. rw (e, arrivalsCall);
     }
 
 pub table-back : {sheet : List ℕ} {number place : ℕ} → readTable sheet ≡ refused number place → TableBack sheet number place
@@ -68,6 +77,11 @@ table-back e =
       numbering = λ order cells marks output. rw (e, familyTreeCall);
       checking = λ net-sheet cells net a. rw (a, e, checkCall);
     }
+
+pub arrivals-back : {names : List (List ℕ)} {sheet : List ℕ} {number place : ℕ} → readArrivals names sheet ≡ refused number place
+    → ArrivalsBack names sheet number place
+unfolding arrivalsCall
+arrivals-back e = record { arriving = λ net-sheet net delay a is. rw (a, is, e, arrivalsCall) }
 
 pub cells-back : {m n : ℕ} {cells : List ℕ} {number place : ℕ} → bareCells m n cells ≡ refused number place → CellsBack m n cells number place
 unfolding multiplicityCall markingCall onward
@@ -90,6 +104,7 @@ pub data Example : Type 0 where
   write : (sheet : String) (output number place : ℕ) → Example
   count : (sheet : String) (cells marks number place : ℕ) (cells-then marks-then : String) → Example
   tree : (sheet : String) (order cells marks output number place : ℕ) (cells-then marks-then : String) → Example
+  arrival : (sheet : String) (number place : ℕ) → Example
 
 -- The common statement: a call's whole result, its answer and every buffer lent to it.
 abbrev pub Comes : Example → Type 0
@@ -137,6 +152,8 @@ Comes (tree sheet order cells marks output number place cells-then marks-then) =
       marks = digits (text marks-then);
       output = nines output;
     }
+-- an arrival sheet for the inputs a and b, turned back by the one call that takes one
+Comes (arrival sheet number place) = ArrivalsBack (named "ab") (paper sheet) number place
 
 -- every example of a list
 infixr 5 _and_
@@ -216,10 +233,18 @@ refusals =
     ∷ tree "levels inputs/2 3/a b c ink/0 0 0 0/0 0 1 0/0 1 0 0/0 1 1 0/1 0 0 0/1 0 1 0/1 1 0 0/1 1 1 0/" 3 8 9 60 17 3 "00000000" "022222229"
     ∷ tree "levels inputs/2 3/a b c ink/0 0 0 0/0 0 1 0/0 1 0 0/0 1 1 0/1 0 0 0/1 0 1 0/1 1 0 0/1 1 1 0/" 1000000007 9 8 0 17 1000000007 "000000009" "02222222"
     ∷ tree "levels inputs/2 3/a b c ink/0 0 0 0/0 0 1 0/0 1 0 0/0 1 1 1/1 0 0 0/1 0 1 1/1 1 0 1/1 1 1 1/" 0 8 8 0 17 0 "00010111" "02202001"
+    -- 18: a name that is not the next input's
+    ∷ arrival "name from to/b 0 0/" 18 13
+    ∷ arrival "name from to/a 0 0/a 0 0/" 18 19
+    -- 19: a needless zero; no number; above 65,535; a `to` below its `from`
+    ∷ arrival "name from to/a 07 8/" 19 15
+    ∷ arrival "name from to/a 1.5 2/" 19 15
+    ∷ arrival "name from to/a 0 65536/" 19 17
+    ∷ arrival "name from to/a 8 7/" 19 17
     ∷ []
 
 pub refusals-hold : AllCome refusals
-unfolding computing lineEnds paper digits nines
+unfolding computing lineEnds paper digits named nines
 refusals-hold =
     net-back refl and net-back refl and table-back refl and net-back refl and net-back refl and net-back refl and net-back refl
     and net-back refl and net-back refl and net-back refl and table-back refl and net-back refl and net-back refl and table-back refl
@@ -228,4 +253,5 @@ refusals-hold =
     and cells-back refl and refl and refl and refl and refl and refl and refl
     and refl and refl and refl and refl and refl and refl and refl
     and refl and refl and refl and refl and refl and refl and refl
+    and arrivals-back refl and arrivals-back refl and arrivals-back refl and arrivals-back refl and arrivals-back refl and arrivals-back refl
     and none

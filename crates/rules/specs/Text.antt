@@ -1,11 +1,12 @@
 -- Bytes: the ones that the formats name, quoted text, and decimal values.
 -- Assumes nothing.
-use Prim.Native.Nat.{ℕ, zero, suc, _+_, _/_, _%_}
+use Prim.Native.Nat.{ℕ, zero, suc, _+_, _-_, _*_, _/_, _%_}
 use Prim.Native.Char.{code}
 use Prim.Native.String.{String, [] as no-text, _∷_ as _then_}
 use mathlib.Core.Bool.{Bool, true, false, _&&_}
 use mathlib.Core.List.{List, [], _∷_, _++_}
 use lib.Dec.{leb, ltb}
+use Rattle.rules.specs.Lists.{same}
 
 -- "space (32)", as the number that it is
 abbrev pub spaceByte : ℕ
@@ -49,7 +50,16 @@ decimalF (suc fuel) n =
 unfoldable pub decimal : ℕ → List ℕ
 decimal n = decimalF n n
 
+-- the number that some digits write, behind those that wrote `before`
+unfoldable pub valueOf : ℕ → List ℕ → ℕ
+valueOf before [] = before
+valueOf before (b ∷ w) = valueOf (before * 10 + (b - zeroByte)) w
+
+-- is `w` the decimal value of a number? Then it is that of the number that its digits write.
+unfoldable pub isDecimal : List ℕ → Bool
+isDecimal w = same w (decimal (valueOf 0 w))
+
 -- all of this file computes
 unfoldable pub computing : Unit {0}
-unfolding space newline text digitByte isDigit decimalF decimal
+unfolding space newline text digitByte isDigit decimalF decimal valueOf isDecimal
 computing = tt

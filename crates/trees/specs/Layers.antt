@@ -51,22 +51,29 @@ depth-most (gate a b) =
 
 -- ---- the ways to a reference are those of its tree
 
+-- for ways of any kind: those at a gate are the ways at its two sides, each with one gate more
+module _ (ways : Tree → List ℕ) (joins : (digits : List ℕ) (a b : Tree) → ways (node digits a b) ≡ map suc (ways a ++ ways b)) where
+  gate-ways : (forest : List Tree) (g : Gate) → g .left < length forest → g .right < length forest
+      → gateWays (map ways forest) g ≡ ways (joined forest g)
+  unfolding gateWays
+  gate-ways forest g l< r< =
+      rw (map-at ways forest (g .left) (leaf 0) [] l<, map-at ways forest (g .right) (leaf 0) [] r<) (sym (joins (g .digits) _ _))
+
+  pub gates-ways : (gates : List Gate) (forest : List Tree) → RefersBack (length forest) gates
+      → withWays (map ways forest) gates ≡ map ways (withTrees forest gates)
+  unfolding withWays withTrees
+  gates-ways [] forest back = refl
+  gates-ways (g ∷ gates) forest back =
+      rw (gate-ways forest g (back .0) (back .1), ← (map-append ways forest (joined forest g ∷ [])))
+      (gates-ways gates (forest ++ (joined forest g ∷ [])) (rw length-snoc (back .2)))
+
 -- the ways in a tree
 abbrev waysTo : Tree → List ℕ
 waysTo t = waysIn (wiringIn t)
 
-gate-ways : (forest : List Tree) (g : Gate) → g .left < length forest → g .right < length forest
-    → gateWays (map waysTo forest) g ≡ waysTo (joined forest g)
-unfolding gateWays waysIn
-gate-ways forest g l< r< = rw (map-at waysTo forest (g .left) (leaf 0) [] l<, map-at waysTo forest (g .right) (leaf 0) [] r<)
-
-gates-ways : (gates : List Gate) (forest : List Tree) → RefersBack (length forest) gates
-    → withWays (map waysTo forest) gates ≡ map waysTo (withTrees forest gates)
-unfolding withWays withTrees
-gates-ways [] forest back = refl
-gates-ways (g ∷ gates) forest back =
-    rw (gate-ways forest g (back .0) (back .1), ← (map-append waysTo forest (joined forest g ∷ [])))
-    (gates-ways gates (forest ++ (joined forest g ∷ [])) (rw length-snoc (back .2)))
+ways-join : (digits : List ℕ) (a b : Tree) → waysTo (node digits a b) ≡ map suc (waysTo a ++ waysTo b)
+unfolding waysIn
+ways-join digits a b = refl
 
 -- to an input there is one way
 inputs-ways : (n : ℕ) → map waysTo (inputTrees n) ≡ map (λ _. 0 ∷ []) (range 0 n)
@@ -84,7 +91,7 @@ module _ (n : ℕ) (gates : List Gate) (some : 0 < length gates) (back : RefersB
   pub last-ways : waysOf n gates ≡ waysIn (wiringIn lastTree)
   unfolding waysOf
   last-ways =
-      rw (← inputs-ways, gates-ways gates (inputTrees n) (rw inputs-length back))
+      rw (← inputs-ways, gates-ways waysTo ways-join gates (inputTrees n) (rw inputs-length back))
       (map-at waysTo (withTrees (inputTrees n) gates) (n + length gates - 1) (leaf 0) []
       (omega (arith, trees-length (inputTrees n) gates, inputs-length n)))
 

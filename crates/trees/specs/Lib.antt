@@ -35,6 +35,7 @@ pub mod DistinctInks
 pub mod NetTables
 pub mod LinesTree
 pub mod Layers
+pub mod ArrivalTimes
 pub mod FewestLayers
 pub mod Choices
 pub mod Shallow

@@ -4,16 +4,18 @@ use std::time::{Duration, Instant};
 
 const ROUNDS: usize = 7;
 
-/// The least time of several rounds over all inputs.
+/// The sum, over the inputs, of the least time of several rounds. Each input has a least time of its own, so that another process on the
+/// machine spoils one call and not a round.
 pub fn least<T>(inputs: &[T], mut work: impl FnMut(&T)) -> Duration {
-    (0..ROUNDS)
-        .map(|_| {
+    let mut times = vec![Duration::MAX; inputs.len()];
+    for _ in 0..ROUNDS {
+        for (input, time) in inputs.iter().zip(&mut times) {
             let start = Instant::now();
-            inputs.iter().for_each(&mut work);
-            start.elapsed()
-        })
-        .min()
-        .expect("some rounds")
+            work(input);
+            *time = start.elapsed().min(*time);
+        }
+    }
+    times.iter().sum()
 }
 
 pub fn ratio(one: Duration, other: Duration) -> f64 {

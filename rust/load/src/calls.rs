@@ -18,12 +18,13 @@ pub enum Kind {
     FamilyCount,
     FamilyTree,
     Check,
+    Arrivals,
     WriteTable,
     Listing,
 }
 
 impl Kind {
-    pub const ALL: [Kind; 14] = [
+    pub const ALL: [Kind; 15] = [
         Kind::Multiplicity,
         Kind::Multiplicities,
         Kind::FewestLevels,
@@ -36,6 +37,7 @@ impl Kind {
         Kind::FamilyCount,
         Kind::FamilyTree,
         Kind::Check,
+        Kind::Arrivals,
         Kind::WriteTable,
         Kind::Listing,
     ];
@@ -53,6 +55,7 @@ impl Kind {
             Kind::FamilyCount => &[1, 2, 3, 4, 5, 6, 13, 14],
             Kind::FamilyTree => &[1, 2, 3, 4, 5, 6, 13, 14, 15, 17],
             Kind::Check => &[1, 2, 3, 4, 5, 6, 7, 8, 12, 13],
+            Kind::Arrivals => &[1, 2, 3, 4, 6, 7, 8, 18, 19],
             Kind::WriteTable => &[1, 2, 3, 4, 6, 7, 8, 15],
             Kind::Listing => &[1, 2, 3, 4, 6, 7, 8],
         }
@@ -87,6 +90,7 @@ impl Call {
             Kind::FamilyCount => family_count(&mut inputs),
             Kind::FamilyTree => family_tree(&mut inputs),
             Kind::Check => check(&mut inputs),
+            Kind::Arrivals => arrivals(&mut inputs),
             Kind::WriteTable => write_table(&mut inputs),
             Kind::Listing => listing(&mut inputs),
         };
@@ -367,6 +371,25 @@ fn check(inputs: &mut Inputs) -> Both {
                     reference::Verdict::Differ(index) => Answer::Differ(index as usize),
                 },
             )
+        },
+    )
+}
+
+/// When a net's output settles; the two floats are compared bit for bit.
+fn arrivals(inputs: &mut Inputs) -> Both {
+    let (net, sheet) = inputs.net_and_arrival_sheet();
+    let delay = inputs.delay();
+    let bits = |earliest: f64, latest: f64| Answer::Settling(earliest.to_bits(), latest.to_bits());
+    both(
+        format!("{}\ndelay {delay}", in_words(&[&net, &sheet], &[])),
+        vec![],
+        |_| {
+            let answer = sitgurp::arrivals(&net, &sheet, delay);
+            Answer::of_proved(answer, |times| bits(times.earliest, times.latest))
+        },
+        |_| {
+            let answer = reference::arrivals(&net, &sheet, delay);
+            Answer::of_second(answer, |times| bits(times.earliest, times.latest))
         },
     )
 }

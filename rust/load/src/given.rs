@@ -13,6 +13,8 @@ pub enum Answer {
     Layered(usize, usize),
     /// The part of one of two sheets, counted from 0, that begins where the sheet begins, and its length.
     Part(Option<usize>, usize),
+    /// The earliest and the latest settling, bit for bit.
+    Settling(u64, u64),
     /// A number of trees.
     Count(u64),
     /// Every group's number of classes.
@@ -53,6 +55,7 @@ impl Answer {
                 named: match refusal.sheet {
                     Sheet::Net => Named::Net,
                     Sheet::Table => Named::Table,
+                    Sheet::Arrivals => Named::Arrivals,
                     Sheet::Neither => Named::Neither,
                 },
             },
@@ -129,6 +132,9 @@ mod tests {
             Answer::Part(Some(0), 0),
             Answer::Part(Some(1), 4),
             Answer::Part(None, 4),
+            Answer::Settling(0, 4),
+            Answer::Settling(4, 4),
+            Answer::Settling(0, 1 << 63),
             Answer::Count(4),
             Answer::Count(0),
             Answer::Counts(vec![0, 2, 2, 2]),

@@ -109,6 +109,32 @@ impl Inputs {
         self.generator.table_sheet(m, n, TableKind::OfNet)
     }
 
+    /// A net sheet and an arrival sheet: of its inputs, of these in another order, or of others.
+    pub fn net_and_arrival_sheet(&mut self) -> (Vec<u8>, Vec<u8>) {
+        let header = self.generator.header(self.m, self.n);
+        let net = self.generator.net(self.m, self.n);
+        let mut other = header.clone();
+        match self.below(10) {
+            0 => other.names.rotate_left(1),
+            1 => other.names = self.generator.names(self.n),
+            2 => other.names[self.n - 1].push(b'0'),
+            _ => {}
+        }
+        let arrivals = self.generator.arrival_sheet(&other);
+        let net_sheet = print_net_sheet(&header, &net);
+        let arrivals = self.perhaps_damaged(arrivals);
+        (self.rarely_damaged(net_sheet), arrivals)
+    }
+
+    /// A delay in quarter microseconds: any byte, often one of the ends.
+    pub fn delay(&mut self) -> u8 {
+        match self.below(4) {
+            0 => 0,
+            1 => u8::MAX,
+            _ => self.below(256) as u8,
+        }
+    }
+
     /// Both sheets of a check are good most of the time.
     fn rarely_damaged(&mut self, sheet: Vec<u8>) -> Vec<u8> {
         match self.below(4) {

@@ -5,7 +5,7 @@ use std::collections::BTreeSet;
 use std::fmt;
 
 /// Refusals are numbered from 1; 0 stands for an accepted call.
-const ENDS: usize = 18;
+const ENDS: usize = 20;
 
 #[derive(Clone, Default)]
 struct Row {
@@ -100,6 +100,7 @@ mod tests {
         for (kind, number) in [
             (Kind::Make, 16),
             (Kind::FamilyTree, 17),
+            (Kind::Arrivals, 19),
             (Kind::Multiplicity, 0),
             (Kind::Listing, 8),
         ] {

@@ -5,6 +5,7 @@
 //! further bytes." 17 "takes the place of 16 in the second call" of a family "and
 //! leaves what 16 leaves".
 
+use crate::arrivals::{self, Settling};
 use crate::family::{self, family_net};
 use crate::groups::{self, whole};
 use crate::limits::cell_count;
@@ -13,7 +14,10 @@ use crate::net::{Net, Table};
 use crate::refusal::{self, require, Refusal};
 use crate::settled::settled_net;
 use crate::shallow::shallow_net;
-use crate::sheet::{print_net_sheet, print_table_sheet, read_net_sheet, read_table_sheet, Header};
+use crate::sheet::{
+    print_net_sheet, print_table_sheet, read_arrival_sheet, read_net_sheet, read_table_sheet,
+    Header,
+};
 
 /// What a check answers: "agreement or the lowest index that differs".
 #[derive(Clone, Copy, Debug, PartialEq, Eq)]
@@ -211,6 +215,16 @@ pub fn shallower<'a>(first: &'a [u8], second: &'a [u8]) -> &'a [u8] {
         (Some(one), Some(other)) if other < one => second,
         (Some(_), Some(_)) => first,
     }
+}
+
+/// "The earliest and latest settling of the output in microseconds, as floats,
+/// and it is exact." "Every gate takes one common delay, a byte of quarters." "The
+/// net sheet is judged first, then this one."
+/// Refusals: the net's 1 to 8, the arrival sheet's 1, 18, 19.
+pub fn arrivals(net_sheet: &[u8], arrival_sheet: &[u8], delay: u8) -> Result<Settling, Refusal> {
+    let (header, net) = read_net_sheet(net_sheet)?;
+    let of_inputs = read_arrival_sheet(arrival_sheet, &header)?;
+    Ok(arrivals::settling(&net, &of_inputs, u64::from(delay)))
 }
 
 /// A net sheet to the table sheet of its table. Refusals 1 to 8, 15.

@@ -156,6 +156,21 @@ pub fn byte_damages(sheet: &[u8]) -> impl Iterator<Item = Vec<u8>> + '_ {
     })
 }
 
+/// Every sheet that one edit makes of this one: a cut, one byte dropped, any byte
+/// put in at any place or in the stead of any byte.
+pub fn single_edits(sheet: &[u8]) -> impl Iterator<Item = Vec<u8>> + '_ {
+    (0..=sheet.len()).flat_map(move |place| {
+        let put_in = move |byte| replace(sheet, &(place..place), &[byte]);
+        let inserted = (0..=u8::MAX).map(put_in);
+        let within = if place < sheet.len() { 1 } else { 0 };
+        let at_a_byte = (0..within).flat_map(move |_| {
+            let changed = (0..=u8::MAX).map(move |byte| change_byte(sheet, place, byte));
+            changed.chain([drop_byte(sheet, place), sheet[..place].to_vec()])
+        });
+        inserted.chain(at_a_byte)
+    })
+}
+
 /// The lines of a sheet, each with its line feed if it has one.
 fn lines(sheet: &[u8]) -> Vec<&[u8]> {
     sheet.split_inclusive(|&byte| byte == b'\n').collect()

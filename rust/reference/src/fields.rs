@@ -1,7 +1,7 @@
-//! The judges of single fields, "Sheets" and its refusals 1 to 8. A field that
-//! comes here is not empty.
+//! The judges of single fields, "Sheets" and its refusals 1 to 8, and the fields
+//! of an arrival sheet. A field that comes here is not empty.
 
-use crate::limits::{self, cell_count, MOST_NAME_BYTES};
+use crate::limits::{self, cell_count, MOST_NAME_BYTES, MOST_QUARTERS};
 use crate::net::Wire;
 use crate::refusal;
 use crate::sheet::Header;
@@ -99,6 +99,24 @@ pub fn ink_field(field: &[u8], m: usize) -> Judged<u8> {
         [byte] => digit_below(byte, m).ok_or(refusal::DIGITS),
         _ => Err(refusal::DIGITS),
     }
+}
+
+/// 18, "name isn't the next input".
+pub fn next_input_field(field: &[u8], due: &[u8]) -> Judged<()> {
+    if field != due {
+        return Err(refusal::NEXT_INPUT);
+    }
+    Ok(())
+}
+
+/// 19, "time malformed or above 65,535, or `to` below `from`": a decimal value
+/// without a needless leading zero, as Rust prints it, and not below the least.
+pub fn time_field(field: &[u8], least: u64) -> Judged<u64> {
+    let text = std::str::from_utf8(field).unwrap_or_default();
+    let time = text.parse::<u64>().ok();
+    time.filter(|time| time.to_string() == text)
+        .filter(|time| (least..=MOST_QUARTERS).contains(time))
+        .ok_or(refusal::TIME)
 }
 
 /// The one byte that a level is written as.

@@ -1,10 +1,11 @@
 //! Seeded good sheets of every allowed size; `damage` spoils them. The same seed
 //! gives the same sheets.
 
-use crate::limits::{allowed_sizes, MOST_NAME_BYTES};
+use crate::arrivals::Arrival;
+use crate::limits::{allowed_sizes, MOST_NAME_BYTES, MOST_QUARTERS};
 use crate::net::{all_inputs, place_in_count, Gate, Net, Table, Wire};
 use crate::rng::Rng;
-use crate::sheet::{print_net_sheet, print_table_sheet, Header};
+use crate::sheet::{print_arrival_sheet, print_net_sheet, print_table_sheet, Header};
 
 /// Where a table comes from.
 #[derive(Clone, Copy, Debug, PartialEq, Eq)]
@@ -206,6 +207,32 @@ impl Generator {
         let header = self.header(m, n);
         let net = self.net(m, n);
         print_net_sheet(&header, &net)
+    }
+
+    /// A good arrival sheet for the inputs of a header.
+    pub fn arrival_sheet(&mut self, header: &Header) -> Vec<u8> {
+        let arrivals: Vec<Arrival> = (0..header.n).map(|_| self.arrival()).collect();
+        print_arrival_sheet(header, &arrivals)
+    }
+
+    /// A fixed time as often as a range; the times of one sheet may be near each
+    /// other or at the bounds, so that any input may be the last to matter.
+    fn arrival(&mut self) -> Arrival {
+        let (one, other) = (self.time(), self.time());
+        match self.rng.below(2) {
+            0 => Arrival::of(one, one),
+            _ => Arrival::of(one.min(other), one.max(other)),
+        }
+    }
+
+    fn time(&mut self) -> u64 {
+        match self.rng.below(5) {
+            0 => 0,
+            1 => MOST_QUARTERS,
+            2 => self.rng.below(1_000) as u64,
+            3 => MOST_QUARTERS - self.rng.below(1_000) as u64,
+            _ => self.rng.number() % (MOST_QUARTERS + 1),
+        }
     }
 
     /// A good table sheet.

@@ -16,6 +16,7 @@
 //! | `settled`  | "The settled net"                                         |
 //! | `shallow`  | document 02, "Shallow nets": the tree of fewest layers    |
 //! | `family`   | document 02, "The whole family of trees": counts, numbers |
+//! | `arrivals` | document 02, "Arrival times known only between bounds"     |
 //! | `calls`    | every call with the buffers lent to it                    |
 //! | `lister`   | "Listing"                                                 |
 //! | `programs` | "Two programs"                                            |
@@ -24,6 +25,7 @@
 //! Plain rather than quick: an assignment is a list of levels, a group's class
 //! is a column of inks, and nothing is reckoned that the text does not name.
 
+pub mod arrivals;
 pub mod calls;
 pub mod damage;
 pub mod family;
@@ -41,9 +43,10 @@ pub mod settled;
 pub mod shallow;
 pub mod sheet;
 
+pub use arrivals::Settling;
 pub use calls::{
-    check, family_count, family_tree, fewest_levels, make, make_shallow, marking, multiplicities,
-    multiplicity, settle, settle_shallow, shallower, write_table, Layered, Verdict,
+    arrivals, check, family_count, family_tree, fewest_levels, make, make_shallow, marking,
+    multiplicities, multiplicity, settle, settle_shallow, shallower, write_table, Layered, Verdict,
 };
 pub use limits::allowed_sizes;
 pub use lister::Lister;

@@ -18,6 +18,9 @@ pub const MOST_NAME_BYTES: usize = 8;
 /// "The settled sheet's length, which is never over 512."
 pub const MOST_NET_SHEET_BYTES: usize = 512;
 
+/// "Whole numbers of quarter microseconds, 0 to 65,535."
+pub const MOST_QUARTERS: u64 = 65_535;
+
 /// "Two programs read standard input, at most its first 65,536 bytes."
 pub const PROGRAM_BYTES: usize = 65_536;
 

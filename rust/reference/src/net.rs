@@ -88,7 +88,7 @@ impl Net {
     /// How many gates are passed from an input to the output: the one that refers
     /// to the input, the one that refers to that gate, and so on. A gate refers
     /// to earlier ones, so they come up in this order.
-    fn gates_on_the_way(&self, input: usize) -> usize {
+    pub fn gates_on_the_way(&self, input: usize) -> usize {
         let mut end = Wire::Input(input);
         let mut passed = 0;
         for (number, gate) in (1..).zip(&self.gates) {

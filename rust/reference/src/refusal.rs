@@ -4,11 +4,13 @@
 ///
 /// "A call that refuses either of two sheets judges the net first, and names
 /// the sheet it refuses; 12 names neither." Numbers 1 to 8 are about a sheet
-/// and name it, in the calls with one sheet too; 9 to 17 name neither.
+/// and name it, in the calls with one sheet too; 18 and 19 are about an arrival
+/// sheet and name it; 9 to 17 name neither.
 #[derive(Clone, Copy, Debug, PartialEq, Eq)]
 pub enum Sheet {
     Net,
     Table,
+    Arrivals,
     Neither,
 }
 
@@ -37,6 +39,8 @@ pub const MARKS_SHORT: u8 = 14;
 pub const OUTPUT_SHORT: u8 = 15;
 pub const NO_TREE: u8 = 16;
 pub const ORDER_NUMBER: u8 = 17;
+pub const NEXT_INPUT: u8 = 18;
+pub const TIME: u8 = 19;
 
 impl Refusal {
     /// A refusal that names no sheet (yet).

@@ -4,9 +4,10 @@
 //! "Sheets are judged from the front, field by field. An empty field is 1.
 //! Otherwise the field is judged, then the byte after it."
 
+use crate::arrivals::Arrival;
 use crate::fields::{
     count_field, digit, digits_field, fixed_word, ink_field, inputs_field, levels_field,
-    name_field, reference_field, Judged,
+    name_field, next_input_field, reference_field, time_field, Judged,
 };
 use crate::net::{all_inputs, count_up, Gate, Net, Table, Wire};
 use crate::refusal::{self, Refusal, Sheet};
@@ -136,6 +137,18 @@ impl<'a> Reader<'a> {
             }
         }
     }
+
+    /// "One line an input in order": its name, `from` and `to`.
+    fn arrivals(&mut self, names: &[Vec<u8>]) -> Result<Vec<Arrival>, Refusal> {
+        let mut arrivals = Vec::new();
+        for name in names {
+            self.field(|field| next_input_field(field, name), SPACE)?;
+            let from = self.field(|field| time_field(field, 0), SPACE)?;
+            let to = self.field(|field| time_field(field, from), LINE_FEED)?;
+            arrivals.push(Arrival::of(from, to));
+        }
+        Ok(arrivals)
+    }
 }
 
 /// Reads a net sheet; a refusal names it.
@@ -170,6 +183,22 @@ fn read_table(sheet: &[u8]) -> Result<(Header, Table), Refusal> {
     let inks = reader.inks(&header)?;
     reader.end()?;
     Ok((header, Table { m, n, inks }))
+}
+
+/// Reads an arrival sheet for the inputs of a net: "the line `name from to`, then
+/// one line an input in order". A refusal names it.
+pub fn read_arrival_sheet(sheet: &[u8], header: &Header) -> Result<Vec<Arrival>, Refusal> {
+    read_arrivals(sheet, &header.names).map_err(|refusal| refusal.naming(Sheet::Arrivals))
+}
+
+fn read_arrivals(sheet: &[u8], names: &[Vec<u8>]) -> Result<Vec<Arrival>, Refusal> {
+    let mut reader = Reader { sheet, at: 0 };
+    reader.field(|field| fixed_word(field, b"name"), SPACE)?;
+    reader.field(|field| fixed_word(field, b"from"), SPACE)?;
+    reader.field(|field| fixed_word(field, b"to"), LINE_FEED)?;
+    let arrivals = reader.arrivals(names)?;
+    reader.end()?;
+    Ok(arrivals)
 }
 
 fn push_line(sheet: &mut Vec<u8>, fields: &[Vec<u8>]) {
@@ -216,6 +245,19 @@ pub fn print_table_sheet(header: &Header, table: &Table) -> Vec<u8> {
         let fields: Vec<Vec<u8>> = row.iter().map(|&byte| vec![byte]).collect();
         push_line(&mut sheet, &fields);
         count_up(&mut levels, &inputs, header.m);
+    }
+    sheet
+}
+
+/// The arrival sheet with these inputs and their arrivals.
+pub fn print_arrival_sheet(header: &Header, arrivals: &[Arrival]) -> Vec<u8> {
+    let mut sheet = b"name from to\n".to_vec();
+    for (name, arrival) in header.names.iter().zip(arrivals) {
+        let [from, to] = [arrival.earliest(), arrival.latest()].map(|time| time.to_string());
+        push_line(
+            &mut sheet,
+            &[name.clone(), from.into_bytes(), to.into_bytes()],
+        );
     }
     sheet
 }

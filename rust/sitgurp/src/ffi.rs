@@ -46,6 +46,18 @@ pub struct Turn {
     pub second: usize,
 }
 
+/// `number` is 0 where the call is accepted, and the output settles between `earliest` and `latest`; otherwise a refusal's number and place, of the
+/// net sheet (`named` 1) or of the arrival sheet (2), and both times are 0.
+#[repr(C)]
+#[derive(Clone, Copy)]
+pub struct ArrivalTimes {
+    pub named: usize,
+    pub number: usize,
+    pub place: usize,
+    pub earliest: f64,
+    pub latest: f64,
+}
+
 /// Settling and making: a sheet, then the cells, the marks and the output lent.
 pub type SheetCall<A> = unsafe extern "C" fn(
     sheet: *const u8,
@@ -154,4 +166,11 @@ extern "C" {
         output_length: usize,
     ) -> Answer;
     pub fn sitgurp_gate_line(sheet: *const u8, sheet_length: usize, k: usize) -> Turn;
+    pub fn sitgurp_arrivals(
+        net_sheet: *const u8,
+        net_sheet_length: usize,
+        arrival_sheet: *const u8,
+        arrival_sheet_length: usize,
+        delay: u8,
+    ) -> ArrivalTimes;
 }

@@ -7,6 +7,7 @@ use std::fmt;
 pub enum Named {
     Net,
     Table,
+    Arrivals,
     Neither,
 }
 
@@ -24,7 +25,8 @@ pub struct Refusal {
 
 impl Refusal {
     pub(crate) fn new(number: usize, place: usize, named: Named, sheet: &[u8]) -> Refusal {
-        let position = (number <= 8).then(|| position(sheet, place));
+        let of_a_sheet = matches!(number, 1..=8 | 18 | 19);
+        let position = of_a_sheet.then(|| position(sheet, place));
         let inputs = match number {
             16 => names_of(sheet, place),
             _ => Vec::new(),
@@ -58,6 +60,8 @@ impl Refusal {
             15 => "the output is too short",
             16 => "no tree of two-input gates computes this table",
             17 => "the table has no tree of this number",
+            18 => "a name is not the next input",
+            19 => "a time is not a number from 0 to 65,535, or `to` is below `from`",
             _ => "unknown refusal",
         }
     }
@@ -90,6 +94,7 @@ impl fmt::Display for Refusal {
         let sheet = match self.named {
             Named::Net => "net sheet: ",
             Named::Table => "table sheet: ",
+            Named::Arrivals => "arrival sheet: ",
             Named::Neither => "",
         };
         write!(f, "{sheet}{} (refusal {}", self.words(), self.number)?;

@@ -64,12 +64,14 @@ fn c_type(rust: &str) -> String {
     let known = match rust {
         "usize" => "size_t",
         "u64" => "uint64_t",
+        "u8" => "uint8_t",
         "*const u8" => "const uint8_t *",
         "*mut u8" => "uint8_t *",
         "Answer" => "sitgurp_answer",
         "Shallow" => "sitgurp_shallow",
         "Which" => "sitgurp_which",
         "Verdict" => "sitgurp_verdict",
+        "ArrivalTimes" => "sitgurp_arrival_times",
         "Turn" => "sitgurp_turn",
         other => panic!("type {other}"),
     };
@@ -126,6 +128,7 @@ fn in_rattle(text: &str) -> Vec<(String, Vec<String>, String)> {
         let types = parameters.flat_map(|(_, of)| match of.trim() {
             "usize" => vec!["size_t"],
             "u64" => vec!["uint64_t"],
+            "u8" => vec!["uint8_t"],
             "&[u8]" | "&'a [u8]" => vec!["const uint8_t *", "size_t"],
             "&mut [u8]" => vec!["uint8_t *", "size_t"],
             other => panic!("type {other}"),
@@ -157,7 +160,7 @@ fn the_header_declares_what_rust_and_the_proved_crate_declare() {
         (name, types, result)
     });
     assert_eq!(rattle, c_types.collect::<Vec<_>>());
-    assert_eq!(rattle.len(), 12);
+    assert_eq!(rattle.len(), 13);
 }
 
 #[test]

@@ -93,7 +93,7 @@ fn without_mark(lines: &[&str], end: &str) -> (String, Option<usize>) {
 /// sheets, or a sheet from the buffers that the call changed.
 fn example(kind: &str, body: &str, [number, place]: [usize; 2]) -> Example {
     let words = match kind {
-        "net" | "table" => &[][..],
+        "net" | "table" | "arrival" => &[][..],
         "bare" => &["levels", "inputs"],
         "group" => &["levels", "inputs", "group"],
         "marking" => &["levels", "inputs", "marks"],
@@ -235,6 +235,14 @@ fn holds(example: &Example) {
             let written = sitgurp::write_table(texts[0], &mut output);
             assert_eq!(refused(written), due(Named::Net));
             assert_eq!(refused(Lister::start(texts[0])), due(Named::Net));
+            let arrivals = sitgurp::arrivals(texts[0], b"", 0);
+            assert_eq!(refused(arrivals), due(Named::Net));
+        }
+        "arrival" => {
+            for delay in [0, 255] {
+                let arrivals = sitgurp::arrivals(NET.as_bytes(), texts[0], delay);
+                assert_eq!(refused(arrivals), due(Named::Arrivals));
+            }
         }
         "table" => {
             let made = sitgurp::make(texts[0], &mut cells, &mut marks, &mut output);
@@ -336,7 +344,7 @@ fn the_document_has_the_listed_examples() {
     }
     assert_eq!(shown.len(), listed.len());
     let numbers: BTreeSet<usize> = listed.iter().map(|e| e.number_and_place().0).collect();
-    assert_eq!(numbers, (1..=17).collect(), "each number has an example");
+    assert_eq!(numbers, (1..=19).collect(), "each number has an example");
 }
 
 #[test]
@@ -357,11 +365,11 @@ fn every_mark_stands_at_its_place() {
         let (number, place) = example.number_and_place();
         match number {
             // the end of a sheet, after a line feed, is marked in the line after it
-            1..=8 if place == body.len() && body.ends_with('\n') => {
+            1..=8 | 18 | 19 if place == body.len() && body.ends_with('\n') => {
                 let last_line = body.trim_end().rfind('\n').map_or(0, |feed| feed + 1);
                 assert_eq!(marked, Some(last_line));
             }
-            1..=8 => assert_eq!(marked, Some(place), "{example:?}"),
+            1..=8 | 18 | 19 => assert_eq!(marked, Some(place), "{example:?}"),
             // a cell and the space after it are two bytes of the line after the first
             10 => {
                 let start = body.find('\n').expect("two lines") + 1;

@@ -37,6 +37,7 @@ struct Lent {
     bare: Vec<u8>,
     table: Vec<u8>,
     net: Vec<u8>,
+    arrivals: Vec<u8>,
     cells: Vec<u8>,
     marks: Vec<u8>,
     output: Vec<u8>,
@@ -49,6 +50,7 @@ impl Lent {
         let header = generator.header(m, n);
         let table = generator.table(m, n, kind);
         let sheet = print_table_sheet(&header, &table);
+        let arrivals = generator.arrival_sheet(&header);
         let mut other = || print_net_sheet(&header, &generator.net(m, n));
         Lent {
             m,
@@ -56,6 +58,7 @@ impl Lent {
             net: sitgurp::made(&sheet).unwrap_or_else(|_| other()),
             bare: table.inks,
             table: sheet,
+            arrivals,
             cells: vec![0; sitgurp::MOST_CELLS],
             marks: vec![0; sitgurp::MOST_MARKS],
             output: vec![0; sitgurp::MOST_TABLE_SHEET],
@@ -84,7 +87,7 @@ impl Lent {
 
 type Call = fn(&mut Lent);
 
-const CALLS: [(&str, Call); 12] = [
+const CALLS: [(&str, Call); 13] = [
     ("sitgurp_multiplicity", multiplicity),
     ("sitgurp_marking", marking),
     ("sitgurp_settle", |lent| {
@@ -103,6 +106,7 @@ const CALLS: [(&str, Call); 12] = [
     ("sitgurp_family_count", family_count),
     ("sitgurp_family_tree", family_tree),
     ("sitgurp_check", check),
+    ("sitgurp_arrivals", arrivals),
     ("sitgurp_write_table", write_table),
     ("sitgurp_gate_line", gate_line),
 ];
@@ -181,6 +185,19 @@ fn check(lent: &mut Lent) {
             table.len(),
             cells.as_mut_ptr(),
             cells.len(),
+        )
+    });
+}
+
+fn arrivals(lent: &mut Lent) {
+    let (net, sheet) = (&lent.net, &lent.arrivals);
+    black_box(unsafe {
+        ffi::sitgurp_arrivals(
+            net.as_ptr(),
+            net.len(),
+            sheet.as_ptr(),
+            sheet.len(),
+            u8::MAX,
         )
     });
 }

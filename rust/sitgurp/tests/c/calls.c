@@ -84,6 +84,14 @@ static int untouched(void) { return cells_hold(cells, 0) && marks_hold(marks, 0)
 
 static int is(sitgurp_answer answer, size_t number, size_t value) { return answer.number == number && answer.value == value; }
 
+static int settles(sitgurp_arrival_times times, double earliest, double latest) {
+    return times.named == 0 && times.number == 0 && times.place == 0 && times.earliest == earliest && times.latest == latest;
+}
+
+static int turned_back(sitgurp_arrival_times times, size_t named, size_t number, size_t place) {
+    return times.named == named && times.number == number && times.place == place && times.earliest == 0.0 && times.latest == 0.0;
+}
+
 static int has(sitgurp_shallow answer, size_t number, size_t value, size_t layers) {
     return answer.number == number && answer.value == value && answer.layers == layers;
 }
@@ -265,6 +273,20 @@ static void check(void) {
     HOLDS(says(sitgurp_check(TEXT(SETTLED), TEXT(TABLE), cells, 8), 0, 0, 0, 0));
 }
 
+/* two gates lie on the way from a and from b, one on the way from c */
+static void arrivals(void) {
+    HOLDS(settles(sitgurp_arrivals(TEXT(NET), TEXT("name from to\na 0 4\nb 2 2\nc 10 12\n"), 4), 3.5, 4.0));
+    HOLDS(settles(sitgurp_arrivals(TEXT(NET), TEXT("name from to\na 0 0\nb 0 0\nc 0 0\n"), 0), 0.0, 0.0));
+    HOLDS(settles(sitgurp_arrivals(TEXT(NET), TEXT("name from to\na 0 65535\nb 0 0\nc 0 0\n"), 255), 127.5, 16511.25));
+    HOLDS(turned_back(sitgurp_arrivals(TEXT(BAD_NET), TEXT(""), 4), 1, 8, 43));
+    HOLDS(turned_back(sitgurp_arrivals(TEXT(""), TEXT("name from to\nb"), 4), 1, 1, 0));
+    HOLDS(turned_back(sitgurp_arrivals(TEXT(NET), TEXT(""), 4), 2, 1, 0));
+    HOLDS(turned_back(sitgurp_arrivals(TEXT(NET), TEXT("name from to\na 0 0\nb 0 0\nc 0 0"), 4), 2, 1, 30));
+    HOLDS(turned_back(sitgurp_arrivals(TEXT(NET), TEXT("name from to\na 0 0\nc 0 0\n"), 4), 2, 18, 19));
+    HOLDS(turned_back(sitgurp_arrivals(TEXT(NET), TEXT("name from to\na 0 65536\n"), 4), 2, 19, 17));
+    HOLDS(turned_back(sitgurp_arrivals(TEXT(NET), TEXT("name from to\na 4 3\n"), 4), 2, 19, 17));
+}
+
 static void write_table(void) {
     const size_t length = sizeof(TABLE) - 1;
     fill();
@@ -331,6 +353,7 @@ int main(void) {
     family_count();
     family_tree();
     check();
+    arrivals();
     write_table();
     gate_line();
     largest();

@@ -13,6 +13,7 @@ pub fn due<T>(answer: Result<T, Expected>) -> Result<T, Back> {
         let named = match refusal.sheet {
             Sheet::Net => Named::Net,
             Sheet::Table => Named::Table,
+            Sheet::Arrivals => Named::Arrivals,
             Sheet::Neither => Named::Neither,
         };
         (usize::from(refusal.number), refusal.place as usize, named)

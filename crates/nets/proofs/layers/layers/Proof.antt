@@ -6,10 +6,10 @@ use native.Mathlib.Omega.{arith}
 use borrow.Author.Needs.{needs}
 use lib.ListN.{getD}
 use Rattle.nets.specs.declared.forms.Net.{Net}
-use Rattle.nets.specs.Room.{mostGates}
-use Rattle.nets.specs.Sound.{Sound, gates-count, gates-pos, sound-size}
-use Rattle.nets.proofs.Gates.{refers-back}
-use Rattle.nets.proofs.Depths.{mostWires, Depths, depths-none, depths-more, depths-all, wires-room}
+use Rattle.nets.specs.Room.{mostGates, mostWires}
+use Rattle.nets.specs.Sound.{Sound, gates-count, gates-pos, sound-size, wires-room}
+use Rattle.nets.specs.References.{refers-back}
+use Rattle.nets.proofs.Depths.{Depths, depths-none, depths-more, depths-all}
 use Rattle.nets.proofs.layers.layers.Statement.{statement}
 use Rattle.nets.proofs.layers.layers.Tie as tie
 

@@ -1,0 +1,4 @@
+pub mod Times
+pub mod Line
+pub mod Lines
+pub mod Answers

@@ -1,0 +1,4 @@
+// Reading an arrival sheet.
+pub mod lines;
+pub mod sheet;
+pub mod times;

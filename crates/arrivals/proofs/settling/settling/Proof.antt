@@ -1,0 +1,175 @@
+-- `arrivals::settling::settling` meets its contract. The loop's invariant: the inputs and the first k gates have their ends.
+-- Assumes nothing.
+use Prim.Native.Nat.{ℕ, _-_, _+_, _≤_, _<_}
+use mathlib.Core.Path.{_≡_, refl}
+use native.Mathlib.Omega.{arith}
+use borrow.Author.Needs.{needs}
+use lib.ListN.{getD}
+use Rattle.rules.specs.Limits.{mostDelay}
+use Rattle.rules.specs.Arrivals.{quarter}
+use Rattle.nets.specs.declared.forms.Net.{Net}
+use Rattle.nets.specs.Room.{mostGates, mostWires}
+use Rattle.nets.specs.References.{refers-back}
+use Rattle.nets.specs.Sound.{Sound, gates-count, gates-pos, sound-size, wires-room}
+use Rattle.arrivals.specs.Wires.{Turned, wired-none, wired-more, wired-all}
+use Rattle.arrivals.proofs.settling.settling.Statement.{statement}
+use Rattle.arrivals.proofs.settling.settling.Tie as tie
+
+abbrev Inv-loop : tie.InvT-loop
+Inv-loop net delay left right step ends₀ k₀ ends k = Turned net delay ends₀ k ends × (step ≡ quarter delay)
+
+abbrev μ-loop : tie.MeasureT-loop
+μ-loop net delay left right step ends₀ k₀ ends k = net .gates - k
+
+-- the start from the loop's head, that head from the turn's test, and that test from the turn's end; the head from the loop's end
+abbrev at-start : tie.At-loop Inv-loop μ-loop → tie.Start Inv-loop μ-loop
+at-start c = c .before .before .before .before .before
+
+abbrev at-loop : tie.Then1 Inv-loop μ-loop → tie.At-loop Inv-loop μ-loop
+at-loop c = c .before .before
+
+abbrev at-turn : tie.After-struct-known2 Inv-loop μ-loop → tie.Then1 Inv-loop μ-loop
+at-turn c = c .before .before .before .before
+
+abbrev at-end : tie.After-struct-known3 Inv-loop μ-loop → tie.At-loop Inv-loop μ-loop
+at-end c = c .before .before .before
+
+microseconds-requires : tie.Need-microseconds-requires Inv-loop μ-loop
+microseconds-requires c κs = search needs
+
+input-ends-requires : tie.Need-input-ends-requires Inv-loop μ-loop
+input-ends-requires c κs =
+    let start = c .before .before .before in
+    (sound-size (start .args .net) (start .pre .0) .inputs-most, start .pre .1)
+
+loop-holds : tie.Need-loop-holds Inv-loop μ-loop
+loop-holds c = (λ times held inputs. wired-none _ times _ _ inputs, c .before .microseconds .ensures)
+
+-- ---- a turn
+
+module _ (c : tie.Then1 Inv-loop μ-loop) where
+  abbrev net : Net
+  net = at-start (at-loop c) .args .net
+
+  abbrev sound : Sound net
+  sound = at-start (at-loop c) .pre .0
+
+  abbrev k : ℕ
+  k = at-loop c .loop .k
+
+  -- the gate's references are earlier ones
+  back : (getD (net .left) k 0 < net .inputs + k) × (getD (net .right) k 0 < net .inputs + k)
+  back = refers-back net sound k (c .if1 .taken)
+
+  few : (net .inputs + k < mostWires) × (k < mostGates)
+  few = (omega (arith, wires-room net sound, c .if1 .taken), omega (arith, gates-count net sound, sound-size net sound .inputs-most, c .if1 .taken))
+
+array-read-a : tie.Need-array-read-a Inv-loop μ-loop
+array-read-a c = omega (arith, few c)
+
+cast-a : tie.Need-cast-a Inv-loop μ-loop
+cast-a c = omega (arith, back c, few c)
+
+mul-a : tie.Need-mul-a Inv-loop μ-loop
+mul-a c = omega (arith, back c, few c)
+
+array-copy-out-a : tie.Need-array-copy-out-a Inv-loop μ-loop
+array-copy-out-a c = omega (arith, back c, few c)
+
+array-read-b : tie.Need-array-read-b Inv-loop μ-loop
+array-read-b c = omega (arith, few (c .before))
+
+cast-b : tie.Need-cast-b Inv-loop μ-loop
+cast-b c = omega (arith, back (c .before), few (c .before))
+
+mul-b : tie.Need-mul-b Inv-loop μ-loop
+mul-b c = omega (arith, back (c .before), few (c .before))
+
+array-copy-out-b : tie.Need-array-copy-out-b Inv-loop μ-loop
+array-copy-out-b c = omega (arith, back (c .before), few (c .before))
+
+join-requires : tie.Need-join-requires Inv-loop μ-loop
+join-requires c κs = search needs
+
+add-ends : tie.Need-add-ends Inv-loop μ-loop
+add-ends c = omega (arith, few (at-turn c))
+
+mul-ends : tie.Need-mul-ends Inv-loop μ-loop
+mul-ends c = omega (arith, few (at-turn c))
+
+array-set-from-ends : tie.Need-array-set-from-ends Inv-loop μ-loop
+array-set-from-ends c = omega (arith, few (at-turn c))
+
+add-k : tie.Need-add-k Inv-loop μ-loop
+add-k c = omega (arith, few (at-turn c))
+
+loop-less : tie.Need-loop-less Inv-loop μ-loop
+loop-less c = omega (arith, at-turn c .if1 .taken)
+
+-- the delay is a byte
+byte : (start : tie.Start Inv-loop μ-loop) → start .args .delay ≤ mostDelay
+byte start = omega (arith, start .fits .delay .fits)
+
+loop-again : tie.Need-loop-again Inv-loop μ-loop
+loop-again c =
+    let turn = at-turn c in
+    let inv = at-loop turn .loop .inv in (
+      λ times held inputs.
+          wired-more (net turn) (sound turn) _ (byte (at-start (at-loop turn))) times held (k turn) _ (inv .0 times held inputs) (turn .if1 .taken)
+          _ _ _ (c .before .join .result) _ _ refl refl (inv .1) (c .before .join .ensures),
+      inv .1,
+    )
+
+-- ---- the last gate's
+
+wires : (c : tie.At-loop Inv-loop μ-loop) → let net = at-start c .args .net in (net .inputs + net .gates ≤ mostWires) × (0 < net .gates)
+wires c = let s = at-start c in (wires-room (s .args .net) (s .pre .0), gates-pos (s .args .net) (s .pre .0))
+
+add-result : tie.Need-add-result Inv-loop μ-loop
+add-result c = omega (arith, wires (at-end c))
+
+sub-result : tie.Need-sub-result Inv-loop μ-loop
+sub-result c = omega (arith, wires (at-end c))
+
+mul-result : tie.Need-mul-result Inv-loop μ-loop
+mul-result c = omega (arith, wires (at-end c))
+
+array-copy-out-result : tie.Need-array-copy-out-result Inv-loop μ-loop
+array-copy-out-result c = omega (arith, wires (at-end c))
+
+returns : tie.Need-returns Inv-loop μ-loop
+returns c =
+    let head = at-end (c .before) in
+    let start = at-start head in
+    let wired = head .loop .inv .0 (start .args .times) (start .pre .1) (head .before .input-ends .ensures) in
+    wired-all (start .args .net) (start .pre .0) _ (byte start) (start .args .times) (start .pre .1) _ _ wired (c .before .before .if1 .left) _
+
+pub settling-spec : {M : Type 1} → statement M
+settling-spec =
+    tie.close
+    (tie.spec
+    Inv-loop
+    μ-loop
+    microseconds-requires
+    input-ends-requires
+    loop-holds
+    array-read-a
+    cast-a
+    mul-a
+    array-copy-out-a
+    array-read-b
+    cast-b
+    mul-b
+    array-copy-out-b
+    join-requires
+    add-ends
+    mul-ends
+    array-set-from-ends
+    add-k
+    loop-less
+    loop-again
+    add-result
+    sub-result
+    mul-result
+    array-copy-out-result
+    returns)

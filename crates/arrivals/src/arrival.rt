@@ -1,0 +1,47 @@
+// The arrival at an input, in microseconds. specs/Ends.antt says what each form stands for.
+ghost use mathlib.Core.Path.{_≡_};
+ghost use Rattle.rules.specs.ArrivalSheet.{arrivalOf};
+ghost use Rattle.rules.specs.Arrivals.{quarter};
+ghost use Rattle.arrivals.specs.Ends.{timed, endsIn};
+
+// A fixed time, or an earliest and a latest.
+pub enum Arrival {
+    Fixed(f64),
+    Between { earliest: f64, latest: f64 },
+}
+
+// The earliest and the latest time at which a wire settles.
+pub struct Ends {
+    pub earliest: f64,
+    pub latest: f64,
+}
+
+pub fn microseconds(quarters: u16) -> f64
+    ensures { λ r. ⌜ r ≡ quarter quarters ⌝ }
+{
+    quarters as f64 * 0.25
+}
+
+// It is fixed when `to` is `from`.
+pub fn arrival_of(from: u16, to: u16) -> Arrival
+    ensures { λ r. ⌜ r ≡ timed (arrivalOf from to) ⌝ }
+{
+    let earliest = microseconds(from);
+    if to == from {
+        return Arrival::Fixed(earliest);
+    }
+    let latest = microseconds(to);
+    Arrival::Between { earliest, latest }
+}
+
+pub fn ends_of(arrival: Arrival) -> Ends
+    ensures { λ r. ⌜ r ≡ endsIn arrival ⌝ }
+{
+    match arrival {
+        Arrival::Fixed(time) => Ends {
+            earliest: time,
+            latest: time,
+        },
+        Arrival::Between { earliest, latest } => Ends { earliest, latest },
+    }
+}

@@ -1,0 +1,29 @@
+-- The references of a gate are inputs and earlier gates.
+-- Assumes nothing.
+use Prim.Native.Nat.{ℕ, zero, suc, _+_, _<_}
+use mathlib.Core.Path.{_≡_}
+use mathlib.Core.List.{map}
+use native.Mathlib.Nat.{zero-add, add-zero}
+use native.Mathlib.Omega.{arith}
+use lib.ListN.{getD}
+use Rattle.rules.specs.Lists.{range}
+use Rattle.rules.specs.Sheets.{Gate}
+use Rattle.rules.specs.Kept.{RefersBack}
+use Rattle.nets.specs.declared.forms.Net.{Net}
+use Rattle.nets.specs.Forms.{gateOf, gatesOf}
+use Rattle.nets.specs.Sound.{Sound}
+
+back-at : (f : ℕ → Gate) (i from count k : ℕ) → k < count → RefersBack i (map f (range from count)) → (f (from + k) .left < i + k) × (f (from + k) .right < i + k)
+unfolding range
+back-at f i from zero k h b = absurd (omega arith)
+back-at f i from (suc count) zero h b = simp add-zero (b .0, b .1)
+back-at f i from (suc count) (suc k) h b =
+    let e : from + suc k ≡ suc from + k = omega arith in
+    let e′ : i + suc k ≡ suc i + k = omega arith in
+    rw (e, e′) (back-at f (suc i) (suc from) count k (omega arith) (b .2))
+
+-- the references of a gate are earlier ones
+pub refers-back : (net : Net) → Sound net → (k : ℕ) → k < net .gates
+    → (getD (net .left) k 0 < net .inputs + k) × (getD (net .right) k 0 < net .inputs + k)
+unfolding gatesOf gateOf
+refers-back net sound k turn = rw zero-add at (back-at (gateOf net) (net .inputs) 0 (net .gates) k turn (sound .gates .rules .back))
