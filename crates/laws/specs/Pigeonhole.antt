@@ -4,6 +4,7 @@ use Prim.Native.Nat.{ℕ, zero, suc, _≤_, _<_, zero-le, suc-le-suc}
 use mathlib.Core.Path.{_≡_, refl, sym, _∙_}
 use mathlib.Core.Bool.{Bool, true, false, cond}
 use native.Mathlib.Nat.{not-suc-le-zero, le-of-suc-le-suc, le-refl, le-step}
+use native.Mathlib.Decide.{decLt}
 use native.Mathlib.Omega.{arith}
 use lib.Dec.{eqb}
 use lib.Arith.{lt-of-le-ne}
@@ -12,6 +13,15 @@ use borrow.Author.Tests.{eqb-true, eqb-false}
 -- the first c values are pairwise different
 abbrev pub Differ : ℕ → (ℕ → ℕ) → Type 0
 Differ c w = (i j : ℕ) → i < c → j < c → w i ≡ w j → i ≡ j
+
+-- it is enough that no value is equal to a later one
+pub later-differ : (c : ℕ) (w : ℕ → ℕ) → ((i j : ℕ) → i < j → j < c → w i ≡ w j → ⊥) → Differ c w
+later-differ c w later i j i< j< e = go (decLt i j) (decLt j i)
+  where
+    go : Dec (i < j) → Dec (j < i) → i ≡ j
+    go (yes h) _ = absurd (later i j h j< e)
+    go (no h) (yes k) = absurd (later j i k i< (sym e))
+    go (no h) (no k) = omega arith
 
 -- where the value is k, the last value in its place
 spare : ℕ → ℕ → (ℕ → ℕ) → ℕ → ℕ

@@ -6,3 +6,4 @@ pub mod Splits
 pub mod FirstParts
 pub mod Stored
 pub mod Place
+pub mod Quick

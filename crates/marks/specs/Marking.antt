@@ -1,7 +1,7 @@
 -- All marks: what marking answers and leaves in the buffer, and the step from the marks below a group to the group's.
 -- Assumes nothing.
 use Prim.Native.Nat.{ℕ, suc, _+_, _-_, _^_, _≤_, _<_}
-use mathlib.Core.Path.{_≡_, refl, sym, ap, ap₂, _∙_, subst}
+use mathlib.Core.Path.{_≡_, refl, sym, ap, ap₂, _∙_, subst, subst⁻¹}
 use mathlib.Core.List.{List, [], _∷_, _++_}
 use native.Mathlib.Numerals.{add-one}
 use native.Mathlib.Omega.{arith}
@@ -12,7 +12,7 @@ use Rattle.rules.specs.Groups.{wholeGroup}
 use Rattle.rules.specs.Marks.{markIn, markOf, marksBelow, marksOf, marksLength, storedMarks}
 use Rattle.rules.specs.Answers.{written}
 use Rattle.trees.specs.MarkRule.{mark-agree, marks-length}
-use Rattle.marks.specs.Stored.{held, put, held-room, put-length, put-front, put-past, held-all}
+use Rattle.marks.specs.Stored.{held, put, held-room, put-length, put-front, put-at, put-past, held-all}
 
 -- marking a table f into a buffer
 pub record Marking (m n : ℕ) (f : ℕ → ℕ) (before : List ℕ) (mark : ℕ) (after : List ℕ) : Type 0 where
@@ -68,3 +68,16 @@ module _ (m n : ℕ) (f : ℕ → ℕ) (before : List ℕ) where
               ∙ ap (λ (l : List ℕ). getD l (2 ^ n - 1) 0) front;
           buffer = held-all marks n before (marksOf m n f) (marks-length m n pos f) front (b .past);
         }
+
+  -- all groups but the whole one, and then that
+  pub below-whole : marksLength n ≤ length before → 0 < m → (marks : List ℕ) → Below (2 ^ n - 1) marks → (g : ℕ) → g ≡ 2 ^ n - 1 → (mark : ℕ) → mark ≡ markOf m n f (held marks) (wholeGroup n)
+      → (after : List ℕ) → after ≡ put marks g mark → Marking m n f before mark after
+  unfolding wholeGroup
+  below-whole room pos marks b g is-whole mark is after written =
+      let done : Below (g + 1) after =
+      subst⁻¹ (Below (g + 1)) written
+      (below-next room g marks (subst⁻¹ (λ (k : ℕ). Below k marks) is-whole b) (omega (arith, pow-pos n)) mark (is ∙ ap (markOf m n f (held marks)) (sym is-whole))) in
+      below-all room (g + 1) after done pos (omega (arith, pow-pos n)) mark
+      (sym (put-at marks g mark (omega (arith, has-room room (2 ^ n - 1) marks b, pow-pos n)))
+      ∙ ap (λ (l : List ℕ). markIn (held l) g) (sym written)
+      ∙ ap (markIn (held after)) (omega arith))

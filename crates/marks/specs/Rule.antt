@@ -28,17 +28,24 @@ module _ (m n : ℕ) (f : ℕ → ℕ) (marks : List ℕ) (g : ℕ) where
   unfolding markOf
   mark-empty e = rw (eq-eqb g 0 e, markOf)
 
+  -- more than m classes, and no more
+  pub many-mark : m < multiplicity m n f g → 0 ≡ markOf m n f marks g
+  unfolding markOf
+  many-mark h = rw (lt-leb (multiplicity m n f g) m h, or-true (eqb g 0), markOf)
+
+  pub few-mark : (g ≡ 0 → ⊥) → multiplicity m n f g ≤ m → fewMark n marks g ≡ markOf m n f marks g
+  unfolding markOf fewMark
+  few-mark some h = rw (ne-eqb g 0 some, le-leb (multiplicity m n f g) m h, markOf)
+
   -- the count of its classes, which may stop once they are more than m
   module _ {count : ℕ} {kept : List ℕ} (counted : Counted m (classes m n f g) count kept) where
     pub mark-over : m < count → 0 ≡ markOf m n f marks g
-    unfolding markOf multiplicity
-    mark-over h =
-        rw (lt-leb (multiplicity m n f g) m (counted-over counted h), or-true (eqb g 0), markOf)
+    unfolding multiplicity
+    mark-over h = many-mark (counted-over counted h)
 
     pub mark-few : (g ≡ 0 → ⊥) → count ≤ m → fewMark n marks g ≡ markOf m n f marks g
-    unfolding markOf fewMark multiplicity
-    mark-few some h =
-        rw (ne-eqb g 0 some, le-leb (multiplicity m n f g) m (counted-within counted h), markOf)
+    unfolding multiplicity
+    mark-few some h = few-mark some (counted-within counted h)
 
 -- ---- the group parts
 

@@ -4,7 +4,7 @@ use Prim.Native.Nat.{ℕ, suc, _^_, _≤_, _<_}
 use mathlib.Core.Path.{_≡_, sym, ap, ap₂, _∙_}
 use mathlib.Core.List.{List, [], _∷_, _++_}
 use lib.ListN.{length, take, drop, set, length-set, take-append-drop, List·getD-append}
-use lib.Seq.{take-suc-set, drop-set-lt}
+use lib.Seq.{take-suc-set, drop-set-lt, getD-set-same}
 use Rattle.rules.specs.Marks.{markIn, marksLength, storedMarks}
 use Rattle.rules.specs.Answers.{written}
 use Rattle.laws.specs.Answers.{written-front}
@@ -32,6 +32,11 @@ module _ (buffer : List ℕ) where
     pub put-front : g < length (held buffer) → take (suc g) (held (put buffer g v)) ≡ take g (held buffer) ++ (v ∷ [])
     unfolding held put
     put-front h = take-suc-set buffer g v h
+
+    -- and is read where it was put
+    pub put-at : g < length (held buffer) → markIn (held (put buffer g v)) g ≡ v
+    unfolding held put
+    put-at h = getD-set-same buffer g v 0 h
 
     -- what is past the length needed is kept
     pub put-past : (n : ℕ) → g < 2 ^ n → drop (marksLength n) (put buffer g v) ≡ drop (marksLength n) buffer

@@ -15,7 +15,7 @@ use radix::limits;
 use radix::members;
 
 // The mark of a group that has at most m classes, from the marks of the groups below it.
-fn few_mark(marks: &[u8], g: usize) -> u8
+pub fn few_mark(marks: &[u8], g: usize) -> u8
     requires { ⌜ (0 < g) × (g < groupsEnd) × (g ≤ length (held (now marks))) ⌝ }
     ensures { λ r. ⌜ ((n : ℕ) → g < 2 ^ n → r ≡ fewMark n (held (now (marks .entry))) g) ⌝ }
 {

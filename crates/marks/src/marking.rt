@@ -1,4 +1,4 @@
-// Every group's mark, by rising number.
+// Every group's mark.
 ghost use mathlib.Core.Path.{_≡_};
 ghost use mathlib.Core.Bool.{true};
 ghost use Prim.Native.Nat.{_^_, _≤_};
@@ -7,8 +7,9 @@ ghost use Rattle.rules.specs.Limits.{sizeFits};
 ghost use Rattle.rules.specs.Marks.{marksLength};
 ghost use Rattle.rules.specs.Answers.{inkIn};
 ghost use Rattle.marks.specs.Marking.{Marking};
-use crate::group;
+use crate::below;
 use crate::stored;
+use crate::whole;
 use radix::limits;
 use radix::powers;
 
@@ -17,14 +18,27 @@ pub fn mark_all(m: usize, n: usize, cells: &[u8], marks: &mut [u8]) -> u8
     requires { ⌜ (sizeFits m n ≡ true) × (m ^ n ≤ length (now cells)) × (marksLength n ≤ length (now marks)) ⌝ }
     ensures { λ r. ⌜ Marking m n (inkIn (now (cells .entry))) (now (marks .entry)) r (now (marks .exit)) ⌝ }
 {
+    let mut weights = [0u16; limits::MOST_INPUTS];
+    let mut counts = [0u8; stored::MOST_MARKS];
+    let mut kept = [0u16; limits::MOST_KEPT];
     let mut xs = [0u16; limits::MOST_CELLS];
     let mut ys = [0u16; limits::MOST_CELLS];
-    let end = powers::power(2, n);
-    let mut g: usize = 0;
-    while g < end {
-        let mark = group::mark_group(m, n, cells, g, &mut xs, &mut ys, marks);
-        stored::put_mark(marks, g, mark);
-        g += 1;
-    }
-    stored::mark_at(marks, end - 1)
+    let mut firsts = [0u16; limits::MOST_LEVELS + 1];
+    powers::weights(m, n, &mut weights);
+    below::mark_below(
+        m,
+        n,
+        cells,
+        &weights,
+        &mut counts,
+        &mut kept,
+        &mut xs,
+        &mut ys,
+        &mut firsts,
+        marks,
+    );
+    let whole = powers::power(2, n) - 1;
+    let mark = whole::mark_whole(m, n, cells, &mut xs, &mut ys, marks);
+    stored::put_mark(marks, whole, mark);
+    mark
 }

@@ -1,15 +1,15 @@
 -- The loop of `widen` over plain lists: at turn j the front j entries are those of the widened list.
 -- Assumes nothing.
-use Prim.Native.Nat.{ℕ, _+_, _-_, _*_, _≤_, _<_}
-use mathlib.Core.Path.{_≡_, sym, ap, _∙_, subst}
+use Prim.Native.Nat.{ℕ, zero, suc, _+_, _-_, _*_, _/_, _%_, _≤_, _<_}
+use mathlib.Core.Path.{_≡_, sym, ap, _∙_, subst, subst⁻¹}
 use mathlib.Core.List.{List, [], _∷_, _++_}
-use native.Mathlib.Nat.{mul-le-mul-left}
+use native.Mathlib.Nat.{mul-le-mul-left, mul-le-mul-right, mul-comm, mod-lt, div-lt-iff-lt-mul, zero-mul, le-of-lt}
 use native.Mathlib.Numerals.{add-one}
 use native.Mathlib.Omega.{arith}
 use lib.ListN.{length, getD, take, set}
 use lib.Seq.{take-suc, take-suc-set, getD-take, length-take-le}
-use Rattle.laws.specs.Bounds.{below-at, at-below}
-use Rattle.radix.specs.Offsets.{widened, widened-length, widened-front, widened-step, widened-below}
+use Rattle.radix.specs.Widths.{offsetsEnd}
+use Rattle.radix.specs.Offsets.{widened, widened-length, widened-front, widened-step, widened-at}
 
 module _ (out₀ : List ℕ) (len w m : ℕ) (some : 0 < m) (fits : len * m ≤ length out₀) where
   abbrev pub whole : List ℕ
@@ -49,9 +49,23 @@ module _ (out₀ : List ℕ) (len w m : ℕ) (some : 0 < m) (fits : len * m ≤ 
       ∙ ap (λ (k : ℕ). take k whole) (sym (add-one j))
 
   -- every entry is small
-  pub small : ((k : ℕ) → k < len → getD out₀ k 0 < w) → (j : ℕ) → j < len * m → getD whole j 0 < w * m
+  pub small : ((k : ℕ) → k < len → getD out₀ k 0 + w * m < offsetsEnd) → (j : ℕ) → j < len * m → getD whole j 0 < offsetsEnd
   small h j high =
-      below-at (w * m) whole
-      (widened-below m w (take len out₀)
-      (at-below w (take len out₀) (λ k l. subst (λ (x : ℕ). x < w) (sym (getD-take len out₀ k 0 (omega (arith, front-length)))) (h k (omega (arith, front-length))))))
-      j (subst (λ (k : ℕ). j < k) (sym whole-length) high)
+      let at : j < length (take len out₀) * m = subst⁻¹ (λ (k : ℕ). j < k * m) front-length high in
+      let level : j / len < m = div-lt-iff-lt-mul pos-len .1 (omega (arith, mul-comm len m)) in
+      omega (
+        arith,
+        widened-at m w (take len out₀) j at
+            ∙ ap (λ (k : ℕ). getD (take len out₀) (j % k) 0 + j / k * w) front-length
+            ∙ ap (λ (k : ℕ). k + j / len * w) (getD-take len out₀ (j % len) 0 (mod-lt j pos-len)),
+        h (j % len) (mod-lt j pos-len),
+        mul-le-mul-right w (le-of-lt level),
+        mul-comm m w,
+      )
+    where
+      pos-len : 0 < len
+      pos-len = go len high
+        where
+          go : (k : ℕ) → j < k * m → 0 < k
+          go zero l = absurd (omega (arith, zero-mul m))
+          go (suc k) l = omega arith

@@ -3,3 +3,4 @@ pub mod Offsets
 pub mod Widths
 pub mod Parts
 pub mod Members
+pub mod Weights

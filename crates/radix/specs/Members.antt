@@ -1,14 +1,16 @@
--- The test whether a group has one member only.
+-- The test whether a group has one member only, and its first-listed member as a count of zeros.
 -- Assumes nothing.
-use Prim.Native.Nat.{ℕ, _-_, _^_, _<_}
-use mathlib.Core.Path.{_≡_, sym, ap, _∙_}
+use Prim.Native.Nat.{ℕ, zero, suc, _-_, _/_, _%_, _^_, _<_}
+use mathlib.Core.Path.{_≡_, refl, sym, ap, _∙_}
+use mathlib.Core.Bool.{Bool, true, false, cond}
 use native.Mathlib.Decide.{decLt}
 use native.Mathlib.Omega.{arith}
 use borrow.Author.Tests.{eq-eqb, ne-eqb}
+use lib.Count.{trailingZeros, under}
 use lib.Dec.{eqb}
-use Rattle.rules.specs.Groups.{size}
+use Rattle.rules.specs.Groups.{member, size}
 use Rattle.rules.specs.Wirings.{firstInput}
-use Rattle.trees.specs.Members.{size-single, size-one, first-member}
+use Rattle.trees.specs.Members.{low-bit, first-odd, first-even, size-single, size-one, first-member}
 use Rattle.radix.specs.Parts.{without-first}
 
 -- one member: the first-listed is all
@@ -23,3 +25,19 @@ single-test n g some g< r e = go (decLt 0 r)
         let first = first-member n g g< some .0 in
         let all : g ≡ 2 ^ firstInput n g = omega (arith, without-first n g some g< .0) in
         eq-eqb r 0 (omega arith) ∙ sym (eq-eqb (size n g) 1 (ap (size n) all ∙ size-single (firstInput n g) n first))
+
+-- the zeros below the lowest bit of a number that is not 0
+pub trailing-first : (k n g : ℕ) → 0 < g → g < 2 ^ k → g < 2 ^ n → trailingZeros k g ≡ firstInput n g
+unfolding trailingZeros
+trailing-first zero n g some g<k g<n = absurd (omega arith)
+trailing-first (suc k) zero g some g<k g<n = absurd (omega arith)
+trailing-first (suc k) (suc n) g some g<k g<n = go (member 0 g) refl (trailing-first k n (g / 2))
+  where
+    go : (b : Bool) → member 0 g ≡ b → (0 < g / 2 → g / 2 < 2 ^ k → g / 2 < 2 ^ n → trailingZeros k (g / 2) ≡ firstInput n (g / 2))
+        → under (g % 2) (trailingZeros k (g / 2)) ≡ firstInput (suc n) g
+    go true odd later =
+        let low : g % 2 ≡ 1 = low-bit g ∙ ap (λ b. cond b 1 0) odd in
+        rw (low, first-odd n g odd)
+    go false even later =
+        let low : g % 2 ≡ 0 = low-bit g ∙ ap (λ b. cond b 1 0) even in
+        rw (low, first-even n g even) (ap suc (later (omega arith) (omega arith) (omega arith)))

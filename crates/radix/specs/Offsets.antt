@@ -1,11 +1,11 @@
 -- A group's assignments built from the last input to the first, as the code builds them: they are document 01's, and each is
 -- small.
 -- Assumes nothing.
-use Prim.Native.Nat.{ℕ, zero, suc, _+_, _*_, _^_, _≤_, _<_}
+use Prim.Native.Nat.{ℕ, zero, suc, _+_, _*_, _/_, _%_, _^_, _≤_, _<_}
 use mathlib.Core.Path.{_≡_, refl, sym, ap, ap₂, _∙_, subst, subst⁻¹}
 use mathlib.Core.Bool.{Bool, true, false}
 use mathlib.Core.List.{List, [], _∷_, _++_, map, append-nil, map-map, map-id}
-use native.Mathlib.Nat.{zero-mul, zero-add, add-mul, mul-assoc, add-assoc, mul-one, pow-zero, pow-suc, add-zero, add-suc, suc-add, mul-comm, suc-mul, mul-suc, mul-zero, mul-le-mul-left, mul-le-mul-right, lt-of-lt-of-le, le-mul-of-pos-right, one-le-mul}
+use native.Mathlib.Nat.{zero-mul, zero-add, add-comm, mod-lt, div-lt-iff-lt-mul, div-add-mod', add-mul, mul-assoc, add-assoc, mul-one, pow-zero, pow-suc, add-zero, add-suc, suc-add, mul-comm, suc-mul, mul-suc, mul-zero, mul-le-mul-left, mul-le-mul-right, lt-of-lt-of-le, le-mul-of-pos-right, one-le-mul}
 use native.Mathlib.Omega.{arith}
 use lib.ListN.{length, getD, take, length-append, length-map, List·getD-append}
 use lib.Seq.{take-at, getD-append-add}
@@ -162,6 +162,46 @@ widened-step (suc m) w xs j h =
     ∙ ap (λ (k : ℕ). k + w)
     (sym (List·getD-append (blocks w xs 0 m) (concatMap (λ l. map (λ x. l * w + x) xs) (m ∷ [])) 0 j inside)
     ∙ ap (λ (l : List ℕ). getD l j 0) (sym (blocks-last w xs m)))
+
+-- an entry by its block and its place there
+blocks-at : (w : ℕ) (xs : List ℕ) (l count k j : ℕ) → k < count → j < length xs → getD (blocks w xs l count) (k * length xs + j) 0 ≡ getD xs j 0 + (l + k) * w
+unfolding blocks concatMap range
+blocks-at w xs l zero k j k< j< = absurd (omega arith)
+blocks-at w xs l (suc count) zero j k< j< =
+    ap (λ (i : ℕ). getD (first ++ blocks w xs (suc l) count) (i + j) 0) (zero-mul (length xs))
+    ∙ ap (λ (i : ℕ). getD (first ++ blocks w xs (suc l) count) i 0) (zero-add j)
+    ∙ List·getD-append first (blocks w xs (suc l) count) 0 j (omega (arith, length-map xs (λ x. l * w + x)))
+    ∙ map-at (λ x. l * w + x) xs j 0 0 j<
+    ∙ add-comm (l * w) (getD xs j 0)
+    ∙ ap (λ (i : ℕ). getD xs j 0 + i * w) (sym (add-zero l))
+  where
+    first : List ℕ
+    first = map (λ x. l * w + x) xs
+blocks-at w xs l (suc count) (suc k) j k< j< =
+    ap (λ (i : ℕ). getD (first ++ blocks w xs (suc l) count) i 0) place
+    ∙ getD-append-add first (blocks w xs (suc l) count) (k * length xs + j) 0
+    ∙ blocks-at w xs (suc l) count k j (omega arith) j<
+    ∙ ap (λ (i : ℕ). getD xs j 0 + i * w) (omega arith)
+  where
+    first : List ℕ
+    first = map (λ x. l * w + x) xs
+
+    place : suc k * length xs + j ≡ length first + (k * length xs + j)
+    place = omega (arith, suc-mul k (length xs), length-map xs (λ x. l * w + x))
+
+pub widened-at : (m w : ℕ) (xs : List ℕ) (k : ℕ) → k < length xs * m → getD (widened m w xs) k 0 ≡ getD xs (k % length xs) 0 + k / length xs * w
+unfolding widened blocks
+widened-at m w [] k h = absurd (omega (arith, zero-mul m))
+widened-at m w (x ∷ xs) k h =
+    ap (λ (i : ℕ). getD (blocks w (x ∷ xs) 0 m) i 0) (sym (div-add-mod' k count))
+    ∙ blocks-at w (x ∷ xs) 0 m (k / count) (k % count) (div-lt-iff-lt-mul some .1 (omega (arith, mul-comm count m))) (mod-lt k some)
+    ∙ ap (λ (i : ℕ). getD (x ∷ xs) (k % count) 0 + i * w) (zero-add (k / count))
+  where
+    count : ℕ
+    count = length (x ∷ xs)
+
+    some : 0 < count
+    some = omega arith
 
 -- every entry is small
 blocks-below : (w : ℕ) (xs : List ℕ) → Below w xs → (m l count : ℕ) → l + count ≤ m → Below (w * m) (blocks w xs l count)

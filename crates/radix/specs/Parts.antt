@@ -124,7 +124,7 @@ bit-and true false = refl
 bit-and false true = refl
 bit-and false false = refl
 
-member-and : (i a g : ℕ) → member i (bitAnd a g) ≡ (member i a && member i g)
+pub member-and : (i a g : ℕ) → member i (bitAnd a g) ≡ (member i a && member i g)
 member-and zero a g =
     low-member (bitAnd a g) (member 0 a && member 0 g)
     (omega (arith, and-step a g) ∙ ap₂ min (low-bit a) (low-bit g) ∙ bit-and (member 0 a) (member 0 g))

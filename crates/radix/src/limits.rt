@@ -15,6 +15,9 @@ pub const MOST_DIGITS: usize = 162;
 
 pub const MOST_CELLS: usize = 2187;
 
+// The assignments kept of all groups, m of each group: 2 to the n, times m, is at most twice the number of cells.
+pub const MOST_KEPT: usize = 2 * MOST_CELLS;
+
 pub const MOST_NAME_BYTES: usize = 8;
 
 // The length of the longest settled sheet.

@@ -48,6 +48,14 @@ pub fn first_input(n: usize, g: usize) -> usize
     n
 }
 
+// The first-listed input of a group that is not empty.
+pub fn first_of(g: usize) -> usize
+    requires { ⌜ 0 < g ⌝ }
+    ensures { λ r. ⌜ ((n : ℕ) → g < 2 ^ n → r ≡ firstInput n g) ⌝ }
+{
+    usize::trailing_zeros(g) as usize
+}
+
 // A group without its first-listed input.
 pub fn without_first(g: usize) -> usize
     requires { ⌜ 0 < g ⌝ }

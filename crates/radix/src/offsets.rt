@@ -1,6 +1,6 @@
 // A group's assignments as offsets into the cells, in the order of their count.
 ghost use mathlib.Core.Path.{_≡_};
-ghost use Prim.Native.Nat.{ℕ, _*_, _^_, _≤_, _<_};
+ghost use Prim.Native.Nat.{ℕ, _+_, _*_, _^_, _≤_, _<_};
 ghost use lib.ListN.{length, take, getD};
 ghost use Rattle.rules.specs.Groups.{member, points, others};
 ghost use Rattle.radix.specs.Fronts.{Front};
@@ -9,10 +9,9 @@ ghost use Rattle.radix.specs.Widths.{mostMembers, offsetsEnd, mostOffset
 use crate::members;
 use crate::powers;
 
-// The first `len` offsets, all below w, become m times as many: for each level of one more input of weight w, all of them plus
-// that level times w.
-fn widen(out: &mut [u16], len: usize, w: u16, m: usize) -> usize
-    requires { ⌜ (0 < len) × (0 < m) × (len * m ≤ length (now out)) × (w * m ≤ offsetsEnd) × ((k : ℕ) → k < len → getD (now out) k 0 < w) ⌝ }
+// The first `len` offsets become m times as many: for each level of one more input of weight w, all of them plus that level times w.
+pub fn widen(out: &mut [u16], len: usize, w: u16, m: usize) -> usize
+    requires { ⌜ (0 < len) × (0 < m) × (len * m ≤ length (now out)) × ((k : ℕ) → k < len → getD (now out) k 0 + w * m < offsetsEnd) ⌝ }
     ensures { λ r. ⌜ (r ≡ len * m) × (take (len * m) (now (out .exit)) ≡ widened m w (take len (now (out .entry)))) ⌝ }
 {
     let end = len * m;

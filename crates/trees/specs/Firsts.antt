@@ -93,6 +93,19 @@ module _ (same : ℕ → ℕ → Bool) (own : (p : ℕ) → same p p ≡ true) w
       go true e k _ = passed kept ps _ p e k
       go false e _ k = added kept ps _ p e k
 
+-- the rest of a list after what is kept of its front
+pub firsts-append : {A : Type 0} (same : A → A → Bool) (kept ps qs : List A) → firsts same kept (ps ++ qs) ≡ firsts same (firsts same kept ps) qs
+unfolding firsts
+firsts-append same kept [] qs = refl
+firsts-append same kept (p ∷ ps) qs = go (any (same p) kept) (firsts-append same kept ps qs) (firsts-append same (kept ++ (p ∷ [])) ps qs)
+  where
+    go : (b : Bool) → firsts same kept (ps ++ qs) ≡ firsts same (firsts same kept ps) qs
+        → firsts same (kept ++ (p ∷ [])) (ps ++ qs) ≡ firsts same (firsts same (kept ++ (p ∷ [])) ps) qs
+        → elim b as (λ _. List _) [ true ↦ firsts same kept (ps ++ qs) | false ↦ firsts same (kept ++ (p ∷ [])) (ps ++ qs) ]
+        ≡ firsts same (elim b as (λ _. List _) [ true ↦ firsts same kept ps | false ↦ firsts same (kept ++ (p ∷ [])) ps ]) qs
+    go true old new = old
+    go false old new = new
+
 -- by what a function gives: the firsts' values are the values' firsts
 pub firsts-map : {A B : Type 0} (f : A → B) (same : B → B → Bool) (kept ps : List A)
     → map f (firsts (λ p q. same (f p) (f q)) kept ps) ≡ firsts same (map f kept) (map f ps)

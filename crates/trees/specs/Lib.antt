@@ -48,3 +48,7 @@ pub mod FamilyWirings
 pub mod GateGroups
 pub mod FamilyNets
 pub mod FamilyBounds
+pub mod Covers
+pub mod Reps
+pub mod Told
+pub mod TakenOff

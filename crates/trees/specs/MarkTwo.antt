@@ -70,7 +70,7 @@ Splits n mark leaves split = (g : ℕ) → g < 2 ^ n → inside n g leaves ≡ t
 pub inside-trans : (n a g h : ℕ) → inside n a g ≡ true → inside n g h ≡ true → inside n a h ≡ true
 inside-trans n a g h a-in g-in = member-inside n a h (λ i i< is. inside-member i n g h g-in i< (inside-member i n a g a-in i< is))
 
-rest-inside : (n a g : ℕ) → a < 2 ^ n → g < 2 ^ n → inside n a g ≡ true → inside n (g - a) g ≡ true
+pub rest-inside : (n a g : ℕ) → a < 2 ^ n → g < 2 ^ n → inside n a g ≡ true → inside n (g - a) g ≡ true
 rest-inside n a g a< g< a-in =
     member-inside n (g - a) g (λ i i< is. and-eq-true-iff _ _ .0 (sym (member-rest i n a g a< g< a-in i<) ∙ is) .0)
 

@@ -1,129 +1,161 @@
--- `marks::marking::mark_all` meets its contract. The loop's invariant: the groups below `g` are marked, and the work arrays are as
--- long as they were.
--- Assumes nothing.
-use Prim.Native.Nat.{ℕ, _+_, _-_, _^_, _≤_, _<_}
-use mathlib.Core.Path.{_≡_, refl, sym, ap, _∙_, subst⁻¹}
+-- `marks::marking::mark_all` meets its contract: the marks below the whole group's, and then that. Assumes nothing.
+use Prim.Native.Nat.{_-_, _^_, _≤_}
 use native.Mathlib.Omega.{arith}
-use borrow.Author.Count.{falls}
 use lib.ListN.{length}
-use lib.Pow.{pow-pos}
-use Rattle.rules.specs.Marks.{markIn}
+use lib.Pow.{pow-pos, pow-mono}
+use Rattle.laws.specs.Sizes.{Size, sized}
 use Rattle.rules.specs.Answers.{inkIn}
-use Rattle.laws.specs.Sizes.{sized}
+use Rattle.quick.specs.Steps.{places-fit}
 use Rattle.marks.specs.Stored.{held}
-use Rattle.marks.specs.Marking.{Below, below-none, has-room, below-next, below-all}
+use Rattle.marks.specs.Marking.{has-room, below-whole}
+use borrow.Author.Needs.{needs}
 use Rattle.marks.proofs.marking.mark_all.Statement.{statement}
 use Rattle.marks.proofs.marking.mark_all.Tie as tie
 
-abbrev Inv-loop : tie.InvT-loop
-Inv-loop m n cells marks₀ xs₀ ys₀ end g₀ marks xs ys g =
-    (end ≡ 2 ^ n) × (length xs ≡ length xs₀) × (length ys ≡ length ys₀) × Below m n (inkIn cells) marks₀ g marks
+-- the start and each call, each from the next
+abbrev at-start : tie.After-weights → tie.Start
+at-start c = c .before .before .before
 
-abbrev μ-loop : tie.MeasureT-loop
-μ-loop m n cells marks₀ xs₀ ys₀ end g₀ marks xs ys g = end - g
+abbrev at-array : tie.After-weights4 → tie.After-weights
+at-array c = c .before .before .before
 
--- the start from the loop's head; in a turn, its start and each call from the next
-abbrev at-start : tie.At-loop Inv-loop μ-loop → tie.Start Inv-loop μ-loop
-at-start c = c .before .before .before .before
+abbrev at-weighed : tie.After-mark-below-arg → tie.After-weights4
+at-weighed c = c .before .before .before .before .before .before
 
-abbrev at-turn : tie.After-mark-group-arg Inv-loop μ-loop → tie.In-loop Inv-loop μ-loop
-at-turn c = c .before .before .before
+abbrev at-below : tie.After-slice-known2 → tie.After-mark-below
+at-below c = c .before .before .before .before .before .before .before
 
-abbrev at-group : tie.After-put-mark-arg Inv-loop μ-loop → tie.After-mark-group Inv-loop μ-loop
-at-group c = c .before .before .before
+fitted : (c : tie.Start) → Size (c .args .m) (c .args .n)
+fitted c = sized (c .args .m) (c .args .n) (c .pre .0)
 
-abbrev at-put : tie.After-slice-known2 Inv-loop μ-loop → tie.After-put-mark Inv-loop μ-loop
-at-put c = c .before .before
+abbrev at-whole : tie.After-mark-whole-arg → tie.After-power
+at-whole c = c .before .before .before
 
-abbrev end-turn : tie.After-slice-known2 Inv-loop μ-loop → tie.In-loop Inv-loop μ-loop
-end-turn c = at-turn (at-group (at-put c .before) .before)
-
-power-requires : tie.Need-power-requires Inv-loop μ-loop
-power-requires c κs = omega (arith, sized (c .before .before .args .m) (c .before .before .args .n) (c .before .before .pre .0) .inputs-most)
-
-loop-holds : tie.Need-loop-holds Inv-loop μ-loop
-loop-holds c =
-    let a = c .before .before .before .args in
-    (c .power .ensures, refl, refl, below-none (a .m) (a .n) (inkIn (a .cells .now)) (a .marks .now))
-
-slice-aggregate-mark-group : tie.Need-slice-aggregate-mark-group Inv-loop μ-loop
-slice-aggregate-mark-group c = sym (c .before .before .loop .inv .1)
-
-slice-aggregate-mark-group-2 : tie.Need-slice-aggregate-mark-group-2 Inv-loop μ-loop
-slice-aggregate-mark-group-2 c = sym (c .before .before .before .loop .inv .2)
+abbrev below-start : tie.After-mark-below → tie.Start
+below-start c = at-start (at-array (at-weighed (c .before)))
 
 -- the buffer has room for every group's mark
-room : (c : tie.At-loop Inv-loop μ-loop) → 2 ^ at-start c .args .n ≤ length (held (c .loop .marks))
+room : (c : tie.After-mark-below) → 2 ^ below-start c .args .n ≤ length (held (c .mark-below .last .1 .1 .1 .1 .1 .1 .1 .1 .1 .0))
 room c =
-    let a = at-start c .args in
-    has-room (a .m) (a .n) (inkIn (a .cells .now)) (a .marks .now) (at-start c .pre .2) (c .loop .g) (c .loop .marks) (c .loop .inv .3)
-
-mark-group-requires : tie.Need-mark-group-requires Inv-loop μ-loop
-mark-group-requires c κs =
-    let start = at-start (at-turn c .before) in
-    let l = at-turn c .before .loop in
-    let fit = sized (start .args .m) (start .args .n) (start .pre .0) in
-    omega (arith, fit .levels-least, fit .levels-most, fit .inputs-most, fit .cells-most, start .pre .1, l .inv .0, l .inv .1, l .inv .2, at-turn c .loop-test .taken, room (at-turn c .before))
-
-put-mark-requires : tie.Need-put-mark-requires Inv-loop μ-loop
-put-mark-requires c κs = omega (arith, room (at-turn (at-group c .before) .before), at-turn (at-group c .before) .before .loop .inv .0, at-turn (at-group c .before) .loop-test .taken)
-
-add-g : tie.Need-add-g Inv-loop μ-loop
-add-g c = omega (arith, end-turn c .loop-test .taken, end-turn c .before .before .power .ok)
-
-loop-less : tie.Need-loop-less Inv-loop μ-loop
-loop-less c = falls (end-turn c .before .before .power .result) (end-turn c .before .loop .g) (end-turn c .loop-test .taken)
-
-loop-again : tie.Need-loop-again Inv-loop μ-loop
-loop-again c =
-    let start = at-start (end-turn c .before) in
+    let start = below-start c in
     let a = start .args in
-    let l = end-turn c .before .loop in
-    let called = at-group (at-put c .before) .mark-group in (
-      l .inv .0,
-      called .kept .1 .1 .1 .1 .0 ∙ l .inv .1,
-      called .kept .1 .1 .1 .1 .1 .0 ∙ l .inv .2,
-      subst⁻¹ (Below (a .m) (a .n) (inkIn (a .cells .now)) (a .marks .now) (l .g + 1)) (at-put c .put-mark .ensures)
-          (below-next (a .m) (a .n) (inkIn (a .cells .now)) (a .marks .now) (start .pre .2) (l .g) (l .marks) (l .inv .3) (omega (arith, l .inv .0, end-turn c .loop-test .taken))
-          (called .result) (called .ensures)),
+    has-room (a .m) (a .n) (inkIn (a .cells .now)) (a .marks .now) (start .pre .2) (2 ^ a .n - 1) _ (c .mark-below .ensures)
+
+slice-aggregate-weights : tie.Need-slice-aggregate-weights
+slice-aggregate-weights c = search needs
+
+weights-requires : tie.Need-weights-requires
+weights-requires c κs = let fit = fitted (at-start c) in omega (arith, fit .levels-least, fit .cells-most, fit .inputs-most)
+
+slice-aggregate-mark-below : tie.Need-slice-aggregate-mark-below
+slice-aggregate-mark-below c = search needs
+
+slice-aggregate-mark-below-2 : tie.Need-slice-aggregate-mark-below-2
+slice-aggregate-mark-below-2 c = search needs
+
+slice-aggregate-mark-below-3 : tie.Need-slice-aggregate-mark-below-3
+slice-aggregate-mark-below-3 c = search needs
+
+slice-aggregate-mark-below-4 : tie.Need-slice-aggregate-mark-below-4
+slice-aggregate-mark-below-4 c = search needs
+
+slice-aggregate-mark-below-5 : tie.Need-slice-aggregate-mark-below-5
+slice-aggregate-mark-below-5 c = search needs
+
+slice-aggregate-mark-below-6 : tie.Need-slice-aggregate-mark-below-6
+slice-aggregate-mark-below-6 c = search needs
+
+mark-below-requires : tie.Need-mark-below-requires
+mark-below-requires c κs =
+    let weighed = at-weighed c in
+    let start = at-start (at-array weighed) in
+    let fit = fitted start in (
+      record {
+        levels = omega (arith, fit .levels-least);
+        inputs = omega (arith, fit .inputs-most);
+        small = omega (arith, fit .cells-most);
+        for-cells = start .pre .1;
+        weighed = weighed .before .before .weights2 .ensures;
+        all-weighed = omega (arith, fit .inputs-most, weighed .before .before .weights2 .kept .1 .1 .0);
+        for-counts = omega (arith, pow-mono (fit .inputs-most));
+        for-kept = omega (arith, places-fit (start .args .m) (start .args .n) (omega (arith, fit .levels-least)) (omega (arith, fit .inputs-least)), fit .cells-most);
+        for-xs = omega (arith, fit .cells-most);
+        for-ys = omega (arith, fit .cells-most);
+        for-firsts = omega (arith, fit .levels-most);
+      },
+      fit .levels-most,
+      start .pre .2,
     )
 
-sub-mark-at : tie.Need-sub-mark-at Inv-loop μ-loop
-sub-mark-at c = omega (arith, c .before .before .loop .inv .0, pow-pos (at-start (c .before .before) .args .n))
+power-requires : tie.Need-power-requires
+power-requires c κs = let fit = fitted (at-start (at-array (at-weighed (at-below c .before)))) in omega (arith, fit .inputs-most)
 
-mark-at-requires : tie.Need-mark-at-requires Inv-loop μ-loop
-mark-at-requires c κs = omega (arith, room (c .before .before), c .before .before .loop .inv .0, pow-pos (at-start (c .before .before) .args .n))
+sub-whole : tie.Need-sub-whole
+sub-whole c = omega (arith, c .power .ensures, pow-pos (at-start (at-array (at-weighed (at-below (c .before) .before))) .args .n))
 
-same-length : tie.Need-same-length Inv-loop μ-loop
-same-length c = c .before .before .before .loop .inv .3 .same
+slice-aggregate-mark-whole : tie.Need-slice-aggregate-mark-whole
+slice-aggregate-mark-whole c = search needs
 
-returns : tie.Need-returns Inv-loop μ-loop
+slice-aggregate-mark-whole-2 : tie.Need-slice-aggregate-mark-whole-2
+slice-aggregate-mark-whole-2 c = search needs
+
+mark-whole-requires : tie.Need-mark-whole-requires
+mark-whole-requires c κs =
+    let below = at-below (at-whole c .before) in
+    let start = below-start below in
+    let fit = fitted start in
+    let lent = below .mark-below .kept .1 .1 .1 .1 .1 .1 in (
+      record {
+        some = omega (arith, fit .levels-least);
+        inputs = omega (arith, fit .inputs-most);
+        small = omega (arith, fit .cells-most);
+        for-cells = start .pre .1;
+        for-xs = omega (arith, fit .cells-most, lent .0);
+        for-ys = omega (arith, fit .cells-most, lent .1 .0);
+      },
+      fit .levels-most,
+      room below,
+      omega (arith, fit .inputs-least),
+    )
+
+put-mark-requires : tie.Need-put-mark-requires
+put-mark-requires c κs =
+    let power = at-whole (c .before .before .before .before) in
+    let below = at-below (power .before) in
+    omega (arith, room below, power .power .ensures, pow-pos (below-start below .args .n))
+
+same-length : tie.Need-same-length
+same-length c = search needs
+
+returns : tie.Need-returns
 returns c =
-    let start = at-start (c .before .before .before) in
+    let put = c .before .before in
+    let whole = put .before .before .before .before in
+    let power = at-whole (whole .before) in
+    let below = at-below (power .before) in
+    let start = below-start below in
     let a = start .args in
-    let l = c .before .before .before .loop in
-    let all : l .g ≡ 2 ^ a .n = omega (arith, l .inv .0, l .inv .3 .low, c .before .before .loop-test .left) in
-    let end : l .g ≡ c .before .before .before .before .power .result = omega (arith, l .inv .0) in
-    let some : 0 < a .m = omega (arith, sized (a .m) (a .n) (start .pre .0) .levels-least) in
-    below-all (a .m) (a .n) (inkIn (a .cells .now)) (a .marks .now) (start .pre .2) (l .g) (l .marks) (l .inv .3) some all
-    (c .mark-at .result) (c .mark-at .ensures ∙ ap (λ (k : ℕ). markIn (held (l .marks)) (k - 1)) (sym end))
+    below-whole (a .m) (a .n) (inkIn (a .cells .now)) (a .marks .now) (start .pre .2) (omega (arith, fitted start .levels-least)) _ (below .mark-below .ensures) _ (omega (arith, power .power .ensures)) _
+    (whole .mark-whole .ensures) _ (put .put-mark .ensures)
 
 pub mark-all-spec : {M : Type 1} → statement M
 mark-all-spec =
     tie.close
     (tie.spec
-    Inv-loop
-    μ-loop
+    slice-aggregate-weights
+    weights-requires
+    slice-aggregate-mark-below
+    slice-aggregate-mark-below-2
+    slice-aggregate-mark-below-3
+    slice-aggregate-mark-below-4
+    slice-aggregate-mark-below-5
+    slice-aggregate-mark-below-6
+    mark-below-requires
     power-requires
-    loop-holds
-    slice-aggregate-mark-group
-    slice-aggregate-mark-group-2
-    mark-group-requires
+    sub-whole
+    slice-aggregate-mark-whole
+    slice-aggregate-mark-whole-2
+    mark-whole-requires
     put-mark-requires
-    add-g
-    loop-less
-    loop-again
-    sub-mark-at
-    mark-at-requires
     same-length
     returns)

@@ -58,8 +58,14 @@ widen-requires c κs =
       built-some (a .m) (a .n) (a .g) pos (l .out) (l .len) (l .w) (l .i) (l .inv .1),
       pos,
       omega (arith, built-room (a .m) (a .n) (a .g) pos (l .out) (l .len) (l .w) (l .i) (l .inv .1) more, length-set (a .out .now) 0 0, l .inv .0, start .pre),
-      omega (arith, built-next (a .m) (a .n) (a .g) pos (l .out) (l .len) (l .w) (l .i) (l .inv .1) more, start .pre),
-      built-below (a .m) (a .n) (a .g) pos (l .out) (l .len) (l .w) (l .i) (l .inv .1),
+      λ k k<.
+          omega (
+            arith,
+            built-below (a .m) (a .n) (a .g) pos (l .out) (l .len) (l .w) (l .i) (l .inv .1) k k<,
+            built-next (a .m) (a .n) (a .g) pos (l .out) (l .len) (l .w) (l .i) (l .inv .1) more,
+            built-weight (a .m) (a .n) (a .g) pos (l .out) (l .len) (l .w) (l .i) (l .inv .1),
+            start .pre,
+          ),
     )
 
 mul-w : tie.Need-mul-w Inv-loop μ-loop

@@ -46,7 +46,7 @@ add-out c =
     record {
       fits = subst⁻¹ (λ (x : ℕ). x < 2 ^ 16)
           (entry (a .out .now) (a .len) (a .w) (a .m) (pre .1) (pre .2) (l .out) (l .j) (l .inv .0) (pre .0) (omega arith) (l .inv .4))
-          (omega (arith, small (a .out .now) (a .len) (a .w) (a .m) (pre .1) (pre .2) (pre .4) (l .j) (omega arith)));
+          (small (a .out .now) (a .len) (a .w) (a .m) (pre .1) (pre .2) (pre .3) (l .j) (omega arith));
     }
 
 mul-out-2 : tie.Need-mul-out-2 Inv-loop μ-loop

@@ -1,0 +1,6 @@
+pub mod Agreeing
+pub mod Counting
+pub mod Looking
+pub mod Spreading
+pub mod Stepping
+pub mod Taking
