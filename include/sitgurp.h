@@ -20,10 +20,10 @@ extern "C" {
 #endif
 
 /* Buffers that always suffice: cells, marks, a net sheet, a table sheet. */
-#define SITGURP_MOST_CELLS 2187
-#define SITGURP_MOST_MARKS 2048
+#define SITGURP_MOST_CELLS 4096
+#define SITGURP_MOST_MARKS 4096
 #define SITGURP_MOST_NET_SHEET 512
-#define SITGURP_MOST_TABLE_SHEET 49274
+#define SITGURP_MOST_TABLE_SHEET 106627
 
 /* number 0: accepted, and value is the answer; otherwise number is the refusal's, and value its place */
 typedef struct sitgurp_answer {
@@ -130,7 +130,7 @@ sitgurp_shallow sitgurp_make_shallow(const uint8_t *sheet, size_t sheet_length, 
 /*
  * How many trees compute the table of a table sheet, with the cells and the marks of sitgurp_make and no output. Trees that differ only in which
  * side is left, in gate numbers or in gate tables count once. A table with no tree has count 0, and is not refused. The count is 64 bits wide; within
- * the sizes of a sheet it is at most 654,729,075.
+ * the sizes of a sheet it is at most 13,749,310,575.
  * Refusals: 1 to 6 (the sheet), 13 (cells too short), 14 (marks too short); the value of 13 and 14 is the length needed. A refusal changes no byte.
  */
 sitgurp_answer sitgurp_family_count(const uint8_t *sheet, size_t sheet_length, uint8_t *cells, size_t cells_length, uint8_t *marks,

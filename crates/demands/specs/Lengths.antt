@@ -44,7 +44,7 @@ use Rattle.laws.specs.BareCells.{bare-accepted}
 
 -- SITGURP_MOST_MARKS; the other three are `mostCells`, `mostSettled` and `mostTableSheet`
 abbrev pub mostMarks : ℕ
-mostMarks = 2_048
+mostMarks = 4_096
 
 marksTest : ℕ → ℕ → Bool
 marksTest m n = leb (marksLength n) mostMarks

@@ -23,6 +23,7 @@ pub mod ShallowMakes
 pub mod ShallowSettles
 pub mod ShallowerSheets
 pub mod Programs
+pub mod LongSheets
 pub mod Lengths
 pub mod Counting
 pub mod ShallowLengths

@@ -21,7 +21,7 @@ mostWires = mostInputs + mostGates
 
 -- the digits of all its gates
 abbrev pub mostDigits : ℕ
-mostDigits = 162
+mostDigits = 192
 
 -- m levels and n inputs are too many, or the digits have room
 hasRoom : ℕ → ℕ → Bool

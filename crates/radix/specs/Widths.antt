@@ -1,4 +1,4 @@
--- What the code's numbers have room for: more than document 01's limits ask.
+-- What the code's numbers have room for: more than a sheet's limits ask.
 -- Assumes nothing.
 use Prim.Native.Nat.{ℕ, _^_}
 

@@ -14,7 +14,7 @@ use lib.Seq.{append-snoc, drop-at, take-append-add}
 use lib.Dec.{eqb}
 use borrow.Author.Tests.{eqb-true, eq-eqb}
 use Rattle.rules.specs.Fields.{Read, read, turnedBack, Reader, then, _>>=_, give, Judged, good, bad, Judge, isSeparator, run, past, separator, afterField, fieldOf, field, closed}
-use Rattle.laws.specs.Runs.{run-past}
+use Rattle.laws.specs.Runs.{at-separator, at-plain, run-past}
 use Rattle.readback.specs.Spells.{not-read}
 
 -- ---- texts that begin alike
@@ -37,16 +37,6 @@ none-alike (b ∷ t) e = absurd (let z : _≡_ {A = ℕ} 0 1 = cc in omega arith
 behind-alike : (w t s : List ℕ) → StartAlike t s → StartAlike (w ++ t) (w ++ s)
 behind-alike [] t s h = h
 behind-alike (b ∷ w) t s h = refl
-
--- a separator in front: no field
-at-separator : (b : ℕ) (s : List ℕ) → isSeparator b ≡ true → (run (b ∷ s) ≡ []) × (past (b ∷ s) ≡ b ∷ s)
-unfolding run past
-at-separator b s e = rw (e, run, past) (refl, refl)
-
--- any other byte belongs to the field
-at-plain : (b : ℕ) (s : List ℕ) → isSeparator b ≡ false → (run (b ∷ s) ≡ b ∷ run s) × (past (b ∷ s) ≡ past s)
-unfolding run past
-at-plain b s e = rw (e, run, past) (refl, refl)
 
 -- a field with other bytes behind it that begin as those did: it is the field still
 run-behind : (s t : List ℕ) → StartAlike t (past s) → (run (run s ++ t) ≡ run s) × (past (run s ++ t) ≡ t)
@@ -179,7 +169,7 @@ separator-read {A} a due (c ∷ s) end b rest place e = go (eqb c due) refl e
     go false d e = absurd (not-read 1 end b rest place e)
 
 -- .. or was not: any text that begins alike lacks it too
-separator-turned : {A : Type 0} (a : A) (due : ℕ) (s : List ℕ) (end number place : ℕ) → separator a due s end ≡ turnedBack number place
+pub separator-turned : {A : Type 0} (a : A) (due : ℕ) (s : List ℕ) (end number place : ℕ) → separator a due s end ≡ turnedBack number place
     → (place ≡ end) × ((t : List ℕ) → StartAlike t s → separator a due t end ≡ turnedBack number place)
 unfolding separator
 separator-turned a due [] end number place e = ((cc), λ t h. rw (none-alike t h) e)
@@ -196,7 +186,7 @@ separator-turned {A} a due (c ∷ s) end number place e = (go (eqb c due) e .0, 
 
 module _ {A : Type 0} (judge : Judge A) (due : ℕ) where
   -- a field that was read: the separator stood after it, with whatever behind it
-  field-read : (w s : List ℕ) (at : ℕ) (a : A) (rest : List ℕ) (place : ℕ) → fieldOf judge due w s at ≡ read a rest place
+  pub field-read : (w s : List ℕ) (at : ℕ) (a : A) (rest : List ℕ) (place : ℕ) → fieldOf judge due w s at ≡ read a rest place
       → (s ≡ due ∷ rest) × (place ≡ suc (at + length w)) × ((t : List ℕ) → fieldOf judge due w (due ∷ t) at ≡ read a t place)
   unfolding fieldOf afterField
   field-read [] s at a rest place e = absurd (not-read 1 at a rest place e)

@@ -36,7 +36,7 @@ names-length (w ∷ v ∷ ws) g h =
     rw length-append (omega arith)
 
 -- a reference to an input or to one of the first 99 gates is no longer than a name
-reference-length : (names : List (List ℕ)) → GoodNames names → (r : ℕ) → r < length names + 99 → length (referenceText names r) ≤ 8
+pub reference-length : (names : List (List ℕ)) → GoodNames names → (r : ℕ) → r < length names + 99 → length (referenceText names r) ≤ 8
 reference-length names g r h = go (refers names r)
   where
     go : Refers names r → length (referenceText names r) ≤ 8

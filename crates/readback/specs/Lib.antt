@@ -1,5 +1,6 @@
 -- Theorems about sheets: what was printed is read back, what was accepted is what would be printed (`ReadBack`), how long a sheet is (`Length`,
--- `TableLength`), with which numbers (`Among`, `Numbers`), where and by which bytes (`Fronts`, `Refused`) a sheet is refused. The way to the first: what
+-- `TableLength`), with which numbers (`Among`, `Numbers`), where and by which bytes (`Fronts`, `Refused`) a sheet is refused, and what one comes to that
+-- is cut (`Cuts`, `CutSheets`). The way to the first: what
 -- a reader reads is said once for both directions (`Spells`, `Collects`); then field by field (`Fields`, `Decimals`, `Judges`, `References`),
 -- line by line (`Names`, `Header`, `Gates`), sheet by sheet (`NetSheets`, `TableSheets`). `Lines` and `GateLines` take
 -- an accepted sheet as lines. `ArrivalSheets` and `ArrivalRefusals` have the same of arrival sheets.
@@ -18,10 +19,12 @@ pub mod TableSheets
 pub mod Among
 pub mod Numbers
 pub mod Fronts
+pub mod Cuts
 pub mod Refused
 pub mod ReadBack
 pub mod Length
 pub mod TableLength
+pub mod CutSheets
 pub mod Lines
 pub mod GateLines
 pub mod ArrivalSheets

@@ -1,17 +1,18 @@
--- How long an accepted table sheet can be.
+-- How long an accepted table sheet can be, and which are longer than what a program reads.
 -- Assumes nothing.
-use Prim.Native.Nat.{ℕ, suc, _+_, _*_, _^_, _≤_}
-use mathlib.Core.Path.{_≡_, refl, sym, ap, _∙_}
-use mathlib.Core.Bool.{Bool, true, not, _||_}
+use Prim.Native.Nat.{ℕ, suc, _+_, _*_, _^_, _≤_, _<_}
+use mathlib.Core.Path.{_≡_, refl, sym, ap, ap₂, _∙_}
+use mathlib.Core.Logic.{_⊎_, inl, inr}
+use mathlib.Core.Bool.{Bool, true, false, not, _&&_, _||_, and-eq-true-iff}
 use mathlib.Core.List.{List, [], _∷_, _++_, map}
 use native.Mathlib.Nat.{le-trans, zero-mul, suc-mul}
 use native.Mathlib.Omega.{arith}
 use lib.ListN.{length, length-append}
-use lib.Dec.{leb}
-use borrow.Author.Tests.{leb-true}
+use lib.Dec.{leb, eqb}
+use borrow.Author.Tests.{leb-true, eqb-true}
 use Rattle.rules.specs.Lists.{range, all}
 use Rattle.rules.specs.Text.{text, digitByte}
-use Rattle.rules.specs.Limits.{cellsFit, mostTableSheet}
+use Rattle.rules.specs.Limits.{cellsFit, mostTableSheet, mostRead}
 use Rattle.rules.specs.Sheets.{Table, levelsAt}
 use Rattle.rules.specs.Printed.{line, firstLines, printedRow, printedRows, printedTable}
 use Rattle.rules.specs.Kept.{GoodNames, KeptTable}
@@ -81,8 +82,43 @@ size-bound : (m n : ℕ) → Size m n → cellsFit m n ≡ true → bound m n �
 unfolding boundTest
 size-bound m n size fits = leb-true (bound m n) mostTableSheet (rw fits at (at-size boundTest bound-tested m n size))
 
--- no table sheet is longer than 49,274 bytes
+-- no table sheet is longer than 106,627 bytes
 pub table-length : (t : Table) → KeptTable t → length (printedTable t) ≤ mostTableSheet
 table-length t kept =
     let h = t .header in
     le-trans (sheet-length t kept) (size-bound (h .levels) (h .inputs) (kept-size h (kept .header)) (kept .header .cells))
+
+-- ---- what a program reads
+
+-- there are too many cells, or the bound is within what a program reads, or it is the one size that is left
+readTest : ℕ → ℕ → Bool
+readTest m n = not (cellsFit m n) || leb (bound m n) mostRead || (eqb m 2 && eqb n 12)
+
+read-tested : everySize readTest ≡ true
+unfolding everySize all range readTest bound cellsFit
+read-tested = refl
+
+-- "A table sheet of 2 with 12 is longer than the making program's 65,536 bytes" (document 02, K6), and no other is
+pub table-longer : (t : Table) → KeptTable t → t .header .levels ≡ 2 → t .header .inputs ≡ 12 → mostRead < length (printedTable t)
+unfolding printedTable
+table-longer t k two twelve =
+    let count : length (t .inks) ≡ 4_096 = k .count ∙ ap₂ _^_ two twelve in
+    let rows : length (printedRows (t .header .levels) (t .header .inputs) 0 (t .inks)) ≡ 4_096 * (2 * 12 + 2) =
+    rows-length (t .header .levels) (t .header .inputs) 0 (t .inks) ∙ ap₂ (λ i n. i * (2 * n + 2)) count twelve in
+    simp length-append (omega arith)
+
+pub table-within : (t : Table) → KeptTable t → (length (printedTable t) ≤ mostRead) ⊎ ((t .header .levels ≡ 2) × (t .header .inputs ≡ 12))
+unfolding readTest
+table-within t kept = go (leb (bound m n) mostRead) refl (rw (kept .header .cells) at (at-size readTest read-tested m n (kept-size (t .header) (kept .header))))
+  where
+    m : ℕ
+    m = t .header .levels
+
+    n : ℕ
+    n = t .header .inputs
+
+    go : (u : Bool) → leb (bound m n) mostRead ≡ u → (u || (eqb m 2 && eqb n 12)) ≡ true → (length (printedTable t) ≤ mostRead) ⊎ ((m ≡ 2) × (n ≡ 12))
+    go true e _ = inl (le-trans (sheet-length t kept) (leb-true (bound m n) mostRead e))
+    go false _ h =
+        let (i, j) = and-eq-true-iff (eqb m 2) (eqb n 12) .0 h in
+        inr (eqb-true m 2 i, eqb-true n 12 j)

@@ -8,8 +8,9 @@ use mathlib.Core.Bool.{Bool, true, false, cond, not, _&&_, _||_}
 use mathlib.Core.List.{List, [], _∷_, map}
 use lib.ListN.{length, getD}
 use lib.Dec.{eqb, leb}
-use Rattle.rules.specs.Lists.{range}
+use Rattle.rules.specs.Lists.{range, those}
 use Rattle.rules.specs.Text.{newline, text, isDigit}
+use Rattle.rules.specs.Limits.{sizeFits}
 use Rattle.rules.specs.Sheets.{Net, Table, levelsAt}
 use Rattle.rules.specs.Printed.{printedTable}
 use Rattle.rules.specs.Marks.{markIn, marksOf}
@@ -165,7 +166,8 @@ unfolding computing lineEnds paper digits named byRule abc abcd oneIf zeroTable 
 starred-hold =
     (refl, (refl, (refl, (refl, (refl, (refl, (refl, (refl, (refl, (refl, (refl, (refl, (refl, (refl, (refl, tt)))))))))))))))
 
--- Cases 9 and 10, which the document leaves to tests.
+-- Cases 9 and 10, which the document leaves to tests. "2 with 12, 4 with 6, 5 with 5, 7 with 4 and 8 with 4 come in. Refusals 3 and 9 and case 10 move
+-- with it; 2 with 13 is the new refused side." (document 02, K6)
 abbrev pub unstarred : List Case
 unstarred =
     refuses "levels inputs/2 2/a b/left right table/a a 0001/" 8 41
@@ -175,11 +177,26 @@ unstarred =
     ∷ accepts
     "levels inputs/2 11/a b c d e f g h i j k/left right table/a b 0001/1 c 0001/2 d 0001/3 e 0001/4 f 0001/5 g 0001/6 h 0001/7 i 0001/8 j 0001/9 k 0001/"
     10
+    ∷ accepts
+    "levels inputs/2 12/a b c d e f g h i j k l/left right table/a b 0001/1 c 0001/2 d 0001/3 e 0001/4 f 0001/5 g 0001/6 h 0001/7 i 0001/8 j 0001/9 k 0001/10 l 0001/"
+    11
     ∷ accepts "levels inputs/3 7/a b c d e f g/left right table/a b 012112222/1 c 012112222/2 d 012112222/3 e 012112222/4 f 012112222/5 g 012112222/" 6
+    ∷ accepts
+    "levels inputs/4 6/a b c d e f/left right table/a b 0000000000000001/1 c 0000000000000001/2 d 0000000000000001/3 e 0000000000000001/4 f 0000000000000001/"
+    5
+    ∷ accepts
+    "levels inputs/5 5/a b c d e/left right table/a b 0000000000000000000000001/1 c 0000000000000000000000001/2 d 0000000000000000000000001/3 e 0000000000000000000000001/"
+    4
+    ∷ accepts
+    "levels inputs/7 4/a b c d/left right table/a b 0000000000000000000000000000000000000000000000001/1 c 0000000000000000000000000000000000000000000000001/2 d 0000000000000000000000000000000000000000000000001/"
+    3
+    ∷ accepts
+    "levels inputs/8 4/a b c d/left right table/a b 0000000000000000000000000000000000000000000000000000000000000001/1 c 0000000000000000000000000000000000000000000000000000000000000001/2 d 0000000000000000000000000000000000000000000000000000000000000001/"
+    3
     ∷ accepts
     "levels inputs/9 3/a b c/left right table/a b 000000000000000000000000000000000000000000000000000000000000000000000000000000000/1 c 000000000000000000000000000000000000000000000000000000000000000000000000000000000/"
     2
-    ∷ refuses "levels inputs/2 12/" 3 16
+    ∷ refuses "levels inputs/2 13/" 3 16
     ∷ refuses "levels inputs/3 8/" 3 16
     ∷ refuses "levels inputs/9 4/" 3 16
     ∷ refuses "" 1 0
@@ -187,4 +204,10 @@ unstarred =
 
 pub unstarred-hold : AllHold unstarred
 unfolding computing lineEnds paper gateCount
-unstarred-hold = (refl, (refl, (refl, (refl, (refl, (refl, (refl, (refl, (refl, (refl, (refl, tt)))))))))))
+unstarred-hold = (refl, (refl, (refl, (refl, (refl, (refl, (refl, (refl, (refl, (refl, (refl, (refl, (refl, (refl, (refl, (refl, tt))))))))))))))))
+
+-- Of all sizes with up to twelve levels and twenty inputs, those that a sheet may have: for each number of levels the numbers of inputs.
+pub sizes-are : map (λ m. those (sizeFits m) (range 0 21)) (range 0 13)
+    ≡ [] ∷ [] ∷ range 2 11 ∷ range 2 6 ∷ range 2 5 ∷ range 2 4 ∷ range 2 3 ∷ range 2 3 ∷ range 2 3 ∷ range 2 2 ∷ [] ∷ [] ∷ [] ∷ []
+unfolding computing
+sizes-are = refl

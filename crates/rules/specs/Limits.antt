@@ -1,4 +1,4 @@
--- The limits of document 01, each in this one place: of a sheet, of a settled sheet's length, of what a program reads.
+-- The limits of document 01, two of them raised by document 02, K6, each in this one place: of a sheet, of a settled sheet's length, of what a program reads.
 -- Assumes nothing.
 use Prim.Native.Nat.{ℕ, _^_}
 use mathlib.Core.Bool.{Bool, _&&_}
@@ -12,17 +12,17 @@ fewestLevels = 2
 abbrev pub mostLevels : ℕ
 mostLevels = 9
 
--- "Inputs, written n, is 2 to 11"
+-- "Inputs, written n, is 2 to" ..
 abbrev pub fewestInputs : ℕ
 fewestInputs = 2
 
--- .. "to 11"
+-- "The cell limit rises to 4,096 and inputs to 12" (document 02, K6)
 abbrev pub mostInputs : ℕ
-mostInputs = 11
+mostInputs = 12
 
--- "m to the power n, the number of cells, is at most 2,187."
+-- "m to the power n, the number of cells, is at most" what document 02, K6, has: "The cell limit rises to 4,096"
 abbrev pub mostCells : ℕ
-mostCells = 2_187
+mostCells = 4_096
 
 -- "A name has 1 to 8 bytes"
 abbrev pub mostNameBytes : ℕ
@@ -42,13 +42,13 @@ cellsFit m n = leb (m ^ n) mostCells
 unfoldable pub sizeFits : ℕ → ℕ → Bool
 sizeFits m n = levelsFit m && inputsFit n && cellsFit m n
 
--- "the settled sheet's length, which is never over 512"
+-- "the settled sheet's length, which is never over 512"; "512 bytes still suffice for a net" (document 02, K6)
 abbrev pub mostSettled : ℕ
 mostSettled = 512
 
 -- the length that include/sitgurp.h calls enough for a table sheet, which is never over it
 abbrev pub mostTableSheet : ℕ
-mostTableSheet = 49_274
+mostTableSheet = 106_627
 
 -- "at most its first 65,536 bytes, which are then the sheet"
 abbrev pub mostRead : ℕ

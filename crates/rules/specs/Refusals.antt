@@ -181,6 +181,7 @@ refusals =
     ∷ net "levels inputs/1 2/" 2 14
     -- 3: inputs; the number of cells
     ∷ net "levels inputs/2 1/" 3 16
+    ∷ net "levels inputs/2 13/" 3 16
     ∷ table "levels inputs/3 8/" 3 16
     -- 4: a name that is malformed; repeated; `ink`
     ∷ net "levels inputs/2 2/a B/" 4 20
@@ -202,6 +203,7 @@ refusals =
     ∷ bare 2 2 "011" 9 0
     ∷ bare 1 2 "0" 9 0
     ∷ bare 2 1 "01" 9 0
+    ∷ bare 2 13 "01" 9 0
     -- 10: a cell
     ∷ bare 2 2 "0112" 10 3
     -- 11: the group
@@ -247,10 +249,11 @@ pub refusals-hold : AllCome refusals
 unfolding computing lineEnds paper digits named nines
 refusals-hold =
     net-back refl and net-back refl and table-back refl and net-back refl and net-back refl and net-back refl and net-back refl
-    and net-back refl and net-back refl and net-back refl and table-back refl and net-back refl and net-back refl and table-back refl
+    and net-back refl and net-back refl and net-back refl and table-back refl and net-back refl and net-back refl and net-back refl
+    and table-back refl
     and net-back refl and net-back refl and table-back refl and table-back refl and table-back refl and net-back refl and net-back refl
     and net-back refl and net-back refl and net-back refl and net-back refl and cells-back refl and cells-back refl and cells-back refl
-    and cells-back refl and refl and refl and refl and refl and refl and refl
+    and cells-back refl and cells-back refl and refl and refl and refl and refl and refl and refl
     and refl and refl and refl and refl and refl and refl and refl
     and refl and refl and refl and refl and refl and refl and refl
     and arrivals-back refl and arrivals-back refl and arrivals-back refl and arrivals-back refl and arrivals-back refl and arrivals-back refl

@@ -25,12 +25,12 @@ levelsField [] = bad 2
 levelsField (b ∷ []) = judged (isDigit 10 b && levelsFit (b - 48)) (b - 48) 2
 levelsField (b ∷ c ∷ w) = bad 2
 
--- the number from 2 to 11 of which the field is the decimal value
+-- the number from 2 to 12 of which the field is the decimal value
 unfoldable pub inputsOf : List ℕ → Option ℕ
 inputsOf w = find (λ n. same w (decimal n)) (range fewestInputs (mostInputs + 1 - fewestInputs))
 
--- "Inputs, written n, is 2 to 11 without leading zero. m to the power n, the number of cells, is at most 2,187."
--- 3: inputs field, or over 2,187 cells
+-- "Inputs, written n," is a number "without leading zero. m to the power n, the number of cells, is at most" the cell limit. "The cell limit rises to 4,096
+-- and inputs to 12 .. Refusals 3 and 9 and case 10 move with it" (document 02, K6). 3: inputs field, or over 4,096 cells
 unfoldable pub inputsField : ℕ → Judge ℕ
 inputsField m w = elim (inputsOf w) [ none ↦ bad 3 | some n ↦ judged (cellsFit m n) n 3 ]
 

@@ -1,4 +1,4 @@
--- No count is over 64 bits: a group of k members has at most (2k − 3)!! trees, for k up to 12. The splits of a group, by the size of A, are as many
+-- No count is over 64 bits: a group of k members has at most (2k − 3)!! trees, for k up to the most inputs that a sheet may have. The splits of a group, by the size of A, are as many
 -- as there are ways to choose the other members of A.
 -- Assumes nothing.
 use Prim.Native.Nat.{ℕ, zero, suc, _+_, _-_, _*_, _/_, _%_, _^_, _≤_, _<_}
@@ -13,6 +13,7 @@ use lib.ListN.{length, List·getD-eq-default}
 use lib.Dec.{leb, ltb}
 use borrow.Author.Tests.{leb-true, ltb-true}
 use Rattle.rules.specs.Lists.{range, all, those}
+use Rattle.rules.specs.Limits.{mostInputs}
 use Rattle.rules.specs.Groups.{member, size}
 use Rattle.rules.specs.Marks.{inside}
 use Rattle.rules.specs.Wirings.{firstInput}
@@ -158,23 +159,19 @@ treesOn (suc (suc k)) = (k + k + 1) * treesOn (suc k)
 splitTrees : ℕ → ℕ → ℕ
 splitTrees k j = treesOn j * treesOn (k - j)
 
--- over all splits of k members, up to 12
-splits-fit : all (λ k. leb (overSets (k - 1) (λ j. splitTrees k (suc j))) (treesOn k)) (range 0 13) ≡ true
+-- over all splits of k members, up to the limit
+splits-fit : all (λ k. leb (overSets (k - 1) (λ j. splitTrees k (suc j))) (treesOn k)) (range 0 (mostInputs + 1)) ≡ true
 unfolding all range overSets splitTrees treesOn
 splits-fit = refl
 
-trees-fit : all (λ k. ltb (treesOn k) (2 ^ 64)) (range 0 13) ≡ true
+trees-fit : all (λ k. ltb (treesOn k) (2 ^ 64)) (range 0 (mostInputs + 1)) ≡ true
 unfolding all range treesOn
 trees-fit = refl
 
--- the largest for 11 and for 12 inputs
-pub eleven-inputs : treesOn 11 ≡ 654_729_075
+-- the largest, that of 12 inputs
+pub most-trees : treesOn mostInputs ≡ 13_749_310_575
 unfolding treesOn
-eleven-inputs = refl
-
-pub twelve-inputs : treesOn 12 ≡ 13_749_310_575
-unfolding treesOn
-twelve-inputs = refl
+most-trees = refl
 
 module _ (n : ℕ) (marks : List ℕ) where
   -- what a split counts for, where its two groups keep the bound
@@ -187,7 +184,7 @@ module _ (n : ℕ) (marks : List ℕ) where
       rw (split .part, split .holds-first, rest) (mul-le-mul of-a of-b)
 
   -- what its splits count for together
-  several-bound : (g : ℕ) → g < 2 ^ n → 0 < counted n marks g → size n g ≢ 1 → size n g ≤ 12
+  several-bound : (g : ℕ) → g < 2 ^ n → 0 < counted n marks g → size n g ≢ 1 → size n g ≤ mostInputs
       → ((a : ℕ) → MayBeA n marks g a → (counted n marks a ≤ treesOn (size n a)) × (counted n marks (g - a) ≤ treesOn (size n (g - a))))
       → counted n marks g ≤ treesOn (size n g)
   unfolding splitsOf
@@ -199,13 +196,13 @@ module _ (n : ℕ) (marks : List ℕ) where
       (λ a is. let split = split-is n marks g a is in split-bound g a g< split (parts a split .0) (parts a split .1)) in
       let wider : sumTo (inFirst n g h) (suc (g - 1)) ≤ sumTo (inFirst n g h) (2 ^ n) = sum-more (inFirst n g h) (suc (g - 1)) (2 ^ n) (omega arith) in
       let fits : overSets (size n g - 1) (λ j. h (suc j)) ≤ treesOn (size n g) =
-      leb-true _ _ (all-mem (λ k. leb (overSets (k - 1) (λ j. splitTrees k (suc j))) (treesOn k)) (mem-range 0 13 (size n g) (omega arith) (omega arith)) splits-fit) in
+      leb-true _ _ (all-mem (λ k. leb (overSets (k - 1) (λ j. splitTrees k (suc j))) (treesOn k)) (mem-range 0 (mostInputs + 1) (size n g) (omega arith) (omega arith)) splits-fit) in
       let counts = count-several n marks g g< (counted-two n marks g g< some) several in
       let over = over-firsts n g h g< has in
       omega arith
 
-  -- a group of k members has at most (2k − 3)!! trees, for k up to 12
-  bounded : (k g : ℕ) → k ≤ 12 → g < 2 ^ n → size n g ≤ k → counted n marks g ≤ treesOn (size n g)
+  -- a group of k members has at most (2k − 3)!! trees, for k up to the limit
+  bounded : (k g : ℕ) → k ≤ mostInputs → g < 2 ^ n → size n g ≤ k → counted n marks g ≤ treesOn (size n g)
   bounded zero g k≤ g< small = go (decLt 0 (counted n marks g))
     where
       go : Dec (0 < counted n marks g) → counted n marks g ≤ treesOn (size n g)
@@ -223,17 +220,17 @@ module _ (n : ℕ) (marks : List ℕ) where
           (below a (a-below n marks g a g< split) (omega arith), below (g - a) (b-below n marks g a g< split) (omega arith)))
 
   -- A group has at most (2k − 3)!! trees, k being the number of its members, ..
-  pub count-bound : n ≤ 12 → (g : ℕ) → g < 2 ^ n → counted n marks g ≤ treesOn (size n g)
+  pub count-bound : n ≤ mostInputs → (g : ℕ) → g < 2 ^ n → counted n marks g ≤ treesOn (size n g)
   count-bound n≤ g g< = bounded n g n≤ g< (size-le n g)
 
   -- .. which is less than 2 to the 64.
-  pub count-fits : n ≤ 12 → (g : ℕ) → counted n marks g < 2 ^ 64
+  pub count-fits : n ≤ mostInputs → (g : ℕ) → counted n marks g < 2 ^ 64
   count-fits n≤ g = go (decLt g (2 ^ n))
     where
       go : Dec (g < 2 ^ n) → counted n marks g < 2 ^ 64
       go (yes g<) =
           let fits : treesOn (size n g) < 2 ^ 64 =
-          ltb-true _ _ (all-mem (λ k. ltb (treesOn k) (2 ^ 64)) (mem-range 0 13 (size n g) (omega arith) (omega (arith, size-le n g))) trees-fit) in
+          ltb-true _ _ (all-mem (λ k. ltb (treesOn k) (2 ^ 64)) (mem-range 0 (mostInputs + 1) (size n g) (omega arith) (omega (arith, size-le n g))) trees-fit) in
           omega (arith, count-bound n≤ g g<)
       go (no past) =
           let end : length (countsOf n marks) ≤ g = omega (arith, counts-length n marks) in

@@ -5,7 +5,7 @@ use crate::ratios::marking_times;
 use crate::timing::{ratio, report};
 use std::time::Duration;
 
-const INPUTS: std::ops::RangeInclusive<usize> = 8..=11;
+const INPUTS: std::ops::RangeInclusive<usize> = 8..=12;
 /// More tables than elsewhere: those of one number of inputs are others than those of the next.
 const TABLES: usize = 20;
 

@@ -2,7 +2,7 @@
 
 use reference::generate::{Generator, TableKind};
 
-pub const SIZES: [(usize, usize); 5] = [(2, 11), (3, 7), (4, 5), (5, 4), (9, 3)];
+pub const SIZES: [(usize, usize); 7] = [(2, 12), (2, 11), (3, 7), (4, 6), (4, 5), (5, 4), (9, 3)];
 pub const KINDS: [(&str, TableKind); 9] = [
     ("random", TableKind::Random),
     ("tree", TableKind::OfNet),

@@ -13,7 +13,7 @@ pub struct Bare {
 }
 
 /// Numbers that a caller has no business to send.
-const ODD_NUMBERS: [usize; 9] = [0, 1, 10, 12, 64, 255, 1 << 16, 1 << 32, usize::MAX];
+const ODD_NUMBERS: [usize; 9] = [0, 1, 10, 13, 64, 255, 1 << 16, 1 << 32, usize::MAX];
 
 /// The most bytes of a sheet that is no sheet.
 const MOST_NOISE: usize = 300;

@@ -1,16 +1,17 @@
-//! The bounds of a sheet. Every bound of document 01 stands here and nowhere
-//! else.
+//! The bounds of a sheet. Every bound of document 01, as document 02, K6, has
+//! raised two of them, stands here and nowhere else.
 
 /// "Levels, written m, is one digit from 2 to 9."
 pub const LEAST_LEVELS: u64 = 2;
 pub const MOST_LEVELS: u64 = 9;
 
-/// "Inputs, written n, is 2 to 11 without leading zero."
+/// "Inputs, written n, is 2 to .." and no more than document 02, K6, has: "The
+/// cell limit rises to 4,096 and inputs to 12".
 pub const LEAST_INPUTS: u64 = 2;
-pub const MOST_INPUTS: u64 = 11;
+pub const MOST_INPUTS: u64 = 12;
 
-/// "m to the power n, the number of cells, is at most 2,187."
-pub const MOST_CELLS: u64 = 2_187;
+/// "The cell limit rises to 4,096."
+pub const MOST_CELLS: u64 = 4_096;
 
 /// "A name has 1 to 8 bytes."
 pub const MOST_NAME_BYTES: usize = 8;

@@ -12,8 +12,8 @@ use reference::{allowed_sizes, marking, multiplicity};
 fn refusal_9_bare_sizes() {
     let huge = u64::MAX;
     let sizes = [
-        [(0, 2), (1, 2), (10, 2), (2, 0), (2, 1), (2, 12)],
-        [(3, 8), (4, 6), (5, 5), (6, 5), (7, 4), (8, 4)],
+        [(0, 2), (1, 2), (10, 2), (2, 0), (2, 1), (2, 13)],
+        [(3, 8), (4, 7), (5, 6), (6, 5), (7, 5), (8, 5)],
         [(9, 4), (0, 0), (1, 1), (2, 64), (2, 65), (4, 32)],
         [
             (huge, 2),
@@ -27,7 +27,7 @@ fn refusal_9_bare_sizes() {
     for (m, n) in sizes.concat() {
         let power = (m as u128).checked_pow(n.min(1 << 20) as u32);
         let full = power.filter(|&cells| cells < 10_000).unwrap_or(0) as usize;
-        for length in [0, 1, full, 2_187, 4_096] {
+        for length in [0, 1, full, 4_096, 8_192] {
             let cells = vec![0; length];
             let mut marks = [7; 4_096];
             assert_eq!(
@@ -47,7 +47,7 @@ fn refusal_9_bare_sizes() {
 
 #[test]
 fn refusal_9_bare_lengths() {
-    for (m, n, need) in [(2, 2, 4), (2, 11, 2_048), (3, 7, 2_187), (9, 3, 729)] {
+    for (m, n, need) in [(2, 2, 4), (2, 12, 4_096), (3, 7, 2_187), (9, 3, 729)] {
         for length in [0, need - 1, need + 1] {
             // Not below m, group 0 and no marks: 9 is judged before them all.
             let cells = vec![200; length];
@@ -78,7 +78,7 @@ fn refusal_10_the_lowest_cell_not_below_m() {
 
 #[test]
 fn refusal_11_groups() {
-    for (m, n) in [(2, 2), (2, 11), (3, 7), (9, 3)] {
+    for (m, n) in [(2, 2), (2, 12), (3, 7), (9, 3)] {
         let cells = vec![1; (m as usize).pow(n as u32)];
         for group in [
             0,
@@ -165,6 +165,6 @@ fn the_most_classes_at_every_size() {
     }
     most.sort();
     most.reverse();
-    // 256 is the most that any group of any sheet has, at two of the sizes.
-    assert_eq!(most[..3], [(256, 4, 5, 4), (256, 2, 11, 8), (243, 3, 7, 5)]);
+    // 625 is the most that any group of any sheet has.
+    assert_eq!(most[..3], [(625, 5, 5, 4), (512, 8, 4, 3), (343, 7, 4, 3)]);
 }

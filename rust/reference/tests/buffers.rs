@@ -247,7 +247,7 @@ fn the_count_of_a_family_at_every_length() {
 /// The lengths needed at the largest sizes.
 #[test]
 fn settle_and_make_at_the_largest_sizes() {
-    for (m, n, cells) in [(2, 11, 2_048), (3, 7, 2_187), (9, 3, 729)] {
+    for (m, n, cells) in [(2, 12, 4_096), (4, 6, 4_096), (8, 4, 4_096), (9, 3, 729)] {
         let names: Vec<String> = (0..n).map(|input| format!("x{input}")).collect();
         let sheet = rule_sheet(m, &names.join(" "), |x| x.iter().sum::<usize>() % m);
         let settled_sheet = made(&sheet).expect("a sum has a tree");

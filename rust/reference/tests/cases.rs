@@ -170,7 +170,9 @@ fn full_table_sheet(m: usize, n: usize) -> Vec<u8> {
 
 #[test]
 fn case_10_the_largest_sizes_are_accepted() {
-    for (m, n) in [(2, 11), (3, 7), (9, 3)] {
+    let sizes = [(2, 11), (3, 7), (9, 3)];
+    let come_in = [(2, 12), (4, 6), (5, 5), (7, 4), (8, 4)];
+    for (m, n) in sizes.into_iter().chain(come_in) {
         let net = full_net_sheet(m, n);
         let table = full_table_sheet(m, n);
         assert_eq!(table_written(&net).as_ref(), Ok(&table), "{m} {n}");
@@ -181,7 +183,7 @@ fn case_10_the_largest_sizes_are_accepted() {
 
 #[test]
 fn case_10_the_next_sizes_are_refused() {
-    for (m, n) in [(2, 12), (3, 8), (9, 4)] {
+    for (m, n) in [(2, 13), (3, 8), (9, 4)] {
         assert_eq!(
             settled(&full_net_sheet(m, n)),
             Err(of_net(3, 16)),

@@ -239,7 +239,7 @@ fn the_families_of_sums() {
 #[test]
 fn constants_and_sums_have_every_wiring() {
     let mut count = 1;
-    for n in 2..=11 {
+    for n in 2..=12 {
         count *= 2 * n as u64 - 3;
         let constant = rule_sheet(2, names(n), |_| 0);
         for sheet in [&constant, &sum_sheet(n)] {
@@ -255,7 +255,7 @@ fn constants_and_sums_have_every_wiring() {
         let last = net_sheet(2, names(n), &gates);
         assert_eq!(numbered(&constant, count - 1), Ok(last));
     }
-    assert_eq!(count, 654_729_075);
+    assert_eq!(count, 13_749_310_575);
 }
 
 /// Least and greatest by turns can be wired in one way only where each gate is of

@@ -11,7 +11,7 @@ use reference::net::Table;
 use std::collections::{HashMap, HashSet};
 
 fn names(n: usize) -> &'static str {
-    &"a b c d e f g h i j k"[..2 * n - 1]
+    &"a b c d e f g h i j k l"[..2 * n - 1]
 }
 
 fn fewest(m: usize, n: usize, inks: &[u8]) -> usize {
@@ -262,7 +262,7 @@ fn a_widened_table_is_made_with_so_many_levels() {
             let inks = generator.table(m, n, kind).inks;
             let answer = fewest(m, n, &inks);
             for k in m..=9 {
-                if k.pow(n as u32) > 2_187 {
+                if k.pow(n as u32) > 4_096 {
                     break;
                 }
                 let sheet = table_sheet(k, names(n), &widened(m, n, &inks, k));

@@ -10,17 +10,17 @@ use reference::sheet::{print_net_sheet, print_table_sheet, read_net_sheet, read_
 use reference::{allowed_sizes, Refusal};
 use std::collections::HashMap;
 
-/// All sizes, and no other, as document 01's numbers give them.
+/// All sizes, and no other, as the limits give them.
 #[test]
 fn the_allowed_sizes() {
     let most_inputs = [
-        (2, 11),
+        (2, 12),
         (3, 7),
-        (4, 5),
-        (5, 4),
+        (4, 6),
+        (5, 5),
         (6, 4),
-        (7, 3),
-        (8, 3),
+        (7, 4),
+        (8, 4),
         (9, 3),
     ];
     let mut expected = Vec::new();
@@ -200,7 +200,7 @@ fn damaged_sheets_are_judged() {
 fn every_byte_of_a_sheet_damaged() {
     let mut generator = Generator::new(110);
     let mut answers = HashMap::new();
-    for (m, n) in [(2, 4), (3, 3), (2, 11), (9, 2)] {
+    for (m, n) in [(2, 4), (3, 3), (2, 12), (9, 2)] {
         let net = generator.net_sheet(m, n);
         byte_damages(&net).for_each(|sheet| judge_both(&sheet, &mut answers));
     }

@@ -75,12 +75,42 @@ fn a_sheet_and_then_far_too_much() {
     assert_eq!(make_program(&vec![b' '; 100_000]), b"number place\n1 0\n");
 }
 
-/// The largest table sheet, with names of 8 bytes, is within the bytes read.
+/// The table sheet of a sum, with names of 8 bytes.
+fn long_table_sheet(m: usize, n: usize) -> Vec<u8> {
+    let names: Vec<String> = (0..n).map(|input| format!("longna{input:02}")).collect();
+    rule_sheet(m, &names.join(" "), |x| x.iter().sum::<usize>() % m)
+}
+
+/// Every table sheet but those of 2 with 12 is within the bytes read.
 #[test]
-fn the_largest_table_sheet_goes_through_the_program() {
-    let names: Vec<String> = (0..11).map(|input| format!("longna{input:02}")).collect();
-    let table = rule_sheet(2, &names.join(" "), |x| x.iter().sum::<usize>() % 2);
-    assert!(table.len() < 65_536);
-    let net = made(&table).expect("a sum has a tree");
-    assert_eq!(run("make", &[&table]), net);
+fn the_largest_table_sheets_go_through_the_program() {
+    for (m, n, length) in [(2, 11, 49_274), (4, 6, 57_420), (8, 4, 41_018)] {
+        let table = long_table_sheet(m, n);
+        assert_eq!(table.len(), length);
+        let net = made(&table).expect("a sum has a tree");
+        assert_eq!(run("make", &[&table]), net);
+    }
+}
+
+/// "A table sheet of 2 with 12 is longer than the making program's 65,536 bytes:
+/// the library takes it, and the program refuses with 1 at 65,536 a sheet without
+/// an earlier fault that hasn't ended by then."
+#[test]
+fn a_table_sheet_that_has_not_ended_by_then() {
+    let table = long_table_sheet(2, 12);
+    assert_eq!(table.len(), 106_627);
+    assert!(made(&table).is_ok());
+    let refusal = b"number place\n1 65536\n";
+    assert_eq!(run("make", &[&table]), refusal);
+    // Up to the last byte read it has no fault; from there on it does not count.
+    for place in [65_536, 65_537, 106_626] {
+        let mut damaged = table.clone();
+        damaged[place] = b'x';
+        assert_eq!(make_program(&damaged), refusal);
+    }
+    let mut damaged = table.clone();
+    damaged[65_535] = b'x';
+    let number = made(&damaged).expect_err("a fault").number;
+    let early = format!("number place\n{number} 65535\n");
+    assert_eq!(make_program(&damaged), early.into_bytes());
 }

@@ -244,7 +244,7 @@ fn refusal_3_inputs() {
         &[
             "levels inputs/2 ^0/a b c/",
             "levels inputs/2 ^1/a b c/",
-            "levels inputs/2 ^12/a b c/",
+            "levels inputs/2 ^13/a b c/",
             "levels inputs/2 ^011/a b c/",
             "levels inputs/2 ^02/a b c/",
             "levels inputs/2 ^2x/a b c/",
@@ -256,15 +256,15 @@ fn refusal_3_inputs() {
             "levels inputs/2 ^4294967299/a b c/",
             "levels inputs/2 ^18446744073709551619/a b c/",
             "levels inputs/2 ^123456789012345678901234567890/a b c/",
-            // Over 2,187 cells.
+            // Over 4,096 cells.
             "levels inputs/3 ^8/a b c/",
-            "levels inputs/4 ^6/a b c/",
-            "levels inputs/5 ^5/a b c/",
+            "levels inputs/4 ^7/a b c/",
+            "levels inputs/5 ^6/a b c/",
             "levels inputs/6 ^5/a b c/",
-            "levels inputs/7 ^4/a b c/",
-            "levels inputs/8 ^4/a b c/",
+            "levels inputs/7 ^5/a b c/",
+            "levels inputs/8 ^5/a b c/",
             "levels inputs/9 ^4/a b c/",
-            "levels inputs/9 ^11/a b c/",
+            "levels inputs/9 ^12/a b c/",
             // The field is judged before the byte after it.
             "levels inputs/9 ^4 /",
             "levels inputs/9 ^4",
@@ -445,8 +445,8 @@ fn refusal_8_used_before() {
 }
 
 #[test]
-fn ten_gates_and_two_digit_references() {
-    let names = "a b c d e f g h i j k";
+fn eleven_gates_and_two_digit_references() {
+    let names = "a b c d e f g h i j k l";
     let chain = |last: &str| {
         let mut gates = vec!["a b 0110".to_string()];
         for (number, name) in (1..).zip(names.split(' ').skip(2)) {
@@ -455,10 +455,10 @@ fn ten_gates_and_two_digit_references() {
         *gates.last_mut().expect("gates") = last.to_string();
         net_sheet(2, names, &gates.join("/"))
     };
-    assert!(settled(&chain("9 k 0110")).is_ok());
+    assert!(settled(&chain("10 l 0110")).is_ok());
     let at = chain("").len() as u64 - 1;
-    assert_net_refused(&chain("10 k 0110"), of_net(7, at), "its own number");
-    assert_net_refused(&chain("11 k 0110"), of_net(7, at), "a later number");
-    assert_net_refused(&chain("09 k 0110"), of_net(7, at), "a leading zero");
-    assert_net_refused(&chain("8 k 0110"), of_net(8, at), "used in gate 9");
+    assert_net_refused(&chain("11 l 0110"), of_net(7, at), "its own number");
+    assert_net_refused(&chain("12 l 0110"), of_net(7, at), "a later number");
+    assert_net_refused(&chain("010 l 0110"), of_net(7, at), "a leading zero");
+    assert_net_refused(&chain("9 l 0110"), of_net(8, at), "used in gate 10");
 }

@@ -196,8 +196,8 @@ fn a_group_is_shallow_where_the_whole_has_room_to_spare() {
 /// have; least and greatest by turns can be wired in one way only.
 #[test]
 fn sums_and_chains() {
-    let layers = [1, 2, 2, 3, 3, 3, 3, 4, 4, 4];
-    for (n, layers) in (2..=11).zip(layers) {
+    let layers = [1, 2, 2, 3, 3, 3, 3, 4, 4, 4, 4];
+    for (n, layers) in (2..=12).zip(layers) {
         let sum = rule_sheet(2, names(n), |x| x.iter().sum::<usize>() % 2);
         assert_eq!(made_shallow(&sum).expect("a tree").1, layers);
         let chain = rule_sheet(2, names(n), |x| {

@@ -44,13 +44,13 @@ pub use shallow::{
 };
 
 /// The most cells that a table has, and so the cells buffer that always suffices.
-pub const MOST_CELLS: usize = 2_187;
-/// The marks buffer that always suffices: one byte for each group of 11 inputs.
-pub const MOST_MARKS: usize = 1 << 11;
+pub const MOST_CELLS: usize = 4_096;
+/// The marks buffer that always suffices: one byte for each group of 12 inputs.
+pub const MOST_MARKS: usize = 1 << 12;
 /// The output that always suffices for a net sheet.
 pub const MOST_NET_SHEET: usize = 512;
-/// The output that always suffices for a table sheet: 2 levels with 11 inputs, all names 8 bytes long.
-pub const MOST_TABLE_SHEET: usize = 49_274;
+/// The output that always suffices for a table sheet: 2 levels with 12 inputs, all names 8 bytes long.
+pub const MOST_TABLE_SHEET: usize = 106_627;
 
 /// What checking says of a net and a table under the same header.
 #[derive(Clone, Copy, Debug, PartialEq, Eq)]

@@ -45,7 +45,7 @@ impl Refusal {
         match self.number {
             1 => "a fixed word or a separator is missing, the sheet ends too early, or bytes follow its last line",
             2 => "levels is not one digit from 2 to 9",
-            3 => "inputs is not a number from 2 to 11, or there are over 2,187 cells",
+            3 => "inputs is not a number from 2 to 12, or there are over 4,096 cells",
             4 => "a name is malformed, is `ink`, or is repeated",
             5 => "a row's input level is not the next in the count",
             6 => "an ink, or a gate's table, is not made of digits below levels",

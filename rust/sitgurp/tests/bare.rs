@@ -71,6 +71,7 @@ fn sizes_and_lengths_out_of_bounds() {
         10,
         11,
         12,
+        13,
         63,
         64,
         255,
@@ -78,12 +79,12 @@ fn sizes_and_lengths_out_of_bounds() {
         1 << 32,
         usize::MAX,
     ];
-    let cells = vec![0u8; 2_200];
+    let cells = vec![0u8; 4_100];
     for m in odd {
         for n in odd {
-            for length in [0, 1, 4, 8, 9, 2_187, 2_188, 2_200] {
+            for length in [0, 1, 4, 8, 9, 2_187, 4_095, 4_096, 4_097, 4_100] {
                 same_multiplicity(m, n, &cells[..length], 1);
-                same_marking(m, n, &cells[..length], 2_048);
+                same_marking(m, n, &cells[..length], 4_096);
             }
         }
     }

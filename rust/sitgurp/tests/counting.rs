@@ -63,9 +63,10 @@ fn the_most_classes_of_every_size() {
             most = most.max(counts[(1 << size) - 1]);
         }
     }
-    assert_eq!(most, 256);
-    // eight of eleven inputs, each of their 256 assignments another class
-    let sheet = sheet_of(&most_classes_table(2, 11, 8));
+    // four of five inputs of 5 levels, each of their 625 assignments another class
+    assert_eq!(most, 625);
+    // eight of twelve inputs, each of their 256
+    let sheet = sheet_of(&most_classes_table(2, 12, 8));
     assert_eq!(sitgurp::multiplicities(&sheet).unwrap()[255], 256);
 }
 
@@ -135,7 +136,7 @@ fn a_widened_table_is_made_with_so_many_levels() {
 #[test]
 fn refused_sheets() {
     let mut generator = Generator::new(SEED + 3);
-    for (m, n) in [(2, 2), (3, 2), (2, 3), (9, 2), (2, 11)] {
+    for (m, n) in [(2, 2), (3, 2), (2, 3), (9, 2), (2, 12)] {
         for kind in [TableKind::OfNet, TableKind::Random] {
             let sheet = generator.table_sheet(m, n, kind);
             for _ in 0..40 {

@@ -11,7 +11,7 @@ use reference::sheet::{print_table_sheet, Header};
 use sitgurp::{Family, MOST_CELLS, MOST_MARKS, MOST_NET_SHEET};
 use std::collections::HashSet;
 
-const SEED: u64 = 654_729_075;
+const SEED: u64 = 13_749_310_575;
 
 /// Both implementations count on the same sheet and buffers: the answers and all lent bytes are equal.
 fn same_count(sheet: &[u8], cells: usize, marks: usize) -> Result<u64, Back> {
@@ -95,7 +95,7 @@ fn every_size_and_kind_of_table() {
 #[test]
 fn constants_have_every_wiring() {
     let mut count = 1;
-    for n in 2..=11 {
+    for n in 2..=12 {
         count *= 2 * n as u64 - 3;
         for m in (2..=9).filter(|m: &usize| m.pow(n as u32) <= MOST_CELLS) {
             let sheet = sheet_of(&Table::of(m, n, |_| m as u8 - 1));
@@ -121,7 +121,7 @@ fn constants_have_every_wiring() {
             assert_eq!((refusal.number, refusal.place as u64), (17, count));
         }
     }
-    assert_eq!(count, 654_729_075);
+    assert_eq!(count, 13_749_310_575);
 }
 
 #[test]
@@ -235,21 +235,21 @@ fn jumps_within_a_family() {
 /// None of these makes the trees that it passes.
 #[test]
 fn the_largest_family() {
-    let sheet = sum(2, 11);
+    let sheet = sum(2, 12);
     let family = Family::of(&sheet).expect("a good sheet");
-    assert_eq!(family.len(), 654_729_075);
-    assert_eq!(family.clone().count(), 654_729_075);
-    let last = family.tree(654_729_074).expect("the last");
+    assert_eq!(family.len(), 13_749_310_575);
+    assert_eq!(family.clone().count(), 13_749_310_575);
+    let last = family.tree(13_749_310_574).expect("the last");
     assert_eq!(family.clone().last().as_ref(), Some(&last));
-    assert_eq!(family.clone().nth(654_729_074).as_ref(), Some(&last));
+    assert_eq!(family.clone().nth(13_749_310_574).as_ref(), Some(&last));
     assert_eq!(family.clone().next_back().as_ref(), Some(&last));
     assert_eq!(
-        family.clone().nth_back(654_729_074),
+        family.clone().nth_back(13_749_310_574),
         sitgurp::made(&sheet).ok()
     );
-    assert_eq!(family.clone().nth(654_729_075), None);
-    same_tree(&sheet, 654_729_074, ENOUGH).expect("the last");
-    same_tree(&sheet, 327_364_537, ENOUGH).expect("one in the middle");
+    assert_eq!(family.clone().nth(13_749_310_575), None);
+    same_tree(&sheet, 13_749_310_574, ENOUGH).expect("the last");
+    same_tree(&sheet, 6_874_655_287, ENOUGH).expect("one in the middle");
 }
 
 #[test]
@@ -271,14 +271,14 @@ fn an_empty_family() {
 #[test]
 fn every_buffer_around_its_need() {
     let mut generator = Generator::new(SEED + 2);
-    for (m, n) in [(2, 2), (2, 3), (3, 3), (2, 6), (9, 3), (2, 11)] {
+    for (m, n) in [(2, 2), (2, 3), (3, 3), (2, 6), (9, 3), (2, 12)] {
         let kinds = [TableKind::OfNet, TableKind::Sum, TableKind::Random];
         for kind in kinds {
             let sheet = generator.table_sheet(m, n, kind);
             let count = same_count(&sheet, MOST_CELLS, MOST_MARKS).expect("a good sheet");
             let length = same_tree(&sheet, 0, ENOUGH).unwrap_or(200);
             let lengths = match n {
-                11 => |need| vec![need - 1, need],
+                12 => |need| vec![need - 1, need],
                 _ => around,
             };
             for cells in lengths(m.pow(n as u32)) {

@@ -100,12 +100,39 @@ fn a_program_reads_its_first_bytes() {
 #[test]
 fn a_sheet_and_then_far_too_much() {
     let mut generator = Generator::new(SEED + 2);
-    for (m, n) in [(2, 2), (2, 11)] {
+    for (m, n) in [(2, 2), (2, 11), (4, 6)] {
         let mut net = generator.net_sheet(m, n);
         net.resize(70_000, b'\n');
         same("settle", settle_program, &net);
         let mut table = generator.table_sheet(m, n, TableKind::OfNet);
         table.resize(70_000, b'0');
         same("make", make_program, &table);
+    }
+}
+
+/// A table of 2 with 12 is made by the library, and refused by the program with 1 at 65,536, as any sheet that has not ended by then; a
+/// fault before that place decides.
+#[test]
+fn a_table_sheet_that_is_longer_than_what_is_read() {
+    let mut generator = Generator::new(SEED + 3);
+    for kind in TableKind::ALL {
+        let mut table = generator.table_sheet(2, 12, kind);
+        assert!(table.len() > 65_536);
+        let made = sitgurp::made(&table);
+        assert!(made.is_ok() || made.is_err_and(|refusal| refusal.number == 16));
+        assert_eq!(printed("make", &table), b"number place\n1 65536\n");
+        same("make", make_program, &table[..65_536]);
+        for place in [65_534, 65_535, 65_536, 65_537, 70_000] {
+            let byte = std::mem::replace(&mut table[place], b'x');
+            same("make", make_program, &table);
+            table[place] = byte;
+        }
+    }
+    // every other size is read whole
+    for (m, n) in [(2, 11), (4, 6), (5, 5), (7, 4), (8, 4)] {
+        let table = generator.table_sheet(m, n, TableKind::Sum);
+        assert!(table.len() < 65_536);
+        let net = sitgurp::made(&table).expect("a sum has a tree");
+        assert_eq!(printed("make", &table), net);
     }
 }

@@ -386,8 +386,8 @@ fn a_refusal_in_words() {
         answer.expect_err("refused").to_string()
     }
     assert_eq!(
-        said(sitgurp::settled(b"levels inputs\n2 12\n")),
-        "net sheet: inputs is not a number from 2 to 11, or there are over 2,187 cells (refusal 3 at byte 16, line 2, column 3)"
+        said(sitgurp::settled(b"levels inputs\n2 13\n")),
+        "net sheet: inputs is not a number from 2 to 12, or there are over 4,096 cells (refusal 3 at byte 16, line 2, column 3)"
     );
     assert_eq!(
         said(sitgurp::multiplicity(2, 2, &[0, 1, 1, 2], 1)),

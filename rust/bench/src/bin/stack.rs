@@ -15,13 +15,13 @@ use std::thread;
 
 /// The largest size for each number of levels.
 const SIZES: [(usize, usize); 8] = [
-    (2, 11),
+    (2, 12),
     (3, 7),
-    (4, 5),
-    (5, 4),
+    (4, 6),
+    (5, 5),
     (6, 4),
-    (7, 3),
-    (8, 3),
+    (7, 4),
+    (8, 4),
     (9, 3),
 ];
 const STACK: usize = 8 << 20;

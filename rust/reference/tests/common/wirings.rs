@@ -73,7 +73,7 @@ impl Wiring {
 
 /// The names `a`, `b` and so on of n inputs.
 pub fn names(n: usize) -> &'static str {
-    &"a b c d e f g h i j k"[..2 * n - 1]
+    &"a b c d e f g h i j k l"[..2 * n - 1]
 }
 
 // ---- two levels: every filling of every wiring
