@@ -14,5 +14,5 @@ pub extern "C" fn sitgurp_marking(
 ) -> SitgurpAnswer
     ensures { λ r. ⌜ FlatMarked (markingCall m n (now (cells .entry)) (now (marks .entry))) r (now (marks .exit)) ⌝ }
 {
-    flat(marks::call::marking(m, n, cells, marks))
+    flat(marking::call::marking(m, n, cells, marks))
 }
