@@ -28,16 +28,16 @@ fn four(marks: &[u8], at: usize) -> u8
     marks[at] + 4 * marks[at + 1] + 16 * marks[at + 2] + 64 * marks[at + 3]
 }
 
-// Stores the marks of all groups at the front of the buffer.
+// Stores the marks of all groups at the front of the buffer, four at a time.
 pub fn store(n: usize, marks: &[u8], buffer: &mut [u8])
     requires { ⌜ (2 ≤ n) × (n ≤ mostMembers) × (2 ^ n ≤ length (now marks)) × (InTwoBits (2 ^ n) (now marks))
         × (marksLength n ≤ length (now buffer)) ⌝ }
     ensures { λ _. ⌜ now (buffer .exit) ≡ written (now (buffer .entry)) (storedMarks (take (2 ^ n) (now (marks .entry)))) ⌝ }
 {
-    let end = marks_length(n);
-    let mut k: usize = 0;
-    while k < end {
-        buffer[k] = four(marks, 4 * k);
-        k += 1;
+    let end = powers::power(2, n);
+    let mut g: usize = 0;
+    while g + 3 < end {
+        buffer[g / 4] = four(marks, g);
+        g += 4;
     }
 }

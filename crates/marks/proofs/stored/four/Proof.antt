@@ -16,12 +16,13 @@ third-start c = at-start (c .before)
 abbrev fourth-start : tie.After-shared-slice-known4 → tie.Start
 fourth-start c = third-start (c .before)
 
--- each mark has two bits
-first : (c : tie.Start) → getD (c .args .marks .now) (c .args .at) 0 < 4
-first c = c .pre .1 (c .args .at) (omega arith)
+-- each of the four marks has two bits
+small : (c : tie.Start) (i : ℕ) → i < 4 → getD (c .args .marks .now) (c .args .at + i) 0 < 4
+small c i h = c .pre .1 (c .args .at + i) (omega arith)
 
-later : (c : tie.Start) (i : ℕ) → i < 4 → getD (c .args .marks .now) (c .args .at + i) 0 < 4
-later c i h = c .pre .1 (c .args .at + i) (omega arith)
+all-small : (c : tie.Start) → let marks = c .args .marks .now in let at = c .args .at in
+    (getD marks at 0 < 4) × (getD marks (at + 1) 0 < 4) × (getD marks (at + 2) 0 < 4) × (getD marks (at + 3) 0 < 4)
+all-small c = (c .pre .1 (c .args .at) (omega arith), small c 1 (omega arith), small c 2 (omega arith), small c 3 (omega arith))
 
 shared-slice-read-result : tie.Need-shared-slice-read-result
 shared-slice-read-result c = search needs
@@ -33,10 +34,10 @@ shared-slice-read-result-2 : tie.Need-shared-slice-read-result-2
 shared-slice-read-result-2 c = search needs
 
 mul-result : tie.Need-mul-result
-mul-result c = omega (arith, later (at-start c) 1 (omega arith))
+mul-result c = omega (arith, all-small (at-start c))
 
 add-result-2 : tie.Need-add-result-2
-add-result-2 c = omega (arith, first (at-start c), later (at-start c) 1 (omega arith))
+add-result-2 c = omega (arith, all-small (at-start c))
 
 add-result-3 : tie.Need-add-result-3
 add-result-3 c = search needs
@@ -45,10 +46,10 @@ shared-slice-read-result-3 : tie.Need-shared-slice-read-result-3
 shared-slice-read-result-3 c = search needs
 
 mul-result-2 : tie.Need-mul-result-2
-mul-result-2 c = omega (arith, later (third-start c) 2 (omega arith))
+mul-result-2 c = omega (arith, all-small (third-start c))
 
 add-result-4 : tie.Need-add-result-4
-add-result-4 c = let s = third-start c in omega (arith, first s, later s 1 (omega arith), later s 2 (omega arith))
+add-result-4 c = omega (arith, all-small (third-start c))
 
 add-result-5 : tie.Need-add-result-5
 add-result-5 c = search needs
@@ -57,10 +58,10 @@ shared-slice-read-result-4 : tie.Need-shared-slice-read-result-4
 shared-slice-read-result-4 c = search needs
 
 mul-result-3 : tie.Need-mul-result-3
-mul-result-3 c = omega (arith, later (fourth-start c) 3 (omega arith))
+mul-result-3 c = omega (arith, all-small (fourth-start c))
 
 add-result-6 : tie.Need-add-result-6
-add-result-6 c = let s = fourth-start c in omega (arith, first s, later s 1 (omega arith), later s 2 (omega arith), later s 3 (omega arith))
+add-result-6 c = omega (arith, all-small (fourth-start c))
 
 returns : tie.Need-returns
 returns c = search needs
