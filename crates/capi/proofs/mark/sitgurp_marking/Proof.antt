@@ -1,10 +1,10 @@
--- `capi::marking::sitgurp_marking` meets its contract: it is the marking call, its answer as two numbers. Assumes nothing.
+-- `capi::mark::sitgurp_marking` meets its contract: it is the marking call, its answer as two numbers. Assumes nothing.
 use mathlib.Core.Path.{ap, _∙_}
 use Rattle.rules.specs.Marking.{Marked}
 use Rattle.capi.specs.Flat.{flatOf}
 use borrow.Author.Needs.{needs}
-use Rattle.capi.proofs.marking.sitgurp_marking.Statement.{statement}
-use Rattle.capi.proofs.marking.sitgurp_marking.Tie as tie
+use Rattle.capi.proofs.mark.sitgurp_marking.Statement.{statement}
+use Rattle.capi.proofs.mark.sitgurp_marking.Tie as tie
 
 marking-requires : tie.Need-marking-requires
 marking-requires c κs = search needs
