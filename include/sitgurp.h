@@ -21,7 +21,7 @@ extern "C" {
 
 /* Buffers that always suffice: cells, marks, a net sheet, a table sheet. */
 #define SITGURP_MOST_CELLS 4096
-#define SITGURP_MOST_MARKS 4096
+#define SITGURP_MOST_MARKS 1024
 #define SITGURP_MOST_NET_SHEET 512
 #define SITGURP_MOST_TABLE_SHEET 106627
 
@@ -81,22 +81,23 @@ typedef struct sitgurp_arrival_times {
 } sitgurp_arrival_times;
 
 /*
- * The number of classes of a group, however large; within the sizes of a sheet it is at most 256.
+ * The number of classes of a group, however large; within the sizes of a sheet it is at most 625.
  * Bare cells: m levels, n inputs, and one byte a cell in index order. A group is the sum of 2 to the power i over its members.
  * Refusals: 9 (m, n or the number of cells), 10 (a cell not below m; value is its index), 11 (the group).
  */
 sitgurp_answer sitgurp_multiplicity(size_t m, size_t n, const uint8_t *cells, size_t cells_length, size_t group);
 
 /*
- * Writes every group's mark, one byte at its number, and answers the whole group's mark. Needs 2 to the power n bytes; further
- * bytes are kept. A refusal changes no byte.
+ * Writes every group's mark and answers the whole group's. Marks are packed four to a byte: that of group g is
+ * marks[g / 4] >> (g % 4 * 2) & 3. Needs 2 to the power n, divided by 4, bytes; further bytes are kept. A refusal changes no byte.
  * Refusals: 9, 10, and 14 (marks too short; value is the length needed).
  */
 sitgurp_answer sitgurp_marking(size_t m, size_t n, const uint8_t *cells, size_t cells_length, uint8_t *marks, size_t marks_length);
 
 /*
  * Settles a net sheet: writes its table into cells, one byte a cell, every group's mark into marks, and the settled net sheet into
- * output, and answers that sheet's length. Needs m to the power n bytes, 2 to the power n bytes, and the settled sheet's length.
+ * output, and answers that sheet's length. Needs m to the power n bytes, 2 to the power n, divided by 4, and the
+ * settled sheet's length.
  * Refusals: 1 to 4 and 6 to 8 (the sheet), 13 (cells too short), 14 (marks too short), 15 (output too short); the value of 13 to 15 is the
  * length needed. 15 leaves cells and marks written and output as it was; every other refusal changes no byte.
  */

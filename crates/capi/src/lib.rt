@@ -8,7 +8,7 @@ pub mod gate_line;
 pub mod layered;
 pub mod make;
 pub mod make_shallow;
-pub mod marking;
+pub mod mark;
 pub mod multiplicity;
 pub mod settle;
 pub mod settle_shallow;

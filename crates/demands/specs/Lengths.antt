@@ -44,7 +44,7 @@ use Rattle.laws.specs.BareCells.{bare-accepted}
 
 -- SITGURP_MOST_MARKS; the other three are `mostCells`, `mostSettled` and `mostTableSheet`
 abbrev pub mostMarks : ℕ
-mostMarks = 4_096
+mostMarks = 1_024
 
 marksTest : ℕ → ℕ → Bool
 marksTest m n = leb (marksLength n) mostMarks
@@ -58,7 +58,7 @@ pub size-marks : (m n : ℕ) → Size m n → marksLength n ≤ mostMarks
 unfolding marksTest
 size-marks m n size = leb-true (marksLength n) mostMarks (at-size marksTest marks-tested m n size)
 
--- "Needed: m to the n bytes, 2 to the n bytes": enough cells and marks for each accepted sheet
+-- "Needed: m to the n bytes", and of marks "2 to the n, divided by 4" (document 02, K7): enough cells and marks for each accepted sheet
 module _ (h : Header) (kept : KeptHeader h) where
   pub kept-cells : h .levels ^ h .inputs ≤ mostCells
   kept-cells = kept-size h kept .cells-most

@@ -37,3 +37,5 @@ pub mod FamilyTreeClause
 pub mod FamilyOrder
 pub mod FamilyRules
 pub mod Arrivals
+pub mod StoredMarks
+pub mod AnyStore

@@ -10,13 +10,12 @@ use lib.ListN.{length, getD, replicate, take}
 use lib.Pow.{pow-mono}
 use Rattle.rules.specs.Limits.{mostInputs, sizeFits}
 use Rattle.rules.specs.Groups.{wholeGroup}
-use Rattle.rules.specs.Marks.{marksOf, marksLength, storedMarks}
+use Rattle.rules.specs.Marks.{marksOf, storedMarks}
 use Rattle.rules.specs.Family.{treeCount, countsOf}
 use Rattle.rules.specs.Answers.{inkIn, written}
 use Rattle.laws.specs.Sizes.{sized}
 use Rattle.trees.specs.Members.{whole-below}
 use Rattle.trees.specs.MarkRule.{marks-length}
-use Rattle.marks.specs.Stored.{held, held-front}
 use Rattle.families.specs.Counts.{CountsKept, Countable, CountKept}
 
 -- no count is known yet
@@ -28,14 +27,15 @@ none-known zero g = refl
 none-known (suc k) zero = refl
 none-known (suc k) (suc g) = none-known k g
 
--- as many as the most inputs need have room for those of every group
-pub counts-room : (m n : ℕ) → sizeFits m n ≡ true → 2 ^ n ≤ 2 ^ mostInputs
-counts-room m n fit = pow-mono {i = n} {j = mostInputs} (sized m n fit .inputs-most)
+-- as many as the most inputs have are enough for every group
+pub groups-room : (m n : ℕ) → sizeFits m n ≡ true → 2 ^ n ≤ 2 ^ mostInputs
+groups-room m n fit = pow-mono {i = n} {j = mostInputs} (sized m n fit .inputs-most)
 
 -- the count, and what is written
-pub record MarkedCount (m n : ℕ) (inks cells marks : List ℕ) (r : ℕ) (cells-then marks-then counts : List ℕ) : Type 0 where
+pub record MarkedCount (m n : ℕ) (inks cells marks : List ℕ) (r : ℕ) (cells-then own marks-then counts : List ℕ) : Type 0 where
   pub count : r ≡ treeCount n (marksOf m n (inkIn inks))
   pub copied : cells-then ≡ written cells inks
+  pub front : take (2 ^ n) own ≡ marksOf m n (inkIn inks)
   pub marked : marks-then ≡ written marks (storedMarks (marksOf m n (inkIn inks)))
   pub kept : CountsKept (marksOf m n (inkIn inks)) counts
 
@@ -48,10 +48,9 @@ module _ (m n : ℕ) (fit : sizeFits m n ≡ true) (f : ℕ → ℕ) where
   unfolding wholeGroup
   whole-some = omega (arith, pow-mono {i = 2} {j = n} (sized m n fit .inputs-least))
 
-  -- the front of the marks buffer holds the marks, and nothing else
-  pub marks-front : (before after : List ℕ) → after ≡ written before (storedMarks (marksOf m n f)) → (need : ℕ) → need ≡ marksLength n → held (take (need - 0) after) ≡ marksOf m n f
-  marks-front before after wrote need is =
-      ap (λ (k : ℕ). held (take k after)) (sub-zero need ∙ is) ∙ held-front n before (marksOf m n f) after (marks-length m n pos f) wrote
+  -- the front of the call's own marks, by the number past the groups
+  pub marks-front : (own : List ℕ) → take (2 ^ n) own ≡ marksOf m n f → (end : ℕ) → end ≡ 2 ^ n → take (end - 0) own ≡ marksOf m n f
+  marks-front own front end is = ap (λ (k : ℕ). take k own) (sub-zero end ∙ is) ∙ front
 
   module _ (own counts : List ℕ) (front : own ≡ marksOf m n f) (room : 2 ^ n ≤ length counts) (kept : CountsKept own counts) where
     -- so the whole group's trees can be counted, ..

@@ -27,8 +27,8 @@ countedOf r cells marks = record { answer = answerOf r; cells = cells; marks = m
 
 -- ---- once the cells and the marks are written
 
-module _ (s : List ℕ) (h : Header) (inks cells marks : List ℕ) (r : ℕ) (cells-then marks-then counts : List ℕ)
-    (did : MarkedCount (h .levels) (h .inputs) inks cells marks r cells-then marks-then counts) where
+module _ (s : List ℕ) (h : Header) (inks cells marks : List ℕ) (r : ℕ) (cells-then all-marks marks-then counts : List ℕ)
+    (did : MarkedCount (h .levels) (h .inputs) inks cells marks r cells-then all-marks marks-then counts) where
   counted-is : r ≡ countOfTable (tableIn s h inks)
   unfolding countOfTable headerOf
   counted-is = did .count

@@ -11,7 +11,7 @@ ghost use Rattle.families.specs.Outcomes.{countedOf};
 use crate::marked;
 use answers::answer::Answer;
 use answers::outcome::Outcome;
-use marks::stored;
+use marks::own;
 use nets::forms::Header;
 use radix::limits;
 use radix::powers;
@@ -28,12 +28,14 @@ fn count_into(header: Header, inks: &[u8], cells: &mut [u8], marks: &mut [u8]) -
     match judged {
         Outcome::Refused { number, place } => Answer::Refused { number, place },
         Outcome::Accepted => {
-            let mut counts = [0u64; stored::MOST_MARKS];
+            let mut own = [0u8; own::MOST_GROUPS];
+            let mut counts = [0u64; own::MOST_GROUPS];
             let count = marked::count_marked(
                 header.levels,
                 header.inputs,
                 inks,
                 cells,
+                &mut own,
                 marks,
                 &mut counts,
             );

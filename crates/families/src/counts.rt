@@ -1,16 +1,15 @@
 // How many trees a group has, from its splits, and a split, from its two groups: the two call each other. What is found is kept.
-ghost use Rattle.marks.specs.Stored.{held};
 ghost use Rattle.families.specs.Counts.{Countable, Splittable, CountKept, SplitKept};
-use marks::stored;
+use marks::own;
 use radix::members;
 
 // The count of group g. `counts` has at each group's number its count, or 0 where it is not yet known. Goes through the parts that hold the
 // first-listed input.
 pub fn group_count(marks: &[u8], counts: &mut [u64], g: usize) -> u64
-    requires { ⌜ Countable (held (now marks)) (now counts) g ⌝ }
-    ensures { λ r. ⌜ CountKept (held (now (marks .entry))) g r (now (counts .exit)) ⌝ }
+    requires { ⌜ Countable (now marks) (now counts) g ⌝ }
+    ensures { λ r. ⌜ CountKept (now (marks .entry)) g r (now (counts .exit)) ⌝ }
 {
-    if stored::mark_at(marks, g) != 2 {
+    if own::mark_at(marks, g) != 2 {
         return 0;
     }
     let known = counts[g];
@@ -34,8 +33,8 @@ pub fn group_count(marks: &[u8], counts: &mut [u64], g: usize) -> u64
 
 // The count of the split of group g, which has mark 2, into a and the rest: a tree of the one and one of the other, each with each.
 pub fn split_count(marks: &[u8], counts: &mut [u64], g: usize, a: usize) -> u64
-    requires { ⌜ Splittable (held (now marks)) (now counts) g a ⌝ }
-    ensures { λ r. ⌜ SplitKept (held (now (marks .entry))) g a r (now (counts .exit)) ⌝ }
+    requires { ⌜ Splittable (now marks) (now counts) g a ⌝ }
+    ensures { λ r. ⌜ SplitKept (now (marks .entry)) g a r (now (counts .exit)) ⌝ }
 {
     let left = group_count(marks, counts, a);
     let right = group_count(marks, counts, g - a);

@@ -8,26 +8,25 @@ ghost use Rattle.rules.specs.Marks.{marksLength};
 ghost use Rattle.families.specs.Marked.{NoneKnown, MarkedCount};
 use crate::counts;
 use lines::put::copy;
-use marks::marking;
-use marks::stored;
+use marking::all;
 use radix::powers;
 
-// The count is 0 where the table has no tree. `counts` comes in with nothing known.
+// The count is 0 where the table has no tree. `own` is for the call's own marks, and `counts` comes in with nothing known.
 pub fn count_marked(
     m: usize,
     n: usize,
     inks: &[u8],
     cells: &mut [u8],
+    own: &mut [u8],
     marks: &mut [u8],
     counts: &mut [u64],
 ) -> u64
-    requires { ⌜ (sizeFits m n ≡ true) × (length (now inks) ≡ m ^ n) × (length (now inks) ≤ length (now cells)) × (marksLength n ≤ length (now marks))
-        × (2 ^ n ≤ length (now counts)) × (NoneKnown (now counts)) ⌝ }
-    ensures { λ r. ⌜ MarkedCount m n (now (inks .entry)) (now (cells .entry)) (now (marks .entry)) r (now (cells .exit)) (now (marks .exit)) (now (counts .exit)) ⌝ }
+    requires { ⌜ (sizeFits m n ≡ true) × (length (now inks) ≡ m ^ n) × (length (now inks) ≤ length (now cells)) × (2 ^ n ≤ length (now own))
+        × (marksLength n ≤ length (now marks)) × (2 ^ n ≤ length (now counts)) × (NoneKnown (now counts)) ⌝ }
+    ensures { λ r. ⌜ MarkedCount m n (now (inks .entry)) (now (cells .entry)) (now (marks .entry)) r (now (cells .exit)) (now (own .exit)) (now (marks .exit)) (now (counts .exit)) ⌝ }
 {
     copy(inks, cells, 0);
-    marking::mark_all(m, n, inks, marks);
-    let need = stored::marks_length(n);
-    let own = &marks[0..need];
-    counts::group_count(own, counts, powers::power(2, n) - 1)
+    all::mark_and_store(m, n, inks, own, marks);
+    let end = powers::power(2, n);
+    counts::group_count(&own[0..end], counts, end - 1)
 }

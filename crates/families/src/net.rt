@@ -8,7 +8,6 @@ ghost use Rattle.rules.specs.Groups.{wholeGroup};
 ghost use Rattle.rules.specs.Marks.{marksOf};
 ghost use Rattle.rules.specs.Family.{treeCount, familyGates};
 ghost use Rattle.rules.specs.Answers.{inkIn};
-ghost use Rattle.marks.specs.Stored.{held};
 ghost use Rattle.filling.specs.MadeNet.{NetOf};
 ghost use Rattle.families.specs.Counts.{Countable};
 use crate::numbered;
@@ -26,7 +25,7 @@ pub fn family_net(
     r: u64,
 ) -> forms::Net
     requires { ⌜ (sizeFits m n ≡ true) × (m ^ n ≤ length (now cells)) × ((p : ℕ) → p < m ^ n → inkIn (now cells) p < m)
-        × (held (now marks) ≡ marksOf m n (inkIn (now cells))) × (Countable (held (now marks)) (now counts) (wholeGroup n))
+        × ((now marks) ≡ marksOf m n (inkIn (now cells))) × (Countable (now marks) (now counts) (wholeGroup n))
         × (r < treeCount n (marksOf m n (inkIn (now cells)))) ⌝ }
     ensures { λ net. ⌜ NetOf m n (familyGates m n (inkIn (now (cells .entry))) (marksOf m n (inkIn (now (cells .entry)))) r) net ⌝ }
 {

@@ -3,7 +3,6 @@ ghost use mathlib.Core.Path.{_≡_};
 ghost use Prim.Native.Nat.{_+_, _≤_};
 ghost use Rattle.rules.specs.Groups.{size};
 ghost use Rattle.rules.specs.Marks.{markIn};
-ghost use Rattle.marks.specs.Stored.{held};
 ghost use Rattle.families.specs.Counts.{Countable};
 ghost use Rattle.families.specs.Numbered.{InCount, SplitFound, NumberWired, WiringFound};
 use crate::counts;
@@ -19,8 +18,8 @@ pub struct Numbered {
 
 // The split of group g that number r falls in, and its number there: split counts are taken off r until it is below the next one.
 fn numbered_split(marks: &[u8], counts: &mut [u64], g: usize, r: u64) -> Numbered
-    requires { ⌜ (Countable (held (now marks)) (now counts) g) × (markIn (held (now marks)) g ≡ 2) ⌝ }
-    ensures { λ s. ⌜ SplitFound (held (now (marks .entry))) g r s (now (counts .exit)) ⌝ }
+    requires { ⌜ (Countable (now marks) (now counts) g) × (markIn (now marks) g ≡ 2) ⌝ }
+    ensures { λ s. ⌜ SplitFound (now (marks .entry)) g r s (now (counts .exit)) ⌝ }
 {
     let rest = members::without_first(g);
     let first = g - rest;
@@ -52,8 +51,8 @@ fn wire_numbered(
     r: u64,
     wiring: forms::Wiring,
 ) -> Wired
-    requires { ⌜ (Countable (held (now marks)) (now counts) g) × (InCount n (held (now marks)) g r) × (wiring .gates + size n g ≤ n) ⌝ }
-    ensures { λ w. ⌜ NumberWired n (held (now (marks .entry))) g r wiring (w .wiring) (w .reference) (now (counts .exit)) ⌝ }
+    requires { ⌜ (Countable (now marks) (now counts) g) × (InCount n (now marks) g r) × (wiring .gates + size n g ≤ n) ⌝ }
+    ensures { λ w. ⌜ NumberWired n (now (marks .entry)) g r wiring (w .wiring) (w .reference) (now (counts .exit)) ⌝ }
 {
     if members::single(g) {
         return Wired {
@@ -79,8 +78,8 @@ fn wire_numbered(
 
 // The wiring of number r of the group `leaves`.
 pub fn wiring_of(n: usize, marks: &[u8], counts: &mut [u64], leaves: usize, r: u64) -> forms::Wiring
-    requires { ⌜ (Countable (held (now marks)) (now counts) leaves) × (InCount n (held (now marks)) leaves r) ⌝ }
-    ensures { λ w. ⌜ WiringFound n (held (now (marks .entry))) leaves r w ⌝ }
+    requires { ⌜ (Countable (now marks) (now counts) leaves) × (InCount n (now marks) leaves r) ⌝ }
+    ensures { λ w. ⌜ WiringFound n (now (marks .entry)) leaves r w ⌝ }
 {
     let none = forms::no_links();
     let built = wire_numbered(n, marks, counts, leaves, r, none);

@@ -11,7 +11,7 @@ use crate::marked;
 use crate::net;
 use answers::answer::Answer;
 use answers::outcome::Outcome;
-use marks::stored;
+use marks::own;
 use net_printing::output;
 use nets::forms::Header;
 use radix::limits;
@@ -35,17 +35,17 @@ fn tree_marked(
 {
     let levels = header.levels;
     let inputs = header.inputs;
-    let mut counts = [0u64; stored::MOST_MARKS];
-    let count = marked::count_marked(levels, inputs, inks, cells, marks, &mut counts);
+    let mut own = [0u8; own::MOST_GROUPS];
+    let mut counts = [0u64; own::MOST_GROUPS];
+    let count = marked::count_marked(levels, inputs, inks, cells, &mut own, marks, &mut counts);
     if count <= order {
         return Answer::Refused {
             number: 17,
             place: order as usize,
         };
     }
-    let need = stored::marks_length(inputs);
-    let own = &marks[0..need];
-    let net = net::family_net(levels, inputs, inks, own, &mut counts, order);
+    let end = powers::power(2, inputs);
+    let net = net::family_net(levels, inputs, inks, &own[0..end], &mut counts, order);
     output::write_sheet(s, header, net, out)
 }
 

@@ -6,22 +6,21 @@ use mathlib.Core.Logic.{_≢_}
 use mathlib.Core.Bool.{true}
 use mathlib.Core.List.{List}
 use native.Mathlib.Omega.{arith}
-use lib.ListN.{length}
+use lib.ListN.{length, take}
+use lib.Seq.{getD-take}
 use Rattle.rules.specs.Limits.{mostInputs, sizeFits}
 use Rattle.rules.specs.Sheets.{Gate}
 use Rattle.rules.specs.Groups.{size, wholeGroup}
-use Rattle.rules.specs.Marks.{markIn, marksOf, marksLength, storedMarks}
+use Rattle.rules.specs.Marks.{markIn, marksOf}
 use Rattle.rules.specs.Wirings as rules
 use Rattle.rules.specs.Wirings.{wiringBy, linksOf}
 use Rattle.rules.specs.Filling.{inputGroups, filled}
 use Rattle.rules.specs.Settled.{splitOf, settledWiring, settledGates}
 use Rattle.rules.specs.Shallow.{shallowWiring, shallowGates}
-use Rattle.rules.specs.Answers.{written}
 use Rattle.rules.specs.Kept.{IsNet}
 use Rattle.nets.specs.declared.forms.Net.{Net}
 use Rattle.nets.specs.Forms.{gatesOf}
 use Rattle.laws.specs.Sizes.{sized}
-use Rattle.marks.specs.Stored.{held, held-room, held-written}
 use Rattle.marks.specs.Splits.{split-agree}
 use Rattle.marks.specs.Fewest.{Known, shallow-agree}
 use Rattle.trees.specs.Trees.{WiringOf, EachGate}
@@ -78,22 +77,17 @@ module _ (m n : ℕ) (f : ℕ → ℕ) (fit : sizeFits m n ≡ true) (tree : rul
             (filled-computes m n (omega (arith, sized m n fit .levels-least)) (omega (arith, sized m n fit .inputs-least)) f tree of few inks .0);
       }
 
--- ---- the marks in a buffer, and the fewest layers
+-- ---- the marks in an array, and the fewest layers
 
--- a buffer that holds every group's mark
-pub record MarksIn (m n : ℕ) (f : ℕ → ℕ) (buffer : List ℕ) : Type 0 where
-  pub room : marksLength n ≤ length buffer
-  pub same : (g : ℕ) → g < 2 ^ n → markIn (held buffer) g ≡ markIn (marksOf m n f) g
+-- an array that has every group's mark at its number
+pub record MarksIn (m n : ℕ) (f : ℕ → ℕ) (marks : List ℕ) : Type 0 where
+  pub room : 2 ^ n ≤ length marks
+  pub same : (g : ℕ) → g < 2 ^ n → markIn marks g ≡ markIn (marksOf m n f) g
 
 -- as after marking
-pub marks-in : (m n : ℕ) → 0 < m → (f : ℕ → ℕ) (before after : List ℕ) → after ≡ written before (storedMarks (marksOf m n f))
-    → marksLength n ≤ length after → MarksIn m n f after
-marks-in m n pos f before after e room =
-    record {
-      room = room;
-      same = λ g g<.
-          ap (λ (l : List ℕ). markIn (held l) g) e ∙ held-written before (marksOf m n f) g (omega (arith, marks-length m n pos f));
-    }
+pub marks-in : (m n : ℕ) (f : ℕ → ℕ) (marks : List ℕ) → take (2 ^ n) marks ≡ marksOf m n f → 2 ^ n ≤ length marks → MarksIn m n f marks
+marks-in m n f marks front room =
+    record { room = room; same = λ g g<. sym (getD-take (2 ^ n) marks g 0 g<) ∙ ap (λ (l : List ℕ). markIn l g) front }
 
 -- what the shallow choice needs besides: the fewest layers of every group of mark 2
 abbrev pub LayersKnown : Choice → ℕ → List ℕ → List ℕ → Type 0
@@ -136,29 +130,29 @@ module _ (choice : Choice) (m n : ℕ) (pos : 0 < m) (f : ℕ → ℕ) where
       (member-inside n (wholeGroup n) (wholeGroup n) (λ i i< is. is)) (size-le n (wholeGroup n)) two in
       (w .0, each-gate n (ownWiring choice n (marksOf m n f)) (λ g g< two-g. two-says m n pos f g g< two-g .few) (w .0 .0) (w .1))
 
--- ---- the same choice on the marks in a buffer
+-- ---- the same choice on the marks in an array
 
-module _ (choice : Choice) (m n : ℕ) (pos : 0 < m) (f : ℕ → ℕ) (buffer fewest : List ℕ) (holds : MarksIn m n f buffer)
-    (known : LayersKnown choice n (held buffer) fewest) where
+module _ (choice : Choice) (m n : ℕ) (pos : 0 < m) (f : ℕ → ℕ) (marks fewest : List ℕ) (holds : MarksIn m n f marks)
+    (known : LayersKnown choice n marks fewest) where
   abbrev own : ℕ → ℕ
   own = ownSplit choice n (marksOf m n f)
 
   abbrev found : ℕ → ℕ
-  found = splitBy choice n (held buffer) fewest
+  found = splitBy choice n marks fewest
 
   -- the part that is found in it is the one on the marks themselves
-  found-own : (g : ℕ) → g < 2 ^ n → markIn (held buffer) g ≡ 2 → found g ≡ own g
-  found-own = elim choice as (λ c. LayersKnown c n (held buffer) fewest
-      → (g : ℕ) → g < 2 ^ n → markIn (held buffer) g ≡ 2 → splitBy c n (held buffer) fewest g ≡ ownSplit c n (marksOf m n f) g) [
-        | Settled ↦ λ _ g g< two. split-agree n (held buffer) (marksOf m n f) g (λ a a<. holds .same a (omega arith))
-        | Shallow ↦ λ layers g g< two. shallow-agree n (held buffer) (marksOf m n f) (holds .same) fewest (layers .1) g g< two
+  found-own : (g : ℕ) → g < 2 ^ n → markIn marks g ≡ 2 → found g ≡ own g
+  found-own = elim choice as (λ c. LayersKnown c n marks fewest
+      → (g : ℕ) → g < 2 ^ n → markIn marks g ≡ 2 → splitBy c n marks fewest g ≡ ownSplit c n (marksOf m n f) g) [
+        | Settled ↦ λ _ g g< two. split-agree n marks (marksOf m n f) g (λ a a<. holds .same a (omega arith))
+        | Shallow ↦ λ layers g g< two. shallow-agree n marks (marksOf m n f) (holds .same) fewest (layers .1) g g< two
       ] known
 
   -- it parts a group of mark 2 into two of mark 2
-  split-held : (g : ℕ) → g < 2 ^ n → markIn (held buffer) g ≡ 2 → size n g ≢ 1 → Split n (markIn (held buffer)) g (found g)
-  split-held g g< two several =
+  split-found : (g : ℕ) → g < 2 ^ n → markIn marks g ≡ 2 → size n g ≢ 1 → Split n (markIn marks) g (found g)
+  split-found g g< two several =
       let half = own-splits choice m n pos f g g g< (member-inside n g g (λ i i< is. is)) (sym (holds .same g g<) ∙ two) several in
-      subst⁻¹ (Split n (markIn (held buffer)) g) (found-own g g< two)
+      subst⁻¹ (Split n (markIn marks) g) (found-own g g< two)
       (record {
         part = half .part;
         some = half .some;
@@ -168,19 +162,19 @@ module _ (choice : Choice) (m n : ℕ) (pos : 0 < m) (f : ℕ → ℕ) (buffer f
       })
 
   -- so a group of mark 2 can be wired from it, ..
-  pub choosable : (inputs : n ≤ mostInputs) (leaves : ℕ) → leaves < 2 ^ n → marked m n pos f leaves ≡ 2 → Choosable n (held buffer) found leaves
+  pub choosable : (inputs : n ≤ mostInputs) (leaves : ℕ) → leaves < 2 ^ n → marked m n pos f leaves ≡ 2 → Choosable n marks found leaves
   choosable inputs leaves leaves< two =
       record {
         inputs = inputs;
-        room = held-room buffer n (holds .room);
+        room = holds .room;
         below = leaves<;
         two = holds .same leaves leaves< ∙ two;
-        splits = λ g g< g-in two-g several. split-held g g< two-g several;
+        splits = λ g g< g-in two-g several. split-found g g< two-g several;
       }
 
   -- .. and the wiring of all inputs is the one from the marks themselves
-  wiring-held : marked m n pos f (wholeGroup n) ≡ 2 → wiringBy n found n (wholeGroup n) ≡ ownWiring choice n (marksOf m n f)
-  wiring-held two =
+  wiring-found : marked m n pos f (wholeGroup n) ≡ 2 → wiringBy n found n (wholeGroup n) ≡ ownWiring choice n (marksOf m n f)
+  wiring-found two =
       sym (wiring-agree n (marked m n pos f) (wholeGroup n) own (own-splits choice m n pos f (wholeGroup n)) found
       (λ g g< two-g. sym (found-own g g< (holds .same g g< ∙ two-g))) n (wholeGroup n) (whole-below n)
       (member-inside n (wholeGroup n) (wholeGroup n) (λ i i< is. is)) two)
@@ -188,14 +182,14 @@ module _ (choice : Choice) (m n : ℕ) (pos : 0 < m) (f : ℕ → ℕ) (buffer f
 -- ---- the net
 
 -- the wiring that is chosen for a table that has a tree
-module _ (choice : Choice) (m n : ℕ) (f : ℕ → ℕ) (fit : sizeFits m n ≡ true) (two : markIn (marksOf m n f) (wholeGroup n) ≡ 2) (buffer fewest : List ℕ)
-    (holds : MarksIn m n f buffer) (known : LayersKnown choice n (held buffer) fewest) (w : Wiring)
-    (chosen : Chosen n (splitBy choice n (held buffer) fewest) (wholeGroup n) w) where
+module _ (choice : Choice) (m n : ℕ) (f : ℕ → ℕ) (fit : sizeFits m n ≡ true) (two : markIn (marksOf m n f) (wholeGroup n) ≡ 2) (marks fewest : List ℕ)
+    (holds : MarksIn m n f marks) (known : LayersKnown choice n marks fewest) (w : Wiring)
+    (chosen : Chosen n (splitBy choice n marks fewest) (wholeGroup n) w) where
   pos : 0 < m
   pos = omega (arith, sized m n fit .levels-least)
 
   links-are : linksIn w ≡ linksOf n 0 (ownWiring choice n (marksOf m n f))
-  links-are = chosen .links ∙ ap (linksOf n 0) (wiring-held choice m n pos f buffer fewest holds known two)
+  links-are = chosen .links ∙ ap (linksOf n 0) (wiring-found choice m n pos f marks fewest holds known two)
 
   pub chosen-count : w .gates + 1 ≡ n
   chosen-count = chosen .count ∙ size-whole n

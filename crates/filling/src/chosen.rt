@@ -7,7 +7,6 @@ ghost use Rattle.rules.specs.Limits.{sizeFits};
 ghost use Rattle.rules.specs.Groups.{wholeGroup};
 ghost use Rattle.rules.specs.Marks.{markIn, marksOf};
 ghost use Rattle.rules.specs.Answers.{inkIn};
-ghost use Rattle.marks.specs.Stored.{held};
 ghost use Rattle.filling.specs.MadeNet.{LayersKnown, MarksIn, MadeNet};
 use crate::fill;
 use nets::forms;
@@ -26,7 +25,7 @@ pub fn chosen_net(
 ) -> forms::Net
     requires { ⌜ (sizeFits m n ≡ true) × (m ^ n ≤ length (now cells)) × ((p : ℕ) → p < m ^ n → inkIn (now cells) p < m)
         × (MarksIn m n (inkIn (now cells)) (now marks)) × (markIn (marksOf m n (inkIn (now cells))) (wholeGroup n) ≡ 2)
-        × (LayersKnown choice n (held (now marks)) (now fewest)) ⌝ }
+        × (LayersKnown choice n (now marks) (now fewest)) ⌝ }
     ensures { λ r. ⌜ MadeNet choice m n (inkIn (now (cells .entry))) r ⌝ }
 {
     let wiring = choose::choose(choice, n, marks, fewest, powers::power(2, n) - 1);

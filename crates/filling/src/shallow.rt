@@ -11,7 +11,7 @@ ghost use Rattle.wirings.specs.declared.choice.Choice.the-variants.{Shallow};
 ghost use Rattle.filling.specs.MadeNet.{MarksIn, MadeNet};
 use crate::chosen;
 use marks::layers;
-use marks::stored;
+use marks::own;
 use nets::forms;
 use wirings::choice::Choice;
 
@@ -21,7 +21,7 @@ pub fn shallow_net(m: usize, n: usize, cells: &[u8], marks: &[u8]) -> forms::Net
         × (MarksIn m n (inkIn (now cells)) (now marks)) × (markIn (marksOf m n (inkIn (now cells))) (wholeGroup n) ≡ 2) ⌝ }
     ensures { λ r. ⌜ MadeNet Shallow m n (inkIn (now (cells .entry))) r ⌝ }
 {
-    let mut fewest = [0u8; stored::MOST_MARKS];
+    let mut fewest = [0u8; own::MOST_GROUPS];
     layers::fewest_layers(n, marks, &mut fewest);
     chosen::chosen_net(Choice::Shallow, m, n, cells, marks, &fewest)
 }

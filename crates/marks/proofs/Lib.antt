@@ -1,3 +1,3 @@
-pub mod Passing
+pub mod Packing
 pub mod Searching
 pub mod Scanning

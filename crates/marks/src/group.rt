@@ -7,7 +7,6 @@ ghost use Rattle.rules.specs.Marks.{markOf};
 ghost use Rattle.rules.specs.Answers.{inkIn};
 ghost use Rattle.groups.specs.Within.{Room};
 ghost use Rattle.marks.specs.Rule.{fewMark};
-ghost use Rattle.marks.specs.Stored.{held};
 ghost use Rattle.radix.specs.Widths.{groupsEnd};
 use crate::split;
 use groups::classes;
@@ -16,8 +15,8 @@ use radix::members;
 
 // The mark of a group that has at most m classes, from the marks of the groups below it.
 pub fn few_mark(marks: &[u8], g: usize) -> u8
-    requires { ⌜ (0 < g) × (g < groupsEnd) × (g ≤ length (held (now marks))) ⌝ }
-    ensures { λ r. ⌜ ((n : ℕ) → g < 2 ^ n → r ≡ fewMark n (held (now (marks .entry))) g) ⌝ }
+    requires { ⌜ (0 < g) × (g < groupsEnd) × (g ≤ length (now marks)) ⌝ }
+    ensures { λ r. ⌜ ((n : ℕ) → g < 2 ^ n → r ≡ fewMark n (now (marks .entry)) g) ⌝ }
 {
     if members::without_first(g) == 0 {
         return 2;
@@ -39,8 +38,8 @@ pub fn mark_group(
     ys: &mut [u16],
     marks: &[u8],
 ) -> u8
-    requires { ⌜ (Room m n (now cells) (now xs) (now ys)) × (m ≤ mostLevels) × (g < 2 ^ n) × (g ≤ length (held (now marks))) ⌝ }
-    ensures { λ r. ⌜ r ≡ markOf m n (inkIn (now (cells .entry))) (held (now (marks .entry))) g ⌝ }
+    requires { ⌜ (Room m n (now cells) (now xs) (now ys)) × (m ≤ mostLevels) × (g < 2 ^ n) × (g ≤ length (now marks)) ⌝ }
+    ensures { λ r. ⌜ r ≡ markOf m n (inkIn (now (cells .entry))) (now (marks .entry)) g ⌝ }
 {
     if g == 0 {
         return 0;

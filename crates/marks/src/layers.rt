@@ -6,11 +6,10 @@ ghost use lib.Dec.{eqb};
 ghost use lib.ListN.{length, getD};
 ghost use Rattle.rules.specs.Marks.{markIn};
 ghost use Rattle.rules.specs.Shallow.{splitLayers, fewestOf, shallowSplit};
-ghost use Rattle.marks.specs.Stored.{held};
 ghost use Rattle.marks.specs.Fewest.{Fewer, layersOf, Known};
 ghost use Rattle.radix.specs.Widths.{groupsEnd, mostMembers};
+use crate::own;
 use crate::split;
-use crate::stored;
 use radix::members;
 use radix::powers;
 
@@ -29,8 +28,8 @@ fn split_layers(fewest: &[u8], g: usize, a: usize) -> usize
 
 // The least of `least` and the layers by part a, if a and the rest of g have mark 2. A least of 0 stands for none yet.
 fn fewer_by(marks: &[u8], fewest: &[u8], g: usize, a: usize, least: usize) -> usize
-    requires { ⌜ (0 < a) × (a < g) × (g ≤ length (held (now marks))) × (g ≤ length (now fewest)) ⌝ }
-    ensures { λ r. ⌜ Fewer (held (now (marks .entry))) (now (fewest .entry)) g a least r ⌝ }
+    requires { ⌜ (0 < a) × (a < g) × (g ≤ length (now marks)) × (g ≤ length (now fewest)) ⌝ }
+    ensures { λ r. ⌜ Fewer (now (marks .entry)) (now (fewest .entry)) g a least r ⌝ }
 {
     if split::both_two(marks, g, a) {
         let layers = split_layers(fewest, g, a);
@@ -46,8 +45,8 @@ fn fewer_by(marks: &[u8], fewest: &[u8], g: usize, a: usize, least: usize) -> us
 
 // The fewest layers of group g, from those of the groups below it. Goes through the parts that hold its first-listed input.
 fn fewest_of(marks: &[u8], fewest: &[u8], g: usize) -> usize
-    requires { ⌜ (0 < g) × (g < groupsEnd) × (g ≤ length (held (now marks))) × (g ≤ length (now fewest)) ⌝ }
-    ensures { λ r. ⌜ ((n : ℕ) → g < 2 ^ n → r ≡ fewestOf n (held (now (marks .entry))) (now (fewest .entry)) g) ⌝ }
+    requires { ⌜ (0 < g) × (g < groupsEnd) × (g ≤ length (now marks)) × (g ≤ length (now fewest)) ⌝ }
+    ensures { λ r. ⌜ ((n : ℕ) → g < 2 ^ n → r ≡ fewestOf n (now (marks .entry)) (now (fewest .entry)) g) ⌝ }
 {
     let rest = members::without_first(g);
     let first = g - rest;
@@ -62,13 +61,13 @@ fn fewest_of(marks: &[u8], fewest: &[u8], g: usize) -> usize
 
 // The same where g has mark 2; no other group is a part, and 0 will do.
 fn layers_of(marks: &[u8], fewest: &[u8], g: usize) -> usize
-    requires { ⌜ (g < groupsEnd) × (g < length (held (now marks))) × (g ≤ length (now fewest)) ⌝ }
-    ensures { λ r. ⌜ ((n : ℕ) → g < 2 ^ n → r ≡ layersOf n (held (now (marks .entry))) (now (fewest .entry)) g) ⌝ }
+    requires { ⌜ (g < groupsEnd) × (g < length (now marks)) × (g ≤ length (now fewest)) ⌝ }
+    ensures { λ r. ⌜ ((n : ℕ) → g < 2 ^ n → r ≡ layersOf n (now (marks .entry)) (now (fewest .entry)) g) ⌝ }
 {
     if g == 0 {
         return 0;
     }
-    if stored::mark_at(marks, g) != 2 {
+    if own::mark_at(marks, g) != 2 {
         return 0;
     }
     fewest_of(marks, fewest, g)
@@ -76,8 +75,8 @@ fn layers_of(marks: &[u8], fewest: &[u8], g: usize) -> usize
 
 // Writes the fewest layers of every group of mark 2 to its number.
 pub fn fewest_layers(n: usize, marks: &[u8], fewest: &mut [u8])
-    requires { ⌜ (n ≤ mostMembers) × (2 ^ n ≤ length (held (now marks))) × (2 ^ n ≤ length (now fewest)) ⌝ }
-    ensures { λ _. ⌜ Known n (held (now (marks .entry))) (2 ^ n) (now (fewest .exit)) ⌝ }
+    requires { ⌜ (n ≤ mostMembers) × (2 ^ n ≤ length (now marks)) × (2 ^ n ≤ length (now fewest)) ⌝ }
+    ensures { λ _. ⌜ Known n (now (marks .entry)) (2 ^ n) (now (fewest .exit)) ⌝ }
 {
     let end = powers::power(2, n);
     let mut g: usize = 0;
@@ -90,8 +89,8 @@ pub fn fewest_layers(n: usize, marks: &[u8], fewest: &mut [u8])
 
 // Has a mark 2, and the rest of g, and do the two keep g shallowest?
 fn keeps(marks: &[u8], fewest: &[u8], g: usize, a: usize) -> bool
-    requires { ⌜ (0 < a) × (a < g) × (g ≤ length (held (now marks))) × (g < length (now fewest)) ⌝ }
-    ensures { λ r. ⌜ r ≡ (eqb (markIn (held (now (marks .entry))) a) 2 && eqb (markIn (held (now (marks .entry))) (g - a)) 2
+    requires { ⌜ (0 < a) × (a < g) × (g ≤ length (now marks)) × (g < length (now fewest)) ⌝ }
+    ensures { λ r. ⌜ r ≡ (eqb (markIn (now (marks .entry)) a) 2 && eqb (markIn (now (marks .entry)) (g - a)) 2
         && eqb (splitLayers (now (fewest .entry)) g a) (getD (now (fewest .entry)) g 0)) ⌝ }
 {
     if split::both_two(marks, g, a) {
@@ -103,8 +102,8 @@ fn keeps(marks: &[u8], fewest: &[u8], g: usize, a: usize) -> bool
 // The part A of lowest number that holds g's first-listed input and keeps g shallowest, where A and the rest have mark 2; g
 // itself where there is none.
 pub fn shallow_split(marks: &[u8], fewest: &[u8], g: usize) -> usize
-    requires { ⌜ (0 < g) × (g < groupsEnd) × (g ≤ length (held (now marks))) × (g < length (now fewest)) ⌝ }
-    ensures { λ r. ⌜ ((n : ℕ) → g < 2 ^ n → r ≡ shallowSplit n (held (now (marks .entry))) (now (fewest .entry)) g) ⌝ }
+    requires { ⌜ (0 < g) × (g < groupsEnd) × (g ≤ length (now marks)) × (g < length (now fewest)) ⌝ }
+    ensures { λ r. ⌜ ((n : ℕ) → g < 2 ^ n → r ≡ shallowSplit n (now (marks .entry)) (now (fewest .entry)) g) ⌝ }
 {
     let rest = members::without_first(g);
     let first = g - rest;

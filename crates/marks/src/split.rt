@@ -6,27 +6,26 @@ ghost use lib.Dec.{eqb};
 ghost use lib.ListN.{length};
 ghost use Rattle.rules.specs.Marks.{markIn};
 ghost use Rattle.rules.specs.Settled.{splitOf};
-ghost use Rattle.marks.specs.Stored.{held};
 ghost use Rattle.radix.specs.Widths.{groupsEnd};
-use crate::stored;
+use crate::own;
 use radix::members;
 
 // Have a and the rest of g both mark 2?
 pub fn both_two(marks: &[u8], g: usize, a: usize) -> bool
-    requires { ⌜ (0 < a) × (a < g) × (g ≤ length (held (now marks))) ⌝ }
-    ensures { λ r. ⌜ r ≡ (eqb (markIn (held (now (marks .entry))) a) 2 && eqb (markIn (held (now (marks .entry))) (g - a)) 2) ⌝ }
+    requires { ⌜ (0 < a) × (a < g) × (g ≤ length (now marks)) ⌝ }
+    ensures { λ r. ⌜ r ≡ (eqb (markIn (now (marks .entry)) a) 2 && eqb (markIn (now (marks .entry)) (g - a)) 2) ⌝ }
 {
-    if stored::mark_at(marks, a) != 2 {
+    if own::mark_at(marks, a) != 2 {
         return false;
     }
-    stored::mark_at(marks, g - a) == 2
+    own::mark_at(marks, g - a) == 2
 }
 
 // The part A of lowest number that holds g's first-listed input, where A and the rest have mark 2; g itself where there is none.
 // Goes through the parts of the other members, in rising order.
 pub fn split_of(marks: &[u8], g: usize) -> usize
-    requires { ⌜ (0 < g) × (g < groupsEnd) × (g ≤ length (held (now marks))) ⌝ }
-    ensures { λ r. ⌜ ((n : ℕ) → g < 2 ^ n → r ≡ splitOf n (held (now (marks .entry))) g) ⌝ }
+    requires { ⌜ (0 < g) × (g < groupsEnd) × (g ≤ length (now marks)) ⌝ }
+    ensures { λ r. ⌜ ((n : ℕ) → g < 2 ^ n → r ≡ splitOf n (now (marks .entry)) g) ⌝ }
 {
     let rest = members::without_first(g);
     let first = g - rest;

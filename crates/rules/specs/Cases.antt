@@ -13,7 +13,7 @@ use Rattle.rules.specs.Text.{newline, text, isDigit}
 use Rattle.rules.specs.Limits.{sizeFits}
 use Rattle.rules.specs.Sheets.{Net, Table, levelsAt}
 use Rattle.rules.specs.Printed.{printedTable}
-use Rattle.rules.specs.Marks.{markIn, marksOf}
+use Rattle.rules.specs.Marks.{markIn, marksOf, storedMarks, markStored}
 use Rattle.rules.specs.Answers.{Answer, accepted, refused, onward, inkIn}
 use Rattle.rules.specs.Reading.{readNet, tableOfNet}
 use Rattle.rules.specs.Multiplicity.{multiplicityCall}
@@ -106,7 +106,7 @@ pub data Case : Type 0 where
   settles : String → String → Case
   makes : Table → String → Case
   computes : String → Table → Case
-  marks : Table → List ℕ → Case
+  marks : Table → List ℕ → List ℕ → Case
   mark : Table → ℕ → ℕ → Case
   multiplicity : Table → ℕ → ℕ → Case
   refuses : String → ℕ → ℕ → Case
@@ -128,9 +128,9 @@ Holds (settles sheet output) = settleProgram (paper sheet) ≡ paper output
 Holds (makes t output) = makeProgram (printedTable t) ≡ paper output
 -- an accepted net sheet has this table
 Holds (computes sheet t) = onward (readNet (paper sheet)) (λ net. accepted (tableOfNet net)) ≡ accepted t
--- all marks, one group's mark, one group's multiplicity
-Holds (marks t due) = marksOfTable t ≡ due
-Holds (mark t g due) = markIn (marksOfTable t) g ≡ due
+-- all marks, and the bytes that they are stored as (document 02, K7); one group's mark, and so in those bytes; one group's multiplicity
+Holds (marks t due bytes) = (marksOfTable t ≡ due) × (storedMarks (marksOfTable t) ≡ bytes)
+Holds (mark t g due) = (markIn (marksOfTable t) g ≡ due) × (markStored (storedMarks (marksOfTable t)) g ≡ due)
 Holds (multiplicity t g due) = multiplicityCall (t .header .levels) (t .header .inputs) (t .inks) g ≡ accepted due
 -- a net sheet is turned back, or accepted, with so many gates
 Holds (refuses sheet number place) = gateCount (readNet (paper sheet)) ≡ refused number place
@@ -148,7 +148,7 @@ starred =
     ∷ settles "levels inputs/2 3/a b c/left right table/a b 0110/1 c 0110/" "levels inputs/2 3/a b c/left right table/b c 0110/a 1 0110/"
     ∷ settles "levels inputs/2 3/a b c/left right table/b c 1001/a 1 1001/" "levels inputs/2 3/a b c/left right table/b c 0110/a 1 0110/"
     ∷ makes zeroTable "levels inputs/2 3/a b c/left right table/b c 0000/a 1 0000/"
-    ∷ marks majority (0 ∷ 2 ∷ 2 ∷ 0 ∷ 2 ∷ 0 ∷ 0 ∷ 1 ∷ [])
+    ∷ marks majority (0 ∷ 2 ∷ 2 ∷ 0 ∷ 2 ∷ 0 ∷ 0 ∷ 1 ∷ []) (0x28 ∷ 0x42 ∷ [])
     ∷ makes majority "number place/16 7/"
     ∷ makes twoNotZero "levels inputs/3 3/a b c/left right table/b c 011122122/a 1 001011011/"
     ∷ multiplicity seven 7 3
@@ -164,7 +164,7 @@ starred =
 pub starred-hold : AllHold starred
 unfolding computing lineEnds paper digits named byRule abc abcd oneIf zeroTable majority twoNotZero seven figureRows figure marksOfTable
 starred-hold =
-    (refl, (refl, (refl, (refl, (refl, (refl, (refl, (refl, (refl, (refl, (refl, (refl, (refl, (refl, (refl, tt)))))))))))))))
+    (refl, (refl, (refl, (refl, ((refl, refl), (refl, (refl, (refl, ((refl, refl), ((refl, refl), ((refl, refl), ((refl, refl), (refl, (refl, (refl, tt)))))))))))))))
 
 -- Cases 9 and 10, which the document leaves to tests. "2 with 12, 4 with 6, 5 with 5, 7 with 4 and 8 with 4 come in. Refusals 3 and 9 and case 10 move
 -- with it; 2 with 13 is the new refused side." (document 02, K6)

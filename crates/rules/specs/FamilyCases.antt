@@ -71,20 +71,20 @@ unfoldable pub nines : ℕ → List ℕ
 nines k = replicate k 9
 
 -- "A table with no tree gets count 0, never 16.": accepted, with the cells and marks written, and further bytes kept
-pub none-counted : familyCountCall (printedTable majority) (nines 9) (nines 10)
-    ≡ record { answer = accepted 0; cells = 0 ∷ 0 ∷ 0 ∷ 1 ∷ 0 ∷ 1 ∷ 1 ∷ 1 ∷ 9 ∷ []; marks = 0 ∷ 2 ∷ 2 ∷ 0 ∷ 2 ∷ 0 ∷ 0 ∷ 1 ∷ 9 ∷ 9 ∷ [] }
+pub none-counted : familyCountCall (printedTable majority) (nines 9) (nines 4)
+    ≡ record { answer = accepted 0; cells = 0 ∷ 0 ∷ 0 ∷ 1 ∷ 0 ∷ 1 ∷ 1 ∷ 1 ∷ 9 ∷ []; marks = 0x28 ∷ 0x42 ∷ 9 ∷ 9 ∷ [] }
 unfolding computing nines majority abc byRule named oneIf
 none-counted = refl
 
-pub three-counted : familyCountCall (printedTable zeroTable) (nines 8) (nines 8)
-    ≡ record { answer = accepted 3; cells = replicate 8 0; marks = 0 ∷ replicate 7 2 }
+pub three-counted : familyCountCall (printedTable zeroTable) (nines 8) (nines 2)
+    ≡ record { answer = accepted 3; cells = replicate 8 0; marks = 0xa8 ∷ 0xaa ∷ [] }
 unfolding computing nines zeroTable abc byRule named
 three-counted = refl
 
 -- the sheet of a number, of all ink 0 over a b c
 abbrev Writes : ℕ → String → Type 0
 Writes number sheet =
-    let made = familyTreeCall (printedTable zeroTable) number (nines 8) (nines 8) (nines 64) in
+    let made = familyTreeCall (printedTable zeroTable) number (nines 8) (nines 2) (nines 64) in
     (made .answer ≡ accepted 59) × (take 59 (made .output) ≡ paper sheet)
 
 -- "writes the tree of that number, from 0"; "number 0 is the settled net" (starred case 4)

@@ -1,6 +1,6 @@
 -- Document 01, section 'Marks'.
 -- Assumes nothing.
-use Prim.Native.Nat.{ℕ, zero, suc, _+_, _-_, _^_}
+use Prim.Native.Nat.{ℕ, zero, suc, _+_, _-_, _*_, _/_, _%_, _^_}
 use mathlib.Core.Bool.{Bool, true, false, not, _&&_, _||_}
 use mathlib.Core.Option.{none, some}
 use mathlib.Core.List.{List, [], _∷_, _++_}
@@ -39,13 +39,29 @@ marksBelow m n f (suc count) = let marks = marksBelow m n f count in marks ++ (m
 unfoldable pub marksOf : ℕ → ℕ → (ℕ → ℕ) → List ℕ
 marksOf m n f = marksBelow m n f (2 ^ n)
 
--- How marks are stored: "one byte, at its number". The length needed, and the bytes.
-unfoldable pub marksLength : ℕ → ℕ
-marksLength n = 2 ^ n
+-- ---- how marks are stored
 
--- one byte is the mark itself
+-- "The length needed is 2 to the n, divided by 4" (document 02, K7)
+unfoldable pub marksLength : ℕ → ℕ
+marksLength n = 2 ^ n / 4
+
+-- "Marks are packed four to a byte, group 0 in the lowest two bits of byte 0." (document 02, K7) Fewer than four left over have no byte; the
+-- groups are a multiple of four.
 unfoldable pub storedMarks : List ℕ → List ℕ
-storedMarks marks = marks
+storedMarks [] = []
+storedMarks (a ∷ []) = []
+storedMarks (a ∷ b ∷ []) = []
+storedMarks (a ∷ b ∷ c ∷ []) = []
+storedMarks (a ∷ b ∷ c ∷ d ∷ marks) = (a + 4 * b + 16 * c + 64 * d) ∷ storedMarks marks
+
+-- the mark of group g in stored bytes: two bits of byte g / 4
+unfoldable pub markStored : List ℕ → ℕ → ℕ
+markStored bytes g = getD bytes (g / 4) 0 / 4 ^ (g % 4) % 4
+
+-- all marks of stored bytes
+unfoldable pub unpacked : List ℕ → List ℕ
+unpacked [] = []
+unpacked (byte ∷ bytes) = byte % 4 ∷ byte / 4 % 4 ∷ byte / 16 % 4 ∷ byte / 64 % 4 ∷ unpacked bytes
 
 -- the groups, those of fewest members first, then of lowest number
 unfoldable pub bySize : ℕ → List ℕ
@@ -57,5 +73,5 @@ noTreePlace n marks = elim (find (λ g. eqb (markIn marks g) 1) (bySize n)) [ no
 
 -- all of this file computes
 unfoldable pub computing : Unit {0}
-unfolding inside partsAt markOf marksBelow marksOf marksLength storedMarks bySize noTreePlace
+unfolding inside partsAt markOf marksBelow marksOf marksLength storedMarks markStored unpacked bySize noTreePlace
 computing = tt

@@ -56,18 +56,18 @@ unfolding computing noTree
 cells-before-marks = refl
 
 -- marks and output empty, and no tree
-pub marks-before-tree : makeCall (printedTable noTree) (nines 8) [] [] ≡ record { answer = refused 14 8; cells = nines 8; marks = []; output = [] }
+pub marks-before-tree : makeCall (printedTable noTree) (nines 8) [] [] ≡ record { answer = refused 14 2; cells = nines 8; marks = []; output = [] }
 unfolding computing noTree nines
 marks-before-tree = refl
 
 -- the output empty, and no tree
-pub tree-before-output : makeCall (printedTable noTree) (nines 8) (nines 8) []
-    ≡ record { answer = refused 16 7; cells = noTree .inks; marks = 0 ∷ 2 ∷ 2 ∷ 0 ∷ 2 ∷ 0 ∷ 0 ∷ 1 ∷ []; output = [] }
+pub tree-before-output : makeCall (printedTable noTree) (nines 8) (nines 2) []
+    ≡ record { answer = refused 16 7; cells = noTree .inks; marks = 0x28 ∷ 0x42 ∷ []; output = [] }
 unfolding computing noTree nines
 tree-before-output = refl
 
 -- marks and output empty, with a tree
-pub marks-before-output : settleCall (printedNet oneGate) (nines 4) [] [] ≡ record { answer = refused 14 4; cells = nines 4; marks = []; output = [] }
+pub marks-before-output : settleCall (printedNet oneGate) (nines 4) [] [] ≡ record { answer = refused 14 1; cells = nines 4; marks = []; output = [] }
 unfolding computing oneGate nines
 marks-before-output = refl
 
@@ -79,13 +79,13 @@ unfolding computing noTree
 counting-cells-before-marks = refl
 
 -- marks and output empty, and no tree of the number
-pub marks-before-number : familyTreeCall (printedTable noTree) 0 (nines 8) [] [] ≡ record { answer = refused 14 8; cells = nines 8; marks = []; output = [] }
+pub marks-before-number : familyTreeCall (printedTable noTree) 0 (nines 8) [] [] ≡ record { answer = refused 14 2; cells = nines 8; marks = []; output = [] }
 unfolding computing noTree nines
 marks-before-number = refl
 
 -- the output empty, and no tree of the number; "it takes the place of 16 .. and leaves what 16 leaves"
-pub number-before-output : familyTreeCall (printedTable noTree) 0 (nines 8) (nines 8) []
-    ≡ record { answer = refused 17 0; cells = noTree .inks; marks = 0 ∷ 2 ∷ 2 ∷ 0 ∷ 2 ∷ 0 ∷ 0 ∷ 1 ∷ []; output = [] }
+pub number-before-output : familyTreeCall (printedTable noTree) 0 (nines 8) (nines 2) []
+    ≡ record { answer = refused 17 0; cells = noTree .inks; marks = 0x28 ∷ 0x42 ∷ []; output = [] }
 unfolding computing noTree nines
 number-before-output = refl
 

@@ -99,11 +99,11 @@ pub data Example : Type 0 where
   group : (m n : ℕ) (cells : String) (g number place : ℕ) → Example
   marking : (m n : ℕ) (cells : String) (marks number place : ℕ) → Example
   check : (net-sheet table-sheet : String) (cells number place : ℕ) → Example
-  settle : (sheet : String) (cells marks output number place : ℕ) (cells-then marks-then : String) → Example
-  make : (sheet : String) (cells marks output number place : ℕ) (cells-then marks-then : String) → Example
+  settle : (sheet : String) (cells marks output number place : ℕ) (cells-then : String) (marks-then : List ℕ) → Example
+  make : (sheet : String) (cells marks output number place : ℕ) (cells-then : String) (marks-then : List ℕ) → Example
   write : (sheet : String) (output number place : ℕ) → Example
-  count : (sheet : String) (cells marks number place : ℕ) (cells-then marks-then : String) → Example
-  tree : (sheet : String) (order cells marks output number place : ℕ) (cells-then marks-then : String) → Example
+  count : (sheet : String) (cells marks number place : ℕ) (cells-then : String) (marks-then : List ℕ) → Example
+  tree : (sheet : String) (order cells marks output number place : ℕ) (cells-then : String) (marks-then : List ℕ) → Example
   arrival : (sheet : String) (number place : ℕ) → Example
 
 -- The common statement: a call's whole result, its answer and every buffer lent to it.
@@ -126,7 +126,7 @@ Comes (settle sheet cells marks output number place cells-then marks-then) =
     ≡ record {
       answer = refused number place;
       cells = digits (text cells-then);
-      marks = digits (text marks-then);
+      marks = marks-then;
       output = nines output;
     }
 Comes (make sheet cells marks output number place cells-then marks-then) =
@@ -134,7 +134,7 @@ Comes (make sheet cells marks output number place cells-then marks-then) =
     ≡ record {
       answer = refused number place;
       cells = digits (text cells-then);
-      marks = digits (text marks-then);
+      marks = marks-then;
       output = nines output;
     }
 -- table writing
@@ -143,13 +143,13 @@ Comes (write sheet output number place) =
 -- the count of the trees, which has no output; the tree of an order number
 Comes (count sheet cells marks number place cells-then marks-then) =
     familyCountCall (paper sheet) (nines cells) (nines marks)
-    ≡ record { answer = refused number place; cells = digits (text cells-then); marks = digits (text marks-then) }
+    ≡ record { answer = refused number place; cells = digits (text cells-then); marks = marks-then }
 Comes (tree sheet order cells marks output number place cells-then marks-then) =
     familyTreeCall (paper sheet) order (nines cells) (nines marks) (nines output)
     ≡ record {
       answer = refused number place;
       cells = digits (text cells-then);
-      marks = digits (text marks-then);
+      marks = marks-then;
       output = nines output;
     }
 -- an arrival sheet for the inputs a and b, turned back by the one call that takes one
@@ -214,27 +214,27 @@ refusals =
     ∷ check "levels inputs/2 3/a b c/left right table/a b 0001/1 c 0001/" "levels inputs/2 2/a b ink/0 0 0/0 1 0/1 0 0/1 1 1/" 4 12 0
     ∷ check "levels inputs/3 2/a b/left right table/a b 000011012/" "levels inputs/2 2/a b ink/0 0 0/0 1 0/1 0 0/1 1 1/" 0 12 0
     -- 13: the cells buffer
-    ∷ settle "levels inputs/2 2/a b/left right table/a b 0001/" 3 4 48 13 4 "999" "9999"
-    ∷ make "levels inputs/2 2/a b ink/0 0 0/0 1 0/1 0 0/1 1 1/" 3 3 0 13 4 "999" "999"
+    ∷ settle "levels inputs/2 2/a b/left right table/a b 0001/" 3 1 48 13 4 "999" (nines 1)
+    ∷ make "levels inputs/2 2/a b ink/0 0 0/0 1 0/1 0 0/1 1 1/" 3 0 0 13 4 "999" []
     ∷ check "levels inputs/2 2/a b/left right table/a b 0001/" "levels inputs/2 2/a b ink/0 0 0/0 1 0/1 0 0/1 1 1/" 3 13 4
-    ∷ count "levels inputs/2 2/a b ink/0 0 0/0 1 0/1 0 0/1 1 1/" 3 3 13 4 "999" "999"
+    ∷ count "levels inputs/2 2/a b ink/0 0 0/0 1 0/1 0 0/1 1 1/" 3 0 13 4 "999" []
     -- 14: the marks buffer
-    ∷ settle "levels inputs/2 2/a b/left right table/a b 0001/" 4 3 48 14 4 "9999" "999"
-    ∷ tree "levels inputs/2 2/a b ink/0 0 0/0 1 0/1 0 0/1 1 1/" 1 4 3 0 14 4 "9999" "999"
-    ∷ marking 2 2 "0001" 3 14 4
+    ∷ settle "levels inputs/2 2/a b/left right table/a b 0001/" 4 0 48 14 1 "9999" []
+    ∷ tree "levels inputs/2 2/a b ink/0 0 0/0 1 0/1 0 0/1 1 1/" 1 4 0 0 14 1 "9999" []
+    ∷ marking 2 4 "0101011001101010" 3 14 4
     -- 15: the output
-    ∷ settle "levels inputs/2 2/a b/left right table/a b 0001/" 5 6 47 15 48 "00019" "022299"
+    ∷ settle "levels inputs/2 2/a b/left right table/a b 0001/" 5 3 47 15 48 "00019" (0xa8 ∷ 9 ∷ 9 ∷ [])
     ∷ write "levels inputs/2 2/a b/left right table/a b 0001/" 49 15 50
-    ∷ tree "levels inputs/2 2/a b ink/0 0 0/0 1 0/1 0 0/1 1 1/" 0 4 4 47 15 48 "0001" "0222"
+    ∷ tree "levels inputs/2 2/a b ink/0 0 0/0 1 0/1 0 0/1 1 1/" 0 4 1 47 15 48 "0001" (0xa8 ∷ [])
     -- 16: no tree, whatever the output; the whole group has mark 1 too, but more members
-    ∷ make "levels inputs/2 3/a b c ink/0 0 0 0/0 0 1 0/0 1 0 0/0 1 1 1/1 0 0 0/1 0 1 1/1 1 0 1/1 1 1 1/" 9 9 0 16 7 "000101119" "022020019"
+    ∷ make "levels inputs/2 3/a b c ink/0 0 0 0/0 0 1 0/0 1 0 0/0 1 1 1/1 0 0 0/1 0 1 1/1 1 0 1/1 1 1 1/" 9 3 0 16 7 "000101119" (0x28 ∷ 0x42 ∷ 9 ∷ [])
     ∷ make
     "levels inputs/2 4/a b c d ink/0 0 0 0 0/0 0 0 1 1/0 0 1 0 0/0 0 1 1 1/0 1 0 0 0/0 1 0 1 1/0 1 1 0 1/0 1 1 1 0/1 0 0 0 0/1 0 0 1 1/1 0 1 0 1/1 0 1 1 0/1 1 0 0 1/1 1 0 1 0/1 1 1 0 1/1 1 1 1 0/"
-    16 16 70 16 7 "0101011001101010" "0220200120000001"
+    16 4 70 16 7 "0101011001101010" (0x28 ∷ 0x42 ∷ 0x02 ∷ 0x40 ∷ [])
     -- 17: three trees, 0 to 2; a number past them, whatever the output; no tree, and so none of number 0
-    ∷ tree "levels inputs/2 3/a b c ink/0 0 0 0/0 0 1 0/0 1 0 0/0 1 1 0/1 0 0 0/1 0 1 0/1 1 0 0/1 1 1 0/" 3 8 9 60 17 3 "00000000" "022222229"
-    ∷ tree "levels inputs/2 3/a b c ink/0 0 0 0/0 0 1 0/0 1 0 0/0 1 1 0/1 0 0 0/1 0 1 0/1 1 0 0/1 1 1 0/" 1000000007 9 8 0 17 1000000007 "000000009" "02222222"
-    ∷ tree "levels inputs/2 3/a b c ink/0 0 0 0/0 0 1 0/0 1 0 0/0 1 1 1/1 0 0 0/1 0 1 1/1 1 0 1/1 1 1 1/" 0 8 8 0 17 0 "00010111" "02202001"
+    ∷ tree "levels inputs/2 3/a b c ink/0 0 0 0/0 0 1 0/0 1 0 0/0 1 1 0/1 0 0 0/1 0 1 0/1 1 0 0/1 1 1 0/" 3 8 3 60 17 3 "00000000" (0xa8 ∷ 0xaa ∷ 9 ∷ [])
+    ∷ tree "levels inputs/2 3/a b c ink/0 0 0 0/0 0 1 0/0 1 0 0/0 1 1 0/1 0 0 0/1 0 1 0/1 1 0 0/1 1 1 0/" 1000000007 9 2 0 17 1000000007 "000000009" (0xa8 ∷ 0xaa ∷ [])
+    ∷ tree "levels inputs/2 3/a b c ink/0 0 0 0/0 0 1 0/0 1 0 0/0 1 1 1/1 0 0 0/1 0 1 1/1 1 0 1/1 1 1 1/" 0 8 2 0 17 0 "00010111" (0x28 ∷ 0x42 ∷ [])
     -- 18: a name that is not the next input's
     ∷ arrival "name from to/b 0 0/" 18 13
     ∷ arrival "name from to/a 0 0/a 0 0/" 18 19

@@ -51,7 +51,8 @@ afterMarks netFor t cells marks output =
       | true ↦ writtenSheet (printedNet (netFor t)) cells-then marks-then output
     ]
 
--- "Judged in this order after the input": 13: cells buffer short; 14: marks buffer short. "Needed: m to the n bytes, 2 to the n bytes"
+-- "Judged in this order after the input": 13: cells buffer short; 14: marks buffer short. "Needed: m to the n bytes, ..", and for the marks "2 to the n,
+-- divided by 4, and 14 reports that number" (document 02, K7)
 unfoldable pub roomFor : Table → List ℕ → List ℕ → Answer (Unit {0})
 roomFor t cells marks =
     let need = t .header .levels ^ t .header .inputs in

@@ -9,7 +9,7 @@ use lib.ListN.{length}
 use Rattle.rules.specs.Limits.{sizeFits, mostSettled}
 use Rattle.rules.specs.Printed.{printedNet}
 use Rattle.rules.specs.Kept.{IsNet, KeptNet}
-use Rattle.rules.specs.Marks.{markIn, marksOf, marksLength, noTreePlace, storedMarks}
+use Rattle.rules.specs.Marks.{markIn, marksOf, noTreePlace, storedMarks}
 use Rattle.rules.specs.Groups.{wholeGroup}
 use Rattle.rules.specs.Answers.{accepted, onward, refused, inkIn, written}
 use Rattle.rules.specs.Sheets.{Gate, Net, Table}
@@ -23,8 +23,7 @@ use Rattle.nets.specs.Sound.{Sound}
 use Rattle.nets.specs.Forms.{gatesOf, headerOf, netIn, tableIn}
 use Rattle.laws.specs.Sizes.{sized, kept-fits}
 use Rattle.answers.specs.declared.answer.Answer.{Answer}
-use Rattle.marks.specs.Stored.{held}
-use Rattle.marks.specs.Marking.{Marking}
+use Rattle.marking.specs.Marking.{MarkedInto}
 use Rattle.net_printing.specs.Gates.{GatesInside}
 use Rattle.net_printing.specs.Kept.{gates-inside}
 use Rattle.readback.specs.Length.{net-length}
@@ -123,29 +122,28 @@ module _ (s : List ℕ) (h : Header) (inks : List ℕ) (given : Given s h inks) 
 
   -- ---- the outcomes once the cells and the marks are written
 
-  module _ (marks marks-then : List ℕ) (mark : ℕ) (did : Marking (h .levels) (h .inputs) (inkIn inks) marks mark marks-then) where
+  module _ (marks all-marks marks-then : List ℕ) (mark : ℕ) (did : MarkedInto (h .levels) (h .inputs) (inkIn inks) marks mark all-marks marks-then) where
     pub given-two : mark ≡ 2 → markIn (marksOf (h .levels) (h .inputs) (inkIn inks)) (wholeGroup (h .inputs)) ≡ 2
-    given-two two = sym (did .answer) ∙ two
+    given-two two = sym (did .own .answer) ∙ two
 
-    module _ (room : marksLength (h .inputs) ≤ length marks-then) where
-      pub marks-held : MarksIn (h .levels) (h .inputs) (inkIn inks) marks-then
-      marks-held =
-          marks-in (h .levels) (h .inputs) (omega (arith, sized (h .levels) (h .inputs) given-size .levels-least)) (inkIn inks) marks marks-then (did .buffer) room
+    module _ (room : 2 ^ h .inputs ≤ length all-marks) where
+      pub own-marks : MarksIn (h .levels) (h .inputs) (inkIn inks) all-marks
+      own-marks = marks-in (h .levels) (h .inputs) (inkIn inks) all-marks (did .own .front) room
 
       pub given-16 : (choice : Choice) (cells cells-then output : List ℕ) → cells-then ≡ written cells inks → (mark ≡ 2 → ⊥)
-          → (place : ℕ) → place ≡ noTreePlace (h .inputs) (held marks-then)
+          → (place : ℕ) → place ≡ noTreePlace (h .inputs) all-marks
           → record { answer = refused 16 place; cells = cells-then; marks = marks-then; output = output }
           ≡ withLayers (netLayers (netBy choice (tableIn s h inks))) (afterMarks (netBy choice) (tableIn s h inks) cells marks output)
       unfolding headerOf
       given-16 choice cells cells-then output copied other place e =
           (λ i. record {
-            answer = refused 16 ((e ∙ place-agree (h .inputs) (held marks-then) (marksOfTable (tableIn s h inks)) (marks-held .same)) i);
+            answer = refused 16 ((e ∙ place-agree (h .inputs) all-marks (marksOfTable (tableIn s h inks)) (own-marks .same)) i);
             cells = copied i;
             marks = did .buffer i;
             output = output;
           })
           ∙ sym (refused-layers _ _ _ (written cells inks) (written marks (storedMarks (marksOfTable (tableIn s h inks)))) output)
-          ∙ ap (withLayers (netLayers (netBy choice (tableIn s h inks)))) (sym (marked-16 (netBy choice) (tableIn s h inks) cells marks output (λ two. other (did .answer ∙ two))))
+          ∙ ap (withLayers (netLayers (netBy choice (tableIn s h inks)))) (sym (marked-16 (netBy choice) (tableIn s h inks) cells marks output (λ two. other (did .own .answer ∙ two))))
 
     pub given-tree : (choice : Choice) (cells cells-then output : List ℕ) → cells-then ≡ written cells inks → mark ≡ 2
         → (net : own.Net) → MadeNet choice (h .levels) (h .inputs) (inkIn inks) net → (r : Answer) (after : List ℕ)

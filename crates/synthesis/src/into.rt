@@ -16,7 +16,8 @@ use answers::layered::Layered;
 use answers::outcome::Outcome;
 use filling::made;
 use lines::put::copy;
-use marks::marking;
+use marking::all;
+use marks::own;
 use marks::place;
 use net_printing::output;
 use nets::forms::Header;
@@ -51,13 +52,14 @@ fn settle_marked(
     let levels = header.levels;
     let inputs = header.inputs;
     copy(inks, cells, 0);
-    if marking::mark_all(levels, inputs, inks, marks) != 2 {
+    let mut own = [0u8; own::MOST_GROUPS];
+    if all::mark_and_store(levels, inputs, inks, &mut own, marks) != 2 {
         return Layered::Refused {
             number: 16,
-            place: place::no_tree_place(inputs, marks),
+            place: place::no_tree_place(inputs, &own),
         };
     }
-    let net = made::made_net(choice, levels, inputs, inks, marks);
+    let net = made::made_net(choice, levels, inputs, inks, &own);
     let count = layers::layers(net);
     with_layers(output::write_sheet(s, header, net, out), count)
 }

@@ -17,6 +17,7 @@ use Rattle.rules.specs.Sheets.{level}
 use Rattle.rules.specs.Groups.{member, size, multiplicity}
 use Rattle.rules.specs.Marks.{inside, markIn, partsAt, markOf, marksBelow, marksOf}
 use Rattle.rules.specs.Wirings.{firstInput}
+use Rattle.laws.specs.StoredMarks.{InTwoBits}
 use Rattle.laws.specs.Tests.{mem-any, any-same}
 use Rattle.laws.specs.Ranges.{mem-range, range-mem}
 use Rattle.laws.specs.FirstPlaces.{first-passes}
@@ -219,6 +220,15 @@ module _ (m n : ℕ) (pos : 0 < m) (f : ℕ → ℕ) where
       start false none true few =
           let some : 0 < g = omega (arith, eqb-false g 0 none) in
           several some (leb-true _ _ few) (eqb (size n g) 1) refl _ refl (outcome-is ∙ rw (none, few))
+
+  -- a mark fits into two bits
+  pub mark-small : InTwoBits (2 ^ n) (marksOf m n f)
+  mark-small g g< = go (way g g<)
+    where
+      go : Way m n f marked g → marked g < 4
+      go (to-none _ e) = omega (arith, e)
+      go (to-two _ _ _ e) = omega (arith, e)
+      go (to-one _ _ _ _ e) = omega (arith, e)
 
   -- the computed list of marks satisfies document 01's rule at every group
   pub three-way : (g : ℕ) → g < 2 ^ n → ThreeWay m n f marked g

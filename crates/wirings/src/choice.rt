@@ -2,7 +2,6 @@
 ghost use mathlib.Core.Path.{_≡_};
 ghost use Prim.Native.Nat.{ℕ, _^_, _≤_, _<_};
 ghost use lib.ListN.{length};
-ghost use Rattle.marks.specs.Stored.{held};
 ghost use Rattle.radix.specs.Widths.{groupsEnd};
 ghost use Rattle.wirings.specs.Choice.{splitBy, LayersRoom};
 use marks::layers;
@@ -16,8 +15,8 @@ pub enum Choice {
 
 // A's number in group g. The shallow choice looks at the fewest layers of the groups of mark 2, which stand in `fewest`.
 pub fn part_of(choice: Choice, marks: &[u8], fewest: &[u8], g: usize) -> usize
-    requires { ⌜ (0 < g) × (g < groupsEnd) × (g ≤ length (held (now marks))) × (LayersRoom choice g (now fewest)) ⌝ }
-    ensures { λ r. ⌜ ((n : ℕ) → g < 2 ^ n → r ≡ splitBy choice n (held (now (marks .entry))) (now (fewest .entry)) g) ⌝ }
+    requires { ⌜ (0 < g) × (g < groupsEnd) × (g ≤ length (now marks)) × (LayersRoom choice g (now fewest)) ⌝ }
+    ensures { λ r. ⌜ ((n : ℕ) → g < 2 ^ n → r ≡ splitBy choice n (now (marks .entry)) (now (fewest .entry)) g) ⌝ }
 {
     match choice {
         Choice::Settled => split::split_of(marks, g),

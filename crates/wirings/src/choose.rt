@@ -1,7 +1,6 @@
 // A wiring by a choice of parts: a group's two parts first, then its own gate.
 ghost use Prim.Native.Nat.{_+_, _≤_};
 ghost use Rattle.rules.specs.Groups.{size};
-ghost use Rattle.marks.specs.Stored.{held};
 ghost use Rattle.wirings.specs.Choice.{splitBy, LayersRoom};
 ghost use Rattle.wirings.specs.Added.{Added};
 ghost use Rattle.wirings.specs.Chosen.{Choosable, Chosen};
@@ -25,8 +24,8 @@ fn wire_group(
     g: usize,
     wiring: forms::Wiring,
 ) -> Wired
-    requires { ⌜ (Choosable n (held (now marks)) (splitBy choice n (held (now marks)) (now fewest)) g) × (LayersRoom choice g (now fewest)) × (wiring .gates + size n g ≤ n) ⌝ }
-    ensures { λ r. ⌜ Added n (splitBy choice n (held (now (marks .entry))) (now (fewest .entry))) g wiring (r .wiring) (r .reference) ⌝ }
+    requires { ⌜ (Choosable n (now marks) (splitBy choice n (now marks) (now fewest)) g) × (LayersRoom choice g (now fewest)) × (wiring .gates + size n g ≤ n) ⌝ }
+    ensures { λ r. ⌜ Added n (splitBy choice n (now (marks .entry)) (now (fewest .entry))) g wiring (r .wiring) (r .reference) ⌝ }
 {
     if members::single(g) {
         return Wired {
@@ -49,8 +48,8 @@ fn wire_group(
 
 // The wiring of the group `leaves`, which has mark 2.
 pub fn choose(choice: Choice, n: usize, marks: &[u8], fewest: &[u8], leaves: usize) -> forms::Wiring
-    requires { ⌜ (Choosable n (held (now marks)) (splitBy choice n (held (now marks)) (now fewest)) leaves) × (LayersRoom choice leaves (now fewest)) ⌝ }
-    ensures { λ r. ⌜ Chosen n (splitBy choice n (held (now (marks .entry))) (now (fewest .entry))) leaves r ⌝ }
+    requires { ⌜ (Choosable n (now marks) (splitBy choice n (now marks) (now fewest)) leaves) × (LayersRoom choice leaves (now fewest)) ⌝ }
+    ensures { λ r. ⌜ Chosen n (splitBy choice n (now (marks .entry)) (now (fewest .entry))) leaves r ⌝ }
 {
     let none = forms::no_links();
     let built = wire_group(choice, n, marks, fewest, leaves, none);

@@ -41,8 +41,14 @@ impl Inputs {
         self.m.pow(self.n as u32)
     }
 
-    pub fn marks_needed(&self) -> usize {
+    /// How many groups there are, the empty one too.
+    pub fn groups(&self) -> usize {
         1 << self.n
+    }
+
+    /// Four marks to a byte.
+    pub fn marks_needed(&self) -> usize {
+        self.groups() / 4
     }
 
     pub fn net_sheet(&mut self) -> Vec<u8> {
@@ -190,7 +196,7 @@ impl Inputs {
     pub fn bare(&mut self) -> Bare {
         let kind = *self.generator.rng.pick(&TableKind::ALL);
         let cells = self.generator.table(self.m, self.n, kind).inks;
-        let group = 1 + self.below(self.marks_needed() - 1);
+        let group = 1 + self.below(self.groups() - 1);
         let (m, n) = (self.m, self.n);
         let good = Bare { m, n, cells, group };
         match self.below(2) {
@@ -205,7 +211,7 @@ impl Inputs {
             0 => bare.m = odd,
             1 => bare.n = odd,
             2 => bare.group = odd,
-            3 => bare.group = self.marks_needed(),
+            3 => bare.group = self.groups(),
             4 => bare.cells.truncate(self.below(bare.cells.len())),
             _ => {
                 let place = self.below(bare.cells.len());

@@ -12,7 +12,7 @@
 //! | `sheet`    | "Sheets": reading from the front, and printing            |
 //! | `net`      | "Value of a net"                                          |
 //! | `groups`   | "Groups": alike, classes, multiplicity                    |
-//! | `marks`    | "Marks", and how a mark is stored                         |
+//! | `marks`    | "Marks", and document 02's packing of them in a buffer    |
 //! | `settled`  | "The settled net"                                         |
 //! | `shallow`  | document 02, "Shallow nets": the tree of fewest layers    |
 //! | `family`   | document 02, "The whole family of trees": counts, numbers |

@@ -72,17 +72,29 @@ pub fn first_stuck(marks: &[u8], n: usize) -> Option<usize> {
         .min_by_key(|&group| (members(group, n).len(), group))
 }
 
-// How marks lie in a lent buffer: "one byte, at its number". The two functions
-// below say it, and nothing else does.
+// How marks lie in a lent buffer: "packed four to a byte, group 0 in the lowest
+// two bits of byte 0". The three functions below say it, and nothing else does.
 
-/// The length that the marks of n inputs need.
+/// "The length needed is 2 to the n, divided by 4", which is whole, as n is 2 or
+/// more.
 pub fn needed(n: usize) -> usize {
-    1 << n
+    (1 << n) / 4
 }
 
 /// Writes the marks to the front of a buffer that has the needed length.
 pub fn store(marks: &[u8], buffer: &mut [u8]) {
-    for (group, &mark) in marks.iter().enumerate() {
-        buffer[group] = mark;
+    for (byte, four) in buffer.iter_mut().zip(marks.chunks(4)) {
+        *byte = four[0] + 4 * four[1] + 16 * four[2] + 64 * four[3];
     }
+}
+
+/// The mark of a group in a buffer that marks were stored to.
+pub fn stored(buffer: &[u8], group: usize) -> u8 {
+    let shifted = match group % 4 {
+        0 => 1,
+        1 => 4,
+        2 => 16,
+        _ => 64,
+    };
+    buffer[group / 4] / shifted % 4
 }

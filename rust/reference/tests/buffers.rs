@@ -120,7 +120,7 @@ fn settle_at_every_length() {
         call: settle,
         sheet: net_sheet(2, "a b c", "a b 0110/1 c 0110"),
         cells: vec![0, 1, 1, 0, 1, 0, 0, 1],
-        marks: vec![0, 2, 2, 2, 2, 2, 2, 2],
+        marks: packed(&[0, 2, 2, 2, 2, 2, 2, 2]),
         result: Ok(net_sheet(2, "a b c", "b c 0110/a 1 0110")),
     }
     .assert_all_lengths();
@@ -140,7 +140,7 @@ fn make_at_every_length() {
         sheet: rule_sheet(3, "a b c d", rule),
         cells: inks_of(3, 4, rule),
         // {a, d}, {a, b, d} and the whole have trees, {a, b, c} has none.
-        marks: vec![0, 2, 2, 0, 2, 0, 0, 1, 2, 2, 0, 2, 0, 0, 0, 2],
+        marks: packed(&[0, 2, 2, 0, 2, 0, 0, 1, 2, 2, 0, 2, 0, 0, 0, 2]),
         result: Ok(net_sheet(3, "a b c d", gates)),
     }
     .assert_all_lengths();
@@ -155,7 +155,7 @@ fn make_without_a_tree_at_every_length() {
             call,
             sheet: rule_sheet(2, "a b c", rule),
             cells: vec![0, 0, 0, 1, 0, 1, 1, 1],
-            marks: vec![0, 2, 2, 0, 2, 0, 0, 1],
+            marks: packed(&[0, 2, 2, 0, 2, 0, 0, 1]),
             result: Err(of_neither(16, 7)),
         }
         .assert_all_lengths();
@@ -176,7 +176,7 @@ fn shallow_calls_at_every_length() {
             call,
             sheet,
             cells: inks_of(2, 4, rule),
-            marks: [vec![0], vec![2; 15]].concat(),
+            marks: packed(&[vec![0], vec![2; 15]].concat()),
             result: Ok(net_sheet(2, "a b c d", "a b 0110/c d 0110/1 2 0110")),
         }
         .assert_all_lengths();
@@ -194,7 +194,7 @@ fn a_tree_of_the_family_at_every_length() {
         call: third_tree,
         sheet: rule_sheet(2, "a b c", sum),
         cells: vec![0, 1, 1, 0, 1, 0, 0, 1],
-        marks: vec![0, 2, 2, 2, 2, 2, 2, 2],
+        marks: packed(&[0, 2, 2, 2, 2, 2, 2, 2]),
         result: Ok(tree),
     }
     .assert_all_lengths();
@@ -202,7 +202,7 @@ fn a_tree_of_the_family_at_every_length() {
         call: third_tree,
         sheet: rule_sheet(2, "a b c", most),
         cells: vec![0, 0, 0, 1, 0, 1, 1, 1],
-        marks: vec![0, 2, 2, 0, 2, 0, 0, 1],
+        marks: packed(&[0, 2, 2, 0, 2, 0, 0, 1]),
         result: Err(of_neither(17, 2)),
     }
     .assert_all_lengths();
@@ -210,7 +210,7 @@ fn a_tree_of_the_family_at_every_length() {
         call: third_tree,
         sheet: rule_sheet(2, "a b", sum),
         cells: vec![0, 1, 1, 0],
-        marks: vec![0, 2, 2, 2],
+        marks: packed(&[0, 2, 2, 2]),
         result: Err(of_neither(17, 2)),
     }
     .assert_all_lengths();
@@ -218,14 +218,15 @@ fn a_tree_of_the_family_at_every_length() {
 
 /// Of a table of three inputs with 2 levels.
 fn assert_count_at_every_length(inks: [u8; 8], of_groups: [u8; 8], count: u64) {
+    let of_groups = packed(&of_groups);
     let sheet = table_sheet(2, "a b c", &inks);
     for cells in lengths(8) {
-        for marks in lengths(8) {
+        for marks in lengths(2) {
             let (mut c, mut k) = (lent(cells), lent(marks));
             let answer = family_count(&sheet, &mut c, &mut k);
-            match (cells < 8, marks < 8) {
+            match (cells < 8, marks < 2) {
                 (true, _) => assert_eq!(answer, Err(of_neither(13, 8))),
-                (_, true) => assert_eq!(answer, Err(of_neither(14, 8))),
+                (_, true) => assert_eq!(answer, Err(of_neither(14, 2))),
                 _ => assert_eq!(answer, Ok(count)),
             }
             if answer.is_ok() {
@@ -251,7 +252,7 @@ fn settle_and_make_at_the_largest_sizes() {
         let names: Vec<String> = (0..n).map(|input| format!("x{input}")).collect();
         let sheet = rule_sheet(m, &names.join(" "), |x| x.iter().sum::<usize>() % m);
         let settled_sheet = made(&sheet).expect("a sum has a tree");
-        let marks = [vec![0], vec![2; (1 << n) - 1]].concat();
+        let marks = packed(&[vec![0], vec![2; (1 << n) - 1]].concat());
         for (call, sheet) in [(settle as Call, settled_sheet.clone()), (make, sheet)] {
             let example = Example {
                 call,
@@ -261,12 +262,13 @@ fn settle_and_make_at_the_largest_sizes() {
                 result: Ok(settled_sheet.clone()),
             };
             assert_eq!(example.cells.len(), cells);
-            let out = settled_sheet.len();
-            example.assert_lengths(cells, 1 << n, out);
-            example.assert_lengths(cells + 1, (1 << n) + 1, out + 1);
-            example.assert_lengths(cells - 1, 1 << n, out);
-            example.assert_lengths(cells, (1 << n) - 1, out);
-            example.assert_lengths(cells, 1 << n, out - 1);
+            let (marks, out) = ((1 << n) / 4, settled_sheet.len());
+            assert_eq!(example.marks.len(), marks);
+            example.assert_lengths(cells, marks, out);
+            example.assert_lengths(cells + 1, marks + 1, out + 1);
+            example.assert_lengths(cells - 1, marks, out);
+            example.assert_lengths(cells, marks - 1, out);
+            example.assert_lengths(cells, marks, out - 1);
         }
     }
 }
@@ -364,15 +366,15 @@ fn check_at_every_length() {
 #[test]
 fn marking_at_every_length() {
     let examples: [(&[u8], &[u8], u8); 2] = [
-        (&[0, 0, 0, 1, 0, 1, 1, 1], &[0, 2, 2, 0, 2, 0, 0, 1], 1),
-        (&[0, 1, 1, 0, 1, 0, 0, 1], &[0, 2, 2, 2, 2, 2, 2, 2], 2),
+        (&[0, 0, 0, 1, 0, 1, 1, 1], &[0x28, 0x42], 1),
+        (&[0, 1, 1, 0, 1, 0, 0, 1], &[0xa8, 0xaa], 2),
     ];
     for (cells, expected, whole) in examples {
-        for length in lengths(8) {
+        for length in lengths(2) {
             let mut marks = lent(length);
             let result = marking(2, 3, cells, &mut marks);
-            if length < 8 {
-                assert_eq!(result, Err(of_neither(14, 8)));
+            if length < 2 {
+                assert_eq!(result, Err(of_neither(14, 2)));
                 assert_eq!(marks, lent(length));
             } else {
                 assert_eq!(result, Ok(whole));

@@ -52,9 +52,10 @@ fn case_4_all_ink_0() {
 #[test]
 fn case_5_two_of_three_have_no_tree() {
     let rule = |x: &[usize]| usize::from(x.iter().sum::<usize>() >= 2);
-    let mut marks = [9; 8];
+    let mut marks = [9; 2];
     assert_eq!(marking(2, 3, &inks_of(2, 3, rule), &mut marks), Ok(1));
-    assert_eq!(marks, [0, 2, 2, 0, 2, 0, 0, 1]);
+    assert_eq!(marks, [0x28, 0x42]);
+    assert_eq!(unpacked(&marks), [0, 2, 2, 0, 2, 0, 0, 1]);
     let sheet = rule_sheet(2, "a b c", rule);
     assert_eq!(made(&sheet), Err(of_neither(16, 7)));
     assert_eq!(make_program(&sheet), b"number place\n16 7\n");
@@ -76,8 +77,9 @@ fn case_7_the_first_split_leads_nowhere() {
     };
     let cells = inks_of(3, 4, rule);
     assert_eq!(multiplicity(3, 4, &cells, 7), Ok(3));
-    let mut marks = [9; 16];
+    let mut marks = [9; 4];
     assert_eq!(marking(3, 4, &cells, &mut marks), Ok(2));
+    let marks = unpacked(&marks);
     assert_eq!(marks[7], 1);
     assert_eq!([marks[3], marks[5], marks[6]], [0, 0, 0]);
     let gates = "a d 000011022/1 b 012112222/2 c 000100110";

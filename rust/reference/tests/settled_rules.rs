@@ -44,8 +44,9 @@ impl Made {
     fn from(choice: Choice, m: usize, n: usize, inks: Vec<u8>) -> Option<Made> {
         // The first-listed name is not the first in the alphabet.
         let names: Vec<String> = (0..n).map(|input| format!("z{}", n - input)).collect();
-        let mut marks = vec![9; 1 << n];
+        let mut marks = vec![9; (1 << n) / 4];
         marking(m as u64, n as u64, &inks, &mut marks).expect("good cells");
+        let marks = unpacked(&marks);
         let sheet = table_sheet(m, &names.join(" "), &inks);
         let (mut cells, mut k, mut out) = ([7; CELLS], [7; MARKS], [7; NET_SHEET]);
         let (length, layers) = match choice {

@@ -182,8 +182,9 @@ fn the_place_of_16_is_the_smallest_group() {
     let rule = |x: &[usize]| at_least_two(&x[..4]) ^ at_least_two(&x[4..]);
     let sheet = rule_sheet(2, "a b c d e f g", rule);
     assert_eq!(made(&sheet), Err(of_neither(16, 0b111_0000)));
-    let mut marks = [9; 128];
+    let mut marks = [9; 32];
     assert_eq!(marking(2, 7, &inks_of(2, 7, rule), &mut marks), Ok(1));
+    let marks = unpacked(&marks);
     let stuck: Vec<usize> = (0..128).filter(|&group| marks[group] == 1).collect();
     assert_eq!(stuck, [0b000_1111, 0b111_0000, 0b111_1111]);
 }

@@ -21,9 +21,11 @@
 //! ```
 //! // 2 levels, ink 1 when at least two of three inputs are 1: no tree
 //! let cells = [0, 0, 0, 1, 0, 1, 1, 1];
-//! let mut marks = [0; 8];
+//! let mut marks = [0; 2];
 //! assert_eq!(sitgurp::marking(2, 3, &cells, &mut marks), Ok(1));
-//! assert_eq!(marks, [0, 2, 2, 0, 2, 0, 0, 1]);
+//! assert_eq!(marks, [0x28, 0x42]);
+//! let of_each_group: Vec<u8> = (0..8).map(|group| sitgurp::mark_of(&marks, group)).collect();
+//! assert_eq!(of_each_group, [0, 2, 2, 0, 2, 0, 0, 1]);
 //! ```
 
 mod arrivals;
@@ -45,8 +47,8 @@ pub use shallow::{
 
 /// The most cells that a table has, and so the cells buffer that always suffices.
 pub const MOST_CELLS: usize = 4_096;
-/// The marks buffer that always suffices: one byte for each group of 12 inputs.
-pub const MOST_MARKS: usize = 1 << 12;
+/// The marks buffer that always suffices: one byte for every four groups of 12 inputs.
+pub const MOST_MARKS: usize = (1 << 12) / 4;
 /// The output that always suffices for a net sheet.
 pub const MOST_NET_SHEET: usize = 512;
 /// The output that always suffices for a table sheet: 2 levels with 12 inputs, all names 8 bytes long.
@@ -75,7 +77,7 @@ pub fn multiplicity(m: usize, n: usize, cells: &[u8], group: usize) -> Result<us
     answered(answer, Named::Neither, &[])
 }
 
-/// Writes every group's mark to the front of `marks`, and answers the whole group's.
+/// Writes every group's mark to the front of `marks`, four to a byte ([`mark_of`] reads them), and answers the whole group's.
 pub fn marking(m: usize, n: usize, cells: &[u8], marks: &mut [u8]) -> Result<usize, Refusal> {
     let answer = unsafe {
         ffi::sitgurp_marking(
@@ -88,6 +90,19 @@ pub fn marking(m: usize, n: usize, cells: &[u8], marks: &mut [u8]) -> Result<usi
         )
     };
     answered(answer, Named::Neither, &[])
+}
+
+/// The mark of a group in a marks buffer that a call wrote: two bits, group 0's the lowest of the first byte.
+///
+/// ```
+/// assert_eq!(sitgurp::mark_of(&[0x28, 0x42], 7), 1);
+/// ```
+///
+/// # Panics
+///
+/// Where the buffer is too short to hold the group's mark.
+pub fn mark_of(marks: &[u8], group: usize) -> u8 {
+    marks[group / 4] >> (group % 4 * 2) & 3
 }
 
 /// Settles a net sheet: its table into `cells`, its marks into `marks`, the settled net sheet into `output`. Answers the sheet's

@@ -103,6 +103,7 @@ impl fmt::Display for Refusal {
                 write!(f, " at byte {}, line {line}, column {column})", self.place)
             }
             (10, _) => write!(f, " at index {})", self.place),
+            (13..=15, _) if self.place == 1 => write!(f, "; 1 byte is needed)"),
             (13..=15, _) => write!(f, "; {} bytes are needed)", self.place),
             (16, _) => write!(f, " at group {}: {})", self.place, self.inputs.join(", ")),
             (17, _) => write!(f, " at number {})", self.place),

@@ -53,9 +53,26 @@ fn every_group_of_every_size() {
 #[test]
 fn every_marks_buffer_around_the_need() {
     for (m, n, cells) in tables() {
-        let need = 1usize << n;
+        let need = (1usize << n) / 4;
         for length in [0, 1, need - 1, need, need + 1, need + 70] {
             same_marking(m, n, &cells, length);
+        }
+    }
+}
+
+/// Two bits a group, four groups a byte.
+#[test]
+fn the_mark_of_every_group() {
+    let mut generator = Generator::new(SEED + 1);
+    for (m, n) in reference::allowed_sizes() {
+        let (m, n) = (m as usize, n as usize);
+        let table = generator.table(m, n, TableKind::ThreeMatter);
+        let of_groups = reference::marks::marks_of(&table);
+        let mut marks = full((1 << n) / 4);
+        let whole = got(sitgurp::marking(m, n, &table.inks, &mut marks));
+        assert_eq!(whole, Ok(usize::from(of_groups[(1 << n) - 1])));
+        for (group, &mark) in of_groups.iter().enumerate() {
+            assert_eq!(sitgurp::mark_of(&marks, group), mark, "group {group}");
         }
     }
 }
@@ -84,7 +101,7 @@ fn sizes_and_lengths_out_of_bounds() {
         for n in odd {
             for length in [0, 1, 4, 8, 9, 2_187, 4_095, 4_096, 4_097, 4_100] {
                 same_multiplicity(m, n, &cells[..length], 1);
-                same_marking(m, n, &cells[..length], 4_096);
+                same_marking(m, n, &cells[..length], sitgurp::MOST_MARKS);
             }
         }
     }
@@ -100,7 +117,7 @@ fn the_lowest_cell_that_is_not_below_m() {
                 damaged[place + 1] = 255;
             }
             same_multiplicity(m, n, &damaged, 1);
-            same_marking(m, n, &damaged, 1 << n);
+            same_marking(m, n, &damaged, (1 << n) / 4);
         }
     }
 }

@@ -282,7 +282,7 @@ fn every_buffer_around_its_need() {
                 _ => around,
             };
             for cells in lengths(m.pow(n as u32)) {
-                for marks in lengths(1 << n) {
+                for marks in lengths((1 << n) / 4) {
                     same_count(&sheet, cells, marks).ok();
                     for output in lengths(length) {
                         for number in [count / 2, count] {

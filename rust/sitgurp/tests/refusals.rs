@@ -5,8 +5,8 @@ use sitgurp::{Layered, Lister, Named, Refusal};
 use std::collections::BTreeSet;
 use std::path::Path;
 
-/// An example as the list has it: what it is of, its quoted texts, and its numbers, of which the last two are the refusal's number
-/// and place.
+/// An example as the list has it: what it is of, its texts, of which the marks buffer is the last where it is one, and its numbers, of which the
+/// last two are the refusal's number and place.
 #[derive(Debug, PartialEq)]
 struct Example {
     kind: String,
@@ -123,11 +123,11 @@ fn example(kind: &str, body: &str, [number, place]: [usize; 2]) -> Example {
                 let at = words.iter().position(|word| *word == buffer);
                 numbers[at.expect("a buffer of this call")]
             });
-            let mut then = lengths.map(|length| "9".repeat(length));
+            let mut then = ["9".repeat(lengths[0]), vec!["9"; lengths[1]].join(" ")];
             for line in after.lines() {
                 match line.split_once(' ') {
                     Some(("cells", bytes)) => then[0] = digits(bytes),
-                    Some(("marks", bytes)) => then[1] = digits(bytes),
+                    Some(("marks", bytes)) => then[1] = bytes.to_string(),
                     _ => panic!("a buffer {line:?}"),
                 }
             }
@@ -172,10 +172,28 @@ fn listed() -> Vec<Example> {
         .filter(|line| !line.trim_start().starts_with("--"))
         .map(|line| format!("{line}\n"))
         .collect();
-    list.split('∷').map(listed_example).collect()
+    examples_of(&list).into_iter().map(listed_example).collect()
 }
 
-/// One example of the list: a word, then quoted texts, with `/` for the line feed, and numbers.
+/// The parts of a list, which `∷` parts where it is in no brackets.
+fn examples_of(list: &str) -> Vec<&str> {
+    let (mut parts, mut start, mut depth) = (Vec::new(), 0, 0);
+    for (at, letter) in list.char_indices() {
+        match letter {
+            '(' => depth += 1,
+            ')' => depth -= 1,
+            '∷' if depth == 0 => {
+                parts.push(&list[start..at]);
+                start = at + letter.len_utf8();
+            }
+            _ => {}
+        }
+    }
+    parts.push(&list[start..]);
+    parts
+}
+
+/// One example of the list: a word, then quoted texts, with `/` for the line feed, and numbers; last a marks buffer, where the call has one.
 fn listed_example(words: &str) -> Example {
     let (kind, words) = words.trim().split_once(char::is_whitespace).expect("words");
     let (mut texts, mut numbers) = (Vec::new(), Vec::new());
@@ -183,6 +201,8 @@ fn listed_example(words: &str) -> Example {
     for (part, words) in words.split('"').enumerate() {
         if part % 2 == 1 {
             texts.push(words.replace("\\r", "\r").replace('/', "\n"));
+        } else if texts.len() == 2 && kind != "check" {
+            texts.push(listed_bytes(words.trim()));
         } else {
             let words = words.split_whitespace();
             numbers.extend(words.map(|word| word.parse::<usize>().expect("a number")));
@@ -193,6 +213,16 @@ fn listed_example(words: &str) -> Example {
         texts,
         numbers,
     }
+}
+
+/// The bytes of a list: `[]`, `(nines 1)` or `(0xa8 ∷ 9 ∷ [])`.
+fn listed_bytes(list: &str) -> String {
+    let list = list.trim_start_matches('(').trim_end_matches(')');
+    if let Some(count) = list.strip_prefix("nines ") {
+        return vec!["9"; count.parse().expect("a number")].join(" ");
+    }
+    let bytes = list.split('∷').map(str::trim);
+    bytes.filter(|byte| *byte != "[]").collect::<Vec<_>>().join(" ")
 }
 
 // ---- the library
@@ -206,6 +236,15 @@ fn nines(length: usize) -> Vec<u8> {
 /// Digits as the bytes 0 to 9.
 fn bytes(digits: &str) -> Vec<u8> {
     digits.bytes().map(|digit| digit - b'0').collect()
+}
+
+/// The bytes of a marks buffer, decimal or hexadecimal.
+fn marks_bytes(words: &str) -> Vec<u8> {
+    let byte = |word: &str| match word.strip_prefix("0x") {
+        Some(digits) => u8::from_str_radix(digits, 16).expect("a byte"),
+        None => word.parse().expect("a byte"),
+    };
+    words.split_whitespace().map(byte).collect()
 }
 
 /// What a call answers, which must be a refusal: its number, its place and the sheet that it names.
@@ -282,10 +321,8 @@ fn holds(example: &Example) {
             (cells, marks) = (nines(numbers[0]), nines(numbers[1]));
             let counted = sitgurp::family_count(texts[0], &mut cells, &mut marks);
             assert_eq!(refused(counted), due(Named::Neither));
-            assert_eq!(
-                [&cells, &marks],
-                [1, 2].map(|k| bytes(&example.texts[k])).each_ref()
-            );
+            assert_eq!(cells, bytes(&example.texts[1]));
+            assert_eq!(marks, marks_bytes(&example.texts[2]));
             (cells, marks) = (nines(0), nines(0));
         }
         "tree" => {
@@ -293,10 +330,8 @@ fn holds(example: &Example) {
             let number = numbers[0] as u64;
             let tree = sitgurp::family_tree(texts[0], number, &mut cells, &mut marks, &mut output);
             assert_eq!(refused(tree), due(Named::Neither));
-            assert_eq!(
-                [&cells, &marks],
-                [1, 2].map(|k| bytes(&example.texts[k])).each_ref()
-            );
+            assert_eq!(cells, bytes(&example.texts[1]));
+            assert_eq!(marks, marks_bytes(&example.texts[2]));
             (cells, marks) = (nines(0), nines(0));
         }
         "check" => {
@@ -324,7 +359,7 @@ fn holds(example: &Example) {
                 };
                 assert_eq!(answer, due(Named::Neither));
                 assert_eq!(cells, bytes(&example.texts[1]));
-                assert_eq!(marks, bytes(&example.texts[2]));
+                assert_eq!(marks, marks_bytes(&example.texts[2]));
                 assert_eq!(output, nines(numbers[2]));
             }
             (cells, marks) = (nines(0), nines(0));
@@ -393,7 +428,7 @@ fn a_refusal_in_words() {
         said(sitgurp::multiplicity(2, 2, &[0, 1, 1, 2], 1)),
         "a cell is not below levels (refusal 10 at index 3)"
     );
-    let (mut cells, mut marks, mut output) = (nines(4), nines(3), nines(512));
+    let (mut cells, mut marks, mut output) = (nines(4), nines(0), nines(512));
     assert_eq!(
         said(sitgurp::settle(
             NET.as_bytes(),
@@ -401,7 +436,7 @@ fn a_refusal_in_words() {
             &mut marks,
             &mut output
         )),
-        "the marks buffer is too short (refusal 14; 4 bytes are needed)"
+        "the marks buffer is too short (refusal 14; 1 byte is needed)"
     );
     assert_eq!(
         said(sitgurp::made(include_bytes!(

@@ -15,7 +15,7 @@ use std::collections::{HashMap, HashSet};
 /// Longer than any need of any allowed size: cells, marks, a net sheet, a table
 /// sheet.
 pub const CELLS: usize = MOST_CELLS as usize + 20;
-pub const MARKS: usize = (1 << MOST_INPUTS) + 20;
+pub const MARKS: usize = (1 << MOST_INPUTS) / 4 + 20;
 pub const NET_SHEET: usize = MOST_NET_SHEET_BYTES + 20;
 pub const TABLE_SHEET: usize = 150_000;
 
@@ -80,6 +80,19 @@ pub fn table_sheet(m: usize, names: &str, inks: &[u8]) -> Vec<u8> {
 pub fn rule_sheet(m: usize, names: &str, rule: impl Fn(&[usize]) -> usize) -> Vec<u8> {
     let n = names.split(' ').count();
     table_sheet(m, names, &inks_of(m, n, rule))
+}
+
+/// Marks as a call writes them, from the mark of every group: four digits of base
+/// four to a byte, the lowest first.
+pub fn packed(of_groups: &[u8]) -> Vec<u8> {
+    let byte = |four: &[u8]| four.iter().rev().fold(0, |byte, mark| 4 * byte + mark);
+    of_groups.chunks(4).map(byte).collect()
+}
+
+/// The mark of every group, from the bytes that a call has written.
+pub fn unpacked(marks: &[u8]) -> Vec<u8> {
+    let four = |&byte: &u8| [0, 2, 4, 6].map(|low| (byte >> low) & 3);
+    marks.iter().flat_map(four).collect()
 }
 
 pub fn settled(sheet: &[u8]) -> Result<Vec<u8>, Refusal> {

@@ -49,15 +49,17 @@ static int failures = 0;
 #define BAD_NET HEADER "left right table\na a 0110\n"
 
 static const uint8_t sum_cells[8] = {0, 1, 1, 0, 1, 0, 0, 1};
-static const uint8_t sum_marks[8] = {0, 2, 2, 2, 2, 2, 2, 2};
+/* four marks a byte: 0 2 2 2 and 2 2 2 2 */
+static const uint8_t sum_marks[2] = {0xa8, 0xaa};
 static const uint8_t majority_cells[8] = {0, 0, 0, 1, 0, 1, 1, 1};
-static const uint8_t majority_marks[8] = {0, 2, 2, 0, 2, 0, 0, 1};
+/* 0 2 2 0 and 2 0 0 1 */
+static const uint8_t majority_marks[2] = {0x28, 0x42};
 
 static const uint8_t sum4_cells[16] = {0, 1, 1, 0, 1, 0, 0, 1, 1, 0, 0, 1, 0, 1, 1, 0};
-static const uint8_t sum4_marks[16] = {0, 2, 2, 2, 2, 2, 2, 2, 2, 2, 2, 2, 2, 2, 2, 2};
+static const uint8_t sum4_marks[4] = {0xa8, 0xaa, 0xaa, 0xaa};
 
 static uint8_t cells[16 + SPARE];
-static uint8_t marks[16 + SPARE];
+static uint8_t marks[4 + SPARE];
 static uint8_t output[sizeof(TABLE) + SPARE];
 
 static void fill(void) {
@@ -126,12 +128,12 @@ static void marking(void) {
     fill();
     HOLDS(is(sitgurp_marking(2, 3, sum_cells, 7, marks, sizeof marks), 9, 0));
     HOLDS(is(sitgurp_marking(2, 3, high, 8, marks, 0), 10, 7));
-    HOLDS(is(sitgurp_marking(2, 3, sum_cells, 8, marks, 7), 14, 8));
+    HOLDS(is(sitgurp_marking(2, 3, sum_cells, 8, marks, 1), 14, 2));
     HOLDS(untouched());
     HOLDS(is(sitgurp_marking(2, 3, majority_cells, 8, marks, sizeof marks), 0, 1));
-    HOLDS(marks_hold(majority_marks, 8));
-    HOLDS(is(sitgurp_marking(2, 3, sum_cells, 8, marks, 8), 0, 2));
-    HOLDS(marks_hold(sum_marks, 8));
+    HOLDS(marks_hold(majority_marks, 2));
+    HOLDS(is(sitgurp_marking(2, 3, sum_cells, 8, marks, 2), 0, 2));
+    HOLDS(marks_hold(sum_marks, 2));
 }
 
 static void settle(void) {
@@ -139,32 +141,32 @@ static void settle(void) {
     fill();
     HOLDS(is(sitgurp_settle(TEXT(BAD_NET), cells, 0, marks, 0, output, 0), 8, 43));
     HOLDS(is(sitgurp_settle(TEXT(""), cells, sizeof cells, marks, sizeof marks, output, sizeof output), 1, 0));
-    HOLDS(is(sitgurp_settle(TEXT(NET), cells, 7, marks, 7, output, 0), 13, 8));
-    HOLDS(is(sitgurp_settle(TEXT(NET), cells, 8, marks, 7, output, 0), 14, 8));
+    HOLDS(is(sitgurp_settle(TEXT(NET), cells, 7, marks, 1, output, 0), 13, 8));
+    HOLDS(is(sitgurp_settle(TEXT(NET), cells, 8, marks, 1, output, 0), 14, 2));
     HOLDS(untouched());
-    HOLDS(is(sitgurp_settle(TEXT(NET), cells, 8, marks, 8, output, length - 1), 15, length));
-    HOLDS(cells_hold(sum_cells, 8) && marks_hold(sum_marks, 8) && output_holds(""));
+    HOLDS(is(sitgurp_settle(TEXT(NET), cells, 8, marks, 2, output, length - 1), 15, length));
+    HOLDS(cells_hold(sum_cells, 8) && marks_hold(sum_marks, 2) && output_holds(""));
     fill();
     HOLDS(is(sitgurp_settle(TEXT(NET), cells, sizeof cells, marks, sizeof marks, output, sizeof output), 0, length));
-    HOLDS(cells_hold(sum_cells, 8) && marks_hold(sum_marks, 8) && output_holds(SETTLED));
+    HOLDS(cells_hold(sum_cells, 8) && marks_hold(sum_marks, 2) && output_holds(SETTLED));
 }
 
 static void make(void) {
     const size_t length = sizeof(SETTLED) - 1;
     fill();
     HOLDS(is(sitgurp_make(TEXT(BAD_NAMES), cells, 0, marks, 0, output, 0), 4, 22));
-    HOLDS(is(sitgurp_make(TEXT(NET), cells, 8, marks, 8, output, length), 1, 23));
-    HOLDS(is(sitgurp_make(TEXT(MAJORITY), cells, 7, marks, 7, output, 0), 13, 8));
-    HOLDS(is(sitgurp_make(TEXT(MAJORITY), cells, 8, marks, 7, output, 0), 14, 8));
+    HOLDS(is(sitgurp_make(TEXT(NET), cells, 8, marks, 2, output, length), 1, 23));
+    HOLDS(is(sitgurp_make(TEXT(MAJORITY), cells, 7, marks, 1, output, 0), 13, 8));
+    HOLDS(is(sitgurp_make(TEXT(MAJORITY), cells, 8, marks, 1, output, 0), 14, 2));
     HOLDS(untouched());
-    HOLDS(is(sitgurp_make(TEXT(MAJORITY), cells, 8, marks, 8, output, 0), 16, 7));
-    HOLDS(cells_hold(majority_cells, 8) && marks_hold(majority_marks, 8) && output_holds(""));
+    HOLDS(is(sitgurp_make(TEXT(MAJORITY), cells, 8, marks, 2, output, 0), 16, 7));
+    HOLDS(cells_hold(majority_cells, 8) && marks_hold(majority_marks, 2) && output_holds(""));
     fill();
-    HOLDS(is(sitgurp_make(TEXT(TABLE), cells, 8, marks, 8, output, length - 1), 15, length));
-    HOLDS(cells_hold(sum_cells, 8) && marks_hold(sum_marks, 8) && output_holds(""));
+    HOLDS(is(sitgurp_make(TEXT(TABLE), cells, 8, marks, 2, output, length - 1), 15, length));
+    HOLDS(cells_hold(sum_cells, 8) && marks_hold(sum_marks, 2) && output_holds(""));
     fill();
     HOLDS(is(sitgurp_make(TEXT(TABLE), cells, sizeof cells, marks, sizeof marks, output, length), 0, length));
-    HOLDS(cells_hold(sum_cells, 8) && marks_hold(sum_marks, 8) && output_holds(SETTLED));
+    HOLDS(cells_hold(sum_cells, 8) && marks_hold(sum_marks, 2) && output_holds(SETTLED));
 }
 
 static void settle_shallow(void) {
@@ -172,31 +174,31 @@ static void settle_shallow(void) {
     fill();
     HOLDS(has(sitgurp_settle_shallow(TEXT(BAD_NET), cells, 0, marks, 0, output, 0), 8, 43, 0));
     HOLDS(has(sitgurp_settle_shallow(TEXT(""), cells, sizeof cells, marks, sizeof marks, output, sizeof output), 1, 0, 0));
-    HOLDS(has(sitgurp_settle_shallow(TEXT(CHAIN), cells, 15, marks, 15, output, 0), 13, 16, 0));
-    HOLDS(has(sitgurp_settle_shallow(TEXT(CHAIN), cells, 16, marks, 15, output, 0), 14, 16, 0));
+    HOLDS(has(sitgurp_settle_shallow(TEXT(CHAIN), cells, 15, marks, 3, output, 0), 13, 16, 0));
+    HOLDS(has(sitgurp_settle_shallow(TEXT(CHAIN), cells, 16, marks, 3, output, 0), 14, 4, 0));
     HOLDS(untouched());
-    HOLDS(has(sitgurp_settle_shallow(TEXT(CHAIN), cells, 16, marks, 16, output, length - 1), 15, length, 0));
-    HOLDS(cells_hold(sum4_cells, 16) && marks_hold(sum4_marks, 16) && output_holds(""));
+    HOLDS(has(sitgurp_settle_shallow(TEXT(CHAIN), cells, 16, marks, 4, output, length - 1), 15, length, 0));
+    HOLDS(cells_hold(sum4_cells, 16) && marks_hold(sum4_marks, 4) && output_holds(""));
     fill();
     HOLDS(has(sitgurp_settle_shallow(TEXT(CHAIN), cells, sizeof cells, marks, sizeof marks, output, sizeof output), 0, length, 2));
-    HOLDS(cells_hold(sum4_cells, 16) && marks_hold(sum4_marks, 16) && output_holds(SHALLOW));
+    HOLDS(cells_hold(sum4_cells, 16) && marks_hold(sum4_marks, 4) && output_holds(SHALLOW));
 }
 
 static void make_shallow(void) {
     const size_t length = sizeof(SHALLOW) - 1;
     fill();
     HOLDS(has(sitgurp_make_shallow(TEXT(BAD_NAMES), cells, 0, marks, 0, output, 0), 4, 22, 0));
-    HOLDS(has(sitgurp_make_shallow(TEXT(MAJORITY), cells, 7, marks, 7, output, 0), 13, 8, 0));
-    HOLDS(has(sitgurp_make_shallow(TEXT(MAJORITY), cells, 8, marks, 7, output, 0), 14, 8, 0));
+    HOLDS(has(sitgurp_make_shallow(TEXT(MAJORITY), cells, 7, marks, 1, output, 0), 13, 8, 0));
+    HOLDS(has(sitgurp_make_shallow(TEXT(MAJORITY), cells, 8, marks, 1, output, 0), 14, 2, 0));
     HOLDS(untouched());
-    HOLDS(has(sitgurp_make_shallow(TEXT(MAJORITY), cells, 8, marks, 8, output, 0), 16, 7, 0));
-    HOLDS(cells_hold(majority_cells, 8) && marks_hold(majority_marks, 8) && output_holds(""));
+    HOLDS(has(sitgurp_make_shallow(TEXT(MAJORITY), cells, 8, marks, 2, output, 0), 16, 7, 0));
+    HOLDS(cells_hold(majority_cells, 8) && marks_hold(majority_marks, 2) && output_holds(""));
     fill();
-    HOLDS(has(sitgurp_make_shallow(TEXT(TABLE4), cells, 16, marks, 16, output, length - 1), 15, length, 0));
-    HOLDS(cells_hold(sum4_cells, 16) && marks_hold(sum4_marks, 16) && output_holds(""));
+    HOLDS(has(sitgurp_make_shallow(TEXT(TABLE4), cells, 16, marks, 4, output, length - 1), 15, length, 0));
+    HOLDS(cells_hold(sum4_cells, 16) && marks_hold(sum4_marks, 4) && output_holds(""));
     fill();
     HOLDS(has(sitgurp_make_shallow(TEXT(TABLE4), cells, sizeof cells, marks, sizeof marks, output, length), 0, length, 2));
-    HOLDS(cells_hold(sum4_cells, 16) && marks_hold(sum4_marks, 16) && output_holds(SHALLOW));
+    HOLDS(cells_hold(sum4_cells, 16) && marks_hold(sum4_marks, 4) && output_holds(SHALLOW));
 }
 
 static void shallower(void) {
@@ -214,47 +216,47 @@ static void shallower(void) {
 static void family_count(void) {
     fill();
     HOLDS(is(sitgurp_family_count(TEXT(BAD_NAMES), cells, 0, marks, 0), 4, 22));
-    HOLDS(is(sitgurp_family_count(TEXT(NET), cells, 8, marks, 8), 1, 23));
-    HOLDS(is(sitgurp_family_count(TEXT(TABLE), cells, 7, marks, 7), 13, 8));
-    HOLDS(is(sitgurp_family_count(TEXT(TABLE), cells, 8, marks, 7), 14, 8));
+    HOLDS(is(sitgurp_family_count(TEXT(NET), cells, 8, marks, 2), 1, 23));
+    HOLDS(is(sitgurp_family_count(TEXT(TABLE), cells, 7, marks, 1), 13, 8));
+    HOLDS(is(sitgurp_family_count(TEXT(TABLE), cells, 8, marks, 1), 14, 2));
     HOLDS(untouched());
-    HOLDS(is(sitgurp_family_count(TEXT(TABLE), cells, 8, marks, 8), 0, 3));
-    HOLDS(cells_hold(sum_cells, 8) && marks_hold(sum_marks, 8) && output_holds(""));
+    HOLDS(is(sitgurp_family_count(TEXT(TABLE), cells, 8, marks, 2), 0, 3));
+    HOLDS(cells_hold(sum_cells, 8) && marks_hold(sum_marks, 2) && output_holds(""));
     fill();
     HOLDS(is(sitgurp_family_count(TEXT(TABLE4), cells, sizeof cells, marks, sizeof marks), 0, 15));
-    HOLDS(cells_hold(sum4_cells, 16) && marks_hold(sum4_marks, 16) && output_holds(""));
+    HOLDS(cells_hold(sum4_cells, 16) && marks_hold(sum4_marks, 4) && output_holds(""));
     fill();
     /* no tree is no refusal here */
     HOLDS(is(sitgurp_family_count(TEXT(MAJORITY), cells, sizeof cells, marks, sizeof marks), 0, 0));
-    HOLDS(cells_hold(majority_cells, 8) && marks_hold(majority_marks, 8) && output_holds(""));
+    HOLDS(cells_hold(majority_cells, 8) && marks_hold(majority_marks, 2) && output_holds(""));
 }
 
 static void family_tree(void) {
     const size_t length = sizeof(SETTLED) - 1;
     fill();
     HOLDS(is(sitgurp_family_tree(TEXT(BAD_NAMES), 0, cells, 0, marks, 0, output, 0), 4, 22));
-    HOLDS(is(sitgurp_family_tree(TEXT(MAJORITY), 0, cells, 7, marks, 7, output, 0), 13, 8));
-    HOLDS(is(sitgurp_family_tree(TEXT(MAJORITY), 0, cells, 8, marks, 7, output, 0), 14, 8));
+    HOLDS(is(sitgurp_family_tree(TEXT(MAJORITY), 0, cells, 7, marks, 1, output, 0), 13, 8));
+    HOLDS(is(sitgurp_family_tree(TEXT(MAJORITY), 0, cells, 8, marks, 1, output, 0), 14, 2));
     HOLDS(untouched());
-    HOLDS(is(sitgurp_family_tree(TEXT(MAJORITY), 0, cells, 8, marks, 8, output, 0), 17, 0));
-    HOLDS(cells_hold(majority_cells, 8) && marks_hold(majority_marks, 8) && output_holds(""));
+    HOLDS(is(sitgurp_family_tree(TEXT(MAJORITY), 0, cells, 8, marks, 2, output, 0), 17, 0));
+    HOLDS(cells_hold(majority_cells, 8) && marks_hold(majority_marks, 2) && output_holds(""));
     fill();
-    HOLDS(is(sitgurp_family_tree(TEXT(TABLE), 3, cells, 8, marks, 8, output, 0), 17, 3));
-    HOLDS(is(sitgurp_family_tree(TEXT(TABLE), UINT64_MAX, cells, 8, marks, 8, output, length), 17, (size_t)UINT64_MAX));
-    HOLDS(is(sitgurp_family_tree(TEXT(TABLE), 2, cells, 8, marks, 8, output, length - 1), 15, length));
-    HOLDS(cells_hold(sum_cells, 8) && marks_hold(sum_marks, 8) && output_holds(""));
+    HOLDS(is(sitgurp_family_tree(TEXT(TABLE), 3, cells, 8, marks, 2, output, 0), 17, 3));
+    HOLDS(is(sitgurp_family_tree(TEXT(TABLE), UINT64_MAX, cells, 8, marks, 2, output, length), 17, (size_t)UINT64_MAX));
+    HOLDS(is(sitgurp_family_tree(TEXT(TABLE), 2, cells, 8, marks, 2, output, length - 1), 15, length));
+    HOLDS(cells_hold(sum_cells, 8) && marks_hold(sum_marks, 2) && output_holds(""));
     fill();
     HOLDS(is(sitgurp_family_tree(TEXT(TABLE), 0, cells, sizeof cells, marks, sizeof marks, output, length), 0, length));
-    HOLDS(cells_hold(sum_cells, 8) && marks_hold(sum_marks, 8) && output_holds(SETTLED));
+    HOLDS(cells_hold(sum_cells, 8) && marks_hold(sum_marks, 2) && output_holds(SETTLED));
     fill();
-    HOLDS(is(sitgurp_family_tree(TEXT(TABLE), 1, cells, 8, marks, 8, output, sizeof output), 0, length));
+    HOLDS(is(sitgurp_family_tree(TEXT(TABLE), 1, cells, 8, marks, 2, output, sizeof output), 0, length));
     HOLDS(output_holds(NET));
     fill();
-    HOLDS(is(sitgurp_family_tree(TEXT(TABLE), 2, cells, 8, marks, 8, output, sizeof output), 0, length));
+    HOLDS(is(sitgurp_family_tree(TEXT(TABLE), 2, cells, 8, marks, 2, output, sizeof output), 0, length));
     HOLDS(output_holds(HEADER "left right table\na c 0110\n1 b 0110\n"));
     fill();
-    HOLDS(is(sitgurp_family_tree(TEXT(TABLE4), 3, cells, 16, marks, 16, output, sizeof output), 0, sizeof(SHALLOW) - 1));
-    HOLDS(cells_hold(sum4_cells, 16) && marks_hold(sum4_marks, 16) && output_holds(SHALLOW));
+    HOLDS(is(sitgurp_family_tree(TEXT(TABLE4), 3, cells, 16, marks, 4, output, sizeof output), 0, sizeof(SHALLOW) - 1));
+    HOLDS(cells_hold(sum4_cells, 16) && marks_hold(sum4_marks, 4) && output_holds(SHALLOW));
 }
 
 static void check(void) {

@@ -10,7 +10,7 @@ use Rattle.laws.specs.FamilyCalls.{counted-refused}
 use Rattle.nets.specs.Forms.{tableIn}
 use Rattle.answers.specs.Answers.{outcomeAs}
 use Rattle.synthesis.specs.Room.{both-long}
-use Rattle.families.specs.Marked.{none-known, counts-room}
+use Rattle.families.specs.Marked.{none-known, groups-room}
 use Rattle.families.specs.Outcomes.{count-given}
 use Rattle.families.proofs.count.count_into.Statement.{statement}
 use Rattle.families.proofs.count.count_into.Tie as tie
@@ -23,10 +23,10 @@ abbrev at-room : tie.After-enum-told → tie.After-room
 at-room c = c .before .before
 
 abbrev at-told : tie.After-counts → tie.After-enum-told
-at-told c = c .before .before .before
+at-told c = c .before .before .before .before
 
 abbrev at-counted : tie.After-counts2 → tie.After-count-marked
-at-counted c = c .before .before .before .before .before
+at-counted c = c .before .before .before .before .before .before
 
 -- there is room, whatever the names
 fits : (c : tie.After-enum-told) (s : List ℕ) →
@@ -46,11 +46,14 @@ enum-told c = search needs
 slice-aggregate-count-marked : tie.Need-slice-aggregate-count-marked
 slice-aggregate-count-marked c = search needs
 
+slice-aggregate-count-marked-2 : tie.Need-slice-aggregate-count-marked-2
+slice-aggregate-count-marked-2 c = search needs
+
 count-marked-requires : tie.Need-count-marked-requires
 count-marked-requires c κs =
     let start = at-start (at-room (at-told c)) in
     let long = both-long [] (start .args .header) _ (start .pre .1) _ _ (fits (at-told c) []) in
-    (start .pre .0, start .pre .1, long .0, long .1, counts-room _ _ (start .pre .0), none-known (2 ^ mostInputs))
+    (start .pre .0, start .pre .1, long .0, groups-room _ _ (start .pre .0), long .1, groups-room _ _ (start .pre .0), none-known (2 ^ mostInputs))
 
 same-length : tie.Need-same-length
 same-length c = search needs
@@ -75,7 +78,7 @@ returns-2 c s =
     let did = at-counted c in
     let told = at-told (did .before) in
     let a = at-start (at-room told) .args in
-    count-given s (a .header) (a .inks .now) (a .cells .now) (a .marks .now) (did .count-marked .result) _ _ _ (did .count-marked .ensures) (sym (fits told s))
+    count-given s (a .header) (a .inks .now) (a .cells .now) (a .marks .now) (did .count-marked .result) _ _ _ _ (did .count-marked .ensures) (sym (fits told s))
 
 pub count-into-spec : {M : Type 1} → statement M
 count-into-spec =
@@ -85,6 +88,7 @@ count-into-spec =
     enum-known-judged
     enum-told
     slice-aggregate-count-marked
+    slice-aggregate-count-marked-2
     count-marked-requires
     same-length
     same-length-2

@@ -14,7 +14,6 @@ use Rattle.rules.specs.Wirings.{firstInput}
 use Rattle.rules.specs.Family.{splitCount}
 use Rattle.trees.specs.FamilyCounts.{counted, splitCounted, count-none, count-single}
 use Rattle.trees.specs.FamilyBounds.{count-fits}
-use Rattle.marks.specs.Stored.{held}
 use Rattle.families.specs.Counts.{CountsKept, Countable, Splittable, one-kept, smaller, split-fits}
 use Rattle.families.proofs.Walking.{Passed, passed-none, passed-next, looked, Summed, summed-none, summed-next, summed-all, summed-most}
 use borrow.Fn.Kinds.{In}
@@ -25,7 +24,7 @@ use Rattle.families.proofs.counts.+group_count+split_count.Lts-group_co
 use Rattle.families.proofs.counts.split_count.Reads as split-count
 use Rattle.families.proofs.counts.split_count.Kinds as split-count-kinds
 use Rattle.families.proofs.counts.+group_count+split_count.Lts-split_count as split-count-lts
-use Rattle.marks.proofs.stored.mark_at.Reads as mark-at-reads
+use Rattle.marks.proofs.own.mark_at.Reads as mark-at-reads
 use Rattle.radix.proofs.members.next_part.Reads as next-part-reads
 use Rattle.radix.proofs.members.single.Reads as single-reads
 use Rattle.radix.proofs.members.without_first.Reads as without-first-reads
@@ -67,7 +66,7 @@ called t = (
 
 abbrev Inv-loop : group-count-lts.InvT-loop
 Inv-loop marks counts₀ g known rest first sum₀ part₀ counts sum part =
-    (length counts ≡ length counts₀) × CountsKept (held marks) counts × Passed rest part × Summed (held marks) g rest part sum
+    (length counts ≡ length counts₀) × CountsKept marks counts × Passed rest part × Summed marks g rest part sum
 
 abbrev μ-loop : group-count-lts.MeasureT-loop
 μ-loop marks counts₀ g known rest first sum₀ part₀ counts sum part = rest - part
@@ -125,7 +124,7 @@ module _ (t : ℕ) where
     g = c .args .g
 
     abbrev marks : List ℕ
-    marks = held (c .args .marks .now)
+    marks = (c .args .marks .now)
 
     abbrev counts : List ℕ
     counts = c .args .counts .now
@@ -330,7 +329,7 @@ module _ (t : ℕ) where
   group-count-requires : split-count-lts.Need-group-count-requires asked (split-count-at t) split-count.Post
   group-count-requires c κs =
       let e = c .before .before .before in
-      let is : Splittable (held (e .args .marks .now)) (e .args .counts .now) (e .args .g) (e .args .a) = e .pre .1 in
+      let is : Splittable (e .args .marks .now) (e .args .counts .now) (e .args .g) (e .args .a) = e .pre .1 in
       (omega (arith, e .pre .0, is .less), smaller _ _ _ _ _ (is .group) (is .some) (is .less) refl (is .group .kept))
 
   sub-group-count : split-count-lts.Need-sub-group-count asked (split-count-at t) split-count.Post
@@ -340,7 +339,7 @@ module _ (t : ℕ) where
   group-count-requires-2 c κs =
       let l = c .before .before .before in
       let e = entered l in
-      let is : Splittable (held (e .args .marks .now)) (e .args .counts .now) (e .args .g) (e .args .a) = e .pre .1 in
+      let is : Splittable (e .args .marks .now) (e .args .counts .now) (e .args .g) (e .args .a) = e .pre .1 in
       let some : 0 < e .args .g - e .args .a = omega (arith, is .less) in
       let less : e .args .g - e .args .a < e .args .g = omega (arith, is .some, is .less) in
       (omega (arith, e .pre .0, is .some, is .less), smaller _ _ _ _ _ (is .group) some less (l .group-count .kept .1 .0) (l .group-count .ensures .kept))
@@ -348,7 +347,7 @@ module _ (t : ℕ) where
   -- the product of what was found is the split's count
   is-product : (c : After-right) →
       let e = entered (left c) in
-      (n : ℕ) → e .args .g < 2 ^ n → left c .group-count .result * c .group-count2 .result ≡ splitCounted n (held (e .args .marks .now)) (e .args .g) (e .args .a)
+      (n : ℕ) → e .args .g < 2 ^ n → left c .group-count .result * c .group-count2 .result ≡ splitCounted n (e .args .marks .now) (e .args .g) (e .args .a)
   unfolding splitCount
   is-product c n g< =
       let e = entered (left c) in

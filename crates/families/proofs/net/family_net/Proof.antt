@@ -6,7 +6,6 @@ use borrow.Author.Needs.{needs}
 use lib.Pow.{pow-pos}
 use Rattle.rules.specs.Groups.{wholeGroup}
 use Rattle.rules.specs.Answers.{inkIn}
-use Rattle.marks.specs.Stored.{held}
 use Rattle.digits.specs.Sized.{Sized, sized}
 use Rattle.families.specs.Counts.{Countable}
 use Rattle.families.specs.Numbered.{InCount, WiringFound}
@@ -42,16 +41,16 @@ wiring-of-requires : tie.Need-wiring-of-requires
 wiring-of-requires c κs =
     let s = start c in
     let a = s .args in (
-      subst⁻¹ (Countable (held (a .marks .now)) (a .counts .now)) (whole c) (s .pre .4),
-      subst⁻¹ (λ (g : ℕ). InCount (a .n) (held (a .marks .now)) g (a .r)) (whole c)
-          (whole-in (a .m) (a .n) (s .pre .0) (inkIn (a .cells .now)) (held (a .marks .now)) (s .pre .3) (a .r) (s .pre .5)),
+      subst⁻¹ (Countable (a .marks .now) (a .counts .now)) (whole c) (s .pre .4),
+      subst⁻¹ (λ (g : ℕ). InCount (a .n) (a .marks .now) g (a .r)) (whole c)
+          (whole-in (a .m) (a .n) (s .pre .0) (inkIn (a .cells .now)) (a .marks .now) (s .pre .3) (a .r) (s .pre .5)),
     )
 
 -- so the wiring is that of all inputs
-found : (c : tie.After-wiring-of) → let a = start (power c) .args in WiringFound (a .n) (held (a .marks .now)) (wholeGroup (a .n)) (a .r) (c .wiring-of .result)
+found : (c : tie.After-wiring-of) → let a = start (power c) .args in WiringFound (a .n) (a .marks .now) (wholeGroup (a .n)) (a .r) (c .wiring-of .result)
 found c =
     let a = start (power c) .args in
-    subst (λ (g : ℕ). WiringFound (a .n) (held (a .marks .now)) g (a .r) (c .wiring-of .result)) (whole (power c)) (c .wiring-of .ensures)
+    subst (λ (g : ℕ). WiringFound (a .n) (a .marks .now) g (a .r) (c .wiring-of .result)) (whole (power c)) (c .wiring-of .ensures)
 
 fill-requires : tie.Need-fill-requires
 fill-requires c κs =
@@ -60,8 +59,8 @@ fill-requires c κs =
     let a = s .args in
     let f = inkIn (a .cells .now) in (
       in-bounds s,
-      omega (arith, number-count (a .m) (a .n) (s .pre .0) f (held (a .marks .now)) (s .pre .3) (a .r) (s .pre .5) (w .wiring-of .result) (found w)),
-      number-fills (a .m) (a .n) (s .pre .0) f (held (a .marks .now)) (s .pre .3) (a .r) (s .pre .5) (w .wiring-of .result) (found w),
+      omega (arith, number-count (a .m) (a .n) (s .pre .0) f (a .marks .now) (s .pre .3) (a .r) (s .pre .5) (w .wiring-of .result) (found w)),
+      number-fills (a .m) (a .n) (s .pre .0) f (a .marks .now) (s .pre .3) (a .r) (s .pre .5) (w .wiring-of .result) (found w),
     )
 
 same-length : tie.Need-same-length
@@ -72,7 +71,7 @@ returns c =
     let w = wiring (c .before) in
     let s = start (power w) in
     let a = s .args in
-    number-net (a .m) (a .n) (s .pre .0) (inkIn (a .cells .now)) (held (a .marks .now)) (s .pre .3) (a .r) (s .pre .5) (w .wiring-of .result) (found w)
+    number-net (a .m) (a .n) (s .pre .0) (inkIn (a .cells .now)) (a .marks .now) (s .pre .3) (a .r) (s .pre .5) (w .wiring-of .result) (found w)
     (s .pre .2) (c .fill .result) (c .fill .ensures)
 
 pub family-net-spec : {M : Type 1} → statement M

@@ -11,7 +11,6 @@ use Rattle.rules.specs.Wirings.{firstInput}
 use Rattle.trees.specs.Members.{size-one}
 use Rattle.rules.specs.Family.{splitsOf, numberedAt}
 use Rattle.trees.specs.FamilyCounts.{counted, splitCounted, counted-two}
-use Rattle.marks.specs.Stored.{held}
 use Rattle.families.specs.Counts.{Countable, smaller}
 use Rattle.families.specs.Numbered.{InCount, NumberWired, numbered-single, part-less, part-sizes, count-some, left-in, right-in, numbered-several}
 use borrow.Fn.Kinds.{In}
@@ -111,7 +110,7 @@ module _ (t : ℕ) where
     r = c .args .r
 
     abbrev marks : List ℕ
-    marks = held (c .args .marks .now)
+    marks = (c .args .marks .now)
 
     abbrev counts : List ℕ
     counts = c .args .counts .now

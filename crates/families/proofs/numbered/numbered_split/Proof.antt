@@ -7,7 +7,6 @@ use native.Mathlib.Omega.{arith}
 use lib.ListN.{length}
 use Rattle.rules.specs.Limits.{mostInputs}
 use Rattle.rules.specs.Wirings.{firstInput}
-use Rattle.marks.specs.Stored.{held}
 use Rattle.families.specs.Counts.{CountsKept, Countable, Splittable}
 use Rattle.families.proofs.Walking.{Passed, passed-none, passed-next, looked, Left, left-all, left-none, left-here, left-later}
 use Rattle.families.proofs.numbered.numbered_split.Statement.{statement}
@@ -15,7 +14,7 @@ use Rattle.families.proofs.numbered.numbered_split.Tie as tie
 
 abbrev Inv-loop : tie.InvT-loop
 Inv-loop marks counts₀ g r rest first left₀ part₀ counts left part =
-    (length counts ≡ length counts₀) × CountsKept (held marks) counts × Passed rest part × Left (held marks) g rest r part left
+    (length counts ≡ length counts₀) × CountsKept marks counts × Passed rest part × Left marks g rest r part left
 
 abbrev μ-loop : tie.MeasureT-loop
 μ-loop marks counts₀ g r rest first left₀ part₀ counts left part = rest - part
@@ -43,7 +42,7 @@ module _ (c : tie.After-without-first Inv-loop μ-loop) where
   r = at-start c .args .r
 
   abbrev marks : List ℕ
-  marks = held (at-start c .args .marks .now)
+  marks = (at-start c .args .marks .now)
 
   abbrev counts : List ℕ
   counts = at-start c .args .counts .now

@@ -3,7 +3,6 @@ use mathlib.Core.Path.{_≡_, ap}
 use native.Mathlib.Omega.{arith}
 use borrow.Author.Needs.{needs}
 use Rattle.trees.specs.Members.{size-le}
-use Rattle.marks.specs.Stored.{held}
 use Rattle.wirings.specs.Links.{noLinks}
 use Rattle.families.specs.Numbered.{wiring-found}
 use Rattle.families.proofs.numbered.wiring_of.Statement.{statement}
@@ -36,7 +35,7 @@ returns : tie.Need-returns
 returns c =
     let built = c .before .before .before in
     let s = start (none built) in
-    wiring-found (s .args .n) (held (s .args .marks .now)) (s .args .leaves) (s .args .r) (none built .no-links .result) (built .wire-numbered .result .wiring)
+    wiring-found (s .args .n) (s .args .marks .now) (s .args .leaves) (s .args .r) (none built .no-links .result) (built .wire-numbered .result .wiring)
     (built .wire-numbered .result .reference) (built .wire-numbered .last .1 .1 .0) (empty (none built)) (built .wire-numbered .ensures)
 
 pub wiring-of-spec : {M : Type 1} → statement M

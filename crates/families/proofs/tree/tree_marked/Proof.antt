@@ -9,29 +9,34 @@ use lib.ListN.{length, take}
 use Rattle.rules.specs.Limits.{mostInputs}
 use Rattle.rules.specs.Marks.{marksOf}
 use Rattle.rules.specs.Answers.{inkIn}
-use Rattle.marks.specs.Stored.{held}
 use Rattle.synthesis.specs.Outcomes.{given-size, given-count, given-below, made-inside, made-short}
 use Rattle.families.specs.Counts.{CountsKept}
-use Rattle.families.specs.Marked.{none-known, counts-room, marks-front, whole-countable}
+use Rattle.families.specs.Marked.{none-known, groups-room, marks-front, whole-countable}
 use Rattle.families.specs.Outcomes.{order-past, order-tree}
 use Rattle.families.proofs.tree.tree_marked.Statement.{statement}
 use Rattle.families.proofs.tree.tree_marked.Tie as tie
 
--- the start, the arguments of the count, the count, the test of the number, the length that the marks need, the net, each from the next
-abbrev at-known : tie.After-slice-known3 → tie.Start
-at-known c = c .before .before .before .before .before
+-- the start, the arguments of the count, the count, the test of the number, the number of the groups, the net, each from the next
+abbrev at-given : tie.After-count-marked-arg → tie.Start
+at-given c = c .before .before .before .before .before .before
 
 abbrev at-args : tie.After-counts → tie.Start
-at-args c = at-known (c .before .before .before)
+at-args c = at-given (c .before .before .before)
 
 abbrev at-start : tie.After-count-marked → tie.Start
 at-start c = at-args (c .before)
 
-abbrev at-count : tie.After-counts2 → tie.After-count-marked
-at-count c = c .before .before .before .before .before
+abbrev at-count : tie.Else1 → tie.After-count-marked
+at-count c = c .before .before .before .before .before .before .before
 
-abbrev at-need : tie.After-counts3 → tie.After-marks-length
-at-need c = c .before .before .before
+abbrev past-count : tie.Then1 → tie.After-count-marked
+past-count c = c .before .before .before .before .before .before .before
+
+abbrev at-test : tie.After-power → tie.Else1
+at-test c = c .before
+
+abbrev at-power : tie.After-counts3 → tie.After-power
+at-power c = c .before .before .before
 
 abbrev at-net : tie.After-write-sheet-arg → tie.After-family-net
 at-net c = c .before .before
@@ -42,10 +47,14 @@ at-sheet c = c .before .before
 slice-aggregate-count-marked : tie.Need-slice-aggregate-count-marked
 slice-aggregate-count-marked c = search needs
 
+slice-aggregate-count-marked-2 : tie.Need-slice-aggregate-count-marked-2
+slice-aggregate-count-marked-2 c = search needs
+
 count-marked-requires : tie.Need-count-marked-requires
 count-marked-requires c κs =
     let start = at-args c in
-    (given-size _ _ _ (start .pre .0), given-count _ _ _ (start .pre .0), start .pre .1, start .pre .2, counts-room _ _ (given-size _ _ _ (start .pre .0)), none-known (2 ^ mostInputs))
+    let size = given-size _ _ _ (start .pre .0) in
+    (size, given-count _ _ _ (start .pre .0), start .pre .1, groups-room _ _ size, start .pre .2, groups-room _ _ size, none-known (2 ^ mostInputs))
 
 same-length : tie.Need-same-length
 same-length c = search needs
@@ -55,52 +64,55 @@ same-length-2 c = search needs
 
 returns : tie.Need-returns
 returns c =
-    let count = at-count (c .before) in
+    let count = past-count c in
     let a = at-start count .args in
-    order-past (a .s .now) (a .header) (a .inks .now) (a .cells .now) (a .marks .now) (count .count-marked .result) _ _ _ (count .count-marked .ensures)
+    order-past (a .s .now) (a .header) (a .inks .now) (a .cells .now) (a .marks .now) (count .count-marked .result) _ _ _ _ (count .count-marked .ensures)
     (a .order) (a .out .now) (c .if1 .taken)
 
-marks-length-requires : tie.Need-marks-length-requires
-marks-length-requires c κs = search needs
+power-requires : tie.Need-power-requires
+power-requires c κs = search needs
 
-sub-own : tie.Need-sub-own
-sub-own c = search needs
+sub-family-net : tie.Need-sub-family-net
+sub-family-net c = search needs
 
-part-own-start : tie.Need-part-own-start
-part-own-start c = search needs
+part-family-net-start : tie.Need-part-family-net-start
+part-family-net-start c = search needs
 
-part-own-end : tie.Need-part-own-end
-part-own-end c = search needs
+part-family-net-end : tie.Need-part-family-net-end
+part-family-net-end c =
+    let power = c .before in
+    let count = at-count (at-test power) in
+    omega (arith, power .power .ensures, groups-room _ _ (given-size _ _ _ (at-start count .pre .0)), count .count-marked .kept .1 .1 .1 .1 .0)
 
 slice-aggregate-family-net : tie.Need-slice-aggregate-family-net
 slice-aggregate-family-net c = search needs
 
 family-net-requires : tie.Need-family-net-requires
 family-net-requires c κs =
-    let need = at-need c in
-    let test = need .before in
-    let count = at-count (test .before) in
+    let power = at-power c in
+    let test = at-test power in
+    let count = at-count test in
     let start = at-start count in
     let h = start .args .header in
     let f = inkIn (start .args .inks .now) in
     let size = given-size _ _ _ (start .pre .0) in
     let did = count .count-marked in
-    let own : List ℕ = held (take (need .marks-length .result - 0) (did .last .1 .1 .1 .1 .0)) in
-    let is-own : own ≡ marksOf (h .levels) (h .inputs) f = marks-front (h .levels) (h .inputs) size f _ _ (did .ensures .marked) (need .marks-length .result) (need .marks-length .ensures) in
-    let long : length (did .last .1 .1 .1 .1 .1 .0) ≡ 2 ^ mostInputs = search needs in
-    let kept : CountsKept own (did .last .1 .1 .1 .1 .1 .0) = subst⁻¹ (λ (marks : List ℕ). CountsKept marks (did .last .1 .1 .1 .1 .1 .0)) is-own (did .ensures .kept) in (
+    let own : List ℕ = take (power .power .result - 0) (did .last .1 .1 .1 .1 .0) in
+    let is-own : own ≡ marksOf (h .levels) (h .inputs) f = marks-front (h .levels) (h .inputs) size f _ (did .ensures .front) (power .power .result) (power .power .ensures) in
+    let long : length (did .last .1 .1 .1 .1 .1 .1 .0) ≡ 2 ^ mostInputs = search needs in
+    let kept : CountsKept own (did .last .1 .1 .1 .1 .1 .1 .0) = subst⁻¹ (λ (marks : List ℕ). CountsKept marks (did .last .1 .1 .1 .1 .1 .1 .0)) is-own (did .ensures .kept) in (
       size,
       le-of-eq (sym (given-count _ _ _ (start .pre .0))),
       given-below _ _ _ (start .pre .0),
       is-own,
-      whole-countable (h .levels) (h .inputs) size f own (did .last .1 .1 .1 .1 .1 .0) is-own (omega (arith, counts-room _ _ size, long)) kept,
+      whole-countable (h .levels) (h .inputs) size f own (did .last .1 .1 .1 .1 .1 .1 .0) is-own (omega (arith, groups-room _ _ size, long)) kept,
       omega (arith, test .if1 .left, did .ensures .count),
     )
 
 write-sheet-requires : tie.Need-write-sheet-requires
 write-sheet-requires c κs =
     let net = at-net c in
-    let g = at-start (at-count (at-need (net .before) .before .before)) .pre .0 in
+    let g = at-start (at-count (at-test (at-power (net .before)))) .pre .0 in
     (g .names, made-inside _ _ _ g _ (net .family-net .ensures), made-short _ _ _ g _ (net .family-net .ensures))
 
 same-length-3 : tie.Need-same-length-3
@@ -116,10 +128,10 @@ returns-2 : tie.Need-returns-2
 returns-2 c =
     let sheet = at-sheet c in
     let net = at-net (sheet .before) in
-    let test = at-need (net .before) .before in
-    let count = at-count (test .before) in
+    let test = at-test (at-power (net .before)) in
+    let count = at-count test in
     let a = at-start count .args in
-    order-tree (a .s .now) (a .header) (a .inks .now) (a .cells .now) (a .marks .now) (count .count-marked .result) _ _ _ (count .count-marked .ensures) (a .order) (a .out .now)
+    order-tree (a .s .now) (a .header) (a .inks .now) (a .cells .now) (a .marks .now) (count .count-marked .result) _ _ _ _ (count .count-marked .ensures) (a .order) (a .out .now)
     (at-start count .pre .0) (test .if1 .left) (net .family-net .result) (net .family-net .ensures) (sheet .write-sheet .result) _ (sheet .write-sheet .ensures)
 
 pub tree-marked-spec : {M : Type 1} → statement M
@@ -127,14 +139,15 @@ tree-marked-spec =
     tie.close
     (tie.spec
     slice-aggregate-count-marked
+    slice-aggregate-count-marked-2
     count-marked-requires
     same-length
     same-length-2
     returns
-    marks-length-requires
-    sub-own
-    part-own-start
-    part-own-end
+    power-requires
+    sub-family-net
+    part-family-net-start
+    part-family-net-end
     slice-aggregate-family-net
     family-net-requires
     write-sheet-requires

@@ -7,7 +7,6 @@ use lib.Pow.{pow-pos}
 use Rattle.rules.specs.Groups.{wholeGroup}
 use Rattle.rules.specs.Answers.{inkIn}
 use Rattle.trees.specs.Members.{whole-below}
-use Rattle.marks.specs.Stored.{held}
 use Rattle.wirings.specs.Choice.{splitBy, LayersRoom}
 use Rattle.wirings.specs.Chosen.{Choosable, Chosen}
 use Rattle.digits.specs.Sized.{Sized, sized}
@@ -38,16 +37,16 @@ whole c = ap (λ (k : ℕ). k - 1) (c .power .ensures)
 
 -- A's number in each group, as it is found
 abbrev found : tie.Start → ℕ → ℕ
-found s = splitBy (s .args .choice) (s .args .n) (held (s .args .marks .now)) (s .args .fewest .now)
+found s = splitBy (s .args .choice) (s .args .n) (s .args .marks .now) (s .args .fewest .now)
 
 choose-requires : tie.Need-choose-requires
 choose-requires c κs =
     let s = start c in
     let a = s .args in
     let size = in-bounds s in (
-      subst⁻¹ (Choosable (a .n) (held (a .marks .now)) (found s)) (whole c)
+      subst⁻¹ (Choosable (a .n) (a .marks .now) (found s)) (whole c)
           (choosable (a .choice) (a .m) (a .n) (size .some) (inkIn (a .cells .now)) (a .marks .now) (a .fewest .now) (s .pre .3) (s .pre .5) (size .inputs) (wholeGroup (a .n)) (whole-below (a .n)) (s .pre .4)),
-      subst⁻¹ (λ (g : ℕ). LayersRoom (a .choice) g (a .fewest .now)) (whole c) (layers-room (a .choice) (a .n) (held (a .marks .now)) (a .fewest .now) (s .pre .5)),
+      subst⁻¹ (λ (g : ℕ). LayersRoom (a .choice) g (a .fewest .now)) (whole c) (layers-room (a .choice) (a .n) (a .marks .now) (a .fewest .now) (s .pre .5)),
     )
 
 -- so the wiring is that of all inputs

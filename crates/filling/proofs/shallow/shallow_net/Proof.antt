@@ -7,7 +7,6 @@ use lib.ListN.{length}
 use lib.Pow.{pow-mono}
 use Rattle.rules.specs.Limits.{mostInputs}
 use Rattle.laws.specs.Sizes.{Size, sized}
-use Rattle.marks.specs.Stored.{held-room}
 use Rattle.filling.proofs.shallow.shallow_net.Statement.{statement}
 use Rattle.filling.proofs.shallow.shallow_net.Tie as tie
 
@@ -31,7 +30,7 @@ slice-aggregate-fewest-layers c = search needs
 fewest-layers-requires : tie.Need-fewest-layers-requires
 fewest-layers-requires c κs =
     let s = at-start c in
-    (omega (arith, size s .inputs-most), held-room (s .args .marks .now) (s .args .n) (s .pre .3 .room), room s)
+    (omega (arith, size s .inputs-most), s .pre .3 .room, room s)
 
 slice-aggregate-chosen-net : tie.Need-slice-aggregate-chosen-net
 slice-aggregate-chosen-net c = search needs

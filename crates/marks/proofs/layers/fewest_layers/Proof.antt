@@ -8,13 +8,12 @@ use borrow.Author.Needs.{needs}
 use lib.ListN.{length, length-set}
 use lib.Pow.{pow-mono}
 use Rattle.radix.specs.Widths.{mostMembers}
-use Rattle.marks.specs.Stored.{held}
 use Rattle.marks.specs.Fewest.{layersOf, Known, known-small, known-next}
 use Rattle.marks.proofs.layers.fewest_layers.Statement.{statement}
 use Rattle.marks.proofs.layers.fewest_layers.Tie as tie
 
 abbrev Inv-loop : tie.InvT-loop
-Inv-loop n marks fewest₀ end g₀ fewest g = (g ≤ end) × (length fewest ≡ length fewest₀) × Known n (held marks) g fewest
+Inv-loop n marks fewest₀ end g₀ fewest g = (g ≤ end) × (length fewest ≡ length fewest₀) × Known n marks g fewest
 
 abbrev μ-loop : tie.MeasureT-loop
 μ-loop n marks fewest₀ end g₀ fewest g = end - g
@@ -48,7 +47,7 @@ module _ (c : tie.In-loop Inv-loop μ-loop) where
   g = c .before .loop .g
 
   abbrev marks : List ℕ
-  marks = held (start .args .marks .now)
+  marks = (start .args .marks .now)
 
   -- g is a group
   g< : g < 2 ^ n
@@ -94,7 +93,7 @@ returns : tie.Need-returns Inv-loop μ-loop
 returns c =
     let power = c .before .before in
     let all : c .before .loop .g ≡ 2 ^ at-start power .args .n = omega (arith, c .loop-test .left, c .before .loop .inv .0, power .power .ensures) in
-    subst (λ (k : ℕ). Known (at-start power .args .n) (held (at-start power .args .marks .now)) k (c .before .loop .fewest)) all (c .before .loop .inv .2)
+    subst (λ (k : ℕ). Known (at-start power .args .n) (at-start power .args .marks .now) k (c .before .loop .fewest)) all (c .before .loop .inv .2)
 
 pub fewest-layers-spec : {M : Type 1} → statement M
 fewest-layers-spec =

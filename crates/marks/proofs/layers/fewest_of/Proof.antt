@@ -2,14 +2,13 @@
 use Prim.Native.Nat.{ℕ, _+_, _-_, _<_}
 use native.Mathlib.Omega.{arith}
 use Rattle.radix.specs.Widths.{mostMembers}
-use Rattle.marks.specs.Stored.{held}
 use Rattle.marks.specs.FirstParts.{part-at}
 use Rattle.marks.proofs.Scanning.{Scanned, scanned-none, scanned-next, scanned-all}
 use Rattle.marks.proofs.layers.fewest_of.Statement.{statement}
 use Rattle.marks.proofs.layers.fewest_of.Tie as tie
 
 abbrev Inv-loop : tie.InvT-loop
-Inv-loop marks fewest g rest first least₀ part₀ least part = Scanned (held marks) fewest g rest part least
+Inv-loop marks fewest g rest first least₀ part₀ least part = Scanned marks fewest g rest part least
 
 abbrev μ-loop : tie.MeasureT-loop
 μ-loop marks fewest g rest first least₀ part₀ least part = rest - part
@@ -31,7 +30,7 @@ sub-first : tie.Need-sub-first Inv-loop μ-loop
 sub-first c = omega (arith, c .without-first .ensures mostMembers (at-start c .pre .1))
 
 loop-holds : tie.Need-loop-holds Inv-loop μ-loop
-loop-holds c = let a = at-start c .args in scanned-none (held (a .marks .now)) (a .fewest .now) (a .g) (c .without-first .result)
+loop-holds c = let a = at-start c .args in scanned-none (a .marks .now) (a .fewest .now) (a .g) (c .without-first .result)
 
 -- ---- a turn
 
@@ -68,7 +67,7 @@ loop-again c =
     let t = at-turn c in
     let l = t .before .loop in
     let a = start t .args in
-    scanned-next (held (a .marks .now)) (a .fewest .now) (a .g) (rest t) (l .part) (l .least) (l .inv) (t .loop-test .taken)
+    scanned-next (a .marks .now) (a .fewest .now) (a .g) (rest t) (l .part) (l .least) (l .inv) (t .loop-test .taken)
     (c .before .fewer-by .result) (c .before .fewer-by .ensures) (c .next-part .result) (c .next-part .ensures)
 
 returns : tie.Need-returns Inv-loop μ-loop
@@ -76,7 +75,7 @@ returns c =
     let first = at-first (c .before) in
     let s = at-start first in
     let l = c .before .loop in
-    scanned-all (held (s .args .marks .now)) (s .args .fewest .now) (s .args .g) (first .without-first .result) (l .part) (l .least) (l .inv)
+    scanned-all (s .args .marks .now) (s .args .fewest .now) (s .args .g) (first .without-first .result) (l .part) (l .least) (l .inv)
     (c .loop-test .left) (s .pre .0) (first .without-first .ensures)
 
 pub fewest-of-spec : {M : Type 1} → statement M

@@ -5,13 +5,12 @@ use mathlib.Core.Path.{sym, _∙_}
 use native.Mathlib.Omega.{arith}
 use Rattle.rules.specs.Shallow.{shallowSplit}
 use Rattle.radix.specs.Widths.{mostMembers}
-use Rattle.marks.specs.Stored.{held}
 use Rattle.marks.proofs.Searching.{shallowTest, shallow-looked, Sought, sought-none, sought-all, here, sought-found, sought-next}
 use Rattle.marks.proofs.layers.shallow_split.Statement.{statement}
 use Rattle.marks.proofs.layers.shallow_split.Tie as tie
 
 abbrev Inv-loop : tie.InvT-loop
-Inv-loop marks fewest g rest first part₀ part = Sought (shallowTest (held marks) g fewest) g rest part
+Inv-loop marks fewest g rest first part₀ part = Sought (shallowTest marks g fewest) g rest part
 
 abbrev μ-loop : tie.MeasureT-loop
 μ-loop marks fewest g rest first part₀ part = rest - part
@@ -33,21 +32,21 @@ loop-holds : tie.Need-loop-holds Inv-loop μ-loop
 loop-holds c =
     let start = at-start c in
     let w = c .without-first in
-    sought-none _ _ (start .args .g) (w .result) (shallow-looked (held (start .args .marks .now)) (start .args .g) (start .args .fewest .now)) (start .pre .0) (w .ensures)
+    sought-none _ _ (start .args .g) (w .result) (shallow-looked (start .args .marks .now) (start .args .g) (start .args .fewest .now)) (start .pre .0) (w .ensures)
 
 add-keeps : tie.Need-add-keeps Inv-loop μ-loop
 add-keeps c =
     let start = at-start (at-first (c .before)) in
     let l = c .before .loop in
     let w = at-first (c .before) .without-first in
-    omega (arith, here _ _ (start .args .g) (w .result) (shallow-looked (held (start .args .marks .now)) (start .args .g) (start .args .fewest .now)) (start .pre .0) (w .ensures) (l .part) (l .inv) (c .loop-test .taken) mostMembers (start .pre .1))
+    omega (arith, here _ _ (start .args .g) (w .result) (shallow-looked (start .args .marks .now) (start .args .g) (start .args .fewest .now)) (start .pre .0) (w .ensures) (l .part) (l .inv) (c .loop-test .taken) mostMembers (start .pre .1))
 
 keeps-requires : tie.Need-keeps-requires Inv-loop μ-loop
 keeps-requires c κs =
     let start = at-start (at-first (c .before)) in
     let l = c .before .loop in
     let w = at-first (c .before) .without-first in
-    let a = here _ _ (start .args .g) (w .result) (shallow-looked (held (start .args .marks .now)) (start .args .g) (start .args .fewest .now)) (start .pre .0) (w .ensures) (l .part) (l .inv) (c .loop-test .taken) mostMembers (start .pre .1) in
+    let a = here _ _ (start .args .g) (w .result) (shallow-looked (start .args .marks .now) (start .args .g) (start .args .fewest .now)) (start .pre .0) (w .ensures) (l .part) (l .inv) (c .loop-test .taken) mostMembers (start .pre .1) in
     (a .0, a .1, start .pre .2, start .pre .3)
 
 add-result : tie.Need-add-result Inv-loop μ-loop
@@ -55,7 +54,7 @@ add-result c =
     let start = at-start (at-first (c .before .before .before)) in
     let l = c .before .before .before .loop in
     let w = at-first (c .before .before .before) .without-first in
-    omega (arith, here _ _ (start .args .g) (w .result) (shallow-looked (held (start .args .marks .now)) (start .args .g) (start .args .fewest .now)) (start .pre .0) (w .ensures) (l .part) (l .inv) (c .before .before .loop-test .taken) mostMembers (start .pre .1))
+    omega (arith, here _ _ (start .args .g) (w .result) (shallow-looked (start .args .marks .now) (start .args .g) (start .args .fewest .now)) (start .pre .0) (w .ensures) (l .part) (l .inv) (c .before .before .loop-test .taken) mostMembers (start .pre .1))
 
 returns : tie.Need-returns Inv-loop μ-loop
 unfolding shallowSplit
@@ -63,7 +62,7 @@ returns c =
     let start = at-start (at-first (c .before .before .before)) in
     let l = c .before .before .before .loop in
     let w = at-first (c .before .before .before) .without-first in
-    sought-found _ _ (start .args .g) (w .result) (shallow-looked (held (start .args .marks .now)) (start .args .g) (start .args .fewest .now)) (start .pre .0) (w .ensures) (l .part) (l .inv) (c .before .before .loop-test .taken) (sym (c .before .keeps .ensures) ∙ c .if1 .taken)
+    sought-found _ _ (start .args .g) (w .result) (shallow-looked (start .args .marks .now) (start .args .g) (start .args .fewest .now)) (start .pre .0) (w .ensures) (l .part) (l .inv) (c .before .before .loop-test .taken) (sym (c .before .keeps .ensures) ∙ c .if1 .taken)
 
 next-part-requires : tie.Need-next-part-requires Inv-loop μ-loop
 next-part-requires c κs =
@@ -80,7 +79,7 @@ loop-again c =
     let start = at-start (at-first (c .before .before .before .before)) in
     let l = c .before .before .before .before .loop in
     let w = at-first (c .before .before .before .before) .without-first in
-    sought-next _ _ (start .args .g) (w .result) (shallow-looked (held (start .args .marks .now)) (start .args .g) (start .args .fewest .now)) (start .pre .0) (w .ensures) (l .part) (l .inv) (c .before .before .before .loop-test .taken) (sym (c .before .before .keeps .ensures) ∙ c .before .if1 .left)
+    sought-next _ _ (start .args .g) (w .result) (shallow-looked (start .args .marks .now) (start .args .g) (start .args .fewest .now)) (start .pre .0) (w .ensures) (l .part) (l .inv) (c .before .before .before .loop-test .taken) (sym (c .before .before .keeps .ensures) ∙ c .before .if1 .left)
     (c .next-part .result) (c .next-part .ensures)
 
 returns-2 : tie.Need-returns-2 Inv-loop μ-loop
@@ -89,7 +88,7 @@ returns-2 c =
     let start = at-start (at-first (c .before)) in
     let l = c .before .loop in
     let w = at-first (c .before) .without-first in
-    sought-all _ _ (start .args .g) (w .result) (shallow-looked (held (start .args .marks .now)) (start .args .g) (start .args .fewest .now)) (start .pre .0) (w .ensures) (l .part) (l .inv) (c .loop-test .left)
+    sought-all _ _ (start .args .g) (w .result) (shallow-looked (start .args .marks .now) (start .args .g) (start .args .fewest .now)) (start .pre .0) (w .ensures) (l .part) (l .inv) (c .loop-test .left)
 
 pub shallow-split-spec : {M : Type 1} → statement M
 shallow-split-spec =

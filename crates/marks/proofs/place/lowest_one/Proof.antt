@@ -3,13 +3,12 @@
 use Prim.Native.Nat.{_-_, _≤_}
 use mathlib.Core.Path.{_≡_, refl, sym, _∙_}
 use native.Mathlib.Omega.{arith}
-use Rattle.marks.specs.Stored.{held}
 use Rattle.marks.specs.Place.{lowest, lowest-here, lowest-next, lowest-past}
 use Rattle.marks.proofs.place.lowest_one.Statement.{statement}
 use Rattle.marks.proofs.place.lowest_one.Tie as tie
 
 abbrev Inv-loop : tie.InvT-loop
-Inv-loop n end marks k g₀ g = (g ≤ end) × (lowest n end (held marks) k g ≡ lowest n end (held marks) k 0)
+Inv-loop n end marks k g₀ g = (g ≤ end) × (lowest n end marks k g ≡ lowest n end marks k 0)
 
 abbrev μ-loop : tie.MeasureT-loop
 μ-loop n end marks k g₀ g = end - g

@@ -3,13 +3,12 @@
 use Prim.Native.Nat.{_+_, _-_, _≤_}
 use mathlib.Core.Path.{_≡_, refl, sym, _∙_}
 use native.Mathlib.Omega.{arith}
-use Rattle.marks.specs.Stored.{held, held-room}
 use Rattle.marks.specs.Place.{placeFrom, place-here, place-next, place-none, place-found, place-missing}
 use Rattle.marks.proofs.place.no_tree_place.Statement.{statement}
 use Rattle.marks.proofs.place.no_tree_place.Tie as tie
 
 abbrev Inv-loop : tie.InvT-loop
-Inv-loop n marks end k₀ k = (k ≤ n + 1) × (placeFrom n (held marks) k ≡ placeFrom n (held marks) 0)
+Inv-loop n marks end k₀ k = (k ≤ n + 1) × (placeFrom n marks k ≡ placeFrom n marks 0)
 
 abbrev μ-loop : tie.MeasureT-loop
 μ-loop n marks end k₀ k = n + 1 - k
@@ -23,7 +22,7 @@ loop-holds c = (omega arith, refl)
 lowest-one-requires : tie.Need-lowest-one-requires Inv-loop μ-loop
 lowest-one-requires c κs =
     let start = c .before .before .before .before in
-    omega (arith, c .before .before .power .ensures, held-room (start .args .marks .now) (start .args .n) (start .pre .1))
+    omega (arith, c .before .before .power .ensures, start .pre .1)
 
 returns : tie.Need-returns Inv-loop μ-loop
 returns c =

@@ -5,14 +5,13 @@ use mathlib.Core.Path.{sym, _∙_}
 use native.Mathlib.Omega.{arith}
 use Rattle.rules.specs.Settled.{splitOf}
 use Rattle.radix.specs.Widths.{mostMembers}
-use Rattle.marks.specs.Stored.{held}
 use Rattle.marks.specs.FirstParts.{settledTest, settled-looked}
 use Rattle.marks.proofs.Searching.{Sought, sought-none, sought-all, here, sought-found, sought-next}
 use Rattle.marks.proofs.split.split_of.Statement.{statement}
 use Rattle.marks.proofs.split.split_of.Tie as tie
 
 abbrev Inv-loop : tie.InvT-loop
-Inv-loop marks g rest first part₀ part = Sought (settledTest (held marks) g) g rest part
+Inv-loop marks g rest first part₀ part = Sought (settledTest marks g) g rest part
 
 abbrev μ-loop : tie.MeasureT-loop
 μ-loop marks g rest first part₀ part = rest - part
@@ -34,21 +33,21 @@ loop-holds : tie.Need-loop-holds Inv-loop μ-loop
 loop-holds c =
     let start = at-start c in
     let w = c .without-first in
-    sought-none _ _ (start .args .g) (w .result) (settled-looked (held (start .args .marks .now)) (start .args .g)) (start .pre .0) (w .ensures)
+    sought-none _ _ (start .args .g) (w .result) (settled-looked (start .args .marks .now) (start .args .g)) (start .pre .0) (w .ensures)
 
 add-both-two : tie.Need-add-both-two Inv-loop μ-loop
 add-both-two c =
     let start = at-start (at-first (c .before)) in
     let l = c .before .loop in
     let w = at-first (c .before) .without-first in
-    omega (arith, here _ _ (start .args .g) (w .result) (settled-looked (held (start .args .marks .now)) (start .args .g)) (start .pre .0) (w .ensures) (l .part) (l .inv) (c .loop-test .taken) mostMembers (start .pre .1))
+    omega (arith, here _ _ (start .args .g) (w .result) (settled-looked (start .args .marks .now) (start .args .g)) (start .pre .0) (w .ensures) (l .part) (l .inv) (c .loop-test .taken) mostMembers (start .pre .1))
 
 both-two-requires : tie.Need-both-two-requires Inv-loop μ-loop
 both-two-requires c κs =
     let start = at-start (at-first (c .before)) in
     let l = c .before .loop in
     let w = at-first (c .before) .without-first in
-    let a = here _ _ (start .args .g) (w .result) (settled-looked (held (start .args .marks .now)) (start .args .g)) (start .pre .0) (w .ensures) (l .part) (l .inv) (c .loop-test .taken) mostMembers (start .pre .1) in
+    let a = here _ _ (start .args .g) (w .result) (settled-looked (start .args .marks .now) (start .args .g)) (start .pre .0) (w .ensures) (l .part) (l .inv) (c .loop-test .taken) mostMembers (start .pre .1) in
     (a .0, a .1, start .pre .2)
 
 add-result : tie.Need-add-result Inv-loop μ-loop
@@ -56,7 +55,7 @@ add-result c =
     let start = at-start (at-first (c .before .before .before)) in
     let l = c .before .before .before .loop in
     let w = at-first (c .before .before .before) .without-first in
-    omega (arith, here _ _ (start .args .g) (w .result) (settled-looked (held (start .args .marks .now)) (start .args .g)) (start .pre .0) (w .ensures) (l .part) (l .inv) (c .before .before .loop-test .taken) mostMembers (start .pre .1))
+    omega (arith, here _ _ (start .args .g) (w .result) (settled-looked (start .args .marks .now) (start .args .g)) (start .pre .0) (w .ensures) (l .part) (l .inv) (c .before .before .loop-test .taken) mostMembers (start .pre .1))
 
 returns : tie.Need-returns Inv-loop μ-loop
 unfolding splitOf
@@ -64,7 +63,7 @@ returns c =
     let start = at-start (at-first (c .before .before .before)) in
     let l = c .before .before .before .loop in
     let w = at-first (c .before .before .before) .without-first in
-    sought-found _ _ (start .args .g) (w .result) (settled-looked (held (start .args .marks .now)) (start .args .g)) (start .pre .0) (w .ensures) (l .part) (l .inv) (c .before .before .loop-test .taken) (sym (c .before .both-two .ensures) ∙ c .if1 .taken)
+    sought-found _ _ (start .args .g) (w .result) (settled-looked (start .args .marks .now) (start .args .g)) (start .pre .0) (w .ensures) (l .part) (l .inv) (c .before .before .loop-test .taken) (sym (c .before .both-two .ensures) ∙ c .if1 .taken)
 
 next-part-requires : tie.Need-next-part-requires Inv-loop μ-loop
 next-part-requires c κs =
@@ -81,7 +80,7 @@ loop-again c =
     let start = at-start (at-first (c .before .before .before .before)) in
     let l = c .before .before .before .before .loop in
     let w = at-first (c .before .before .before .before) .without-first in
-    sought-next _ _ (start .args .g) (w .result) (settled-looked (held (start .args .marks .now)) (start .args .g)) (start .pre .0) (w .ensures) (l .part) (l .inv) (c .before .before .before .loop-test .taken) (sym (c .before .before .both-two .ensures) ∙ c .before .if1 .left)
+    sought-next _ _ (start .args .g) (w .result) (settled-looked (start .args .marks .now) (start .args .g)) (start .pre .0) (w .ensures) (l .part) (l .inv) (c .before .before .before .loop-test .taken) (sym (c .before .before .both-two .ensures) ∙ c .before .if1 .left)
     (c .next-part .result) (c .next-part .ensures)
 
 returns-2 : tie.Need-returns-2 Inv-loop μ-loop
@@ -90,7 +89,7 @@ returns-2 c =
     let start = at-start (at-first (c .before)) in
     let l = c .before .loop in
     let w = at-first (c .before) .without-first in
-    sought-all _ _ (start .args .g) (w .result) (settled-looked (held (start .args .marks .now)) (start .args .g)) (start .pre .0) (w .ensures) (l .part) (l .inv) (c .loop-test .left)
+    sought-all _ _ (start .args .g) (w .result) (settled-looked (start .args .marks .now) (start .args .g)) (start .pre .0) (w .ensures) (l .part) (l .inv) (c .loop-test .left)
 
 pub split-of-spec : {M : Type 1} → statement M
 split-of-spec =

@@ -1,4 +1,6 @@
--- `marks::stored::marks_length` meets its contract: one byte for each group. Assumes nothing.
+-- `marks::stored::marks_length` meets its contract: a byte for every four groups. Assumes nothing.
+use Prim.Native.Nat.{ℕ, _/_}
+use mathlib.Core.Path.{ap}
 use Rattle.rules.specs.Marks.{marksLength}
 use borrow.Author.Needs.{needs}
 use Rattle.marks.proofs.stored.marks_length.Statement.{statement}
@@ -9,7 +11,7 @@ power-requires c κs = search needs
 
 returns : tie.Need-returns
 unfolding marksLength
-returns c = c .power .ensures
+returns c = ap (λ (k : ℕ). k / 4) (c .power .ensures)
 
 pub marks-length-spec : {M : Type 1} → statement M
 marks-length-spec = tie.close (tie.spec power-requires returns)

@@ -10,7 +10,6 @@ use borrow.Author.Tests.{eqb-true, eqb-false}
 use lib.Pow.{pow-mono}
 use Rattle.rules.specs.Groups.{size}
 use Rattle.rules.specs.Wirings.{firstInput}
-use Rattle.marks.specs.Stored.{held}
 use Rattle.trees.specs.Members.{size-one}
 use Rattle.wirings.specs.Choice.{splitBy, LayersRoom, room-below}
 use Rattle.wirings.specs.Added.{Added, added-single}
@@ -100,7 +99,7 @@ module _ (t : ℕ) where
     g = c .args .g
 
     abbrev marks : List ℕ
-    marks = held (c .args .marks .now)
+    marks = c .args .marks .now
 
     abbrev fewest : List ℕ
     fewest = c .args .fewest .now

@@ -3,7 +3,6 @@ use mathlib.Core.Path.{_≡_, ap}
 use native.Mathlib.Omega.{arith}
 use borrow.Author.Needs.{needs}
 use Rattle.trees.specs.Members.{size-le}
-use Rattle.marks.specs.Stored.{held}
 use Rattle.wirings.specs.Links.{noLinks}
 use Rattle.wirings.specs.Choice.{splitBy}
 use Rattle.wirings.specs.Chosen.{chosen}
@@ -34,7 +33,7 @@ returns : tie.Need-returns
 returns c =
     let built = c .before in
     let s = start (none built) in
-    chosen (s .args .n) (splitBy (s .args .choice) (s .args .n) (held (s .args .marks .now)) (s .args .fewest .now)) (s .args .leaves) (none built .no-links .result) (built .wire-group .result .wiring)
+    chosen (s .args .n) (splitBy (s .args .choice) (s .args .n) (s .args .marks .now) (s .args .fewest .now)) (s .args .leaves) (none built .no-links .result) (built .wire-group .result .wiring)
     (built .wire-group .result .reference) (empty (none built)) (built .wire-group .ensures)
 
 pub choose-spec : {M : Type 1} → statement M

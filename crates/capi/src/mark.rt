@@ -1,0 +1,18 @@
+// The marking call for C.
+ghost use Rattle.rules.specs.Marking.{markingCall};
+ghost use Rattle.capi.specs.Marking.{FlatMarked};
+use crate::flat::SitgurpAnswer;
+use crate::flat::flat;
+
+// The marks of every group of bare cells, written to `marks`, and the whole group's mark.
+#[no_mangle]
+pub extern "C" fn sitgurp_marking(
+    m: usize,
+    n: usize,
+    cells: &[u8],
+    marks: &mut [u8],
+) -> SitgurpAnswer
+    ensures { λ r. ⌜ FlatMarked (markingCall m n (now (cells .entry)) (now (marks .entry))) r (now (marks .exit)) ⌝ }
+{
+    flat(marking::call::marking(m, n, cells, marks))
+}

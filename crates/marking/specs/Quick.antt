@@ -1,0 +1,54 @@
+-- The mark of a group from what is kept of it, and what is known afterwards.
+-- Assumes nothing.
+use Prim.Native.Nat.{ℕ, _+_, _-_, _^_, _≤_, _<_}
+use mathlib.Core.Path.{_≡_, ap, _∙_, subst, subst⁻¹}
+use mathlib.Core.List.{List}
+use native.Mathlib.Decide.{decLt}
+use native.Mathlib.Omega.{arith}
+use lib.ListN.{length, getD, take}
+use lib.Pow.{pow-pos, pow-mono}
+use lib.Seq.{getD-take, length-take-le}
+use Rattle.rules.specs.Groups.{wholeGroup, multiplicity}
+use Rattle.rules.specs.Marks.{markOf}
+use Rattle.trees.specs.Covers.{whole-few}
+use Rattle.quick.specs.Known.{Known, Found, found-few, found-many}
+use Rattle.marks.specs.Rule.{fewMark, mark-empty, many-mark, few-mark}
+
+-- the mark of a group of which `count` assignments are kept
+pub record MarkBy (marks : List ℕ) (g count mark : ℕ) : Type 0 where
+  pub empty : g ≡ 0 → mark ≡ 0
+  pub many : count ≡ 0 → mark ≡ 0
+  pub few : 0 < g → 0 < count → (n : ℕ) → g < 2 ^ n → mark ≡ fewMark n marks g
+
+-- the mark of group g, with it known
+pub record GroupMarked (m n : ℕ) (f : ℕ → ℕ) (marks : List ℕ) (g mark : ℕ) (counts kept : List ℕ) : Type 0 where
+  pub is : mark ≡ markOf m n f marks g
+  pub known : (h : ℕ) → h < g + 1 → Known m n f counts kept h
+
+-- what is found of a group gives its mark
+pub found-mark : {m n : ℕ} {f : ℕ → ℕ} {counts kept marks : List ℕ} {g count mark : ℕ} → 0 < m → g < 2 ^ n → Found m n f counts kept g count → MarkBy marks g count mark
+    → mark ≡ markOf m n f marks g
+found-mark {m} {n} {f} {marks} {g} {count} {mark} pos g< found by = go (decLt 0 g) (decLt 0 count)
+  where
+    go : Dec (0 < g) → Dec (0 < count) → mark ≡ markOf m n f marks g
+    go (no none) _ = by .empty (omega arith) ∙ mark-empty m n f marks g (omega arith)
+    go (yes some) (no none) = by .many (omega arith) ∙ many-mark m n f marks g (found-many found pos g< (omega arith))
+    go (yes some) (yes h) = by .few some h n g< ∙ few-mark m n f marks g (λ e. omega arith) (found-few found pos g< h)
+
+-- ---- the whole group
+
+-- its number, from the number past it
+pub whole-number : (n past : ℕ) → 0 < n → past ≡ 2 ^ n → (past - 1 ≡ wholeGroup n) × (0 < past - 1) × (past - 1 < 2 ^ n)
+unfolding wholeGroup
+whole-number n past some e = (ap (λ (k : ℕ). k - 1) e, omega (arith, pow-mono some), omega (arith, pow-pos n))
+
+-- with every ink below m it has few classes
+pub whole-mark : (m n : ℕ) (f : ℕ → ℕ) (marks : List ℕ) (g : ℕ) → 0 < m → 0 < g → g ≡ wholeGroup n → ((p : ℕ) → p < m ^ n → f p < m) → fewMark n marks g ≡ markOf m n f marks g
+whole-mark m n f marks g pos some e small = few-mark m n f marks g (λ none. omega arith) (subst⁻¹ (λ (k : ℕ). multiplicity m n f k ≤ m) e (whole-few m n pos f m small))
+
+-- what holds of the inks at the front of the cells
+pub front-ink : (m size count : ℕ) (cells : List ℕ) → size ≡ count → count ≤ length cells → ((p : ℕ) → p < length (take (size - 0) cells) → getD (take (size - 0) cells) p 0 < m)
+    → (p : ℕ) → p < count → getD cells p 0 < m
+front-ink m size count cells e room small p h =
+    let all : size - 0 ≡ count = omega arith in
+    subst (λ (x : ℕ). x < m) (ap (λ (k : ℕ). getD (take k cells) p 0) all ∙ getD-take count cells p 0 h) (small p (omega (arith, ap (λ (k : ℕ). length (take k cells)) all, length-take-le count cells room)))

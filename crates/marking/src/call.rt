@@ -1,0 +1,41 @@
+// The marking call.
+ghost use mathlib.Core.Path.{_≡_};
+ghost use mathlib.Core.Bool.{true};
+ghost use Prim.Native.Nat.{_^_};
+ghost use lib.ListN.{length};
+ghost use Rattle.rules.specs.Limits.{sizeFits};
+ghost use Rattle.rules.specs.Marking.{markingCall};
+ghost use Rattle.marking.specs.Answers.{markedOf, markedInto};
+use crate::all;
+use answers::answer::Answer;
+use answers::outcome::Outcome;
+use groups::bare;
+use marks::own;
+use marks::stored;
+
+// Refusal 14, or all marks stored.
+fn mark_into(m: usize, n: usize, cells: &[u8], buffer: &mut [u8]) -> Answer
+    requires { ⌜ (sizeFits m n ≡ true) × (length (now cells) ≡ m ^ n) ⌝ }
+    ensures { λ r. ⌜ markedOf r (now (buffer .exit)) ≡ markedInto m n (now (cells .entry)) (now (buffer .entry)) ⌝ }
+{
+    let need = stored::marks_length(n);
+    if buffer.len() < need {
+        return Answer::Refused {
+            number: 14,
+            place: need,
+        };
+    }
+    let mut marks = [0u8; own::MOST_GROUPS];
+    Answer::Accepted(all::mark_and_store(m, n, cells, &mut marks, buffer) as usize)
+}
+
+// Writes every group's mark and answers the whole group's. Any arguments may come in.
+pub fn marking(m: usize, n: usize, cells: &[u8], marks: &mut [u8]) -> Answer
+    ensures { λ r. ⌜ markedOf r (now (marks .exit)) ≡ markingCall m n (now (cells .entry)) (now (marks .entry)) ⌝ }
+{
+    let judged = bare::bare_cells(m, n, cells);
+    match judged {
+        Outcome::Refused { number, place } => Answer::Refused { number, place },
+        Outcome::Accepted => mark_into(m, n, cells, marks),
+    }
+}
