@@ -1,8 +1,8 @@
 -- Counts as the code finds them and keeps them, for groups within the limits; they are the same for every number of inputs that has the group.
 -- Assumes nothing.
 use Prim.Native.Nat.{ℕ, _-_, _*_, _^_, _≤_, _<_}
-use mathlib.Core.Path.{_≡_, refl, _∙_}
-use mathlib.Core.Logic.{_⊎_, inr}
+use mathlib.Core.Path.{_≡_, refl, ap₂, _∙_}
+use mathlib.Core.Logic.{_⊎_, inl, inr, ⊎-elim, _≢_}
 use mathlib.Core.Bool.{Bool, true, false, _&&_, and-eq-true-iff}
 use mathlib.Core.List.{List}
 use native.Mathlib.Nat.{mul-zero, zero-mul}
@@ -109,3 +109,27 @@ split-fits marks counts g a split =
     let within = split-within mostInputs marks g a (split .group .below) (split .some) (split .less) (split .two)
     (split .holds mostInputs (split .group .below) .0) (split .holds mostInputs (split .group .below) .1) in
     omega (arith, count-fits mostInputs marks (omega arith) g)
+
+-- ---- what is kept of a split's two groups, multiplied
+
+module _ (marks counts : List ℕ) (g a : ℕ) (split : Splittable marks counts g a) where
+  abbrev pub product : ℕ
+  product = getD counts a 0 * getD counts (g - a) 0
+
+  -- 0, or the split's count
+  product-kept : (product ≡ 0) ⊎ ((n : ℕ) → g < 2 ^ n → product ≡ splitCounted n marks g a)
+  unfolding splitCount
+  product-kept = go (split .group .kept a) (split .group .kept (g - a))
+    where
+      go : (getD counts a 0 ≡ 0) ⊎ ((n : ℕ) → a < 2 ^ n → getD counts a 0 ≡ counted n marks a)
+          → (getD counts (g - a) 0 ≡ 0) ⊎ ((n : ℕ) → g - a < 2 ^ n → getD counts (g - a) 0 ≡ counted n marks (g - a))
+          → (product ≡ 0) ⊎ ((n : ℕ) → g < 2 ^ n → product ≡ splitCounted n marks g a)
+      go (inl none) right = inl (rw none (zero-mul _))
+      go (inr left) (inl none) = inl (rw none (mul-zero _))
+      go (inr left) (inr right) = inr (λ n g<. ap₂ _*_ (left n (omega (arith, split .less))) (right n (omega arith)))
+
+  pub product-fits : product < 2 ^ 64
+  product-fits = ⊎-elim (λ none. omega (arith, none)) (λ is. omega (arith, is mostInputs (split .group .below), split-fits marks counts g a split)) product-kept
+
+  pub product-split : product ≢ 0 → (n : ℕ) → g < 2 ^ n → product ≡ splitCounted n marks g a
+  product-split some = ⊎-elim (λ none. absurd (some none)) (λ is. is) product-kept

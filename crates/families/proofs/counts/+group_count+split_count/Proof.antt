@@ -5,7 +5,7 @@ use mathlib.Core.Path.{_≡_, refl, sym, ap₂, _∙_}
 use mathlib.Core.Logic.{_≢_, ⊎-elim}
 use mathlib.Core.List.{List}
 use native.Mathlib.Omega.{arith}
-use borrow.Author.Tests.{eqb-true, eqb-false}
+use borrow.Author.Tests.{eqb-true, eqb-false, not-true}
 use lib.ListN.{length, length-set}
 use Rattle.rules.specs.Limits.{mostInputs}
 use Rattle.rules.specs.Groups.{size}
@@ -14,8 +14,10 @@ use Rattle.rules.specs.Wirings.{firstInput}
 use Rattle.rules.specs.Family.{splitCount}
 use Rattle.trees.specs.FamilyCounts.{counted, splitCounted, count-none, count-single}
 use Rattle.trees.specs.FamilyBounds.{count-fits}
+use Rattle.radix.specs.Parts.{Part, Next}
+use Rattle.radix.specs.Widths.{groupsEnd}
 use Rattle.marks.specs.Stored.{held}
-use Rattle.families.specs.Counts.{CountsKept, Countable, Splittable, one-kept, smaller, split-fits}
+use Rattle.families.specs.Counts.{CountsKept, Countable, Splittable, one-kept, smaller, split-none, split-fits, product-fits, product-split}
 use Rattle.families.proofs.Walking.{Passed, passed-none, passed-next, looked, Summed, summed-none, summed-next, summed-all, summed-most}
 use borrow.Fn.Kinds.{In}
 use borrow.Fn.PlainCycle.{Measures, is, falls, and}
@@ -25,6 +27,8 @@ use Rattle.families.proofs.counts.+group_count+split_count.Lts-group_co
 use Rattle.families.proofs.counts.split_count.Reads as split-count
 use Rattle.families.proofs.counts.split_count.Kinds as split-count-kinds
 use Rattle.families.proofs.counts.+group_count+split_count.Lts-split_count as split-count-lts
+use Rattle.families.proofs.counts.kept_product.Reads as kept-product-reads
+use Rattle.marks.proofs.split.both_two.Reads as both-two-reads
 use Rattle.marks.proofs.stored.mark_at.Reads as mark-at-reads
 use Rattle.radix.proofs.members.next_part.Reads as next-part-reads
 use Rattle.radix.proofs.members.single.Reads as single-reads
@@ -59,6 +63,8 @@ called t = (
   single-reads.Learnt,
   without-first-reads.Asked,
   without-first-reads.Learnt,
+  kept-product-reads.Asked,
+  kept-product-reads.Learnt,
   split-count-below t,
   split-count.Post,
   next-part-reads.Asked,
@@ -75,7 +81,7 @@ abbrev μ-loop : group-count-lts.MeasureT-loop
 -- ---- a group
 
 module _ (t : ℕ) where
-  -- the places: the entry, the test of the mark, what was known, `single`, `without_first`, a turn, the call in it
+  -- the places: the entry, the test of the mark, what was known, `single`, `without_first`, a turn, the product in it, the call in it
   abbrev Start : Type 0
   Start = group-count-lts.Start (called t) (group-count-at t) group-count.Post Inv-loop μ-loop
 
@@ -93,6 +99,9 @@ module _ (t : ℕ) where
 
   abbrev In-loop : Type 0
   In-loop = group-count-lts.In-loop (called t) (group-count-at t) group-count.Post Inv-loop μ-loop
+
+  abbrev After-product : Type 0
+  After-product = group-count-lts.After-kept-product (called t) (group-count-at t) group-count.Post Inv-loop μ-loop
 
   abbrev After-split : Type 0
   After-split = group-count-lts.After-split-count (called t) (group-count-at t) group-count.Post Inv-loop μ-loop
@@ -112,8 +121,11 @@ module _ (t : ℕ) where
   abbrev first-of : In-loop → After-first
   first-of c = c .before .before
 
-  abbrev turn : After-split → In-loop
+  abbrev turn : After-product → In-loop
   turn c = c .before .before
+
+  abbrev product-of : After-split → After-product
+  product-of c = c .before .before .before
 
   abbrev split-of : group-count-lts.After-slice-known3 (called t) (group-count-at t) group-count.Post Inv-loop μ-loop → After-split
   split-of c = c .before .before
@@ -169,14 +181,29 @@ module _ (t : ℕ) where
   single-requires : group-count-lts.Need-single-requires (called t) (group-count-at t) group-count.Post Inv-loop μ-loop
   single-requires c κs = group (start (mark-of (c .before))) .some
 
+  module _ (c : group-count-lts.Then3 (called t) (group-count-at t) group-count.Post Inv-loop μ-loop) where
+    abbrev at-single : Start
+    at-single = start (mark-of (known-of (c .before)))
+
+    is-one : (n : ℕ) → g at-single < 2 ^ n → 1 ≡ counted n (marks at-single) (g at-single)
+    is-one n g< =
+        sym
+        (count-single n (marks at-single) (g at-single) g< (two (known-of (c .before)))
+        (eqb-true (size n (g at-single)) 1 (sym (c .before .single .ensures n g<) ∙ c .if3 .taken)))
+
+  mul-counts : group-count-lts.Need-mul-counts (called t) (group-count-at t) group-count.Post Inv-loop μ-loop
+  mul-counts c = omega (arith, group (at-single c) .below)
+
+  slice-write-counts : group-count-lts.Need-slice-write-counts (called t) (group-count-at t) group-count.Post Inv-loop μ-loop
+  slice-write-counts c = group (at-single c) .room
+
+  same-length : group-count-lts.Need-same-length (called t) (group-count-at t) group-count.Post Inv-loop μ-loop
+  same-length c = length-set (counts (at-single c)) (g (at-single c)) 1
+
   returns-3 : group-count-lts.Need-returns-3 (called t) (group-count-at t) group-count.Post Inv-loop μ-loop
   returns-3 c =
-      let k = known-of (c .before) in
-      let s = start (mark-of k) in
-      record {
-        count = λ n g<. sym (count-single n (marks s) (g s) g< (two k) (eqb-true (size n (g s)) 1 (sym (c .before .single .ensures n g<) ∙ c .if3 .taken)));
-        kept = group s .kept;
-      }
+      let s = at-single c in
+      record { count = is-one c; kept = one-kept (marks s) (counts s) (g s) 1 (group s .kept) (group s .room) (is-one c) }
 
   -- ---- several: the loop
 
@@ -225,45 +252,89 @@ module _ (t : ℕ) where
         looked (marks s) (g s) (rest f) (group s .some) (is-rest f) (counts s) (c .before .loop .counts) (group s) (has-two f) (c .before .loop .inv .0)
         (c .before .loop .inv .1) part (c .loop-test .taken) (c .before .loop .inv .2)
 
+    -- a count of this split may be added to the sum, ..
+    fits : (count : ℕ) → ((n : ℕ) → g s < 2 ^ n → count ≡ splitCounted n (marks s) (g s) ((g s - rest f) + part)) → sum + count < 2 ^ 64
+    fits count is =
+        omega (
+          arith,
+          summed-most (marks s) (g s) (rest f) (group s .some) (is-rest f) part sum count (group s .below) (c .loop-test .taken) (c .before .loop .inv .2)
+              (c .before .loop .inv .3) is (has-two f) (several f),
+          count-fits mostInputs (marks s) (omega arith) (g s),
+        )
+
+    -- .. and then the sum is that of the splits passed
+    summed : (count next : ℕ) → ((n : ℕ) → g s < 2 ^ n → count ≡ splitCounted n (marks s) (g s) ((g s - rest f) + part)) → Next (rest f) part next
+        → Summed (marks s) (g s) (rest f) next (sum + count)
+    summed count next is after =
+        summed-next (marks s) (g s) (rest f) (group s .some) (is-rest f) part next sum count (c .loop-test .taken) (c .before .loop .inv .2) after
+        (c .before .loop .inv .3) is
+
+    goes-on : (rest f < groupsEnd) × (part < rest f) × Part part (rest f)
+    goes-on = (omega (arith, is-rest f mostInputs (group s .below), group s .below), c .loop-test .taken, c .before .loop .inv .2 .is-part)
+
+  -- what is kept of the two groups
+  add-kept-product : group-count-lts.Need-add-kept-product (called t) (group-count-at t) group-count.Post Inv-loop μ-loop
+  add-kept-product c = omega (arith, here (c .before) .less, here (c .before) .group .below)
+
+  kept-product-requires : group-count-lts.Need-kept-product-requires (called t) (group-count-at t) group-count.Post Inv-loop μ-loop
+  kept-product-requires c κs = (here (c .before) .less, here (c .before) .group .room, product-fits _ _ _ _ (here (c .before)))
+
+  -- one of the two is not known: the split's count is found
   add-split-count : group-count-lts.Need-add-split-count (called t) (group-count-at t) group-count.Post Inv-loop μ-loop
-  add-split-count c = omega (arith, here (c .before) .less, here (c .before) .group .below)
+  add-split-count c = let at = turn (c .before .before) in omega (arith, here at .less, here at .group .below)
 
   split-count-requires : group-count-lts.Need-split-count-requires (called t) (group-count-at t) group-count.Post Inv-loop μ-loop
   split-count-requires c κs =
-      let e = s (c .before) in
-      let falls : g e + g e - 1 < t = omega (arith, e .pre .0, group e .some) in
-      (falls, here (c .before))
+      let at = turn (c .before .before) in
+      let falls : g (s at) + g (s at) - 1 < t = omega (arith, s at .pre .0, group (s at) .some) in
+      (falls, here at)
 
-  -- one split more
   add-sum : group-count-lts.Need-add-sum (called t) (group-count-at t) group-count.Post Inv-loop μ-loop
-  add-sum c =
-      let at = turn (split-of c) in
-      let e = s at in
-      omega (
-        arith,
-        summed-most (marks e) (g e) (rest (f at)) (group e .some) (is-rest (f at)) (part at) (sum at) (split-of c .split-count .result) (group e .below) (at .loop-test .taken)
-            (at .before .loop .inv .2) (at .before .loop .inv .3) (split-of c .split-count .ensures .count) (has-two (f at)) (several (f at)),
-        count-fits mostInputs (marks e) (omega arith) (g e),
-      )
+  add-sum c = omega (arith, fits (turn (product-of (split-of c))) _ (split-of c .split-count .ensures .count))
 
   next-part-requires : group-count-lts.Need-next-part-requires (called t) (group-count-at t) group-count.Post Inv-loop μ-loop
-  next-part-requires c κs =
-      let at = turn (split-of c) in
-      (omega (arith, is-rest (f at) mostInputs (group (s at) .below), group (s at) .below), at .loop-test .taken, at .before .loop .inv .2 .is-part)
+  next-part-requires c κs = goes-on (turn (product-of (split-of c)))
 
   loop-less : group-count-lts.Need-loop-less (called t) (group-count-at t) group-count.Post Inv-loop μ-loop
-  loop-less c = omega (arith, c .next-part .ensures .above, turn (split-of (c .before)) .loop-test .taken)
+  loop-less c = omega (arith, c .next-part .ensures .above, turn (product-of (split-of (c .before))) .loop-test .taken)
 
   loop-again : group-count-lts.Need-loop-again (called t) (group-count-at t) group-count.Post Inv-loop μ-loop
   loop-again c =
       let split = split-of (c .before) in
-      let at = turn split in
-      let e = s at in (
+      let at = turn (product-of split) in (
         split .split-count .kept .1 .0 ∙ at .before .loop .inv .0,
         split .split-count .ensures .kept,
         passed-next (rest (f at)) (part at) (c .next-part .result) (at .loop-test .taken) (c .next-part .ensures),
-        summed-next (marks e) (g e) (rest (f at)) (group e .some) (is-rest (f at)) (part at) (c .next-part .result) (sum at) (split .split-count .result) (at .loop-test .taken)
-            (at .before .loop .inv .2) (c .next-part .ensures) (at .before .loop .inv .3) (split .split-count .ensures .count),
+        summed at _ _ (split .split-count .ensures .count) (c .next-part .ensures),
+      )
+
+  -- both are known, and their product is the split's count
+  module _ (c : group-count-lts.Else4 (called t) (group-count-at t) group-count.Post Inv-loop μ-loop) where
+    abbrev known-turn : In-loop
+    known-turn = turn (c .before)
+
+    is-split : (n : ℕ) → g (s known-turn) < 2 ^ n
+        → c .before .kept-product .result ≡ splitCounted n (marks (s known-turn)) (g (s known-turn)) ((g (s known-turn) - rest (f known-turn)) + part known-turn)
+    is-split n g< =
+        c .before .kept-product .ensures
+        ∙ product-split _ _ _ _ (here known-turn) (λ none. c .if4 .left (c .before .kept-product .ensures ∙ none)) n g<
+
+  add-sum-2 : group-count-lts.Need-add-sum-2 (called t) (group-count-at t) group-count.Post Inv-loop μ-loop
+  add-sum-2 c = omega (arith, fits (known-turn c) _ (is-split c))
+
+  next-part-requires-2 : group-count-lts.Need-next-part-requires-2 (called t) (group-count-at t) group-count.Post Inv-loop μ-loop
+  next-part-requires-2 c κs = goes-on (known-turn c)
+
+  loop-less-2 : group-count-lts.Need-loop-less-2 (called t) (group-count-at t) group-count.Post Inv-loop μ-loop
+  loop-less-2 c = omega (arith, c .next-part2 .ensures .above, known-turn (c .before) .loop-test .taken)
+
+  loop-again-2 : group-count-lts.Need-loop-again-2 (called t) (group-count-at t) group-count.Post Inv-loop μ-loop
+  loop-again-2 c =
+      let at = known-turn (c .before) in (
+        at .before .loop .inv .0,
+        at .before .loop .inv .1,
+        passed-next (rest (f at)) (part at) (c .next-part2 .result) (at .loop-test .taken) (c .next-part2 .ensures),
+        summed at _ _ (is-split (c .before)) (c .next-part2 .ensures),
       )
 
   -- ---- the sum is kept
@@ -286,14 +357,14 @@ module _ (t : ℕ) where
     has-room : g entry < length (c .before .loop .counts)
     has-room = omega (arith, c .before .loop .inv .0, group entry .room)
 
-  mul-counts : group-count-lts.Need-mul-counts (called t) (group-count-at t) group-count.Post Inv-loop μ-loop
-  mul-counts c = omega (arith, group (entry c) .below)
+  mul-counts-2 : group-count-lts.Need-mul-counts-2 (called t) (group-count-at t) group-count.Post Inv-loop μ-loop
+  mul-counts-2 c = omega (arith, group (entry c) .below)
 
-  slice-write-counts : group-count-lts.Need-slice-write-counts (called t) (group-count-at t) group-count.Post Inv-loop μ-loop
-  slice-write-counts c = has-room c
+  slice-write-counts-2 : group-count-lts.Need-slice-write-counts-2 (called t) (group-count-at t) group-count.Post Inv-loop μ-loop
+  slice-write-counts-2 c = has-room c
 
-  same-length : group-count-lts.Need-same-length (called t) (group-count-at t) group-count.Post Inv-loop μ-loop
-  same-length c = length-set (c .before .loop .counts) (g (entry c)) (all c) ∙ c .before .loop .inv .0
+  same-length-2 : group-count-lts.Need-same-length-2 (called t) (group-count-at t) group-count.Post Inv-loop μ-loop
+  same-length-2 c = length-set (c .before .loop .counts) (g (entry c)) (all c) ∙ c .before .loop .inv .0
 
   returns-4 : group-count-lts.Need-returns-4 (called t) (group-count-at t) group-count.Post Inv-loop μ-loop
   returns-4 c =
@@ -306,11 +377,14 @@ module _ (t : ℕ) where
 
 module _ (t : ℕ) where
   abbrev asked : split-count-lts.Claims
-  asked = (group-count-below t, group-count.Post)
+  asked = (both-two-reads.Asked, both-two-reads.Learnt, group-count-below t, group-count.Post)
 
-  -- the places: the entry, the two calls
+  -- the places: the entry, the two marks, the two calls
   abbrev Entry : Type 0
   Entry = split-count-lts.Start asked (split-count-at t) split-count.Post
+
+  abbrev After-marks : Type 0
+  After-marks = split-count-lts.After-both-two asked (split-count-at t) split-count.Post
 
   abbrev After-left : Type 0
   After-left = split-count-lts.After-group-count asked (split-count-at t) split-count.Post
@@ -318,8 +392,11 @@ module _ (t : ℕ) where
   abbrev After-right : Type 0
   After-right = split-count-lts.After-group-count2 asked (split-count-at t) split-count.Post
 
+  abbrev came : After-marks → Entry
+  came c = c .before .before .before
+
   abbrev entered : After-left → Entry
-  entered c = c .before .before .before .before
+  entered c = came (c .before .before .before)
 
   abbrev left : After-right → After-left
   left c = c .before .before .before .before
@@ -327,9 +404,25 @@ module _ (t : ℕ) where
   abbrev right : split-count-lts.After-slice-known3 asked (split-count-at t) split-count.Post → After-right
   right c = c .before .before
 
+  both-two-requires : split-count-lts.Need-both-two-requires asked (split-count-at t) split-count.Post
+  both-two-requires c κs =
+      let e = c .before .before in
+      let is : Splittable (held (e .args .marks .now)) (e .args .counts .now) (e .args .g) (e .args .a) = e .pre .1 in
+      (is .some, is .less, omega (arith, is .group .marked))
+
+  -- a part has another mark than 2
+  returns-none : split-count-lts.Need-returns asked (split-count-at t) split-count.Post
+  returns-none c =
+      let e = came (c .before) in
+      let is : Splittable (held (e .args .marks .now)) (e .args .counts .now) (e .args .g) (e .args .a) = e .pre .1 in
+      record {
+        count = λ n g<. sym (split-none n _ _ _ g< (is .some) (is .less) (sym (c .before .both-two .ensures) ∙ not-true _ (c .if1 .taken)));
+        kept = is .group .kept;
+      }
+
   group-count-requires : split-count-lts.Need-group-count-requires asked (split-count-at t) split-count.Post
   group-count-requires c κs =
-      let e = c .before .before .before in
+      let e = came (c .before .before) in
       let is : Splittable (held (e .args .marks .now)) (e .args .counts .now) (e .args .g) (e .args .a) = e .pre .1 in
       (omega (arith, e .pre .0, is .less), smaller _ _ _ _ _ (is .group) (is .some) (is .less) refl (is .group .kept))
 
@@ -362,7 +455,7 @@ module _ (t : ℕ) where
   same-length-split : split-count-lts.Need-same-length asked (split-count-at t) split-count.Post
   same-length-split c = right c .group-count2 .kept .1 .0 ∙ left (right c) .group-count .kept .1 .0
 
-  returns-split : split-count-lts.Need-returns asked (split-count-at t) split-count.Post
+  returns-split : split-count-lts.Need-returns-2 asked (split-count-at t) split-count.Post
   returns-split c = record { count = is-product (right c); kept = right c .group-count2 .ensures .kept }
 
 pub +group-count+split-count-spec : {M : Type 1} → statement M
@@ -377,24 +470,35 @@ pub +group-count+split-count-spec : {M : Type 1} → statement M
     (slice-read-known t)
     (returns-2 t)
     (single-requires t)
+    (mul-counts t)
+    (slice-write-counts t)
+    (same-length t)
     (returns-3 t)
     (without-first-requires t)
     (sub-first t)
     (loop-holds t)
+    (add-kept-product t)
+    (kept-product-requires t)
     (add-split-count t)
     (split-count-requires t)
     (add-sum t)
     (next-part-requires t)
     (loop-less t)
     (loop-again t)
-    (mul-counts t)
-    (slice-write-counts t)
-    (same-length t)
+    (add-sum-2 t)
+    (next-part-requires-2 t)
+    (loop-less-2 t)
+    (loop-again-2 t)
+    (mul-counts-2 t)
+    (slice-write-counts-2 t)
+    (same-length-2 t)
     (returns-4 t))
     λ t. split-count-lts.spec
     (asked t)
     (split-count-at t)
     split-count.Post
+    (both-two-requires t)
+    (returns-none t)
     (group-count-requires t)
     (sub-group-count t)
     (group-count-requires-2 t)
