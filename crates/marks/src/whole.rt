@@ -9,7 +9,7 @@ ghost use Rattle.rules.specs.Answers.{inkIn};
 ghost use Rattle.groups.specs.Within.{Room};
 ghost use Rattle.marks.specs.Stored.{held};
 use crate::group;
-use quick::inks;
+use groups::inks;
 use radix::powers;
 
 // The whole group has as many classes as there are inks: few, where each is below m.

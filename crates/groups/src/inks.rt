@@ -1,4 +1,4 @@
-// Whether every ink is a level: then the whole group has few classes.
+// Whether every ink is a level.
 ghost use mathlib.Core.Path.{_≡_};
 ghost use mathlib.Core.Bool.{true};
 ghost use Prim.Native.Nat.{ℕ, _≤_, _<_};

@@ -1,4 +1,4 @@
--- `quick::inks::inks_below` meets its contract. The loop's invariant: where none is over so far, every ink so far is below m. Assumes nothing.
+-- `groups::inks::inks_below` meets its contract. The loop's invariant: where none is over so far, every ink so far is below m. Assumes nothing.
 use Prim.Native.Nat.{ℕ, _-_, _≤_, _<_}
 use mathlib.Core.Path.{_≡_, refl}
 use mathlib.Core.Logic.{⊎-elim}
@@ -6,8 +6,8 @@ use native.Mathlib.Omega.{arith}
 use borrow.Author.Count.{below-more}
 use borrow.Author.Tests.{eqb-true}
 use lib.ListN.{length, getD}
-use Rattle.quick.proofs.inks.inks_below.Statement.{statement}
-use Rattle.quick.proofs.inks.inks_below.Tie as tie
+use Rattle.groups.proofs.inks.inks_below.Statement.{statement}
+use Rattle.groups.proofs.inks.inks_below.Tie as tie
 
 abbrev Inv-loop : tie.InvT-loop
 Inv-loop m cells top over₀ k₀ over k = (k ≤ length cells) × (top ≡ m) × (over ≡ 0 → (p : ℕ) → p < k → getD cells p 0 < m)
