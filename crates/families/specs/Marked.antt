@@ -17,7 +17,7 @@ use Rattle.laws.specs.Sizes.{sized}
 use Rattle.trees.specs.Members.{whole-below}
 use Rattle.trees.specs.MarkRule.{marks-length}
 use Rattle.marks.specs.Stored.{held, held-front}
-use Rattle.families.specs.Counts.{CountsKept, Countable, CountKept}
+use Rattle.numbering.specs.Counts.{CountsKept, Countable, CountKept}
 
 -- no count is known yet
 abbrev pub NoneKnown : List ℕ → Type 0

@@ -6,10 +6,10 @@ ghost use lib.ListN.{length};
 ghost use Rattle.rules.specs.Limits.{sizeFits};
 ghost use Rattle.rules.specs.Marks.{marksLength};
 ghost use Rattle.families.specs.Marked.{NoneKnown, MarkedCount};
-use crate::counts;
 use lines::put::copy;
 use marks::marking;
 use marks::stored;
+use numbering::counts;
 use radix::powers;
 
 // The count is 0 where the table has no tree. `counts` comes in with nothing known.

@@ -16,8 +16,8 @@ use Rattle.rules.specs.Family.{total, splitsOf, numberedAt}
 use Rattle.trees.specs.FamilyCounts.{counted, splitCounted, count-several}
 use Rattle.radix.specs.Parts.{Part, Next, next-part}
 use Rattle.marks.specs.FirstParts.{part-at}
-use Rattle.families.specs.Counts.{Countable, Splittable, CountsKept}
-use Rattle.families.specs.Walk.{splitsFrom, countsFor, falls, splits-all, splits-none, counts-next, falls-here, falls-later}
+use Rattle.numbering.specs.Counts.{Countable, Splittable, CountsKept}
+use Rattle.numbering.specs.Walk.{splitsFrom, countsFor, falls, splits-all, splits-none, counts-next, falls-here, falls-later}
 
 -- where the walk stands
 pub record Passed (rest part : ℕ) : Type 0 where

@@ -16,8 +16,8 @@ use Rattle.trees.specs.Families.{wired, wired-single, wired-several, SplitAt, n
 use Rattle.wirings.specs.declared.forms.Wiring.{Wiring}
 use Rattle.wirings.specs.Links.{linksIn, none-in, Linked}
 use Rattle.wirings.specs.AddedWiring.{AddedWiring, wiring-input, wiring-gate}
-use Rattle.families.specs.declared.numbered.Numbered.{Numbered}
-use Rattle.families.specs.Counts.{CountsKept}
+use Rattle.numbering.specs.declared.numbered.Numbered.{Numbered}
+use Rattle.numbering.specs.Counts.{CountsKept}
 
 -- ---- the split
 

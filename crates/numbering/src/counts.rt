@@ -3,7 +3,7 @@ ghost use mathlib.Core.Path.{_≡_};
 ghost use Prim.Native.Nat.{_-_, _*_, _^_, _<_};
 ghost use lib.ListN.{length, getD};
 ghost use Rattle.marks.specs.Stored.{held};
-ghost use Rattle.families.specs.Counts.{Countable, Splittable, CountKept, SplitKept};
+ghost use Rattle.numbering.specs.Counts.{Countable, Splittable, CountKept, SplitKept};
 use marks::split;
 use marks::stored;
 use radix::members;

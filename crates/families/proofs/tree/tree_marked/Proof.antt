@@ -11,7 +11,7 @@ use Rattle.rules.specs.Marks.{marksOf}
 use Rattle.rules.specs.Answers.{inkIn}
 use Rattle.marks.specs.Stored.{held}
 use Rattle.synthesis.specs.Outcomes.{given-size, given-count, given-below, made-inside, made-short}
-use Rattle.families.specs.Counts.{CountsKept}
+use Rattle.numbering.specs.Counts.{CountsKept}
 use Rattle.families.specs.Marked.{none-known, counts-room, marks-front, whole-countable}
 use Rattle.families.specs.Outcomes.{order-past, order-tree}
 use Rattle.families.proofs.tree.tree_marked.Statement.{statement}

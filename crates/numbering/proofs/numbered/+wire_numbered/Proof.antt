@@ -1,4 +1,4 @@
--- `families::numbered::wire_numbered` meets its contract. The measure is the group's number: both parts of a split are below it. Assumes nothing.
+-- `numbering::numbered::wire_numbered` meets its contract. The measure is the group's number: both parts of a split are below it. Assumes nothing.
 use Prim.Native.Nat.{ℕ, _+_, _-_, _≤_, _<_}
 use mathlib.Core.Path.{_≡_, sym, _∙_, subst}
 use mathlib.Core.Logic.{_≢_}
@@ -12,20 +12,20 @@ use Rattle.trees.specs.Members.{size-one}
 use Rattle.rules.specs.Family.{splitsOf, numberedAt}
 use Rattle.trees.specs.FamilyCounts.{counted, splitCounted, counted-two}
 use Rattle.marks.specs.Stored.{held}
-use Rattle.families.specs.Counts.{Countable, smaller}
-use Rattle.families.specs.Numbered.{InCount, NumberWired, numbered-single, part-less, part-sizes, count-some, left-in, right-in, numbered-several}
+use Rattle.numbering.specs.Counts.{Countable, smaller}
+use Rattle.numbering.specs.Numbered.{InCount, NumberWired, numbered-single, part-less, part-sizes, count-some, left-in, right-in, numbered-several}
 use borrow.Fn.Kinds.{In}
 use borrow.Fn.PlainCycle.{Measures, is, falls, and}
-use Rattle.families.proofs.numbered.wire_numbered.Reads as wire-numbered
-use Rattle.families.proofs.numbered.wire_numbered.Kinds as wire-numbered-kinds
-use Rattle.families.proofs.numbered.+wire_numbered.Lts-wire_numbered as lts
-use Rattle.families.proofs.counts.group_count.Reads as group-count-reads
-use Rattle.families.proofs.numbered.numbered_split.Reads as numbered-split-reads
+use Rattle.numbering.proofs.numbered.wire_numbered.Reads as wire-numbered
+use Rattle.numbering.proofs.numbered.wire_numbered.Kinds as wire-numbered-kinds
+use Rattle.numbering.proofs.numbered.+wire_numbered.Lts-wire_numbered as lts
+use Rattle.numbering.proofs.counts.group_count.Reads as group-count-reads
+use Rattle.numbering.proofs.numbered.numbered_split.Reads as numbered-split-reads
 use Rattle.radix.proofs.members.first_input.Reads as first-input-reads
 use Rattle.radix.proofs.members.single.Reads as single-reads
 use Rattle.wirings.proofs.forms.link.Reads as link-reads
-use Rattle.families.proofs.numbered.+wire_numbered.{statement}
-use Rattle.families.proofs.numbered.+wire_numbered.Tie.{close}
+use Rattle.numbering.proofs.numbered.+wire_numbered.{statement}
+use Rattle.numbering.proofs.numbered.+wire_numbered.Tie.{close}
 
 abbrev μ-wire-numbered : Measures 2 wire-numbered-kinds.ps ℕ
 μ-wire-numbered κs a = a .1 .1 .1 .0

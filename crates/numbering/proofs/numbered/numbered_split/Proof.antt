@@ -1,4 +1,4 @@
--- `families::numbered::numbered_split` meets its contract. The loop's invariant: what is kept is right, and what is left of the number falls, of the splits that
+-- `numbering::numbered::numbered_split` meets its contract. The loop's invariant: what is kept is right, and what is left of the number falls, of the splits that
 -- are left, where the number falls of all. Assumes nothing.
 use Prim.Native.Nat.{ℕ, _+_, _-_, _^_, _<_}
 use mathlib.Core.Path.{_≡_, refl, _∙_}
@@ -8,10 +8,10 @@ use lib.ListN.{length}
 use Rattle.rules.specs.Limits.{mostInputs}
 use Rattle.rules.specs.Wirings.{firstInput}
 use Rattle.marks.specs.Stored.{held}
-use Rattle.families.specs.Counts.{CountsKept, Countable, Splittable}
-use Rattle.families.proofs.Walking.{Passed, passed-none, passed-next, looked, Left, left-all, left-none, left-here, left-later}
-use Rattle.families.proofs.numbered.numbered_split.Statement.{statement}
-use Rattle.families.proofs.numbered.numbered_split.Tie as tie
+use Rattle.numbering.specs.Counts.{CountsKept, Countable, Splittable}
+use Rattle.numbering.proofs.Walking.{Passed, passed-none, passed-next, looked, Left, left-all, left-none, left-here, left-later}
+use Rattle.numbering.proofs.numbered.numbered_split.Statement.{statement}
+use Rattle.numbering.proofs.numbered.numbered_split.Tie as tie
 
 abbrev Inv-loop : tie.InvT-loop
 Inv-loop marks counts₀ g r rest first left₀ part₀ counts left part =

@@ -1,13 +1,13 @@
--- `families::numbered::wiring_of` meets its contract: the leaf group's links, added to a wiring that has none. Assumes nothing.
+-- `numbering::numbered::wiring_of` meets its contract: the leaf group's links, added to a wiring that has none. Assumes nothing.
 use mathlib.Core.Path.{_≡_, ap}
 use native.Mathlib.Omega.{arith}
 use borrow.Author.Needs.{needs}
 use Rattle.trees.specs.Members.{size-le}
 use Rattle.marks.specs.Stored.{held}
 use Rattle.wirings.specs.Links.{noLinks}
-use Rattle.families.specs.Numbered.{wiring-found}
-use Rattle.families.proofs.numbered.wiring_of.Statement.{statement}
-use Rattle.families.proofs.numbered.wiring_of.Tie as tie
+use Rattle.numbering.specs.Numbered.{wiring-found}
+use Rattle.numbering.proofs.numbered.wiring_of.Statement.{statement}
+use Rattle.numbering.proofs.numbered.wiring_of.Tie as tie
 
 -- the function's entry, from the wiring with no gate
 abbrev start : tie.After-no-links → tie.Start
