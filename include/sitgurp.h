@@ -10,7 +10,7 @@
  * longer than needed, its further bytes are kept.
  *
  * No call takes memory of its own but the stack: 74,840 bytes at most (sitgurp_family_tree at m 2, n 12), as
- * `(cd rust && cargo run --offline --release -q -p bench --bin stack)` measures it, by painting, over tables of every size.
+ * `(cd rust && cargo run --offline --release -q -p bench --bin stack)` measures it, by painting, at the largest n of each m.
  */
 #ifndef SITGURP_H
 #define SITGURP_H
