@@ -8,6 +8,9 @@
  * A sheet is any bytes. Levels are written m and inputs n below. A refusal of a sheet (1 to 8, 18, 19) has a place in it, a byte from 0;
  * docs/REFUSALS.md says what each number means. Refusals are listed in the order in which they are judged. Where a buffer is
  * longer than needed, its further bytes are kept.
+ *
+ * No call takes memory of its own but the stack: 74,840 bytes at most (sitgurp_family_tree at m 2, n 12), as
+ * `(cd rust && cargo run --offline --release -q -p bench --bin stack)` measures it, by painting, at the largest n of each m.
  */
 #ifndef SITGURP_H
 #define SITGURP_H

@@ -3,7 +3,7 @@
 -- Assumes nothing.
 use Prim.Native.Nat.{ℕ, _+_, _*_, _/_, _%_, _≤_, _<_}
 use mathlib.Core.Path.{_≡_, refl, sym, ap, _∙_, subst₂}
-use mathlib.Core.Bool.{Bool, true, false, cond}
+use mathlib.Core.Bool.{Bool, true, false, cond, false≢true}
 use mathlib.Core.List.{List, map}
 use native.Mathlib.Nat.{zero-add, mod-lt, div-add-mod', div-lt-iff-lt-mul}
 use native.Mathlib.Decide.{decLt}
@@ -145,6 +145,18 @@ module _ (m n : ℕ) (f : ℕ → ℕ) (last : Bool) (at : ℕ) (before after : 
       → after ≡ paste before at (sampledDigits m left right (givenBy m n f g last)) (m * m)
   written-given g left right ys firsts of-ys of-firsts =
       subst₂ (λ (us vs : List ℕ). after ≡ paste before at (sampledDigits m left right (givenFrom f us vs last)) (m * m)) of-ys of-firsts
+
+  -- the last gate gives the ink, whatever the lists
+  pub written-last : last ≡ true → (g : ℕ) (left right ys firsts : List ℕ)
+      → after ≡ paste before at (sampledDigits m left right (givenFrom f ys firsts last)) (m * m)
+      → after ≡ paste before at (sampledDigits m left right (givenBy m n f g last)) (m * m)
+  unfolding givenFrom
+  written-last is g left right ys firsts e =
+      e ∙ ap (λ (own : ℕ → ℕ). paste before at (sampledDigits m left right own) (m * m)) (any-lists last is ys firsts (points m n (others n g)) (classes m n f g))
+    where
+      any-lists : (t : Bool) → t ≡ true → (ys firsts us vs : List ℕ) → givenFrom f ys firsts t ≡ givenFrom f us vs t
+      any-lists true is ys firsts us vs = λ i p. f p
+      any-lists false is ys firsts us vs = absurd (false≢true is)
 
   pub written-digits : 0 < m → (a b : ℕ) → Parts m n f a b → (xs ys : List ℕ) → xs ≡ samples m n f a → ys ≡ samples m n f b
       → after ≡ paste before at (sampledDigits m xs ys (givenBy m n f (a + b) last)) (m * m)

@@ -51,3 +51,13 @@ module _ (m n : ℕ) (cells : List ℕ) (f : ℕ → ℕ) (g : ℕ) (left right 
 
   pub ready : (ys firsts : List ℕ) → ys ≡ points m n (others n g) → firsts ≡ classes m n f g → Ready cells ys firsts left right
   ready ys firsts of-ys of-firsts = subst₂ (λ (us vs : List ℕ). Ready cells us vs left right) (sym of-ys) (sym of-firsts) group-ready
+
+  -- with no lists at all
+  pub last-ready : (ys firsts : List ℕ) → length ys ≡ 0 → length firsts ≡ 0 → Ready cells ys firsts left right
+  last-ready ys firsts no-ys no-firsts =
+      record {
+        few = omega (arith, no-firsts);
+        kept = λ j j<. absurd (omega (arith, no-firsts));
+        inside = group-ready .inside;
+        within = λ u v u< v< k k<. absurd (omega (arith, no-ys));
+      }

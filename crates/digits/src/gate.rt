@@ -119,6 +119,30 @@ fn group_digits(
     );
 }
 
+// The same, where the last gate needs neither list: it gives the ink.
+fn side_digits(
+    m: usize,
+    n: usize,
+    cells: &[u8],
+    g: usize,
+    last: bool,
+    left: &[u16],
+    right: &[u16],
+    at: usize,
+    digits: &mut [u8],
+)
+    requires { ⌜ (Sized m n (now cells)) × (g < 2 ^ n) × (Few m n (inkIn (now cells)) g) × (Sums m n g (now left) (now right)) × (at + m * m ≤ length (now digits)) ⌝ }
+    ensures { λ _. ⌜ now (digits .exit) ≡ paste (now (digits .entry)) at
+        (sampledDigits m (now (left .entry)) (now (right .entry)) (givenBy m n (inkIn (now (cells .entry))) g last)) (m * m) ⌝ }
+{
+    if !last {
+        group_digits(m, n, cells, g, last, left, right, at, digits);
+        return;
+    }
+    let none = &left[0..0];
+    write_digits(m, cells, none, none, last, left, right, at, digits);
+}
+
 // Writes the digits of the gate that joins groups a and b from `at` on.
 pub fn gate_digits(
     m: usize,
@@ -137,7 +161,7 @@ pub fn gate_digits(
     let mut right = [0u16; limits::MOST_LEVELS];
     let lefts = samples::samples(m, n, cells, a, &mut left);
     let rights = samples::samples(m, n, cells, b, &mut right);
-    group_digits(
+    side_digits(
         m,
         n,
         cells,

@@ -22,7 +22,7 @@ use Rattle.wirings.specs.declared.forms.Wiring.{Wiring}
 use Rattle.wirings.specs.Links.{linksIn}
 use Rattle.filling.specs.Filled.{Filled}
 use Rattle.filling.specs.MadeNet.{NetOf, wiring-fills, wiring-net}
-use Rattle.families.specs.Numbered.{InCount, WiringFound}
+use Rattle.numbering.specs.Numbered.{InCount, WiringFound}
 
 module _ (m n : ℕ) (fit : sizeFits m n ≡ true) (f : ℕ → ℕ) (own : List ℕ) (front : own ≡ marksOf m n f) (r : ℕ) (below : r < treeCount n (marksOf m n f)) where
   pos : 0 < m

@@ -16,7 +16,7 @@ use Rattle.rules.specs.Answers.{inkIn, written}
 use Rattle.laws.specs.Sizes.{sized}
 use Rattle.trees.specs.Members.{whole-below}
 use Rattle.trees.specs.MarkRule.{marks-length}
-use Rattle.families.specs.Counts.{CountsKept, Countable, CountKept}
+use Rattle.numbering.specs.Counts.{CountsKept, Countable, CountKept}
 
 -- no count is known yet
 abbrev pub NoneKnown : List ℕ → Type 0

@@ -6,9 +6,9 @@ ghost use lib.ListN.{length};
 ghost use Rattle.rules.specs.Limits.{sizeFits};
 ghost use Rattle.rules.specs.Marks.{marksLength};
 ghost use Rattle.families.specs.Marked.{NoneKnown, MarkedCount};
-use crate::counts;
 use lines::put::copy;
 use marking::all;
+use numbering::counts;
 use radix::powers;
 
 // The count is 0 where the table has no tree. `own` is for the call's own marks, and `counts` comes in with nothing known.

@@ -9,10 +9,10 @@ ghost use Rattle.rules.specs.Marks.{marksOf};
 ghost use Rattle.rules.specs.Family.{treeCount, familyGates};
 ghost use Rattle.rules.specs.Answers.{inkIn};
 ghost use Rattle.filling.specs.MadeNet.{NetOf};
-ghost use Rattle.families.specs.Counts.{Countable};
-use crate::numbered;
+ghost use Rattle.numbering.specs.Counts.{Countable};
 use filling::fill;
 use nets::forms;
+use numbering::numbered;
 use radix::powers;
 
 // The net of number r of a table, which is below its count. `marks` has the table's marks and no further byte.

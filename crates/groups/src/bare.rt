@@ -5,6 +5,7 @@ ghost use lib.Dec.{ltb};
 ghost use Rattle.rules.specs.Lists.{firstPlace};
 ghost use Rattle.rules.specs.BareCells.{bareCells};
 ghost use Rattle.answers.specs.Answers.{outcomeAs};
+use crate::inks;
 use answers::outcome::Outcome;
 use radix::powers;
 
@@ -37,6 +38,9 @@ pub fn bare_cells(m: usize, n: usize, cells: &[u8]) -> Outcome
             number: 9,
             place: 0,
         };
+    }
+    if inks::inks_below(m, cells) {
+        return Outcome::Accepted;
     }
     let k = first_over(m, cells);
     if k < cells.len() {

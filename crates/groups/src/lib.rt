@@ -4,5 +4,6 @@ pub mod bare;
 pub mod call;
 pub mod classes;
 pub mod differences;
+pub mod inks;
 pub mod keyed;
 pub mod keys;

@@ -1,6 +1,5 @@
 // Whether a group has few classes, from what is kept of the groups below it.
 pub mod cover;
-pub mod inks;
 pub mod rows;
 pub mod source;
 pub mod step;

@@ -8,3 +8,4 @@ pub mod Parts
 pub mod Plain
 pub mod Row
 pub mod Rows
+pub mod Words

@@ -3,6 +3,7 @@ ghost use Rattle.table_reading.specs.Block.{BlockStarts, BlockTried};
 ghost use Rattle.table_reading.specs.Blocks.{RowsStart};
 ghost use Rattle.table_reading.specs.Rows.{InRows};
 use crate::due::due_ink;
+use crate::due::words_of;
 use fields::steps::Found;
 use nets::levels::next_levels;
 use radix::powers::power;
@@ -33,10 +34,11 @@ fn due_block(
     if s.len() - at < m * row {
         return false;
     }
+    let words = words_of(levels, front);
     let mut place = at;
     let mut l: usize = 0;
     while l < m {
-        match due_ink(s, place, levels, front, l, m) {
+        match due_ink(s, place, levels, words, front, l, m) {
             Found::Nowhere => return false,
             Found::At(ink) => {
                 cells[q * m + l] = ink as u8;

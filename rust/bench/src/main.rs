@@ -33,9 +33,14 @@ fn by_size(title: &str, ratio: impl Fn(usize, usize, TableKind) -> f64) {
 fn main() {
     by_size("marking, proved / plain", ratios::marking);
     by_size("making, proved / plain", ratios::making);
-    by_size("reading a table sheet, proved / plain", |m, n, kind| {
-        ratios::reading(m, n, kind, Against::Plain)
-    });
+    by_size(
+        "reading a table sheet, proved / plain, field by field",
+        |m, n, kind| ratios::reading(m, n, kind, Against::Plain),
+    );
+    by_size(
+        "reading a table sheet, proved / plain, by whole rows",
+        |m, n, kind| ratios::reading(m, n, kind, Against::PlainRows),
+    );
     by_size(
         "checking a net against a table, proved / plain",
         |m, n, kind| ratios::checking(m, n, kind, Against::Plain),

@@ -150,10 +150,13 @@ pub fn last_tree(m: usize, n: usize, kind: TableKind) -> f64 {
     ratio(last, settled)
 }
 
-/// What the library's time is held against: plain Rust, or the second implementation.
+/// What the library's time is held against: plain Rust, of which there are two readers, or the second implementation.
 #[derive(Clone, Copy, PartialEq, Eq)]
 pub enum Against {
+    /// Reading field by field; a checker with the quicker reader.
     Plain,
+    /// Reading by whole rows.
+    PlainRows,
     Second,
 }
 
@@ -163,8 +166,18 @@ pub fn reading(m: usize, n: usize, kind: TableKind, against: Against) -> f64 {
     let proved = least(&sheets, |sheet| {
         black_box(sitgurp::make(black_box(sheet), &mut [], &mut [], &mut [])).ok();
     });
+    for sheet in &sheets {
+        let (fields, rows) = (
+            plain_sheets::read_table_by_fields(sheet),
+            plain_sheets::read_table(sheet),
+        );
+        assert!(fields.is_some() && fields == rows, "both read alike");
+    }
     let other = match against {
         Against::Plain => least(&sheets, |sheet| {
+            black_box(plain_sheets::read_table_by_fields(black_box(sheet))).expect("a good sheet");
+        }),
+        Against::PlainRows => least(&sheets, |sheet| {
             black_box(plain_sheets::read_table(black_box(sheet))).expect("a good sheet");
         }),
         Against::Second => least(&sheets, |sheet| {
@@ -203,7 +216,7 @@ pub fn checking(m: usize, n: usize, kind: TableKind, against: Against) -> f64 {
         black_box(sitgurp::check(black_box(net), table, &mut cells)).ok();
     });
     let other = match against {
-        Against::Plain => least(&sheets, |(net, table)| {
+        Against::Plain | Against::PlainRows => least(&sheets, |(net, table)| {
             black_box(plain_sheets::check(black_box(net), table, &mut cells));
         }),
         Against::Second => least(&sheets, |(net, table)| {

@@ -18,7 +18,7 @@ start c = c .before .before .before .before
 abbrev lefts : tie.After-samples2 → tie.After-samples
 lefts c = c .before .before .before
 
-abbrev rights : tie.After-group-digits-arg3 → tie.After-samples2
+abbrev rights : tie.After-side-digits-arg3 → tie.After-samples2
 rights c = c .before .before .before .before .before .before
 
 slice-aggregate-samples : tie.Need-slice-aggregate-samples
@@ -33,8 +33,8 @@ slice-aggregate-samples-2 c = search needs
 samples-requires-2 : tie.Need-samples-requires-2
 samples-requires-2 c κs = search needs
 
-add-group-digits : tie.Need-add-group-digits
-add-group-digits c =
+add-side-digits : tie.Need-add-side-digits
+add-side-digits c =
     let s = start (lefts (c .before)) in
     let a = s .args in
     let parts = s .pre .1 in
@@ -43,26 +43,26 @@ add-group-digits c =
           (pow-mono {i = a .n} {j = 64} (omega (arith, s .pre .0 .inputs)));
     }
 
-sub-group-digits : tie.Need-sub-group-digits
-sub-group-digits c = search needs
+sub-side-digits : tie.Need-sub-side-digits
+sub-side-digits c = search needs
 
-part-group-digits-start : tie.Need-part-group-digits-start
-part-group-digits-start c = search needs
+part-side-digits-start : tie.Need-part-side-digits-start
+part-side-digits-start c = search needs
 
-part-group-digits-end : tie.Need-part-group-digits-end
-part-group-digits-end c = fits-in (lefts (c .before .before) .samples .ensures)
+part-side-digits-end : tie.Need-part-side-digits-end
+part-side-digits-end c = fits-in (lefts (c .before .before) .samples .ensures)
 
-sub-group-digits-2 : tie.Need-sub-group-digits-2
-sub-group-digits-2 c = search needs
+sub-side-digits-2 : tie.Need-sub-side-digits-2
+sub-side-digits-2 c = search needs
 
-part-group-digits-start-2 : tie.Need-part-group-digits-start-2
-part-group-digits-start-2 c = search needs
+part-side-digits-start-2 : tie.Need-part-side-digits-start-2
+part-side-digits-start-2 c = search needs
 
-part-group-digits-end-2 : tie.Need-part-group-digits-end-2
-part-group-digits-end-2 c = fits-in (c .before .before .before .before .samples2 .ensures)
+part-side-digits-end-2 : tie.Need-part-side-digits-end-2
+part-side-digits-end-2 c = fits-in (c .before .before .before .before .samples2 .ensures)
 
-group-digits-requires : tie.Need-group-digits-requires
-group-digits-requires c κs =
+side-digits-requires : tie.Need-side-digits-requires
+side-digits-requires c κs =
     let right = rights c in
     let left = lefts right in
     let s = start left in
@@ -86,7 +86,7 @@ returns c =
     let s = start left in
     let a = s .args in
     written-digits (a .m) (a .n) (inkIn (a .cells .now)) (a .last) (a .at) (a .digits .now) _ (s .pre .0 .some) (a .a) (a .b) (s .pre .1) _ _
-    (part-is (left .samples .ensures)) (part-is (right .samples2 .ensures)) (c .before .before .group-digits .ensures)
+    (part-is (left .samples .ensures)) (part-is (right .samples2 .ensures)) (c .before .before .side-digits .ensures)
 
 pub gate-digits-spec : {M : Type 1} → statement M
 gate-digits-spec =
@@ -96,13 +96,13 @@ gate-digits-spec =
     samples-requires
     slice-aggregate-samples-2
     samples-requires-2
-    add-group-digits
-    sub-group-digits
-    part-group-digits-start
-    part-group-digits-end
-    sub-group-digits-2
-    part-group-digits-start-2
-    part-group-digits-end-2
-    group-digits-requires
+    add-side-digits
+    sub-side-digits
+    part-side-digits-start
+    part-side-digits-end
+    sub-side-digits-2
+    part-side-digits-start-2
+    part-side-digits-end-2
+    side-digits-requires
     same-length
     returns)

@@ -12,7 +12,7 @@ use Rattle.rules.specs.Marks.{marksOf}
 use Rattle.rules.specs.Answers.{inkIn}
 use Rattle.laws.specs.Sizes.{sized}
 use Rattle.lines.specs.Put.{put-wrote}
-use Rattle.families.specs.Counts.{CountsKept, Countable}
+use Rattle.numbering.specs.Counts.{CountsKept, Countable}
 use Rattle.families.specs.Marked.{marks-front, whole-countable, whole-counted}
 use Rattle.families.proofs.marked.count_marked.Statement.{statement}
 use Rattle.families.proofs.marked.count_marked.Tie as tie

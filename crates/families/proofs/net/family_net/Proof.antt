@@ -7,8 +7,8 @@ use lib.Pow.{pow-pos}
 use Rattle.rules.specs.Groups.{wholeGroup}
 use Rattle.rules.specs.Answers.{inkIn}
 use Rattle.digits.specs.Sized.{Sized, sized}
-use Rattle.families.specs.Counts.{Countable}
-use Rattle.families.specs.Numbered.{InCount, WiringFound}
+use Rattle.numbering.specs.Counts.{Countable}
+use Rattle.numbering.specs.Numbered.{InCount, WiringFound}
 use Rattle.families.specs.FamilyNet.{whole-in, number-count, number-fills, number-net}
 use Rattle.families.proofs.net.family_net.Statement.{statement}
 use Rattle.families.proofs.net.family_net.Tie as tie

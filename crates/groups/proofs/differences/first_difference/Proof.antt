@@ -1,7 +1,8 @@
--- `groups::differences::first_difference` meets its contract. The loop's invariant: the places that are left decide. Assumes nothing.
-use Prim.Native.Nat.{_+_, _-_, _≤_, _<_}
+-- `groups::differences::first_difference` meets its contract. The loop begins where the inks are no longer known to be the same, and its invariant is that the places that are left decide. Assumes nothing.
+use Prim.Native.Nat.{ℕ, _+_, _-_, _≤_, _<_}
 use mathlib.Core.Path.{_≡_, sym, ap, _∙_}
 use mathlib.Core.Bool.{not}
+use mathlib.Core.Option.{Option}
 use native.Mathlib.Nat.{sub-zero}
 use native.Mathlib.Omega.{arith}
 use borrow.Author.Tests.{eq-eqb, ne-eqb}
@@ -10,6 +11,7 @@ use Rattle.laws.specs.Walks.{find-next, find-stop, find-end}
 use Rattle.rules.specs.Answers.{inkIn}
 use Rattle.rules.specs.Differences.{differAt, differenceOver}
 use Rattle.rules.specs.Lists.{range, find}
+use Rattle.groups.proofs.Sames.{find-behind}
 use Rattle.groups.proofs.differences.first_difference.Statement.{statement}
 use Rattle.groups.proofs.differences.first_difference.Tie as tie
 
@@ -21,19 +23,24 @@ abbrev μ-loop : tie.MeasureT-loop
 
 -- the start from the loop's head, and a turn's start from its first read and its last
 abbrev at-start : tie.At-loop Inv-loop μ-loop → tie.Start Inv-loop μ-loop
-at-start c = c .before
+at-start c = c .before .before .before .before
 
-abbrev at-turn : tie.After-shared-slice-known Inv-loop μ-loop → tie.In-loop Inv-loop μ-loop
+abbrev at-turn : tie.After-shared-slice-known3 Inv-loop μ-loop → tie.In-loop Inv-loop μ-loop
 at-turn c = c .before
 
-abbrev turn-reads : tie.After-shared-slice-known3 Inv-loop μ-loop → tie.In-loop Inv-loop μ-loop
+abbrev turn-reads : tie.After-shared-slice-known5 Inv-loop μ-loop → tie.In-loop Inv-loop μ-loop
 turn-reads c = at-turn (c .before .before)
 
 loop-holds : tie.Need-loop-holds Inv-loop μ-loop
 unfolding differenceOver
 loop-holds c =
-    let a = c .args in
-    (omega arith, ap (λ j. find (differAt (inkIn (a .cells .now)) (a .ys .now) (a .p) (a .q)) (range 0 j)) (sub-zero (length (a .ys .now))))
+    let a = c .before .before .before .args in
+    let search : ℕ → Option ℕ = λ j. find (differAt (inkIn (a .cells .now)) (a .ys .now) (a .p) (a .q)) (range 0 j) in
+    let front = c .same-front .ensures in
+    (front .0, find-behind _ (length (a .ys .now)) (c .same-front .result) (front .0) (front .1) ∙ ap search (sub-zero (length (a .ys .now))))
+
+same-front-requires : tie.Need-same-front-requires Inv-loop μ-loop
+same-front-requires c κs = c .before .before .pre
 
 mul-y : tie.Need-mul-y Inv-loop μ-loop
 mul-y c = omega arith
@@ -42,7 +49,7 @@ shared-slice-read-y : tie.Need-shared-slice-read-y Inv-loop μ-loop
 shared-slice-read-y c = omega arith
 
 cast-y : tie.Need-cast-y Inv-loop μ-loop
-cast-y c = omega (arith, c .shared-slice-known .given (at-turn c .before .loop .k))
+cast-y c = omega (arith, c .shared-slice-known3 .given (at-turn c .before .loop .k))
 
 -- the two cells that a turn looks at are there
 in-cells : (c : tie.In-loop Inv-loop μ-loop) →
@@ -94,6 +101,7 @@ first-difference-spec =
     (tie.spec
     Inv-loop
     μ-loop
+    same-front-requires
     loop-holds
     mul-y
     shared-slice-read-y

@@ -16,7 +16,7 @@ use Rattle.table_reading.proofs.blocks.due_block.Statement.{statement}
 use Rattle.table_reading.proofs.blocks.due_block.Tie as tie
 
 abbrev Inv-loop : tie.InvT-loop
-Inv-loop s at levels front m q cells₀ row place₀ l₀ cells place l =
+Inv-loop s at levels front m q cells₀ row words place₀ l₀ cells place l =
     (l ≤ m)
     × (place ≡ at + l * rowBytes front)
     × (length cells ≡ length cells₀)
@@ -24,14 +24,14 @@ Inv-loop s at levels front m q cells₀ row place₀ l₀ cells place l =
     × ((start : ℕ) → Reached s start m (front + 1) cells₀ at (q * m) → Reached s start m (front + 1) cells place (q * m + l))
 
 abbrev μ-loop : tie.MeasureT-loop
-μ-loop s at levels front m q cells₀ row place₀ l₀ cells place l = m - l
+μ-loop s at levels front m q cells₀ row words place₀ l₀ cells place l = m - l
 
 -- the start and the test of the sheet's length, from the loop's head; a turn's start from the row's ink, and that from the turn's end
 abbrev at-start : tie.After-slice-known Inv-loop μ-loop → tie.Start Inv-loop μ-loop
 at-start c = c .before .before .before
 
 abbrev start : tie.At-loop Inv-loop μ-loop → tie.Start Inv-loop μ-loop
-start c = at-start (c .before .before .before)
+start c = at-start (c .before .before .before .before)
 
 abbrev at-turn : tie.After-due-ink Inv-loop μ-loop → tie.In-loop Inv-loop μ-loop
 at-turn c = c .before
@@ -64,20 +64,23 @@ mul-if2 c = omega (arith, bytes (at-start (c .before)))
 returns-2 : tie.Need-returns-2 Inv-loop μ-loop
 returns-2 c = block-left _ _ _ _ _ _ _ refl
 
+words-of-requires : tie.Need-words-of-requires Inv-loop μ-loop
+words-of-requires c κs = let pre = at-start (c .before .before) .pre in (pre .short, pre .inputs)
+
 loop-holds : tie.Need-loop-holds Inv-loop μ-loop
-loop-holds c = (omega arith, omega (arith, zero-mul (rowBytes (at-start (c .before .before) .args .front))), refl, refl, λ from rows. rw (add-zero) rows)
+loop-holds c = (omega arith, omega (arith, zero-mul (rowBytes (at-start (c .before .before .before) .args .front))), refl, refl, λ from rows. rw (add-zero) rows)
 
 -- the row of a turn lies in the sheet
 within : (c : tie.In-loop Inv-loop μ-loop) → c .before .loop .place + rowBytes (start (c .before) .args .front) ≤ length (start (c .before) .args .s .now)
 within c =
     let row = rowBytes (start (c .before) .args .front) in
     let most = mul-le-mul-right row (c .loop-test .taken) in
-    omega (arith, most, suc-mul (c .before .loop .l) row, c .before .loop .inv .1, c .before .before .if2 .left, c .before .before .before .if1 .left)
+    omega (arith, most, suc-mul (c .before .loop .l) row, c .before .loop .inv .1, c .before .before .before .if2 .left, c .before .before .before .before .if1 .left)
 
 due-ink-requires : tie.Need-due-ink-requires Inv-loop μ-loop
 due-ink-requires c κs =
     let pre = start (c .before) .pre in
-    (pre .short, front-digits _ _ _ _ _ pre (omega (arith, c .loop-test .taken)), omega (arith, c .loop-test .taken, pre .few), pre .few, within c)
+    (pre .short, front-digits _ _ _ _ _ pre (omega (arith, c .loop-test .taken)), omega (arith, c .loop-test .taken, pre .few), pre .few, within c, pre .inputs, c .before .before .words-of .ensures)
 
 enum-told : tie.Need-enum-told Inv-loop μ-loop
 enum-told c = search needs
@@ -137,7 +140,7 @@ same-length-2 c = c .before .loop .inv .2
 returns-4 : tie.Need-returns-4 Inv-loop μ-loop
 returns-4 c =
     let l = c .before .loop in
-    block-done _ _ _ _ _ _ _ _ (l .l) (l .inv .3) (omega (arith, l .inv .0, c .loop-test .left)) (l .inv .1) (omega (arith, c .before .before .if2 .left, c .before .before .before .if1 .left)) (l .inv .4)
+    block-done _ _ _ _ _ _ _ _ (l .l) (l .inv .3) (omega (arith, l .inv .0, c .loop-test .left)) (l .inv .1) (omega (arith, c .before .before .before .if2 .left, c .before .before .before .before .if1 .left)) (l .inv .4)
 
 pub due-block-spec : {M : Type 1} → statement M
 due-block-spec =
@@ -151,6 +154,7 @@ due-block-spec =
     sub-if2
     mul-if2
     returns-2
+    words-of-requires
     loop-holds
     due-ink-requires
     enum-told

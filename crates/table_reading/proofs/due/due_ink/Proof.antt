@@ -22,8 +22,8 @@ at-last c = c .before
 abbrev at-levels : tie.Else2 → tie.Else1
 at-levels c = c .before .before
 
-are-levels-requires : tie.Need-are-levels-requires
-are-levels-requires c κs = search needs
+stand-requires : tie.Need-stand-requires
+stand-requires c κs = search needs
 
 returns : tie.Need-returns
 returns c ink e = no-ink ink e
@@ -72,7 +72,7 @@ returns-5 c ink e =
     let digit : Plain (start .args .s .now) (start .args .at + 2 * start .args .front + 2) ink newlineByte =
     two-plain _ _ _ newlineByte (omega (arith, start .pre)) (bytes .1) (omega (arith, start .pre .3)) (omega (arith, bytes .0, c .before .if3 .left)) in
     let all : start .args .at + 2 * start .args .front + 2 + 2 ≡ start .args .at + (2 * start .args .front + 4) = omega arith in
-    let front = at-levels last .before .are-levels .ensures (not-false _ (at-levels last .if1 .left)) in
+    let front = at-levels last .before .stand .ensures (not-false _ (at-levels last .if1 .left)) in
     let stands = due-row (start .args .s .now) (take (start .args .front) (start .args .levels .now)) (start .args .m) (start .args .at) (start .args .at + 2 * start .args .front) (start .args .last) ink front (level last) digit below in
     rw all at stands
 
@@ -80,7 +80,7 @@ pub due-ink-spec : {M : Type 1} → statement M
 due-ink-spec =
     tie.close
     (tie.spec
-    are-levels-requires
+    stand-requires
     returns
     mul-end
     add-end

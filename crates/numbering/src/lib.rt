@@ -1,0 +1,3 @@
+// The trees of a group numbered: how many there are, and the wiring of each number.
+pub mod counts;
+pub mod numbered;

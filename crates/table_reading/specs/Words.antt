@@ -1,0 +1,134 @@
+-- Eight bytes as one number: four levels, each with the space after it, as they stand and as they are due.
+-- Assumes nothing.
+use Prim.Native.Nat.{ℕ, zero, suc, _+_, _-_, _*_, _≤_, _<_}
+use mathlib.Core.Path.{_≡_, sym, ap, _∙_, subst, subst₂}
+use mathlib.Core.Bool.{cond}
+use mathlib.Core.List.{List}
+use native.Mathlib.Decide.{ℕ-discrete, decLt}
+use native.Mathlib.Numerals.{add-one}
+use native.Mathlib.Omega.{arith}
+use lib.Dec.{ltb}
+use lib.ListN.{length, take, getD}
+use borrow.Author.Tests.{lt-ltb, le-ltb}
+use Rattle.rules.specs.Limits.{mostInputs}
+use Rattle.rules.specs.Text.{zeroByte, spaceByte}
+use Rattle.table_reading.specs.declared.due.Words.{Words}
+use Rattle.table_reading.specs.Due.{AreDigits, LevelsStand, levels-next, levels-done}
+use Rattle.table_reading.specs.Plain.{Plain, two-plain}
+use Rattle.table_reading.specs.Row.{InRow, row-start}
+
+-- ---- the numbers
+
+-- the byte at k and the one after it
+abbrev pub pairAt : List ℕ → ℕ → ℕ
+pairAt s k = getD s k 0 + 256 * getD s (k + 1) 0
+
+-- a level with a space after it
+abbrev pub duePair : ℕ → ℕ
+duePair l = zeroByte + 256 * spaceByte + l
+
+-- four such numbers as one
+abbrev pub packed : ℕ → ℕ → ℕ → ℕ → ℕ
+packed a b c d = (a + 65536 * b) + 4294967296 * (c + 65536 * d)
+
+abbrev pub wordAt : List ℕ → ℕ → ℕ
+wordAt s at = packed (pairAt s at) (pairAt s (at + 2)) (pairAt s (at + 4)) (pairAt s (at + 4 + 2))
+
+abbrev pub dueWord : List ℕ → ℕ → ℕ
+dueWord levels i = packed (duePair (getD levels i 0)) (duePair (getD levels (i + 1) 0)) (duePair (getD levels (i + 2) 0)) (duePair (getD levels (i + 2 + 1) 0))
+
+-- where the second four begin
+unfoldable pub middleOf : ℕ → ℕ
+middleOf front = cond (ltb front 8) (front - 4) 4
+
+-- what is due of four levels or more
+pub record WideWords (levels : List ℕ) (front : ℕ) (words : Words) : Type 0 where
+  pub first : words .first ≡ dueWord levels 0
+  pub middle : words .middle ≡ dueWord levels (middleOf front)
+  pub last : words .last ≡ dueWord levels (front - 4)
+
+abbrev pub WordsOf : List ℕ → ℕ → Words → Type 0
+WordsOf levels front words = 4 ≤ front → WideWords levels front words
+
+-- ---- equal numbers are made of equal ones
+
+small : (a b x y : ℕ) → a < 65536 → b < 65536 → a + 65536 * x ≡ b + 65536 * y → (a ≡ b) × (x ≡ y)
+small a b x y a< b< e = (omega (arith, e), omega (arith, e))
+
+large : (a b x y : ℕ) → a < 4294967296 → b < 4294967296 → a + 4294967296 * x ≡ b + 4294967296 * y → (a ≡ b) × (x ≡ y)
+large a b x y a< b< e = (omega (arith, e), omega (arith, e))
+
+-- ---- four levels stand
+
+module _ (s levels : List ℕ) (at n : ℕ) (bytes : (k : ℕ) → getD s k 0 < 256) (digits : AreDigits levels n) (room : at + 2 * n ≤ length s) where
+  pair-plain : (k p : ℕ) → k < n → p ≡ at + 2 * k → pairAt s p ≡ duePair (getD levels k 0) → Plain s (at + 2 * k) (getD levels k 0) spaceByte
+  pair-plain k p k< is e =
+      let here : pairAt s (at + 2 * k) ≡ duePair (getD levels k 0) = ap (pairAt s) (sym is) ∙ e in
+      two-plain s (at + 2 * k) (getD levels k 0) spaceByte (omega arith) (bytes (at + 2 * k)) (digits k k<) here
+
+  pair-below : (p : ℕ) → pairAt s p < 65536
+  pair-below p = omega (arith, bytes p, bytes (p + 1))
+
+  module _ (i : ℕ) (most : i + 4 ≤ n) (same : wordAt s (at + 2 * i) ≡ dueWord levels i) where
+    due-below : (k : ℕ) → k < n → duePair (getD levels k 0) < 65536
+    due-below k k< = omega (arith, digits k k<)
+
+    halves : (pairAt s (at + 2 * i) + 65536 * pairAt s (at + 2 * i + 2) ≡ duePair (getD levels i 0) + 65536 * duePair (getD levels (i + 1) 0))
+        × (pairAt s (at + 2 * i + 4) + 65536 * pairAt s (at + 2 * i + 4 + 2) ≡ duePair (getD levels (i + 2) 0) + 65536 * duePair (getD levels (i + 2 + 1) 0))
+    halves =
+        large _ _ _ _ (omega (arith, pair-below (at + 2 * i), pair-below (at + 2 * i + 2)))
+        (omega (arith, digits i (omega arith), digits (i + 1) (omega arith))) same
+
+    first-two : (pairAt s (at + 2 * i) ≡ duePair (getD levels i 0)) × (pairAt s (at + 2 * i + 2) ≡ duePair (getD levels (i + 1) 0))
+    first-two = small _ _ _ _ (pair-below (at + 2 * i)) (due-below i (omega arith)) (halves .0)
+
+    last-two : (pairAt s (at + 2 * i + 4) ≡ duePair (getD levels (i + 2) 0)) × (pairAt s (at + 2 * i + 4 + 2) ≡ duePair (getD levels (i + 2 + 1) 0))
+    last-two = small _ _ _ _ (pair-below (at + 2 * i + 4)) (due-below (i + 2) (omega arith)) (halves .1)
+
+    pub four-plain : (k : ℕ) → i ≤ k → k < i + 4 → Plain s (at + 2 * k) (getD levels k 0) spaceByte
+    four-plain k low high = go (ℕ-discrete k i) (ℕ-discrete k (i + 1)) (ℕ-discrete k (i + 2))
+      where
+        go : Dec (k ≡ i) → Dec (k ≡ i + 1) → Dec (k ≡ i + 2) → Plain s (at + 2 * k) (getD levels k 0) spaceByte
+        go (yes e) second third = rw e (pair-plain i _ (omega arith) (omega arith) (first-two .0))
+        go (no _) (yes e) third = rw e (pair-plain (i + 1) _ (omega arith) (omega arith) (first-two .1))
+        go (no _) (no _) (yes e) = rw e (pair-plain (i + 2) _ (omega arith) (omega arith) (last-two .0))
+        go (no x) (no y) (no z) =
+            let e : k ≡ i + 2 + 1 = omega (arith, x, y, z) in
+            rw e (pair-plain (i + 2 + 1) _ (omega arith) (omega arith) (last-two .1))
+
+-- ---- all of them stand
+
+module _ (s levels : List ℕ) (at n : ℕ) (long : n ≤ length levels) (plain : (k : ℕ) → k < n → Plain s (at + 2 * k) (getD levels k 0) spaceByte) where
+  read-so-far : (i : ℕ) → i ≤ n → InRow s levels at n (at + 2 * i) i
+  read-so-far zero h = subst (λ (p : ℕ). InRow s levels at n p 0) (omega arith) (row-start s levels at n)
+  read-so-far (suc i) h =
+      subst₂ (λ (p j : ℕ). InRow s levels at n p j) (omega arith) (add-one i)
+      (levels-next s levels at n (at + 2 * i) i long (read-so-far i (omega arith)) (omega arith) (plain i (omega arith)))
+
+  pub plain-stand : LevelsStand s at (take n levels) (at + 2 * n)
+  plain-stand = levels-done s levels at n (at + 2 * n) n long (read-so-far n (omega arith)) (omega arith)
+
+-- the middle is near the first four and near the last
+pub middle-near : (front : ℕ) → 4 ≤ front → front ≤ mostInputs → (middleOf front ≤ front - 4) × (middleOf front ≤ 4) × (front - 4 ≤ middleOf front + 4)
+unfolding middleOf
+middle-near front wide few = go (decLt front 8)
+  where
+    go : Dec (front < 8) → (middleOf front ≤ front - 4) × (middleOf front ≤ 4) × (front - 4 ≤ middleOf front + 4)
+    go (yes low) = rw (lt-ltb front 8 low) (omega arith, omega arith, omega arith)
+    go (no high) = rw (le-ltb front 8 (omega (arith, high))) (omega (arith, high), omega arith, omega arith)
+
+pub wide-stand : (s levels : List ℕ) (at front : ℕ) (words : Words) → 4 ≤ front → front ≤ length levels → AreDigits levels front → at + 2 * front ≤ length s
+    → front ≤ mostInputs → WideWords levels front words → ((k : ℕ) → getD s k 0 < 256)
+    → wordAt s (at + 2 * 0) ≡ words .first → wordAt s (at + 2 * middleOf front) ≡ words .middle → wordAt s (at + 2 * (front - 4)) ≡ words .last
+    → LevelsStand s at (take front levels) (at + 2 * front)
+wide-stand s levels at front words wide long digits room few due bytes first middle last =
+    let near = middle-near front wide few in
+    plain-stand s levels at front long (λ k k<. go near k k< (decLt k 4) (decLt k (middleOf front + 4)))
+  where
+    go : (middleOf front ≤ front - 4) × (middleOf front ≤ 4) × (front - 4 ≤ middleOf front + 4) → (k : ℕ) → k < front
+        → Dec (k < 4) → Dec (k < middleOf front + 4) → Plain s (at + 2 * k) (getD levels k 0) spaceByte
+    go near k k< (yes low) _ = four-plain s levels at front bytes digits room 0 (omega arith) (first ∙ due .first) k (omega arith) (omega arith)
+    go near k k< (no past) (yes low) =
+        four-plain s levels at front bytes digits room (middleOf front) (omega (arith, near)) (middle ∙ due .middle) k (omega (arith, near, past)) low
+    go near k k< (no past) (no later) =
+        four-plain s levels at front bytes digits room (front - 4) (omega arith) (last ∙ due .last) k (omega (arith, near, later)) (omega arith)
