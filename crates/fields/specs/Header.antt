@@ -10,7 +10,7 @@ use Rattle.rules.specs.Text.{space, newline, text}
 use Rattle.rules.specs.Limits.{levelsFit, inputsFit, cellsFit, sizeFits, fewestInputs, mostInputs}
 use Rattle.rules.specs.Fields.{Reader, _>>=_, give, field, theWord}
 use Rattle.rules.specs.Sheets as sheets
-use Rattle.rules.specs.Sheets.{levelsField, inputsField, nameFields, headerLines}
+use Rattle.rules.specs.Sheets.{levelsField, inputsField, nameFields, headerLines, headerLinesIn}
 use Rattle.nets.specs.Forms.{headerOf, NamesHeld}
 use Rattle.nets.specs.declared.forms.Header.{Header}
 use Rattle.fields.specs.Chained.{chained-back, chained-on, then-then, never-both}
@@ -76,5 +76,5 @@ from-names s at m n last r names ml n2 n11 cells =
 -- line 1, then the rest
 pub from-first : (s : List ℕ) (last : ℕ) (r : HeaderRead)
     → HeaderRest s 0 (twoWords (text "levels") (text "inputs") >>= λ _. fromLevels last) r → HeaderRest s 0 (headerLines last) r
-unfolding headerLines fromLevels fromInputs twoWords spelled theWord space newline
+unfolding headerLinesIn fromLevels fromInputs twoWords spelled theWord space newline
 from-first s last r rest = record { reads = rest .reads ∙ then-then (field (theWord "levels") space s 0) _ _; held = rest .held }

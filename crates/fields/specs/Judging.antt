@@ -10,7 +10,7 @@ use lib.ListN.{length, drop, getD, drop-of-length-le}
 use lib.Seq.{drop-cons, drop-drop}
 use lib.Dec.{eqb}
 use borrow.Author.Tests.{eq-eqb, ne-eqb}
-use Rattle.rules.specs.Fields.{Read, read, turnedBack, Judge, judged, separator, afterField, fieldOf, field, run, past}
+use Rattle.rules.specs.Fields.{Read, read, turnedBack, Judge, judged, separator, afterField, afterFieldIn, fieldOf, fieldOfIn, field, fieldIn, run, past}
 use Rattle.laws.specs.Runs.{run-rest}
 use Rattle.fields.specs.Steps.{tested, judgedAs, judgedField, stepAs, itself}
 use Rattle.fields.specs.declared.steps.Step.{Step}
@@ -36,7 +36,7 @@ module _ (s : List ℕ) (end value due : ℕ) where
 
 module _ (s : List ℕ) (at : ℕ) (w : List ℕ) (v : Verdict) (due : ℕ) (is : w ≡ run (drop at s)) where
   pub after-empty : length w ≡ 0 → turnedBack 1 at ≡ judgedField v due s at
-  unfolding judgedField field fieldOf
+  unfolding judgedField fieldIn fieldOfIn
   after-empty e = rw (← is) (go w e)
     where
       go : (w : List ℕ) → length w ≡ 0 → turnedBack 1 at ≡ fieldOf (λ _. judgedAs itself v) due w (past (drop at s)) at
@@ -45,7 +45,7 @@ module _ (s : List ℕ) (at : ℕ) (w : List ℕ) (v : Verdict) (due : ℕ) (is 
 
   module _ (some : length w ≡ 0 → ⊥) where
     full : judgedField v due s at ≡ afterField (judgedAs itself v) due (past (drop at s)) at (at + length w)
-    unfolding judgedField field fieldOf
+    unfolding judgedField fieldIn fieldOfIn
     full = rw (← is) (go w some)
       where
         go : (w : List ℕ) → (length w ≡ 0 → ⊥)
@@ -54,12 +54,12 @@ module _ (s : List ℕ) (at : ℕ) (w : List ℕ) (v : Verdict) (due : ℕ) (is 
         go (b ∷ w) h = refl
 
     pub after-bad : (number : ℕ) → v ≡ Bad number → turnedBack number at ≡ judgedField v due s at
-    unfolding afterField
+    unfolding afterFieldIn
     after-bad number e = rw (full, e) refl
 
     pub after-good : (value : ℕ) (r : Step) → v ≡ Good value → stepAs itself s r ≡ separator value due (drop (at + length w) s) (at + length w)
         → stepAs itself s r ≡ judgedField v due s at
-    unfolding afterField
+    unfolding afterFieldIn
     after-good value r e reads = rw (full, e) (reads ∙ ap (λ t. separator value due t (at + length w)) rest)
       where
         rest : drop (at + length w) s ≡ past (drop at s)
@@ -90,7 +90,7 @@ module _ {A : Type 0} (f : ℕ → A) where
 
   field-mapped : (judge : Judge A) (v : Verdict) (due : ℕ) (w rest : List ℕ) (at : ℕ) → judgedAs f v ≡ judge w
       → mapped (fieldOf (λ _. judgedAs itself v) due w rest at) ≡ fieldOf judge due w rest at
-  unfolding mapped fieldOf afterField
+  unfolding mapped fieldOfIn afterFieldIn
   field-mapped judge v due [] rest at e = refl
   field-mapped judge (Good value) due (b ∷ w) rest at e =
       separator-mapped value due rest (at + suc (length w)) ∙ ap (λ j. afterField j due rest at (at + suc (length w))) e
@@ -98,7 +98,7 @@ module _ {A : Type 0} (f : ℕ → A) where
 
   pub field-judged : (judge : Judge A) (due : ℕ) (s : List ℕ) (at : ℕ) (w : List ℕ) (v : Verdict) (r : Step) → w ≡ run (drop at s)
       → judgedAs f v ≡ judge w → stepAs itself s r ≡ judgedField v due s at → stepAs f s r ≡ field judge due (drop at s) at
-  unfolding judgedField field
+  unfolding judgedField fieldIn
   field-judged judge due s at w v r is judges after =
       step-mapped s r ∙ (ap mapped after ∙ field-mapped judge v due (run (drop at s)) (past (drop at s)) at (judges ∙ ap judge is))
 

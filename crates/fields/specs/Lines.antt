@@ -17,7 +17,7 @@ use Rattle.laws.specs.Runs.{run-front}
 use Rattle.rules.specs.Lists.{range}
 use Rattle.rules.specs.Text.{space, spaceByte}
 use Rattle.rules.specs.Fields.{good, then, give, field, run}
-use Rattle.rules.specs.Sheets.{nameField, nameFields}
+use Rattle.rules.specs.Sheets.{nameField, nameFields, nameFieldsIn}
 use Rattle.rules.specs.Limits.{mostInputs, mostNameBytes}
 use Rattle.nets.specs.Forms.{noNames, nameIn, headerOf, NamesHeld}
 use Rattle.nets.specs.declared.forms.Header.{Header}
@@ -89,7 +89,7 @@ name-read s at due earlier w test v r is new e after =
 names-more : (last left : ℕ) (earlier : List (List ℕ)) (t : List ℕ) (p : ℕ)
     → nameFields last (suc left) earlier t p
     ≡ then (field (nameField earlier) (dueBefore left last) t p) (λ w. nameFields last left (earlier ++ (w ∷ [])))
-unfolding nameFields dueBefore
+unfolding nameFieldsIn dueBefore
 names-more last zero earlier t p = refl
 names-more last (suc left) earlier t p = refl
 
@@ -159,7 +159,7 @@ names-held s h i start len hs hl held fits k below = go (eqb k i) refl
 
 module _ (s : List ℕ) (at m n last : ℕ) (h : Header) (place i : ℕ) (reading : Reading s at m n last h place i) where
   pub names-done : n ≤ i → NamesRead s at m n last (record { step = On 0 place; header = h })
-  unfolding nameFields then headerOf
+  unfolding nameFieldsIn then headerOf
   names-done done =
       record {
         reads = rw (reading .reads, none-left, reading .levels, reading .inputs, all-read) refl;

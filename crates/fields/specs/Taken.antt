@@ -11,7 +11,7 @@ use lib.Dec.{eqb}
 use Rattle.rules.specs.Lists.{same}
 use Rattle.rules.specs.Text.{isDigit, decimal, zeroByte}
 use Rattle.rules.specs.Limits.{levelsFit, cellsFit, fewestInputs, mostInputs}
-use Rattle.rules.specs.Fields.{Read, read, turnedBack, Judge, Judged, good, bad, judged, separator, afterField, fieldOf, field, run, past}
+use Rattle.rules.specs.Fields.{Read, read, turnedBack, Judge, Judged, good, bad, judged, separator, afterField, afterFieldIn, fieldOf, fieldOfIn, field, fieldIn, run, past}
 use Rattle.rules.specs.Sheets.{levelsField, inputsOf, inputsField}
 use Rattle.laws.specs.Finds.{found-is, first-in-range}
 use Rattle.laws.specs.Runs.{run-past}
@@ -34,13 +34,13 @@ separator-read {A} a v due (b ∷ t) rest place next e = go (eqb b due) e
 
 after-read : {A : Type 0} (j : Judged A) (a : A) (due : ℕ) (t rest : List ℕ) (at end next : ℕ)
     → afterField j due t at end ≡ read a rest next → (j ≡ good a) × (next ≡ suc end) × (0 < length t)
-unfolding afterField
+unfolding afterFieldIn
 after-read (good x) a due t rest at end next e = let told = separator-read x a due t rest end next e in (ap good (sym (told .0)), told .1, told .2)
 after-read (bad number) a due t rest at end next e = let z : _≡_ {A = ℕ} 0 1 = cc in absurd (omega arith)
 
 of-read : {A : Type 0} (judge : Judge A) (a : A) (due : ℕ) (w t rest : List ℕ) (at next : ℕ)
     → fieldOf judge due w t at ≡ read a rest next → (judge w ≡ good a) × (next ≡ at + length w + 1) × (0 < length t)
-unfolding fieldOf
+unfolding fieldOfIn
 of-read judge a due [] t rest at next e = let z : _≡_ {A = ℕ} 0 1 = cc in absurd (omega arith)
 of-read judge a due (b ∷ w) t rest at next e =
     let told = after-read (judge (b ∷ w)) a due t rest at (at + suc (length w)) next e in
@@ -48,7 +48,7 @@ of-read judge a due (b ∷ w) t rest at next e =
 
 pub field-read : {A : Type 0} (judge : Judge A) (a : A) (due : ℕ) (t rest : List ℕ) (at next : ℕ)
     → field judge due t at ≡ read a rest next → (judge (run t) ≡ good a) × (next ≡ at + length (run t) + 1) × (next ≤ at + length t)
-unfolding field
+unfolding fieldIn
 field-read judge a due t rest at next e =
     let told = of-read judge a due (run t) (past t) rest at next e in
     (told .0, told .1, omega (arith, told .1, told .2, simp length-append at (ap length (run-past t))))

@@ -9,7 +9,7 @@ use native.Mathlib.Omega.{arith}
 use lib.Dec.{eqb}
 use Rattle.rules.specs.Lists.{same}
 use Rattle.rules.specs.Text.{text}
-use Rattle.rules.specs.Fields.{Read, read, turnedBack, Reader, then, _>>=_, give, Judged, good, bad, Judge, judged, run, past, separator, afterField, fieldOf, field, theWord, closed}
+use Rattle.rules.specs.Fields.{Read, read, turnedBack, Reader, then, _>>=_, give, Judged, good, bad, Judge, judged, run, past, separator, afterField, afterFieldIn, fieldOf, fieldOfIn, field, fieldIn, theWord, closed}
 use Rattle.rules.specs.Answers.{Answer, refused}
 use Rattle.rules.specs.Reading.{answered}
 use Rattle.laws.specs.Distinct.{In}
@@ -59,7 +59,7 @@ module _ (numbers : List ℕ) (one : In 1 numbers) where
       go false e = named-turned 1 at k place one e
 
   pub among-field : {A : Type 0} (judge : Judge A) (due : ℕ) → AmongJudge numbers judge → Among numbers (field judge due)
-  unfolding field fieldOf afterField
+  unfolding fieldIn fieldOfIn afterFieldIn
   among-field {A} judge due h s at k place e = go (run s) e
     where
       judged-field : (w : List ℕ) (u : Judged A) → judge w ≡ u → (end : ℕ) → afterField u due (past s) at end ≡ turnedBack k place → In k numbers

@@ -12,7 +12,7 @@ use lib.Dec.{eqb}
 use borrow.Author.Tests.{eqb-true, eq-eqb, not-true}
 use Rattle.rules.specs.Lists.{all, same}
 use Rattle.rules.specs.Text.{space, newline, text}
-use Rattle.rules.specs.Fields.{Read, read, turnedBack, then, _>>=_, give, Judged, good, bad, Judge, judged, isSeparator, run, past, separator, afterField, fieldOf, field, theWord, closed}
+use Rattle.rules.specs.Fields.{Read, read, turnedBack, then, _>>=_, give, Judged, good, bad, Judge, judged, isSeparator, run, past, separator, afterField, afterFieldIn, fieldOf, fieldOfIn, field, fieldIn, theWord, closed}
 use Rattle.laws.specs.Tests.{all-iff}
 use Rattle.laws.specs.Same.{same-refl, same-true}
 use Rattle.laws.specs.Runs.{run-past}
@@ -90,7 +90,7 @@ separator-read {A} a due (c ∷ s) end b rest place e = go (eqb c due) refl e
 -- a field that was read: its word was judged good, and the separator stands after it
 field-read : {A : Type 0} (judge : Judge A) (due : ℕ) (w s : List ℕ) (at : ℕ) (a : A) (rest : List ℕ) (place : ℕ)
     → fieldOf judge due w s at ≡ read a rest place → (judge w ≡ good a) × (s ≡ due ∷ rest)
-unfolding fieldOf afterField
+unfolding fieldOfIn afterFieldIn
 field-read judge due [] s at a rest place e = absurd (not-read 1 at a rest place e)
 field-read {A} judge due (b ∷ w) s at a rest place e = go (judge (b ∷ w)) refl e
   where
@@ -104,7 +104,7 @@ field-read {A} judge due (b ∷ w) s at a rest place e = go (judge (b ∷ w)) re
 -- a word that is judged good, before its separator, is read
 field-of-word : {A : Type 0} (judge : Judge A) (due : ℕ) (w : List ℕ) (a : A) (rest : List ℕ) (at : ℕ)
     → isWord w ≡ true → judge w ≡ good a → (place : ℕ) × (fieldOf judge due w (due ∷ rest) at ≡ read a rest place)
-unfolding fieldOf afterField separator isWord
+unfolding fieldOfIn afterFieldIn separator isWord
 field-of-word judge due [] a rest at h e = absurd (false≢true h)
 field-of-word judge due (b ∷ w) a rest at h e = (suc (at + suc (length w)), rw (e, eq-eqb due due refl, separator) refl)
 
@@ -117,7 +117,7 @@ word-plain (b ∷ w) h = h
 -- the same in the reader of the field
 field-back : {A : Type 0} (judge : Judge A) (due : ℕ) (w : List ℕ) (a : A) (rest : List ℕ) (at : ℕ)
     → isSeparator due ≡ true → isWord w ≡ true → judge w ≡ good a → (place : ℕ) × (field judge due (w ++ due ∷ [] ++ rest) at ≡ read a rest place)
-unfolding field
+unfolding fieldIn
 field-back judge due w a rest at d h e =
     rw (append-snoc w due rest, run-plain w due rest (word-plain w h) d, past-plain w due rest (word-plain w h) d)
     (field-of-word judge due w a rest at h e)
@@ -125,7 +125,7 @@ field-back judge due w a rest at d h e =
 -- a field spells its judge's words, each with the separator after it
 pub spells-field : {A : Type 0} {judge : Judge A} {X : Type 0} {f : X → A} {p : X → List ℕ} (due : ℕ) → isSeparator due ≡ true
     → Judges judge X f p → Spells (field judge due) X f (λ x. p x ++ due ∷ [])
-unfolding field
+unfolding fieldIn
 spells-field {judge = judge} {f = f} {p = p} due d judges = record {
   back = λ x rest at _. field-back judge due (p x) (f x) rest at d (judges .word x) (judges .passes x);
   only = λ s at a rest place e.

@@ -10,7 +10,7 @@ use lib.ListN.{length, getD}
 use Rattle.rules.specs.Lists.{any, same}
 use Rattle.rules.specs.Text.{space}
 use Rattle.rules.specs.Fields.{isSeparator}
-use Rattle.rules.specs.Sheets.{isName, nameFields}
+use Rattle.rules.specs.Sheets.{isName, nameFields, nameFieldsIn}
 use Rattle.rules.specs.Kept.{GoodNames}
 use Rattle.laws.specs.Same.{same-refl, same-comm}
 use Rattle.laws.specs.Distinct.{Unlike, unlike-differ}
@@ -73,7 +73,7 @@ new-names earlier w ws = (
 -- the names field by field
 pub spells-names : (last : ℕ) → isSeparator last ≡ true → (count : ℕ) (earlier : List (List ℕ))
     → Collects (nameFields last count earlier) earlier count (NewNames earlier) (ended last)
-unfolding nameFields ended
+unfolding nameFieldsIn ended
 spells-names last h zero earlier = collects-none earlier (NewNames earlier) (ended last) (tt, tt) refl
 spells-names last h (suc zero) earlier = collects-more _ earlier zero _ _ (NewNames earlier) (λ w. w ++ last ∷ []) (ended last) (ended last)
     (spells-field last h (judges-name earlier)) (λ w. spells-names last h zero (earlier ++ (w ∷ []))) (new-names earlier) (ended-one last)

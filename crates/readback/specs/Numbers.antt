@@ -11,7 +11,7 @@ use Rattle.rules.specs.Lists.{all, any, same}
 use Rattle.rules.specs.Text.{space, newline, digitByte, isDigit}
 use Rattle.rules.specs.Limits.{levelsFit, cellsFit}
 use Rattle.rules.specs.Fields.{Judged, bad, judged, theWord}
-use Rattle.rules.specs.Sheets.{Gate, levelsField, inputsOf, inputsField, isName, nameField, nameFields, headerLines, referenceOf, referenceField, digitsField, usedBy, gateLine, gateLines, netSheet, levelsAt, levelField, inkField, levelFields, rowLines, tableSheet}
+use Rattle.rules.specs.Sheets.{Gate, levelsField, inputsOf, inputsField, isName, nameField, nameFields, nameFieldsIn, headerLines, headerLinesIn, referenceOf, referenceField, digitsField, usedBy, gateLine, gateLines, netSheet, levelsAt, levelField, inkField, levelFields, rowLines, tableSheet}
 use Rattle.rules.specs.Reading.{readNet, readTable}
 use Rattle.laws.specs.Distinct.{In}
 use Rattle.readback.specs.Among.{Among, AmongJudge, Refuses, named-bad, test-bad, among-give, among-then, among-field, among-word, among-closed, among-answer}
@@ -69,14 +69,14 @@ module _ (numbers : List ℕ) (one : In 1 numbers) (two : In 2 numbers) (three :
   -- ---- the sheets
 
   among-names : (last count : ℕ) (earlier : List (List ℕ)) → Among numbers (nameFields last count earlier)
-  unfolding nameFields
+  unfolding nameFieldsIn
   among-names last zero earlier = among-give numbers one earlier
   among-names last (suc zero) earlier = among-then numbers one _ _ (among-field numbers one (nameField earlier) last (among-name earlier)) (λ w. among-give numbers one (earlier ++ (w ∷ [])))
   among-names last (suc (suc count)) earlier =
       among-then numbers one _ _ (among-field numbers one (nameField earlier) space (among-name earlier)) (λ w. among-names last (suc count) (earlier ++ (w ∷ [])))
 
   among-header : (last : ℕ) → Among numbers (headerLines last)
-  unfolding headerLines
+  unfolding headerLinesIn
   among-header last =
       among-then numbers one _ _ (among-field numbers one (theWord "levels") space (among-word numbers one "levels")) (λ _.
       among-then numbers one _ _ (among-field numbers one (theWord "inputs") newline (among-word numbers one "inputs")) (λ _.

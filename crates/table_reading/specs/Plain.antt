@@ -8,7 +8,7 @@ use native.Mathlib.Omega.{arith}
 use lib.ListN.{length, drop, getD}
 use borrow.Author.Tests.{eq-eqb}
 use Rattle.rules.specs.Text.{zeroByte}
-use Rattle.rules.specs.Fields.{Read, read, Judge, good, isSeparator, run, past, separator, afterField, fieldOf, field}
+use Rattle.rules.specs.Fields.{Read, read, Judge, good, isSeparator, run, past, separator, afterField, afterFieldIn, fieldOf, fieldOfIn, field, fieldIn}
 use Rattle.laws.specs.Walks.{rest}
 use Rattle.fields.specs.Runs.{is-neither}
 
@@ -36,7 +36,7 @@ module _ (b due : ℕ) (t : List ℕ) (inside : isSeparator b ≡ false) (ends :
 -- two bytes on, the field is read
 pub plain-read : {A : Type 0} (judge : Judge A) (a : A) (s : List ℕ) (at d due : ℕ) → isSeparator due ≡ true → Plain s at d due
     → judge ((zeroByte + d) ∷ []) ≡ good a → read a (drop (at + 2) s) (at + 2) ≡ field judge due (drop at s) at
-unfolding field fieldOf afterField separator
+unfolding fieldIn fieldOfIn afterFieldIn separator
 plain-read {A} judge a s at d due ends plain is =
     rw (here, one-run, one-past, is, separator, eq-eqb due due refl) (ap {B = Read A} (read a (drop (at + 2) s)) (omega arith))
   where
