@@ -1,4 +1,4 @@
--- `table_writing::table::print_table` meets its contract: after each call, what is left to write.
+-- `table_printing::table::print_table` meets its contract: after each call, what is left to write.
 -- Assumes nothing.
 use Prim.Native.Nat.{ℕ}
 use mathlib.Core.List.{List, [], _∷_, _++_}
@@ -9,9 +9,9 @@ use Rattle.rules.specs.Printed.{line, printedRows, printedTable}
 use Rattle.nets.specs.Forms.{nameIn, tableIn}
 use Rattle.lines.specs.Put.{Left, parts-left, put-left, room-for, last-put, put-wrote}
 use Rattle.lines.specs.Lines.{spacedFrom}
-use Rattle.table_writing.specs.Tables.{table-parts}
-use Rattle.table_writing.proofs.table.print_table.Statement.{statement}
-use Rattle.table_writing.proofs.table.print_table.Tie as tie
+use Rattle.table_printing.specs.Tables.{table-parts}
+use Rattle.table_printing.proofs.table.print_table.Statement.{statement}
+use Rattle.table_printing.proofs.table.print_table.Tie as tie
 
 -- the start and each call, from the next
 abbrev at-start : tie.After-print-pair-arg2 → tie.Start

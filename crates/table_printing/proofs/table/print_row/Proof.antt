@@ -1,4 +1,4 @@
--- `table_writing::table::print_row` meets its contract. The loop's invariant: the row from level i on is left to write at p.
+-- `table_printing::table::print_row` meets its contract. The loop's invariant: the row from level i on is left to write at p.
 -- Assumes nothing.
 use Prim.Native.Nat.{_+_, _-_, _≤_}
 use mathlib.Core.List.{[], _∷_}
@@ -6,9 +6,9 @@ use native.Mathlib.Omega.{arith}
 use lib.ListN.{length, getD, length-set}
 use Rattle.rules.specs.Text.{space, newline, digitByte, zeroByte, spaceByte, newlineByte}
 use Rattle.lines.specs.Put.{Left, parts-left, bytes-left, none-left}
-use Rattle.table_writing.specs.Rows.{rowText, rowFrom, row-all, row-next, row-end}
-use Rattle.table_writing.proofs.table.print_row.Statement.{statement}
-use Rattle.table_writing.proofs.table.print_row.Tie as tie
+use Rattle.table_printing.specs.Rows.{rowText, rowFrom, row-all, row-next, row-end}
+use Rattle.table_printing.proofs.table.print_row.Statement.{statement}
+use Rattle.table_printing.proofs.table.print_row.Tie as tie
 
 abbrev Inv-loop : tie.InvT-loop
 Inv-loop levels ink out₀ at i₀ p₀ out i p = (i ≤ length levels) × Left out p (rowFrom levels ink i) out₀ at (rowText levels ink)

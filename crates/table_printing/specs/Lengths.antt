@@ -15,8 +15,8 @@ use Rattle.nets.specs.declared.forms.Header.{Header}
 use Rattle.nets.specs.Forms.{nameIn, tableIn}
 use Rattle.lines.specs.Lines.{spaced, spacedFrom, spaced-more}
 use Rattle.lines.specs.Names.{NamesInside}
-use Rattle.table_writing.specs.Rows.{row-text, row-length}
-use Rattle.table_writing.specs.Tables.{table-parts}
+use Rattle.table_printing.specs.Rows.{row-text, row-length}
+use Rattle.table_printing.specs.Tables.{table-parts}
 
 -- the digits of the longest decimal value: a number has 64 bits
 abbrev pub mostDecimal : ℕ
@@ -59,3 +59,7 @@ pub table-length : (s : List ℕ) (h : Header) (inks : List ℕ) → length (pri
 unfolding line text space newline
 table-length s h inks =
     ap length (table-parts s h inks) ∙ simp (length-append, rows-length) (omega arith)
+
+-- the length of a table sheet, whatever its `count` inks
+abbrev pub Measures : Header → ℕ → ℕ → Type 0
+Measures h count need = (s inks : List ℕ) → NamesInside s h → length inks ≡ count → need ≡ length (printedTable (tableIn s h inks))

@@ -1,4 +1,4 @@
--- `table_writing::table::print_rows` meets its contract. The loop's invariant: `levels` begins with the levels of index k, and the rows
+-- `table_printing::table::print_rows` meets its contract. The loop's invariant: `levels` begins with the levels of index k, and the rows
 -- from k on are left to write at p.
 -- Assumes nothing.
 use Prim.Native.Nat.{ℕ, _+_, _-_, _≤_, _<_}
@@ -12,9 +12,9 @@ use Rattle.rules.specs.Sheets.{levelsAt}
 use Rattle.rules.specs.Printed.{printedRows}
 use Rattle.laws.specs.Levels.{zeros-front, levels-length, levels-below, front-next, front-kept}
 use Rattle.lines.specs.Put.{Room, Left, all-left, put-left, room-for, none-left}
-use Rattle.table_writing.specs.Rows.{rowText, rows-next, rows-end}
-use Rattle.table_writing.proofs.table.print_rows.Statement.{statement}
-use Rattle.table_writing.proofs.table.print_rows.Tie as tie
+use Rattle.table_printing.specs.Rows.{rowText, rows-next, rows-end}
+use Rattle.table_printing.proofs.table.print_rows.Statement.{statement}
+use Rattle.table_printing.proofs.table.print_rows.Tie as tie
 
 abbrev Inv-loop : tie.InvT-loop
 Inv-loop m n inks out₀ at levels₀ k₀ p₀ out levels k p =

@@ -1,0 +1,3 @@
+-- `Tidying`: what the call's answer stands for, and its outcomes.
+-- Assumes nothing.
+pub mod Tidying

@@ -1,0 +1,2 @@
+// Tidying: from a loose table sheet to the table sheet of document 01.
+pub mod tidy;
