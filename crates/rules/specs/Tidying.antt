@@ -3,12 +3,15 @@
 -- Assumes nothing.
 use Prim.Native.Nat.{ℕ, _^_}
 use mathlib.Core.Bool.{true, false}
-use mathlib.Core.List.{List}
-use lib.ListN.{length}
+use mathlib.Core.List.{List, []}
+use lib.ListN.{length, take}
 use lib.Dec.{ltb}
+use Rattle.rules.specs.Limits.{mostCells, mostRead}
 use Rattle.rules.specs.Sheets.{Table}
 use Rattle.rules.specs.Printed.{printedTable}
 use Rattle.rules.specs.Answers.{Answer, accepted, refused, written}
+use Rattle.rules.specs.Settling.{Made}
+use Rattle.rules.specs.Programs.{programOutput, zeros}
 use Rattle.rules.specs.LooseSheet.{readLoose, tableOfLoose}
 
 -- what tidying answers, and what its two buffers hold afterwards
@@ -42,7 +45,17 @@ tidyCall sheet cells output =
       | accepted t ↦ tidiedInto (tableOfLoose t) cells output
     ]
 
+-- ---- the program
+
+-- what a program prints of it is what it prints of settling and making, which have marks besides
+abbrev pub asMade : Tidied → Made
+asMade t = record { answer = t .answer; cells = t .cells; marks = []; output = t .output }
+
+-- a program that tidies what it reads, as the two of document 01 settle and make
+unfoldable pub tidyProgram : List ℕ → List ℕ
+tidyProgram input = programOutput (asMade (tidyCall (take mostRead input) (zeros mostCells) (zeros mostRead)))
+
 -- all of this file computes
 unfoldable pub computing : Unit {0}
-unfolding tidiedSheet tidiedInto tidyCall
+unfolding tidiedSheet tidiedInto tidyCall tidyProgram
 computing = tt

@@ -1,9 +1,9 @@
--- `settling::program::first_read` meets its contract. Assumes nothing.
+-- `lines::input::first_read` meets its contract. Assumes nothing.
 use mathlib.Core.Path.{refl, sym}
 use lib.Seq.{take-all}
 use borrow.Author.Needs.{needs}
-use Rattle.settling.proofs.program.first_read.Statement.{statement}
-use Rattle.settling.proofs.program.first_read.Tie as tie
+use Rattle.lines.proofs.input.first_read.Statement.{statement}
+use Rattle.lines.proofs.input.first_read.Tie as tie
 
 sub-result : tie.Need-sub-result
 sub-result c = search needs
