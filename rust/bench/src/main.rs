@@ -56,7 +56,9 @@ fn main() {
         (Laid::Aligned, "so, with three spaces for one"),
     ] {
         by_size(
-            &format!("tidying a sheet laid {words} / reading it strictly; at 2 11 it is to be 3 at most"),
+            &format!(
+                "tidying a sheet laid {words} / reading it strictly; at 2 11 it is to be 3 at most"
+            ),
             |m, n, kind| ratios::tidying(m, n, kind, how),
         );
     }

@@ -79,7 +79,7 @@ fn damaged_sheets() {
     }
 }
 
-/// What `tidy` prints is what the library's call writes, or its refusal.
+/// Loose sheets, tidied: the table sheet, or the refusal.
 #[test]
 fn loose_sheets() {
     let strict = |n: usize| Generator::new(SEED + 2).table_sheet(2, n, TableKind::Random);
