@@ -27,5 +27,7 @@ pub mod TableLength
 pub mod CutSheets
 pub mod Lines
 pub mod GateLines
+pub mod LooseFields
+pub mod LooseSheets
 pub mod ArrivalSheets
 pub mod ArrivalRefusals

@@ -57,11 +57,11 @@ ended-more last count w [] l = absurd (omega arith)
 ended-more last count w (v ∷ ws) l = refl
 
 -- good names, none of them among the earlier
-abbrev NewNames : List (List ℕ) → List (List ℕ) → Type 0
+abbrev pub NewNames : List (List ℕ) → List (List ℕ) → Type 0
 NewNames earlier ws = GoodNames ws × Fresh same earlier ws
 
 -- one name, then the others
-new-names : (earlier : List (List ℕ)) (w : List ℕ) (ws : List (List ℕ))
+pub new-names : (earlier : List (List ℕ)) (w : List ℕ) (ws : List (List ℕ))
     → (((isName w ≡ true) × (any (same w) earlier ≡ false)) × NewNames (earlier ++ (w ∷ [])) ws) ↔ NewNames earlier (w ∷ ws)
 new-names earlier w ws = (
   λ ((h, e), (g, f)).

@@ -97,15 +97,15 @@ unfoldable pub blanks : ℕ → List ℕ
 blanks count = replicate count space
 
 -- A line's fields laid loosely: "one or more spaces between fields, spaces before a line feed"
-pub data LooseLine : List (List ℕ) → List ℕ → Type 0 where
-  lastField : (w : List ℕ) (count : ℕ) → LooseLine (w ∷ []) (w ++ (blanks count ++ (newline ∷ [])))
-  further : (w : List ℕ) (count : ℕ) {ws : List (List ℕ)} {s : List ℕ} → LooseLine ws s → LooseLine (w ∷ ws) (w ++ (blanks (suc count) ++ s))
+abbrev pub LooseLine : List (List ℕ) → List ℕ → Type 0
+LooseLine [] s = s ≡ newline ∷ []
+LooseLine (w ∷ []) s = (count : ℕ) × (s ≡ w ++ (blanks count ++ newline ∷ []))
+LooseLine (w ∷ v ∷ ws) s = (count : ℕ) × (rest : List ℕ) × (s ≡ w ++ (blanks (suc count) ++ rest)) × LooseLine (v ∷ ws) rest
 
 -- some lines, one after the other
-pub data LooseLines : List (List (List ℕ)) → List ℕ → Type 0 where
-  noLine : LooseLines [] []
-  nextLine : {ws : List (List ℕ)} {s : List ℕ} {lines : List (List (List ℕ))} {rest : List ℕ} → LooseLine ws s → LooseLines lines rest
-      → LooseLines (ws ∷ lines) (s ++ rest)
+abbrev pub LooseLines : List (List (List ℕ)) → List ℕ → Type 0
+LooseLines [] s = s ≡ []
+LooseLines (ws ∷ lines) s = (first rest : List ℕ) × (s ≡ first ++ rest) × LooseLine ws first × LooseLines lines rest
 
 -- the fields of a row
 unfoldable pub rowFields : ℕ → ℕ → Row → List (List ℕ)
