@@ -29,5 +29,6 @@ pub mod Lines
 pub mod GateLines
 pub mod LooseFields
 pub mod LooseSheets
+pub mod LooseTables
 pub mod ArrivalSheets
 pub mod ArrivalRefusals
