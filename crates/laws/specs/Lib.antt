@@ -39,3 +39,4 @@ pub mod Quarters
 pub mod Arrivals
 pub mod ArrivalEnds
 pub mod SettlingTimes
+pub mod Tidying

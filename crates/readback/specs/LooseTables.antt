@@ -79,6 +79,12 @@ module _ (m n : ℕ) where
   named-below [] each z h = refl
   named-below (row ∷ rows) (i, _, each) z h = not-in-cons z (row .index) (indices rows) .1 (λ e. omega arith, named-below rows each z h)
 
+  -- each row names an assignment
+  pub index-named : (rows : List Row) → EachRow m n rows → (k : ℕ) (d : Row) → k < length rows → getD rows k d .index < m ^ n
+  index-named [] each k d h = absurd (omega arith)
+  index-named (row ∷ rows) (i, _, each) zero d h = i
+  index-named (row ∷ rows) (_, _, each) (suc k) d h = index-named rows each k d (omega arith)
+
   -- an ink that is given is below m
   named-ink : 0 < m → (rows : List Row) → EachRow m n rows → (p : ℕ) → inkNamed rows p < m
   unfolding inkNamed find
