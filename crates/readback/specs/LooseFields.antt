@@ -24,11 +24,11 @@ NoSpace rest = spacesIn rest ≡ 0
 -- ---- spaces passed over
 
 -- at a space, and at another byte
-at-space : (b : ℕ) (s : List ℕ) → eqb b space ≡ true → (pastSpaces (b ∷ s) ≡ pastSpaces s) × (spacesIn (b ∷ s) ≡ suc (spacesIn s))
+pub at-space : (b : ℕ) (s : List ℕ) → eqb b space ≡ true → (pastSpaces (b ∷ s) ≡ pastSpaces s) × (spacesIn (b ∷ s) ≡ suc (spacesIn s))
 unfolding pastSpaces spacesIn
 at-space b s e = (rw (e, pastSpaces) refl, rw (e, spacesIn) refl)
 
-at-other : (b : ℕ) (s : List ℕ) → eqb b space ≡ false → (pastSpaces (b ∷ s) ≡ b ∷ s) × (spacesIn (b ∷ s) ≡ 0)
+pub at-other : (b : ℕ) (s : List ℕ) → eqb b space ≡ false → (pastSpaces (b ∷ s) ≡ b ∷ s) × (spacesIn (b ∷ s) ≡ 0)
 unfolding pastSpaces spacesIn
 at-other b s e = (rw (e, pastSpaces) refl, rw (e, spacesIn) refl)
 
