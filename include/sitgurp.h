@@ -5,7 +5,7 @@
  * Bytes are lent as a pointer and a length. A pointer must be good for that many bytes, and must not be null even where the
  * length is 0. Two buffers lent to one call must not overlap, and a buffer must not overlap a sheet.
  *
- * A sheet is any bytes. Levels are written m and inputs n below. A refusal of a sheet (1 to 8, 18, 19) has a place in it, a byte from 0;
+ * A sheet is any bytes. Levels are written m and inputs n below. A refusal of a sheet (1 to 8, 18 to 20) has a place in it, a byte from 0;
  * docs/REFUSALS.md says what each number means. Refusals are listed in the order in which they are judged. Where a buffer is
  * longer than needed, its further bytes are kept.
  *
@@ -169,6 +169,16 @@ sitgurp_verdict sitgurp_check(const uint8_t *net_sheet, size_t net_sheet_length,
  * Refusals: 1 to 4 and 6 to 8 (the sheet), 15 (output too short; value is the length needed). A refusal changes no byte.
  */
 sitgurp_answer sitgurp_write_table(const uint8_t *sheet, size_t sheet_length, uint8_t *output, size_t output_length);
+
+/*
+ * Tidies a loose table sheet, in which fields are parted by one or more spaces, spaces may stand before a line feed, and rows stand in any order: writes
+ * its inks into cells, in index order, and its table sheet into output, and answers that sheet's length. Needs m to the power n bytes, and the table
+ * sheet's length.
+ * Refusals: 1 to 6 and 20 (the sheet; 5 is an input field that is no digit below m, 20 a row whose assignment an earlier row gave), 13 (cells too short),
+ * 15 (output too short); the value of 13 and 15 is the length needed. 15 leaves cells written and output as it was; every other refusal changes no byte.
+ */
+sitgurp_answer sitgurp_tidy(const uint8_t *sheet, size_t sheet_length, uint8_t *cells, size_t cells_length, uint8_t *output,
+                            size_t output_length);
 
 /*
  * Turn k of the gate lister, from 0: the gate line of gate k + 1 of a net sheet, and after the last line that none is left.

@@ -10,7 +10,7 @@ use Rattle.rules.specs.Reading.{answered}
 use Rattle.rules.specs.ArrivalSheet.{Arrival, arrivalLines, arrivalSheet, readArrivals}
 use Rattle.fields.specs.Chained.{chained-back, chained-on, Answers, answers-back, answers-on, answers-over, answers-closed, then-then}
 use Rattle.fields.specs.Steps.{stepAs, nothing, spelled}
-use Rattle.fields.specs.Words.{twoWords}
+use Rattle.fields.specs.Words.{twoWords, twoWordsIn}
 use Rattle.fields.specs.declared.steps.Step.{Step}
 use Rattle.fields.specs.declared.steps.Step.the-variants.{On, Back}
 use Rattle.answers.specs.Answers.{outcomeAs}
@@ -45,7 +45,7 @@ module _ (s : List ℕ) (at : ℕ) (step : Step) (reads : stepAs nothing s step 
 
   pub name-on : (value next : ℕ) → step ≡ On value next → stepAs nothing s r ≡ twoWords (text "from") (text "to") (drop next s) next
       → stepAs nothing s r ≡ headingLine (drop at s) at
-  unfolding headingLine twoWords spelled theWord space newline
+  unfolding headingLine twoWordsIn spelled theWord space newline
   name-on value next e onward =
       chained-on nothing (field (theWord "name") spaceByte) (λ _. field (theWord "from") spaceByte >>= λ _. field (theWord "to") newlineByte) s at step reads nothing r value next e onward
 

@@ -6,5 +6,6 @@ pub mod Made
 pub mod Layered
 pub mod Shallower
 pub mod WriteTable
+pub mod Tidy
 pub mod Check
 pub mod ArrivalTimes

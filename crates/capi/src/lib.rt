@@ -13,4 +13,5 @@ pub mod multiplicity;
 pub mod settle;
 pub mod settle_shallow;
 pub mod shallower_sheet;
+pub mod tidy;
 pub mod write_table;

@@ -14,6 +14,7 @@ pub mod ShallowRefusals
 pub mod FamilyOutcomes
 pub mod FamilyNumbers
 pub mod ArrivalNumbers
+pub mod TidyingNumbers
 pub mod NeverZero
 pub mod Makes
 pub mod Checks
@@ -39,3 +40,4 @@ pub mod FamilyRules
 pub mod Arrivals
 pub mod StoredMarks
 pub mod AnyStore
+pub mod Tidying

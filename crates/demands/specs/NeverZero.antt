@@ -13,6 +13,7 @@ use Rattle.rules.specs.ShallowSettling.{settleShallowCall, makeShallowCall}
 use Rattle.rules.specs.FamilyCalls.{familyCountCall, familyTreeCall}
 use Rattle.rules.specs.Checking.{turnedDown, checkCall}
 use Rattle.rules.specs.TableWriting.{writeTableCall}
+use Rattle.rules.specs.Tidying.{tidyCall}
 use Rattle.rules.specs.Lister.{listing}
 use Rattle.rules.specs.Arrivals.{netRefused, arrivalsRefused, arrivalsCall}
 use Rattle.laws.specs.Distinct.{In}
@@ -26,6 +27,7 @@ use Rattle.demands.specs.FamilyOutcomes.{judgedNumbers}
 use Rattle.demands.specs.FamilyNumbers.{family-count-numbers, family-tree-numbers, familyTreeNumbers}
 use Rattle.demands.specs.CheckingNumbers.{check-numbers, checkNumbers}
 use Rattle.demands.specs.TableWritingNumbers.{write-table-numbers, writeTableNumbers}
+use Rattle.demands.specs.TidyingNumbers.{tidy-numbers, tidyNumbers}
 use Rattle.demands.specs.ListingNumbers.{listing-numbers}
 use Rattle.demands.specs.ArrivalNumbers.{arrivals-numbers}
 
@@ -41,6 +43,7 @@ pub never-0 : (place : ℕ)
     × ((s : List ℕ) (r : ℕ) (cells marks output : List ℕ) → familyTreeCall s r cells marks output .answer ≡ refused 0 place → ⊥)
     × ((s r cells : List ℕ) (named : Named) → checkCall s r cells .answer ≡ turnedDown named 0 place → ⊥)
     × ((s output : List ℕ) → writeTableCall s output .answer ≡ refused 0 place → ⊥)
+    × ((s cells output : List ℕ) → tidyCall s cells output .answer ≡ refused 0 place → ⊥)
     × ((s : List ℕ) (k : ℕ) → listing s k ≡ refused 0 place → ⊥)
     × ((s r : List ℕ) (delay : ℕ) → arrivalsCall s r delay ≡ netRefused 0 place → ⊥)
     × ((s r : List ℕ) (delay : ℕ) → arrivalsCall s r delay ≡ arrivalsRefused 0 place → ⊥)
@@ -56,6 +59,7 @@ never-0 place = (
   λ s r cells marks output. not-given familyTreeNumbers _ (family-tree-numbers s r cells marks output) 0 place refl,
   λ s r cells named e. no-0 named (check-numbers s r cells named 0 place e),
   λ s output. not-given writeTableNumbers _ (write-table-numbers s output) 0 place refl,
+  λ s cells output. not-given tidyNumbers _ (tidy-numbers s cells output) 0 place refl,
   λ s k. not-given netNumbers _ (listing-numbers s k) 0 place refl,
   λ s r delay e. true≢false (sym (arrivals-numbers s r delay .net 0 place e)),
   λ s r delay e. true≢false (sym (arrivals-numbers s r delay .arrivals 0 place e)),

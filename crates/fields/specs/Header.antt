@@ -8,15 +8,15 @@ use borrow.Author.Tests.{le-leb}
 use lib.ListN.{drop}
 use Rattle.rules.specs.Text.{space, newline, text}
 use Rattle.rules.specs.Limits.{levelsFit, inputsFit, cellsFit, sizeFits, fewestInputs, mostInputs}
-use Rattle.rules.specs.Fields.{Reader, _>>=_, give, field, theWord}
+use Rattle.rules.specs.Fields.{Reader, _>>=_, give, fieldIn, theWord, Layout}
 use Rattle.rules.specs.Sheets as sheets
-use Rattle.rules.specs.Sheets.{levelsField, inputsField, nameFields, headerLines}
+use Rattle.rules.specs.Sheets.{levelsField, inputsField, nameFieldsIn, headerLinesIn}
 use Rattle.nets.specs.Forms.{headerOf, NamesHeld}
 use Rattle.nets.specs.declared.forms.Header.{Header}
 use Rattle.fields.specs.Chained.{chained-back, chained-on, then-then, never-both}
 use Rattle.fields.specs.Lines.{NamesRead}
 use Rattle.fields.specs.Steps.{stepAs, spelled}
-use Rattle.fields.specs.Words.{twoWords}
+use Rattle.fields.specs.Words.{twoWordsIn}
 use Rattle.fields.specs.declared.steps.Step.{Step}
 use Rattle.fields.specs.declared.steps.Step.the-variants.{On, Back}
 use Rattle.fields.specs.declared.lines.HeaderRead.{HeaderRead}
@@ -31,14 +31,14 @@ pub record HeaderRest (s : List ℕ) (at : ℕ) (reader : Reader sheets.Header) 
   pub reads : stepAs (λ _. headerOf s (r .header)) s (r .step) ≡ reader (drop at s) at
   pub held : (value next : ℕ) → r .step ≡ On value next → HeaderHeld s (r .header)
 
-abbrev pub fromNames : ℕ → ℕ → ℕ → Reader sheets.Header
-fromNames last m n = nameFields last n [] >>= λ names. give (record { levels = m; inputs = n; names = names })
+abbrev pub fromNames : Layout → ℕ → ℕ → ℕ → Reader sheets.Header
+fromNames layout last m n = nameFieldsIn layout last n [] >>= λ names. give (record { levels = m; inputs = n; names = names })
 
-unfoldable pub fromInputs : ℕ → ℕ → Reader sheets.Header
-fromInputs last m = field (inputsField m) newline >>= fromNames last m
+unfoldable pub fromInputs : Layout → ℕ → ℕ → Reader sheets.Header
+fromInputs layout last m = fieldIn layout (inputsField m) newline >>= fromNames layout last m
 
-unfoldable pub fromLevels : ℕ → Reader sheets.Header
-fromLevels last = field levelsField space >>= fromInputs last
+unfoldable pub fromLevels : Layout → ℕ → Reader sheets.Header
+fromLevels layout last = fieldIn layout levelsField space >>= fromInputs layout last
 
 -- ---- one field, then the rest
 
@@ -60,10 +60,10 @@ module _ {A : Type 0} (f : ℕ → A) (one : Reader A) (rest : A → Reader shee
         held = onward .held;
       }
 
-pub from-names : (s : List ℕ) (at m n last : ℕ) (r : HeaderRead) → NamesRead s at m n last r
-    → levelsFit m ≡ true → fewestInputs ≤ n → n ≤ mostInputs → cellsFit m n ≡ true → HeaderRest s at (fromNames last m n) r
+pub from-names : (layout : Layout) (s : List ℕ) (at m n last : ℕ) (r : HeaderRead) → NamesRead layout s at m n last r
+    → levelsFit m ≡ true → fewestInputs ≤ n → n ≤ mostInputs → cellsFit m n ≡ true → HeaderRest s at (fromNames layout last m n) r
 unfolding sizeFits inputsFit
-from-names s at m n last r names ml n2 n11 cells =
+from-names layout s at m n last r names ml n2 n11 cells =
     record {
       reads = names .reads;
       held = λ value next e.
@@ -74,7 +74,7 @@ from-names s at m n last r names ml n2 n11 cells =
     }
 
 -- line 1, then the rest
-pub from-first : (s : List ℕ) (last : ℕ) (r : HeaderRead)
-    → HeaderRest s 0 (twoWords (text "levels") (text "inputs") >>= λ _. fromLevels last) r → HeaderRest s 0 (headerLines last) r
-unfolding headerLines fromLevels fromInputs twoWords spelled theWord space newline
-from-first s last r rest = record { reads = rest .reads ∙ then-then (field (theWord "levels") space s 0) _ _; held = rest .held }
+pub from-first : (layout : Layout) (s : List ℕ) (last : ℕ) (r : HeaderRead)
+    → HeaderRest s 0 (twoWordsIn layout (text "levels") (text "inputs") >>= λ _. fromLevels layout last) r → HeaderRest s 0 (headerLinesIn layout last) r
+unfolding headerLinesIn fromLevels fromInputs twoWordsIn spelled theWord space newline
+from-first layout s last r rest = record { reads = rest .reads ∙ then-then (fieldIn layout (theWord "levels") space s 0) _ _; held = rest .held }

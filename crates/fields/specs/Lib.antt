@@ -5,7 +5,6 @@ pub mod Judging
 pub mod Lines
 pub mod Names
 pub mod Runs
-pub mod Starts
 pub mod Steps
 pub mod Taken
 pub mod Values

@@ -16,25 +16,25 @@ use Rattle.laws.specs.Ranges.{range-suc, map-range-same}
 use Rattle.laws.specs.Runs.{run-front}
 use Rattle.rules.specs.Lists.{range}
 use Rattle.rules.specs.Text.{space, spaceByte}
-use Rattle.rules.specs.Fields.{good, then, give, field, run}
-use Rattle.rules.specs.Sheets.{nameField, nameFields}
+use Rattle.rules.specs.Fields.{good, then, give, fieldIn, run, Layout}
+use Rattle.rules.specs.Sheets.{nameField, nameFieldsIn}
 use Rattle.rules.specs.Limits.{mostInputs, mostNameBytes}
 use Rattle.nets.specs.Forms.{noNames, nameIn, headerOf, NamesHeld}
 use Rattle.nets.specs.declared.forms.Header.{Header}
 use Rattle.fields.specs.Chained.{never-both}
-use Rattle.fields.specs.Judging.{field-tested}
+use Rattle.fields.specs.Judging.{field-tested-in}
 use Rattle.fields.specs.Names.{isNew, new-short}
-use Rattle.fields.specs.Steps.{tested, judgedAs, judgedField, stepAs, itself}
-use Rattle.fields.specs.Taken.{Taken, field-on}
+use Rattle.fields.specs.Steps.{tested, judgedAs, judgedFieldIn, stepAs, itself}
+use Rattle.fields.specs.Taken.{TakenIn, field-on-in}
 use Rattle.fields.specs.declared.steps.Step.{Step}
 use Rattle.fields.specs.declared.steps.Step.the-variants.{On, Back}
 use Rattle.fields.specs.declared.steps.Verdict.{Verdict}
 use Rattle.fields.specs.declared.lines.HeaderRead.{HeaderRead}
 
 -- reading a name at `at`
-pub record NameRead (s : List ℕ) (at due : ℕ) (earlier : List (List ℕ)) (r : Step) : Type 0 where
-  pub reads : stepAs (λ len. take len (drop at s)) s r ≡ field (nameField earlier) due (drop at s) at
-  pub held : (len next : ℕ) → r ≡ On len next → (len ≤ mostNameBytes) × (next ≡ at + len + 1) × (next ≤ length s)
+pub record NameRead (layout : Layout) (s : List ℕ) (at due : ℕ) (earlier : List (List ℕ)) (r : Step) : Type 0 where
+  pub reads : stepAs (λ len. take len (drop at s)) s r ≡ fieldIn layout (nameField earlier) due (drop at s) at
+  pub held : (len next : ℕ) → r ≡ On len next → (len ≤ mostNameBytes) × (at + len ≤ length s)
 
 -- the separator that is due after a name, by the names that are left
 unfoldable pub dueBefore : ℕ → ℕ → ℕ
@@ -56,42 +56,42 @@ due-space i n last h e = sym (ap (λ k. dueBefore k last) some-left)
     some-left = omega arith
 
 -- reading n names from `at` on, under m levels
-pub record NamesRead (s : List ℕ) (at m n last : ℕ) (r : HeaderRead) : Type 0 where
+pub record NamesRead (layout : Layout) (s : List ℕ) (at m n last : ℕ) (r : HeaderRead) : Type 0 where
   pub reads : stepAs (λ _. headerOf s (r .header)) s (r .step)
-      ≡ then (nameFields last n [] (drop at s) at) (λ names. give (record { levels = m; inputs = n; names = names }))
+      ≡ then (nameFieldsIn layout last n [] (drop at s) at) (λ names. give (record { levels = m; inputs = n; names = names }))
   pub levels : r .header .levels ≡ m
   pub inputs : r .header .inputs ≡ n
   pub held : (value next : ℕ) → r .step ≡ On value next → NamesHeld s (r .header) n
 
 -- ---- a name
 
-pub name-read : (s : List ℕ) (at due : ℕ) (earlier : List (List ℕ)) (w : List ℕ) (test : Bool) (v : Verdict) (r : Step) → w ≡ run (drop at s)
-    → test ≡ isNew earlier w → v ≡ tested test (length w) 4 → stepAs itself s r ≡ judgedField v due s at → NameRead s at due earlier r
-unfolding tested judgedField nameField
-name-read s at due earlier w test v r is new e after =
+pub name-read : (layout : Layout) (s : List ℕ) (at due : ℕ) (earlier : List (List ℕ)) (w : List ℕ) (test : Bool) (v : Verdict) (r : Step) → w ≡ run (drop at s)
+    → test ≡ isNew earlier w → v ≡ tested test (length w) 4 → stepAs itself s r ≡ judgedFieldIn layout v due s at → NameRead layout s at due earlier r
+unfolding tested judgedFieldIn nameField
+name-read layout s at due earlier w test v r is new e after =
     record {
-      reads = field-tested (λ len. take len (drop at s)) (nameField earlier) due s at w test (length w) 4 v r is e (rw (front, new) refl) after;
-      held = λ len next q. let told = field-on s r at len next q itself (λ _. judgedAs itself v) due after in go test new len next (ap (judgedAs itself) (sym e) ∙ told .judged) told;
+      reads = field-tested-in (λ len. take len (drop at s)) layout (nameField earlier) due s at w test (length w) 4 v r is e (rw (front, new) refl) after;
+      held = λ len next q. let told = field-on-in s r at len next q layout itself (λ _. judgedAs itself v) due after in go test new len next (ap (judgedAs itself) (sym e) ∙ told .judged) told;
     }
   where
     front : take (length w) (drop at s) ≡ w
     front = rw is (run-front (drop at s))
 
-    go : (t : Bool) → t ≡ isNew earlier w → (len next : ℕ) → judgedAs itself (tested t (length w) 4) ≡ good len → Taken (λ _. judgedAs itself v) len s at next
-        → (len ≤ mostNameBytes) × (next ≡ at + len + 1) × (next ≤ length s)
+    go : (t : Bool) → t ≡ isNew earlier w → (len next : ℕ) → judgedAs itself (tested t (length w) 4) ≡ good len → TakenIn (λ _. judgedAs itself v) len s at next
+        → (len ≤ mostNameBytes) × (at + len ≤ length s)
     go true is-new len next good-len told =
         let long : length w ≡ len = cc in
-        (omega (arith, new-short earlier w (sym is-new)), omega (arith, told .ends, ap length is), told .within)
+        (omega (arith, new-short earlier w (sym is-new)), omega (arith, told .beyond, told .within, ap length is))
     go false is-old len next good-len told = let z : _≡_ {A = ℕ} 0 1 = cc in absurd (omega arith)
 
 -- ---- one name more
 
-names-more : (last left : ℕ) (earlier : List (List ℕ)) (t : List ℕ) (p : ℕ)
-    → nameFields last (suc left) earlier t p
-    ≡ then (field (nameField earlier) (dueBefore left last) t p) (λ w. nameFields last left (earlier ++ (w ∷ [])))
-unfolding nameFields dueBefore
-names-more last zero earlier t p = refl
-names-more last (suc left) earlier t p = refl
+names-more : (layout : Layout) (last left : ℕ) (earlier : List (List ℕ)) (t : List ℕ) (p : ℕ)
+    → nameFieldsIn layout last (suc left) earlier t p
+    ≡ then (fieldIn layout (nameField earlier) (dueBefore left last) t p) (λ w. nameFieldsIn layout last left (earlier ++ (w ∷ [])))
+unfolding nameFieldsIn dueBefore
+names-more layout last zero earlier t p = refl
+names-more layout last (suc left) earlier t p = refl
 
 counted : (i n : ℕ) → i < n → n - i ≡ suc (n - (i + 1))
 counted i n h = omega arith
@@ -101,26 +101,24 @@ abbrev namesTo : List ℕ → Header → ℕ → List (List ℕ)
 namesTo s h i = map (nameIn s h) (range 0 i)
 
 -- the loop's state: i names are read, and the names from here are the names from the start
-pub record Reading (s : List ℕ) (at m n last : ℕ) (h : Header) (place i : ℕ) : Type 0 where
+pub record Reading (layout : Layout) (s : List ℕ) (at m n last : ℕ) (h : Header) (place i : ℕ) : Type 0 where
   pub levels : h .levels ≡ m
   pub inputs : h .inputs ≡ n
   pub starts : length (h .starts) ≡ mostInputs
   pub lens : length (h .lens) ≡ mostInputs
   pub most : i ≤ n
-  pub near : place ≤ at + (mostNameBytes + 1) * i
   pub held : NamesHeld s h i
-  pub reads : nameFields last n [] (drop at s) at ≡ nameFields last (n - i) (namesTo s h i) (drop place s) place
+  pub reads : nameFieldsIn layout last n [] (drop at s) at ≡ nameFieldsIn layout last (n - i) (namesTo s h i) (drop place s) place
 
-pub names-start : (s : List ℕ) (at m n last : ℕ) → Reading s at m n last (noNames m n) at 0
+pub names-start : (layout : Layout) (s : List ℕ) (at m n last : ℕ) → Reading layout s at m n last (noNames m n) at 0
 unfolding range noNames
-names-start s at m n last =
+names-start layout s at m n last =
     record {
       levels = refl;
       inputs = refl;
       starts = refl;
       lens = refl;
       most = omega arith;
-      near = omega arith;
       held = λ i h. absurd (omega arith);
       reads = rw (sub-zero n) refl;
     }
@@ -157,9 +155,9 @@ names-held s h i start len hs hl held fits k below = go (eqb k i) refl
         let other = eqb-false k i q in
         rw (getD-set-other (h .starts) i k start 0 other, getD-set-other (h .lens) i k len 0 other) (held k (omega arith))
 
-module _ (s : List ℕ) (at m n last : ℕ) (h : Header) (place i : ℕ) (reading : Reading s at m n last h place i) where
-  pub names-done : n ≤ i → NamesRead s at m n last (record { step = On 0 place; header = h })
-  unfolding nameFields then headerOf
+module _ (layout : Layout) (s : List ℕ) (at m n last : ℕ) (h : Header) (place i : ℕ) (reading : Reading layout s at m n last h place i) where
+  pub names-done : n ≤ i → NamesRead layout s at m n last (record { step = On 0 place; header = h })
+  unfolding nameFieldsIn then headerOf
   names-done done =
       record {
         reads = rw (reading .reads, none-left, reading .levels, reading .inputs, all-read) refl;
@@ -174,17 +172,17 @@ module _ (s : List ℕ) (at m n last : ℕ) (h : Header) (place i : ℕ) (readin
       all-read : n ≡ i
       all-read = omega (arith, reading .most)
 
-  module _ (r : Step) (due : ℕ) (more : i < n) (is-due : due ≡ dueBefore (n - (i + 1)) last) (name : NameRead s place due (namesTo s h i) r) where
-    onward : nameFields last n [] (drop at s) at
-        ≡ then (stepAs (λ len. take len (drop place s)) s r) (λ w. nameFields last (n - (i + 1)) (namesTo s h i ++ (w ∷ [])))
+  module _ (r : Step) (due : ℕ) (more : i < n) (is-due : due ≡ dueBefore (n - (i + 1)) last) (name : NameRead layout s place due (namesTo s h i) r) where
+    onward : nameFieldsIn layout last n [] (drop at s) at
+        ≡ then (stepAs (λ len. take len (drop place s)) s r) (λ w. nameFieldsIn layout last (n - (i + 1)) (namesTo s h i ++ (w ∷ [])))
     onward =
         reading .reads
-        ∙ (ap (λ k. nameFields last k (namesTo s h i) (drop place s) place) (counted i n more)
-        ∙ (names-more last (n - (i + 1)) (namesTo s h i) (drop place s) place
-        ∙ ap (λ x. then x (λ w. nameFields last (n - (i + 1)) (namesTo s h i ++ (w ∷ []))))
-        (ap (λ d. field (nameField (namesTo s h i)) d (drop place s) place) (sym is-due) ∙ sym (name .reads))))
+        ∙ (ap (λ k. nameFieldsIn layout last k (namesTo s h i) (drop place s) place) (counted i n more)
+        ∙ (names-more layout last (n - (i + 1)) (namesTo s h i) (drop place s) place
+        ∙ ap (λ x. then x (λ w. nameFieldsIn layout last (n - (i + 1)) (namesTo s h i ++ (w ∷ []))))
+        (ap (λ d. fieldIn layout (nameField (namesTo s h i)) d (drop place s) place) (sym is-due) ∙ sym (name .reads))))
 
-    pub names-back : (number back : ℕ) → r ≡ Back number back → NamesRead s at m n last (record { step = r; header = h })
+    pub names-back : (number back : ℕ) → r ≡ Back number back → NamesRead layout s at m n last (record { step = r; header = h })
     unfolding then
     names-back number back e =
         record {
@@ -194,7 +192,7 @@ module _ (s : List ℕ) (at m n last : ℕ) (h : Header) (place i : ℕ) (readin
           held = λ value next q. absurd (never-both r number back value next e q);
         }
 
-    pub names-next : (len next : ℕ) → n ≤ mostInputs → r ≡ On len next → Reading s at m n last (named h i place len) next (i + 1)
+    pub names-next : (len next : ℕ) → n ≤ mostInputs → r ≡ On len next → Reading layout s at m n last (named h i place len) next (i + 1)
     unfolding then
     names-next len next few e =
         record {
@@ -203,9 +201,8 @@ module _ (s : List ℕ) (at m n last : ℕ) (h : Header) (place i : ℕ) (readin
           starts = length-set (h .starts) i place ∙ reading .starts;
           lens = length-set (h .lens) i len ∙ reading .lens;
           most = omega arith;
-          near = omega (arith, name .held len next e .0, name .held len next e .1, reading .near);
           held =
               names-held s h i place len (omega (arith, reading .starts)) (omega (arith, reading .lens)) (reading .held)
-              (omega (arith, name .held len next e .1, name .held len next e .2));
+              (name .held len next e .1);
           reads = rw (onward, e, names-stay s h i place len (omega (arith, reading .starts)) (omega (arith, reading .lens))) refl;
         }

@@ -1,18 +1,18 @@
--- A field's end, byte by byte.
+-- A field's end, and the end of some spaces, byte by byte.
 -- Assumes nothing.
 use Prim.Native.Nat.{ℕ, _+_, _-_, _≤_, _<_}
-use mathlib.Core.Path.{_≡_, refl}
+use mathlib.Core.Path.{_≡_, refl, sym, _∙_}
 use mathlib.Core.Bool.{true, false}
 use mathlib.Core.List.{List, []}
 use native.Mathlib.Nat.{add-zero, add-sub-cancel-left}
 use native.Mathlib.Numerals.{add-one}
 use native.Mathlib.Omega.{arith}
 use lib.ListN.{length, take, drop, getD, length-drop, drop-of-length-le}
-use lib.Seq.{drop-cons}
+use lib.Seq.{drop-cons, drop-drop}
 use borrow.Author.Tests.{eq-eqb, ne-eqb}
 use Rattle.rules.specs.Text.{space, newline, spaceByte, newlineByte}
-use Rattle.rules.specs.Fields.{isSeparator, run}
-use Rattle.laws.specs.Runs.{run-front, run-most}
+use Rattle.rules.specs.Fields.{isSeparator, run, pastSpaces, spacesIn}
+use Rattle.laws.specs.Runs.{run-front, run-most, at-space, at-other, spaces-rest, spaces-most}
 
 pub is-space : (b : ℕ) → b ≡ spaceByte → isSeparator b ≡ true
 unfolding isSeparator space newline
@@ -55,3 +55,31 @@ module _ (s : List ℕ) (at : ℕ) where
   pub field-none : length s ≤ at → [] ≡ run (drop at s)
   unfolding run
   field-none h = rw (drop-of-length-le s h)
+
+-- ---- spaces
+
+-- where the spaces that stand at `at` end
+unfoldable pub spacesEnd : List ℕ → ℕ → ℕ
+spacesEnd s at = at + spacesIn (drop at s)
+
+module _ (s : List ℕ) (at : ℕ) where
+  pub spaces-none : length s ≤ at → spacesEnd s at ≡ at
+  unfolding spacesEnd spacesIn
+  spaces-none h = rw (drop-of-length-le s h) (add-zero at)
+
+  pub spaces-here : at < length s → (getD s at 0 ≡ spaceByte → ⊥) → spacesEnd s at ≡ at
+  unfolding spacesEnd space
+  spaces-here h e = rw (drop-cons s at 0, at-other _ _ (ne-eqb _ _ e) .0) (add-zero at)
+
+  pub spaces-later : at < length s → getD s at 0 ≡ spaceByte → spacesEnd s (at + 1) ≡ spacesEnd s at
+  unfolding spacesEnd space
+  spaces-later h e = rw (drop-cons s at 0, at-space _ _ (eq-eqb _ _ e) .0, add-one) (omega arith)
+
+  -- what stands past them
+  pub spaces-past : drop (spacesEnd s at) s ≡ pastSpaces (drop at s)
+  unfolding spacesEnd
+  spaces-past = sym (drop-drop (spacesIn (drop at s)) at s) ∙ spaces-rest (drop at s)
+
+  pub spaces-within : at ≤ length s → spacesEnd s at ≤ length s
+  unfolding spacesEnd
+  spaces-within h = omega (arith, spaces-most (drop at s), length-drop at s)

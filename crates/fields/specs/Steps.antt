@@ -6,9 +6,12 @@ use mathlib.Core.List.{List}
 use mathlib.Core.Option.{Option, none, some}
 use lib.ListN.{drop}
 use Rattle.rules.specs.Lists.{same}
-use Rattle.rules.specs.Fields.{Read, read, turnedBack, Judge, Judged, good, bad, judged, field}
+use Rattle.rules.specs.Fields.{Read, read, turnedBack, Judge, Judged, good, bad, judged, fieldIn, strict, loose}
+use Rattle.rules.specs.Fields as fields
 use Rattle.fields.specs.declared.steps.Found.{Found}
 use Rattle.fields.specs.declared.steps.Found.the-variants.{At, Nowhere}
+use Rattle.fields.specs.declared.steps.Layout.{Layout}
+use Rattle.fields.specs.declared.steps.Layout.the-variants.{Strict, Loose}
 use Rattle.fields.specs.declared.steps.Step.{Step}
 use Rattle.fields.specs.declared.steps.Step.the-variants.{On, Back}
 use Rattle.fields.specs.declared.steps.Verdict.{Verdict}
@@ -30,9 +33,16 @@ judgedAs f (Bad number) = bad number
 unfoldable pub tested : Bool → ℕ → ℕ → Verdict
 tested test value number = cond test (Good value) (Bad number)
 
+abbrev pub layoutOf : Layout → fields.Layout
+layoutOf Strict = strict
+layoutOf Loose = loose
+
 -- the field at `at` in the sheet s, of the verdict v
-unfoldable pub judgedField : Verdict → ℕ → List ℕ → ℕ → Read ℕ
-judgedField v due s at = field (λ _. judgedAs itself v) due (drop at s) at
+unfoldable pub judgedFieldIn : fields.Layout → Verdict → ℕ → List ℕ → ℕ → Read ℕ
+judgedFieldIn layout v due s at = fieldIn layout (λ _. judgedAs itself v) due (drop at s) at
+
+abbrev pub judgedField : Verdict → ℕ → List ℕ → ℕ → Read ℕ
+judgedField v due s at = judgedFieldIn strict v due s at
 
 -- a step in the sheet s
 abbrev pub stepAs : {A : Type 0} → (ℕ → A) → List ℕ → Step → Read A

@@ -1,8 +1,11 @@
-// A field's verdict, and the byte that is due after it.
+// A field's verdict, and the separator that is due after it.
 ghost use mathlib.Core.Path.{_≡_};
 ghost use lib.ListN.{drop};
-ghost use Rattle.rules.specs.Fields.{run, separator};
-ghost use Rattle.fields.specs.Steps.{tested, judgedField, stepAs, itself};
+ghost use Rattle.rules.specs.Fields.{run, separator, looseSeparator, separatorIn};
+ghost use Rattle.fields.specs.Steps.{tested, judgedField, judgedFieldIn, stepAs, itself, layoutOf};
+use crate::runs::SPACE;
+use crate::runs::spaces_end;
+use crate::steps::Layout;
 use crate::steps::Step;
 use crate::steps::Verdict;
 
@@ -34,10 +37,43 @@ pub fn separated(s: &[u8], end: usize, value: usize, due: u8) -> Step
     }
 }
 
+// The same in a loose sheet: more spaces may stand after a space, and any before a line feed.
+pub fn loosely_separated(s: &[u8], end: usize, value: usize, due: u8) -> Step
+    ensures { λ r. ⌜ stepAs itself (now (s .entry)) r ≡ looseSeparator value due (drop end (now (s .entry))) end ⌝ }
+{
+    if due != SPACE {
+        return separated(s, spaces_end(s, end), value, due);
+    }
+    match separated(s, end, value, due) {
+        Step::Back { number, place } => Step::Back { number, place },
+        Step::On { value, next } => Step::On {
+            value,
+            next: spaces_end(s, next),
+        },
+    }
+}
+
+// The same in either layout.
+pub fn separated_in(s: &[u8], end: usize, value: usize, due: u8, layout: Layout) -> Step
+    ensures { λ r. ⌜ stepAs itself (now (s .entry)) r ≡ separatorIn (layoutOf layout) value due (drop end (now (s .entry))) end ⌝ }
+{
+    match layout {
+        Layout::Strict => separated(s, end, value, due),
+        Layout::Loose => loosely_separated(s, end, value, due),
+    }
+}
+
 // The field w at `at` was judged: an empty one or a bad one turns the sheet back, and after a good one stands `due`.
-pub fn after_field(s: &[u8], at: usize, w: &[u8], verdict: Verdict, due: u8) -> Step
+pub fn after_field_in(
+    s: &[u8],
+    at: usize,
+    w: &[u8],
+    verdict: Verdict,
+    due: u8,
+    layout: Layout,
+) -> Step
     requires { ⌜ now w ≡ run (drop at (now s)) ⌝ }
-    ensures { λ r. ⌜ stepAs itself (now (s .entry)) r ≡ judgedField verdict due (now (s .entry)) at ⌝ }
+    ensures { λ r. ⌜ stepAs itself (now (s .entry)) r ≡ judgedFieldIn (layoutOf layout) verdict due (now (s .entry)) at ⌝ }
 {
     if w.len() == 0 {
         return Step::Back {
@@ -47,6 +83,14 @@ pub fn after_field(s: &[u8], at: usize, w: &[u8], verdict: Verdict, due: u8) -> 
     }
     match verdict {
         Verdict::Bad(number) => Step::Back { number, place: at },
-        Verdict::Good(value) => separated(s, at + w.len(), value, due),
+        Verdict::Good(value) => separated_in(s, at + w.len(), value, due, layout),
     }
+}
+
+// The same in a strict sheet.
+pub fn after_field(s: &[u8], at: usize, w: &[u8], verdict: Verdict, due: u8) -> Step
+    requires { ⌜ now w ≡ run (drop at (now s)) ⌝ }
+    ensures { λ r. ⌜ stepAs itself (now (s .entry)) r ≡ judgedField verdict due (now (s .entry)) at ⌝ }
+{
+    after_field_in(s, at, w, verdict, due, Layout::Strict)
 }

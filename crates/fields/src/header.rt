@@ -1,18 +1,18 @@
 // The first three lines, field by field. Each function reads what is left of them.
 ghost use mathlib.Core.Path.{_≡_};
 ghost use mathlib.Core.Bool.{true};
-ghost use Prim.Native.Nat.{_≤_};
 ghost use Rattle.rules.specs.Limits.{levelsFit};
-ghost use Rattle.rules.specs.Sheets.{headerLines};
+ghost use Rattle.rules.specs.Sheets.{headerLines, headerLinesIn};
 ghost use Rattle.fields.specs.Header.{HeaderRest, fromInputs, fromLevels};
 ghost use Rattle.fields.specs.declared.steps.Step.the-variants.{Back};
-ghost use Rattle.fields.specs.Starts.{levelsStart, inputsStart};
+ghost use Rattle.fields.specs.Steps.{layoutOf};
 use crate::lines::HeaderRead;
 use crate::lines::name_fields;
+use crate::steps::Layout;
 use crate::steps::Step;
 use crate::values::inputs_field;
 use crate::values::levels_field;
-use crate::words::two_words;
+use crate::words::two_words_in;
 use nets::forms::no_names;
 
 // The sheet is turned back: no header.
@@ -26,33 +26,39 @@ pub fn turned(number: usize, place: usize) -> HeaderRead
 }
 
 // From the inputs field on.
-pub fn from_inputs(s: &[u8], at: usize, levels: usize, last: u8) -> HeaderRead
-    requires { ⌜ (levelsFit levels ≡ true) × (at ≤ inputsStart) ⌝ }
-    ensures { λ r. ⌜ HeaderRest (now (s .entry)) at (fromInputs last levels) r ⌝ }
+pub fn from_inputs(s: &[u8], at: usize, levels: usize, last: u8, layout: Layout) -> HeaderRead
+    requires { ⌜ levelsFit levels ≡ true ⌝ }
+    ensures { λ r. ⌜ HeaderRest (now (s .entry)) at (fromInputs (layoutOf layout) last levels) r ⌝ }
 {
-    match inputs_field(s, at, levels) {
+    match inputs_field(s, at, levels, layout) {
         Step::Back { number, place } => turned(number, place),
-        Step::On { value, next } => name_fields(s, next, levels, value, last),
+        Step::On { value, next } => name_fields(s, next, levels, value, last, layout),
     }
 }
 
 // From the levels field on.
-pub fn from_levels(s: &[u8], at: usize, last: u8) -> HeaderRead
-    requires { ⌜ at ≤ levelsStart ⌝ }
-    ensures { λ r. ⌜ HeaderRest (now (s .entry)) at (fromLevels last) r ⌝ }
+pub fn from_levels(s: &[u8], at: usize, last: u8, layout: Layout) -> HeaderRead
+    ensures { λ r. ⌜ HeaderRest (now (s .entry)) at (fromLevels (layoutOf layout) last) r ⌝ }
 {
-    match levels_field(s, at) {
+    match levels_field(s, at, layout) {
         Step::Back { number, place } => turned(number, place),
-        Step::On { value, next } => from_inputs(s, next, value, last),
+        Step::On { value, next } => from_inputs(s, next, value, last, layout),
     }
 }
 
 // The first three lines; `last` is the separator that is due after the last name.
+pub fn header_lines_in(s: &[u8], last: u8, layout: Layout) -> HeaderRead
+    ensures { λ r. ⌜ HeaderRest (now (s .entry)) 0 (headerLinesIn (layoutOf layout) last) r ⌝ }
+{
+    match two_words_in(s, 0, b"levels", b"inputs", layout) {
+        Step::Back { number, place } => turned(number, place),
+        Step::On { value: _, next } => from_levels(s, next, last, layout),
+    }
+}
+
+// The same in a strict sheet.
 pub fn header_lines(s: &[u8], last: u8) -> HeaderRead
     ensures { λ r. ⌜ HeaderRest (now (s .entry)) 0 (headerLines last) r ⌝ }
 {
-    match two_words(s, 0, b"levels", b"inputs") {
-        Step::Back { number, place } => turned(number, place),
-        Step::On { value: _, next } => from_levels(s, next, last),
-    }
+    header_lines_in(s, last, Layout::Strict)
 }

@@ -6,12 +6,13 @@ ghost use Rattle.rules.specs.Lists.{range};
 ghost use Rattle.rules.specs.Limits.{mostInputs};
 ghost use Rattle.nets.specs.Forms.{nameIn, NamesHeld};
 ghost use Rattle.fields.specs.Lines.{NameRead, dueBefore, NamesRead};
-ghost use Rattle.fields.specs.Starts.{namesStart};
-use crate::ends::after_field;
+ghost use Rattle.fields.specs.Steps.{layoutOf};
+use crate::ends::after_field_in;
 use crate::ends::judged;
 use crate::names::is_new_name;
 use crate::runs::SPACE;
 use crate::runs::field_at;
+use crate::steps::Layout;
 use crate::steps::Step;
 use nets::forms::Header;
 use nets::forms::no_names;
@@ -23,13 +24,20 @@ pub struct HeaderRead {
 }
 
 // The name after the first `count`; a step onward has its length.
-pub fn name_field(s: &[u8], at: usize, header: Header, count: usize, due: u8) -> Step
+pub fn name_field(
+    s: &[u8],
+    at: usize,
+    header: Header,
+    count: usize,
+    due: u8,
+    layout: Layout,
+) -> Step
     requires { ⌜ (count ≤ mostInputs) × NamesHeld (now s) header count ⌝ }
-    ensures { λ r. ⌜ NameRead (now (s .entry)) at due (map (nameIn (now (s .entry)) header) (range 0 count)) r ⌝ }
+    ensures { λ r. ⌜ NameRead (layoutOf layout) (now (s .entry)) at due (map (nameIn (now (s .entry)) header) (range 0 count)) r ⌝ }
 {
     let w = field_at(s, at);
     let verdict = judged(is_new_name(s, header, count, w), w.len(), 4);
-    after_field(s, at, w, verdict, due)
+    after_field_in(s, at, w, verdict, due, layout)
 }
 
 // The separator that is due after name i of n.
@@ -44,23 +52,30 @@ pub fn due_after(i: usize, n: usize, last: u8) -> u8
 }
 
 // The `inputs` names from `at` on.
-pub fn name_fields(s: &[u8], at: usize, levels: usize, inputs: usize, last: u8) -> HeaderRead
-    requires { ⌜ (inputs ≤ mostInputs) × (at ≤ namesStart) ⌝ }
-    ensures { λ r. ⌜ NamesRead (now (s .entry)) at levels inputs last r ⌝ }
+pub fn name_fields(
+    s: &[u8],
+    at: usize,
+    levels: usize,
+    inputs: usize,
+    last: u8,
+    layout: Layout,
+) -> HeaderRead
+    requires { ⌜ inputs ≤ mostInputs ⌝ }
+    ensures { λ r. ⌜ NamesRead (layoutOf layout) (now (s .entry)) at levels inputs last r ⌝ }
 {
     let mut header = no_names(levels, inputs);
     let mut place = at;
     let mut i: usize = 0;
     while i < inputs {
         let due = due_after(i, inputs, last);
-        let step = name_field(s, place, header, i, due);
+        let step = name_field(s, place, header, i, due, layout);
         match step {
             Step::Back {
                 number: _,
                 place: _,
             } => return HeaderRead { step, header },
             Step::On { value, next } => {
-                header.starts[i] = place as u16;
+                header.starts[i] = place;
                 header.lens[i] = value as u8;
                 place = next;
                 i += 1;

@@ -1,8 +1,8 @@
-// A field is a longest run of bytes other than space and line feed.
+// A field is a longest run of bytes other than space and line feed. Runs of spaces part the fields of a loose sheet.
 ghost use mathlib.Core.Path.{_≡_};
 ghost use lib.ListN.{drop};
 ghost use Rattle.rules.specs.Fields.{run};
-ghost use Rattle.fields.specs.Runs.{fieldEnd};
+ghost use Rattle.fields.specs.Runs.{fieldEnd, spacesEnd};
 
 pub const SPACE: u8 = b' ';
 
@@ -22,6 +22,20 @@ pub fn field_end(s: &[u8], at: usize) -> usize
             return end;
         }
         if b == NEWLINE {
+            return end;
+        }
+        end += 1;
+    }
+    end
+}
+
+// Where the spaces that stand at `at` end.
+pub fn spaces_end(s: &[u8], at: usize) -> usize
+    ensures { λ r. ⌜ r ≡ spacesEnd (now (s .entry)) at ⌝ }
+{
+    let mut end = at;
+    while end < s.len() {
+        if s[end] != SPACE {
             return end;
         }
         end += 1;

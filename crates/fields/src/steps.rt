@@ -12,6 +12,12 @@ pub enum Step {
     Back { number: usize, place: usize },
 }
 
+// How the fields of a sheet are parted.
+pub enum Layout {
+    Strict,
+    Loose,
+}
+
 // What a search comes to.
 pub enum Found {
     At(usize),

@@ -3,17 +3,18 @@ ghost use mathlib.Core.Path.{_≡_};
 ghost use Prim.Native.Nat.{_≤_};
 ghost use lib.ListN.{drop};
 ghost use Rattle.rules.specs.Limits.{mostLevels};
-ghost use Rattle.rules.specs.Fields.{field};
+ghost use Rattle.rules.specs.Fields.{fieldIn};
 ghost use Rattle.rules.specs.Sheets.{levelsField, inputsOf, inputsField};
 ghost use Rattle.rules.specs.Text.{spaceByte, newlineByte};
-ghost use Rattle.fields.specs.Steps.{judgedAs, stepAs, itself, optionOf};
-use crate::ends::after_field;
+ghost use Rattle.fields.specs.Steps.{judgedAs, stepAs, itself, optionOf, layoutOf};
+use crate::ends::after_field_in;
 use crate::numbers::is_decimal;
 use crate::runs::NEWLINE;
 use crate::runs::SPACE;
 use crate::runs::ZERO;
 use crate::runs::field_at;
 use crate::steps::Found;
+use crate::steps::Layout;
 use crate::steps::Step;
 use crate::steps::Verdict;
 use radix::limits;
@@ -35,12 +36,12 @@ pub fn judge_levels(w: &[u8]) -> Verdict
     Verdict::Good(b - ZERO)
 }
 
-pub fn levels_field(s: &[u8], at: usize) -> Step
-    ensures { λ r. ⌜ stepAs itself (now (s .entry)) r ≡ field levelsField spaceByte (drop at (now (s .entry))) at ⌝ }
+pub fn levels_field(s: &[u8], at: usize, layout: Layout) -> Step
+    ensures { λ r. ⌜ stepAs itself (now (s .entry)) r ≡ fieldIn (layoutOf layout) levelsField spaceByte (drop at (now (s .entry))) at ⌝ }
 {
     let w = field_at(s, at);
     let verdict = judge_levels(w);
-    after_field(s, at, w, verdict, SPACE)
+    after_field_in(s, at, w, verdict, SPACE, layout)
 }
 
 // The number of inputs of which w is the decimal value.
@@ -72,11 +73,11 @@ pub fn judge_inputs(w: &[u8], m: usize) -> Verdict
     }
 }
 
-pub fn inputs_field(s: &[u8], at: usize, m: usize) -> Step
+pub fn inputs_field(s: &[u8], at: usize, m: usize, layout: Layout) -> Step
     requires { ⌜ m ≤ mostLevels ⌝ }
-    ensures { λ r. ⌜ stepAs itself (now (s .entry)) r ≡ field (inputsField m) newlineByte (drop at (now (s .entry))) at ⌝ }
+    ensures { λ r. ⌜ stepAs itself (now (s .entry)) r ≡ fieldIn (layoutOf layout) (inputsField m) newlineByte (drop at (now (s .entry))) at ⌝ }
 {
     let w = field_at(s, at);
     let verdict = judge_inputs(w, m);
-    after_field(s, at, w, verdict, NEWLINE)
+    after_field_in(s, at, w, verdict, NEWLINE, layout)
 }

@@ -15,6 +15,7 @@ pub mod ButSheet
 pub mod Shallower
 pub mod Checking
 pub mod TableWriting
+pub mod Tidying
 pub mod Pastes
 pub mod Pigeonhole
 pub mod Places

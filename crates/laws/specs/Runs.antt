@@ -1,13 +1,15 @@
--- Laws of `run` and `past`.
+-- Laws of `run` and `past`, and of the spaces at the front.
 -- Assumes nothing.
-use Prim.Native.Nat.{ℕ, _≤_}
+use Prim.Native.Nat.{ℕ, suc, _≤_}
 use mathlib.Core.Path.{_≡_, refl, sym, ap, _∙_}
 use mathlib.Core.Bool.{Bool, true, false}
 use mathlib.Core.List.{List, [], _∷_, _++_}
 use native.Mathlib.Omega.{arith}
 use lib.ListN.{length, take, drop, length-append}
 use lib.Seq.{take-append-seam, drop-append-seam}
-use Rattle.rules.specs.Fields.{isSeparator, run, past}
+use lib.Dec.{eqb}
+use Rattle.rules.specs.Text.{space}
+use Rattle.rules.specs.Fields.{isSeparator, run, past, pastSpaces, spacesIn}
 
 -- a separator in front: no field
 pub at-separator : (b : ℕ) (s : List ℕ) → isSeparator b ≡ true → (run (b ∷ s) ≡ []) × (past (b ∷ s) ≡ b ∷ s)
@@ -68,3 +70,34 @@ run-through (c ∷ s) t e = go (isSeparator c) refl e (run-through s t)
     go : (u : Bool) → isSeparator c ≡ u → past (c ∷ s) ≡ [] → (past s ≡ [] → run (s ++ t) ≡ s ++ run t) → run (c ∷ (s ++ t)) ≡ c ∷ (s ++ run t)
     go true d e r = absurd (let whole : c ∷ s ≡ [] = sym (at-separator c s d .1) ∙ e in let z : _≡_ {A = ℕ} 0 1 = cc in omega arith)
     go false d e r = at-plain c (s ++ t) d .0 ∙ ap (λ w. c ∷ w) (r (sym (at-plain c s d .1) ∙ e))
+
+-- ---- spaces at the front
+
+-- a space in front is passed
+pub at-space : (b : ℕ) (s : List ℕ) → eqb b space ≡ true → (spacesIn (b ∷ s) ≡ suc (spacesIn s)) × (pastSpaces (b ∷ s) ≡ pastSpaces s)
+unfolding spacesIn pastSpaces
+at-space b s e = rw (e, spacesIn, pastSpaces) (refl, refl)
+
+-- any other byte stays
+pub at-other : (b : ℕ) (s : List ℕ) → eqb b space ≡ false → (spacesIn (b ∷ s) ≡ 0) × (pastSpaces (b ∷ s) ≡ b ∷ s)
+unfolding spacesIn pastSpaces
+at-other b s e = rw (e, spacesIn, pastSpaces) (refl, refl)
+
+-- by place
+pub spaces-rest : (s : List ℕ) → drop (spacesIn s) s ≡ pastSpaces s
+unfolding spacesIn pastSpaces
+spaces-rest [] = refl
+spaces-rest (b ∷ s) = go (eqb b space) refl (spaces-rest s)
+  where
+    go : (t : Bool) → eqb b space ≡ t → drop (spacesIn s) s ≡ pastSpaces s → drop (spacesIn (b ∷ s)) (b ∷ s) ≡ pastSpaces (b ∷ s)
+    go true e r = rw (at-space b s e .0, at-space b s e .1) r
+    go false e r = rw (at-other b s e .0, at-other b s e .1) refl
+
+pub spaces-most : (s : List ℕ) → spacesIn s ≤ length s
+unfolding spacesIn
+spaces-most [] = omega arith
+spaces-most (b ∷ s) = go (eqb b space) refl (spaces-most s)
+  where
+    go : (t : Bool) → eqb b space ≡ t → spacesIn s ≤ length s → spacesIn (b ∷ s) ≤ length (b ∷ s)
+    go true e r = rw (at-space b s e .0) (omega arith)
+    go false e r = rw (at-other b s e .0) (omega arith)

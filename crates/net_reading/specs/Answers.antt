@@ -16,7 +16,7 @@ use Rattle.fields.specs.Chained.{chained-back, chained-on, Answers, answers-bac
 use Rattle.fields.specs.Header.{HeaderHeld, HeaderRest}
 use Rattle.fields.specs.Steps.{stepAs, nothing, spelled}
 use Rattle.answers.specs.Answers.{outcomeAs}
-use Rattle.fields.specs.Words.{twoWords}
+use Rattle.fields.specs.Words.{twoWords, twoWordsIn}
 use Rattle.fields.specs.declared.lines.HeaderRead.{HeaderRead}
 use Rattle.answers.specs.declared.outcome.Outcome.the-variants.{Accepted, Refused}
 use Rattle.fields.specs.declared.steps.Step.{Step}
@@ -58,7 +58,7 @@ module _ (s : List ℕ) (at : ℕ) (step : Step) (reads : stepAs nothing s step 
 
   pub left-on : (value next : ℕ) → step ≡ On value next → stepAs nothing s r ≡ twoWords (text "right") (text "table") (drop next s) next
       → stepAs nothing s r ≡ headingLine (drop at s) at
-  unfolding headingLine twoWords spelled theWord space newline
+  unfolding headingLine twoWordsIn spelled theWord space newline
   left-on value next e onward =
       chained-on nothing (field (theWord "left") spaceByte) (λ _. field (theWord "right") spaceByte >>= λ _. field (theWord "table") newlineByte) s at step reads nothing r value next e onward
 

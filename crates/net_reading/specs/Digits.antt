@@ -18,7 +18,7 @@ use Rattle.laws.specs.Places.{mem-getD}
 use Rattle.laws.specs.Runs.{run-front}
 use Rattle.laws.specs.Tests.{all-mem}
 use Rattle.fields.specs.Judging.{field-tested}
-use Rattle.fields.specs.Steps.{tested, judgedAs, judgedField, stepAs, itself}
+use Rattle.fields.specs.Steps.{tested, judgedAs, judgedField, judgedFieldIn, stepAs, itself}
 use Rattle.fields.specs.Taken.{Taken, field-on}
 use Rattle.fields.specs.declared.steps.Step.{Step}
 use Rattle.fields.specs.declared.steps.Step.the-variants.{On}
@@ -74,7 +74,7 @@ digit-least m b e = leb-true zeroByte b (and-eq-true-iff (leb zeroByte b) (ltb b
 
 pub digits-read : (s : List ℕ) (at m : ℕ) (w : List ℕ) (test : Bool) (v : Verdict) (r : Step) → w ≡ run (drop at s)
     → test ≡ isTable m w → v ≡ tested test (length w) 6 → stepAs itself s r ≡ judgedField v newlineByte s at → DigitsRead s at m r
-unfolding tested judgedField digitsField isTable
+unfolding tested judgedFieldIn digitsField isTable
 digits-read s at m w test v r is table e after =
     record {
       reads = field-tested (λ count. digitsAt s at count) (digitsField m) newlineByte s at w test (length w) 6 v r is e (rw (front, table) refl) after;

@@ -12,7 +12,7 @@ pub const MOST_WIRES: usize = MOST_INPUTS + MOST_GATES;
 pub struct Header {
     pub levels: usize,
     pub inputs: usize,
-    pub starts: [u16; MOST_INPUTS],
+    pub starts: [usize; MOST_INPUTS],
     pub lens: [u8; MOST_INPUTS],
 }
 
@@ -34,7 +34,7 @@ pub fn no_names(levels: usize, inputs: usize) -> Header
     Header {
         levels,
         inputs,
-        starts: [0u16; MOST_INPUTS],
+        starts: [0usize; MOST_INPUTS],
         lens: [0u8; MOST_INPUTS],
     }
 }

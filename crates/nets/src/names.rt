@@ -10,7 +10,7 @@ pub fn name_of(s: &[u8], header: Header, i: usize) -> &[u8]
     requires { ⌜ (i < mostInputs) × NameHeld (now s) header i ⌝ }
     ensures { λ r. ⌜ now r ≡ nameIn (now (s .entry)) header i ⌝ }
 {
-    let start = header.starts[i] as usize;
+    let start = header.starts[i];
     let end = start + header.lens[i] as usize;
     &s[start..end]
 }

@@ -1,6 +1,6 @@
 -- The numbers with which a reader turns back, for any list of numbers that has 1: they are those of its fields' judges.
 -- Assumes nothing.
-use Prim.Native.Nat.{ℕ, suc}
+use Prim.Native.Nat.{ℕ, suc, _+_}
 use Prim.Native.String.{String}
 use mathlib.Core.Path.{_≡_, refl, sym, subst}
 use mathlib.Core.Bool.{Bool, true, false}
@@ -8,8 +8,8 @@ use mathlib.Core.List.{List, [], _∷_}
 use native.Mathlib.Omega.{arith}
 use lib.Dec.{eqb}
 use Rattle.rules.specs.Lists.{same}
-use Rattle.rules.specs.Text.{text}
-use Rattle.rules.specs.Fields.{Read, read, turnedBack, Reader, then, _>>=_, give, Judged, good, bad, Judge, judged, run, past, separator, afterField, fieldOf, field, theWord, closed}
+use Rattle.rules.specs.Text.{space, text}
+use Rattle.rules.specs.Fields.{Read, read, turnedBack, Reader, then, _>>=_, give, Judged, good, bad, Judge, judged, run, past, separator, pastSpaces, spacesIn, spaces, strict, loose, Layout, looseSeparator, separatorIn, afterFieldIn, fieldOfIn, field, fieldIn, theWord, closed}
 use Rattle.rules.specs.Answers.{Answer, refused}
 use Rattle.rules.specs.Reading.{answered}
 use Rattle.laws.specs.Distinct.{In}
@@ -58,17 +58,36 @@ module _ (numbers : List ℕ) (one : In 1 numbers) where
       go true e = absurd (not-read k place a s (suc at) (sym e))
       go false e = named-turned 1 at k place one e
 
-  pub among-field : {A : Type 0} (judge : Judge A) (due : ℕ) → AmongJudge numbers judge → Among numbers (field judge due)
-  unfolding field fieldOf afterField
-  among-field {A} judge due h s at k place e = go (run s) e
+  among-loose : {A : Type 0} (a : A) (due : ℕ) (s : List ℕ) (at k place : ℕ) → looseSeparator a due s at ≡ turnedBack k place → In k numbers
+  unfolding looseSeparator spaces then
+  among-loose {A} a due s at k place e = go (eqb due space) e
     where
-      judged-field : (w : List ℕ) (u : Judged A) → judge w ≡ u → (end : ℕ) → afterField u due (past s) at end ≡ turnedBack k place → In k numbers
-      judged-field w (good a) d end e = among-separator a due (past s) end k place e
+      after : (u : Read A) → ((j p : ℕ) → u ≡ turnedBack j p → In j numbers) → then u spaces ≡ turnedBack k place → In k numbers
+      after (read b rest p) h e = absurd (not-read k place b (pastSpaces rest) (p + spacesIn rest) (sym e))
+      after (turnedBack j p) h e = named-turned j p k place (h j p refl) e
+
+      go : (t : Bool) → _≡_ {A = Read A} (elim t [ true ↦ then (separator a due s at) spaces | false ↦ then (spaces a s at) (λ a. separator a due) ]) (turnedBack k place) → In k numbers
+      go true e = after (separator a due s at) (λ j p d. among-separator a due s at j p d) e
+      go false e = among-separator a due (pastSpaces s) (at + spacesIn s) k place e
+
+  among-separator-in : (layout : Layout) {A : Type 0} (a : A) (due : ℕ) (s : List ℕ) (at k place : ℕ) → separatorIn layout a due s at ≡ turnedBack k place → In k numbers
+  among-separator-in strict a due s at k place e = among-separator a due s at k place e
+  among-separator-in loose a due s at k place e = among-loose a due s at k place e
+
+  pub among-field-in : (layout : Layout) {A : Type 0} (judge : Judge A) (due : ℕ) → AmongJudge numbers judge → Among numbers (fieldIn layout judge due)
+  unfolding fieldIn fieldOfIn afterFieldIn
+  among-field-in layout {A} judge due h s at k place e = go (run s) e
+    where
+      judged-field : (w : List ℕ) (u : Judged A) → judge w ≡ u → (end : ℕ) → afterFieldIn layout u due (past s) at end ≡ turnedBack k place → In k numbers
+      judged-field w (good a) d end e = among-separator-in layout a due (past s) end k place e
       judged-field w (bad number) d end e = named-turned number at k place (h w number d) e
 
-      go : (w : List ℕ) → fieldOf judge due w (past s) at ≡ turnedBack k place → In k numbers
+      go : (w : List ℕ) → fieldOfIn layout judge due w (past s) at ≡ turnedBack k place → In k numbers
       go [] e = named-turned 1 at k place one e
       go (b ∷ w) e = judged-field (b ∷ w) (judge (b ∷ w)) refl _ e
+
+  abbrev pub among-field : {A : Type 0} (judge : Judge A) (due : ℕ) → AmongJudge numbers judge → Among numbers (field judge due)
+  among-field judge due h = among-field-in strict judge due h
 
   -- ---- a fixed word, and the end of a sheet
 

@@ -18,7 +18,7 @@ use Rattle.rules.specs.Lists.{all, any, same}
 use Rattle.rules.specs.Text.{space, newline, text, digitByte, isDigit}
 use Rattle.rules.specs.Limits.{cellsFit, mostLevels, mostInputs}
 use Rattle.rules.specs.Fields.{Read, read, turnedBack, Reader, _>>=_, give, Judged, good, bad, Judge, judged, run, field, theWord, closed}
-use Rattle.rules.specs.Sheets.{Header, Gate, Net, levelsField, inputsOf, inputsField, isName, nameField, nameFields, headerLines, referenceText, referenceOf, referenceField, digitsField, usedBy, gateLine, gateLines, netSheet, levelsAt, levelField, inkField, levelFields, rowLines, tableSheet}
+use Rattle.rules.specs.Sheets.{Header, Gate, Net, levelsField, inputsOf, inputsField, isName, nameField, nameFields, nameFieldsIn, headerLines, headerLinesIn, referenceText, referenceOf, referenceField, digitsField, usedBy, gateLine, gateLines, netSheet, levelsAt, levelField, inkField, levelFields, rowLines, tableSheet}
 use Rattle.rules.specs.Kept.{GoodNames, KeptHeader}
 use Rattle.rules.specs.Answers.{Answer, accepted, refused}
 use Rattle.rules.specs.Reading.{answered, readNet, readTable}
@@ -149,13 +149,13 @@ abbrev headBytes : ℕ
 headBytes = 19 + nameBytes
 
 goes-names : (last count : ℕ) (earlier : List (List ℕ)) → Goes (nameFields last count earlier)
-unfolding nameFields
+unfolding nameFieldsIn
 goes-names last zero earlier = goes-give earlier
 goes-names last (suc zero) earlier = goes-then _ (goes-field (nameField earlier) last) (λ w. goes-give (earlier ++ (w ∷ [])))
 goes-names last (suc (suc count)) earlier = goes-then _ (goes-field (nameField earlier) space) (λ w. goes-names last (suc count) (earlier ++ (w ∷ [])))
 
 firm-names : (last count : ℕ) (earlier : List (List ℕ)) → Firm (9 * count) (nameFields last count earlier)
-unfolding nameFields
+unfolding nameFieldsIn
 firm-names last zero earlier = firm-give earlier 0
 firm-names last (suc zero) earlier = firm-step (nameField earlier) last 8 (narrow-name earlier) 0 _ (λ _ _ w _ _ _. firm-give (earlier ++ (w ∷ [])) 0)
 firm-names last (suc (suc count)) earlier =
@@ -163,7 +163,7 @@ firm-names last (suc (suc count)) earlier =
     (firm-step (nameField earlier) space 8 (narrow-name earlier) (9 * suc count) _ (λ _ _ w _ _ _. firm-names last (suc count) (earlier ++ (w ∷ []))))
 
 takes-names : (last count : ℕ) (earlier : List (List ℕ)) → Takes (9 * count) (nameFields last count earlier)
-unfolding nameFields
+unfolding nameFieldsIn
 takes-names last zero earlier = takes-give earlier 0
 takes-names last (suc zero) earlier = takes-step (nameField earlier) last 8 (narrow-name earlier) 0 _ (λ _ _ w _ _ _. takes-give (earlier ++ (w ∷ [])) 0)
 takes-names last (suc (suc count)) earlier =
@@ -177,7 +177,7 @@ names-most m s at n rest place e =
     omega (arith, inputs-fit k .0 fits)
 
 goes-header : (last : ℕ) → Goes (headerLines last)
-unfolding headerLines
+unfolding headerLinesIn
 goes-header last =
     goes-then _ (goes-field (theWord "levels") space) (λ _.
     goes-then _ (goes-field (theWord "inputs") newline) (λ _.
@@ -186,7 +186,7 @@ goes-header last =
     goes-then _ (goes-names last n []) (λ names. goes-give _)))))
 
 firm-header : (last : ℕ) → Firm headBytes (headerLines last)
-unfolding headerLines text
+unfolding headerLinesIn text
 firm-header last =
     firm-step (theWord "levels") space 6 (narrow-word "levels") (12 + nameBytes) _ (λ _ _ _ _ _ _.
     firm-step (theWord "inputs") newline 6 (narrow-word "inputs") (5 + nameBytes) _ (λ _ _ _ _ _ _.
@@ -196,7 +196,7 @@ firm-header last =
     (firm-then _ (9 * n) 0 (goes-names last n []) (firm-names last n []) (λ _ _ names _ _ _. (firm-give _ 0, λ _. omega arith)))))))
 
 takes-header : (last : ℕ) → Takes headBytes (headerLines last)
-unfolding headerLines text
+unfolding headerLinesIn text
 takes-header last =
     takes-step (theWord "levels") space 6 (narrow-word "levels") (12 + nameBytes) _ (λ _ _ _ _ _ _.
     takes-step (theWord "inputs") newline 6 (narrow-word "inputs") (5 + nameBytes) _ (λ _ _ _ _ _ _.

@@ -10,7 +10,7 @@ use native.Mathlib.Nat.{le-trans}
 use native.Mathlib.Omega.{arith}
 use lib.ListN.{length, length-append}
 use lib.Dec.{eqb}
-use Rattle.rules.specs.Fields.{Read, read, turnedBack, Reader, then, _>>=_, give, Judged, good, bad, Judge, run, past, separator, afterField, fieldOf, field, closed}
+use Rattle.rules.specs.Fields.{Read, read, turnedBack, Reader, then, _>>=_, give, Judged, good, bad, Judge, run, past, separator, afterField, afterFieldIn, fieldOf, fieldOfIn, field, fieldIn, closed}
 use Rattle.laws.specs.Runs.{run-past, run-more, run-through}
 use Rattle.readback.specs.Spells.{not-read}
 use Rattle.readback.specs.Fronts.{separator-turned, field-read}
@@ -162,7 +162,7 @@ separator-value {A} a due (c ∷ s) end b rest place e = go (eqb c due) e
 
 module _ {A : Type 0} (judge : Judge A) (due : ℕ) where
   pub goes-field : Goes (field judge due)
-  unfolding field
+  unfolding fieldIn
   goes-field s at a rest place e =
       let (i, j, k) = field-read judge due (run s) (past s) at a rest place e in
       record {
@@ -172,7 +172,7 @@ module _ {A : Type 0} (judge : Judge A) (due : ℕ) where
 
   -- a field that was read was judged good
   pub field-good : (s : List ℕ) (at : ℕ) (a : A) (rest : List ℕ) (place : ℕ) → field judge due s at ≡ read a rest place → judge (run s) ≡ good a
-  unfolding field fieldOf afterField
+  unfolding fieldIn fieldOfIn afterFieldIn
   field-good s at a rest place e = go (run s) e
     where
       verdict : (w : List ℕ) (u : Judged A) → judge w ≡ u → (end : ℕ) → afterField u due (past s) at end ≡ read a rest place → judge w ≡ good a
@@ -184,13 +184,13 @@ module _ {A : Type 0} (judge : Judge A) (due : ℕ) where
       go (b ∷ w) e = verdict (b ∷ w) (judge (b ∷ w)) refl _ e
 
   pub takes-field : (l : ℕ) → ((w : List ℕ) (a : A) → judge w ≡ good a → length w ≤ l) → Takes (suc l) (field judge due)
-  unfolding field
+  unfolding fieldIn
   takes-field l short s at a rest place e =
       let (i, _, _) = field-read judge due (run s) (past s) at a rest place e in
       omega (arith, short (run s) a (field-good s at a rest place e), ap length i, ap length (run-past s) ∙ length-append (run s) (past s))
 
   pub firm-field : (b : ℕ) → Stays b judge → Firm b (field judge due)
-  unfolding field fieldOf afterField separator
+  unfolding fieldIn fieldOfIn afterFieldIn separator
   firm-field b stays s at number place e = go (run s) refl (past s) refl e
     where
       parts : length s ≡ length (run s) + length (past s)

@@ -1,22 +1,21 @@
--- One field of a sheet: the words that a judge passes, each followed by the separator that is due.
+-- One field of a sheet: the words that a judge passes, each followed by the separator that is due, in either layout.
 -- Assumes nothing.
 use Prim.Native.Nat.{ℕ, suc, _+_}
 use Prim.Native.String.{String}
 use mathlib.Core.Path.{_≡_, refl, sym, _∙_, ap, ap₂}
 use mathlib.Core.Bool.{Bool, true, false, not, false≢true}
-use mathlib.Core.List.{List, [], _∷_, _++_}
+use mathlib.Core.List.{List, [], _∷_, _++_, append-assoc}
 use native.Mathlib.Omega.{arith}
 use lib.ListN.{length}
-use lib.Seq.{append-snoc}
 use lib.Dec.{eqb}
 use borrow.Author.Tests.{eqb-true, eq-eqb, not-true}
 use Rattle.rules.specs.Lists.{all, same}
 use Rattle.rules.specs.Text.{space, newline, text}
-use Rattle.rules.specs.Fields.{Read, read, turnedBack, then, _>>=_, give, Judged, good, bad, Judge, judged, isSeparator, run, past, separator, afterField, fieldOf, field, theWord, closed}
+use Rattle.rules.specs.Fields.{Read, read, turnedBack, then, _>>=_, give, Judged, good, bad, Judge, judged, isSeparator, run, past, separator, strict, Layout, separatorIn, afterFieldIn, fieldOfIn, field, fieldIn, theWord, closed}
 use Rattle.laws.specs.Tests.{all-iff}
 use Rattle.laws.specs.Same.{same-refl, same-true}
 use Rattle.laws.specs.Runs.{run-past}
-use Rattle.readback.specs.Spells.{SpellsTo, Spells, not-read}
+use Rattle.readback.specs.Spells.{SpellsBetween, SpellsTo, Spells, not-read, spells-as}
 
 -- a byte that a field may hold
 unfoldable pub plain : ℕ → Bool
@@ -76,7 +75,7 @@ judged-good false a number b e = ((cc), (cc))
 -- ---- a field
 
 -- the separator was there
-separator-read : {A : Type 0} (a : A) (due : ℕ) (s : List ℕ) (end : ℕ) (b : A) (rest : List ℕ) (place : ℕ)
+pub separator-read : {A : Type 0} (a : A) (due : ℕ) (s : List ℕ) (end : ℕ) (b : A) (rest : List ℕ) (place : ℕ)
     → separator a due s end ≡ read b rest place → (b ≡ a) × (s ≡ due ∷ rest)
 unfolding separator
 separator-read a due [] end b rest place e = absurd (not-read 1 end b rest place e)
@@ -87,52 +86,73 @@ separator-read {A} a due (c ∷ s) end b rest place e = go (eqb c due) refl e
     go true d e = ((cc), ap₂ _∷_ (eqb-true c due d) (cc))
     go false d e = absurd (not-read 1 end b rest place e)
 
--- a field that was read: its word was judged good, and the separator stands after it
-field-read : {A : Type 0} (judge : Judge A) (due : ℕ) (w s : List ℕ) (at : ℕ) (a : A) (rest : List ℕ) (place : ℕ)
-    → fieldOf judge due w s at ≡ read a rest place → (judge w ≡ good a) × (s ≡ due ∷ rest)
-unfolding fieldOf afterField
-field-read judge due [] s at a rest place e = absurd (not-read 1 at a rest place e)
-field-read {A} judge due (b ∷ w) s at a rest place e = go (judge (b ∷ w)) refl e
-  where
-    go : (j : Judged A) → judge (b ∷ w) ≡ j → afterField j due s at (at + suc (length w)) ≡ read a rest place
-        → (judge (b ∷ w) ≡ good a) × (s ≡ due ∷ rest)
-    go (good c) d e =
-        let (i, j) = separator-read c due s (at + suc (length w)) a rest place e in
-        (d ∙ ap good (sym i), j)
-    go (bad number) d e = absurd (not-read number at a rest place e)
-
--- a word that is judged good, before its separator, is read
-field-of-word : {A : Type 0} (judge : Judge A) (due : ℕ) (w : List ℕ) (a : A) (rest : List ℕ) (at : ℕ)
-    → isWord w ≡ true → judge w ≡ good a → (place : ℕ) × (fieldOf judge due w (due ∷ rest) at ≡ read a rest place)
-unfolding fieldOf afterField separator isWord
-field-of-word judge due [] a rest at h e = absurd (false≢true h)
-field-of-word judge due (b ∷ w) a rest at h e = (suc (at + suc (length w)), rw (e, eq-eqb due due refl, separator) refl)
-
 -- a word's bytes are plain
 word-plain : (w : List ℕ) → isWord w ≡ true → all plain w ≡ true
 unfolding isWord
 word-plain [] h = absurd (false≢true h)
 word-plain (b ∷ w) h = h
 
--- the same in the reader of the field
-field-back : {A : Type 0} (judge : Judge A) (due : ℕ) (w : List ℕ) (a : A) (rest : List ℕ) (at : ℕ)
-    → isSeparator due ≡ true → isWord w ≡ true → judge w ≡ good a → (place : ℕ) × (field judge due (w ++ due ∷ [] ++ rest) at ≡ read a rest place)
-unfolding field
-field-back judge due w a rest at d h e =
-    rw (append-snoc w due rest, run-plain w due rest (word-plain w h) d, past-plain w due rest (word-plain w h) d)
-    (field-of-word judge due w a rest at h e)
+-- A field in either layout. The separator that is due spells the texts `gap c`, each of which begins with a space or a line feed.
+module _ (layout : Layout) (due : ℕ) {A : Type 0} {Before After : List ℕ → Type 0} {C : Type 0} {gap : C → List ℕ}
+    (parts : (a : A) → SpellsBetween Before After (λ s at. separatorIn layout a due s at) C (λ _. a) gap)
+    (begins : (c : C) → (b : ℕ) × (t : List ℕ) × (isSeparator b ≡ true) × (gap c ≡ b ∷ t)) where
+  -- a field that was read: its word was judged good, and the separator stands after it
+  field-read : (judge : Judge A) (w s : List ℕ) (at : ℕ) (a : A) (rest : List ℕ) (place : ℕ)
+      → fieldOfIn layout judge due w s at ≡ read a rest place → (c : C) × (judge w ≡ good a) × (s ≡ gap c ++ rest) × After rest
+  unfolding fieldOfIn afterFieldIn
+  field-read judge [] s at a rest place e = absurd (not-read 1 at a rest place e)
+  field-read judge (b ∷ w) s at a rest place e = go (judge (b ∷ w)) refl e
+    where
+      go : (j : Judged A) → judge (b ∷ w) ≡ j → afterFieldIn layout j due s at (at + suc (length w)) ≡ read a rest place
+          → (c : C) × (judge (b ∷ w) ≡ good a) × (s ≡ gap c ++ rest) × After rest
+      go (good x) d e =
+          let (c, i, j, h) = parts x .only s (at + suc (length w)) a rest place e in
+          (c, d ∙ ap good (sym i), j, h)
+      go (bad number) d e = absurd (not-read number at a rest place e)
 
--- a field spells its judge's words, each with the separator after it
+  -- a word that is judged good, before its separator, is read
+  field-of-word : (judge : Judge A) (w : List ℕ) (a : A) (c : C) (rest : List ℕ) (at : ℕ)
+      → isWord w ≡ true → judge w ≡ good a → Before rest → (place : ℕ) × (fieldOfIn layout judge due w (gap c ++ rest) at ≡ read a rest place)
+  unfolding fieldOfIn afterFieldIn isWord
+  field-of-word judge [] a c rest at h e k = absurd (false≢true h)
+  field-of-word judge (b ∷ w) a c rest at h e k = rw e (parts a .back c rest (at + suc (length w)) k)
+
+  -- the same in the reader of the field
+  field-back : (judge : Judge A) (w : List ℕ) (a : A) (c : C) (rest : List ℕ) (at : ℕ)
+      → isWord w ≡ true → judge w ≡ good a → Before rest → (place : ℕ) × (fieldIn layout judge due (w ++ gap c ++ rest) at ≡ read a rest place)
+  unfolding fieldIn
+  field-back judge w a c rest at h e k =
+      let (b, t, parting, is) = begins c in
+      let laid : w ++ gap c ++ rest ≡ w ++ b ∷ (t ++ rest) = append-assoc w (gap c) rest ∙ ap (λ (g : List ℕ). w ++ (g ++ rest)) is in
+      rw (ap run laid ∙ run-plain w b (t ++ rest) (word-plain w h) parting, ap past laid ∙ past-plain w b (t ++ rest) (word-plain w h) parting)
+      (rw is at (field-of-word judge w a c rest at h e k))
+
+  -- a field spells its judge's words, each with the separator after it
+  pub spells-field-in : {judge : Judge A} {X : Type 0} {f : X → A} {p : X → List ℕ} → Judges judge X f p
+      → SpellsBetween Before After (fieldIn layout judge due) (X × C) (λ z. f (z .0)) (λ z. p (z .0) ++ gap (z .1))
+  unfolding fieldIn
+  spells-field-in {judge = judge} {f = f} {p = p} judges = record {
+    back = λ z rest at k. field-back judge (p (z .0)) (f (z .0)) (z .1) rest at (judges .word (z .0)) (judges .passes (z .0)) k;
+    only = λ s at a rest place e.
+        let (c, i, j, h) = field-read judge (run s) (past s) at a rest place e in
+        let (x, q, k) = judges .only (run s) a i in
+        ((x, c), q, run-past s ∙ ap₂ _++_ k j ∙ sym (append-assoc (p x) (gap c) rest), h);
+  }
+
+-- strictly, the separator is the one byte
+spells-separator : {A : Type 0} (due : ℕ) (a : A) → Spells (λ s at. separator a due s at) (Unit {0}) (λ _. a) (λ _. due ∷ [])
+unfolding separator
+spells-separator due a = record {
+  back = λ _ rest at _. (suc at, rw (eq-eqb due due refl, separator) refl);
+  only = λ s at b rest place e.
+      let (i, j) = separator-read a due s at b rest place e in
+      (tt, i, j, tt);
+}
+
 pub spells-field : {A : Type 0} {judge : Judge A} {X : Type 0} {f : X → A} {p : X → List ℕ} (due : ℕ) → isSeparator due ≡ true
     → Judges judge X f p → Spells (field judge due) X f (λ x. p x ++ due ∷ [])
-unfolding field
-spells-field {judge = judge} {f = f} {p = p} due d judges = record {
-  back = λ x rest at _. field-back judge due (p x) (f x) rest at d (judges .word x) (judges .passes x);
-  only = λ s at a rest place e.
-      let (i, j) = field-read judge due (run s) (past s) at a rest place e in
-      let (x, h, k) = judges .only (run s) a i in
-      (x, h, run-past s ∙ ap₂ _++_ k j ∙ sym (append-snoc (p x) due rest), tt);
-}
+spells-field due d judges =
+    spells-as (spells-field-in strict due (spells-separator due) (λ _. (due, [], d, refl)) judges) (λ z. (z .0, refl, refl)) (λ x. ((x, tt), refl, refl))
 
 -- a fixed word
 pub judges-word : (word : String) → isWord (text word) ≡ true → Judges (theWord word) (Unit {0}) (λ _. tt) (λ _. text word)

@@ -13,7 +13,7 @@ use lib.ListN.{length, take, drop, length-append}
 use lib.Seq.{append-snoc, drop-at, take-append-add}
 use lib.Dec.{eqb}
 use borrow.Author.Tests.{eqb-true, eq-eqb}
-use Rattle.rules.specs.Fields.{Read, read, turnedBack, Reader, then, _>>=_, give, Judged, good, bad, Judge, isSeparator, run, past, separator, afterField, fieldOf, field, closed}
+use Rattle.rules.specs.Fields.{Read, read, turnedBack, Reader, then, _>>=_, give, Judged, good, bad, Judge, isSeparator, run, past, separator, afterField, afterFieldIn, fieldOf, fieldOfIn, field, fieldIn, closed}
 use Rattle.laws.specs.Runs.{at-separator, at-plain, run-past}
 use Rattle.readback.specs.Spells.{not-read}
 
@@ -188,7 +188,7 @@ module _ {A : Type 0} (judge : Judge A) (due : ℕ) where
   -- a field that was read: the separator stood after it, with whatever behind it
   pub field-read : (w s : List ℕ) (at : ℕ) (a : A) (rest : List ℕ) (place : ℕ) → fieldOf judge due w s at ≡ read a rest place
       → (s ≡ due ∷ rest) × (place ≡ suc (at + length w)) × ((t : List ℕ) → fieldOf judge due w (due ∷ t) at ≡ read a t place)
-  unfolding fieldOf afterField
+  unfolding fieldOfIn afterFieldIn
   field-read [] s at a rest place e = absurd (not-read 1 at a rest place e)
   field-read (b ∷ w) s at a rest place e = go (judge (b ∷ w)) e
     where
@@ -198,7 +198,7 @@ module _ {A : Type 0} (judge : Judge A) (due : ℕ) where
       go (bad number) e = absurd (not-read number at a rest place e)
 
   reads-field : (s : List ℕ) (at : ℕ) (a : A) (rest : List ℕ) (place : ℕ) → field judge due s at ≡ read a rest place → ReadFront (field judge due) s at a rest place
-  unfolding field
+  unfolding fieldIn
   reads-field s at a rest place e =
       let (i, j, k) = field-read (run s) (past s) at a rest place e in
       record {
@@ -212,7 +212,7 @@ module _ {A : Type 0} (judge : Judge A) (due : ℕ) where
 
   -- A field that is empty or judged bad is turned back at its first byte, whatever stands behind it, ..
   turns-field : (s : List ℕ) (at number place : ℕ) → field judge due s at ≡ turnedBack number place → TurnedFront (field judge due) s at number place
-  unfolding field fieldOf afterField
+  unfolding fieldIn fieldOfIn afterFieldIn
   turns-field s at number place e = go (run s) refl e
     where
       here : place ≡ at → ((q : List ℕ) → fieldOf judge due (run s) q at ≡ turnedBack number place) → TurnedFront (field judge due) s at number place

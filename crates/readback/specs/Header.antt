@@ -7,7 +7,7 @@ use mathlib.Core.List.{List, [], _∷_, _++_, append-assoc, append-nil}
 use Rattle.rules.specs.Lists.{all, same}
 use Rattle.rules.specs.Text.{space, newline, text, decimal}
 use Rattle.rules.specs.Fields.{isSeparator}
-use Rattle.rules.specs.Sheets.{Header, headerLines}
+use Rattle.rules.specs.Sheets.{Header, headerLines, headerLinesIn}
 use Rattle.rules.specs.Printed.{line}
 use Rattle.rules.specs.Kept.{KeptHeader}
 use Rattle.readback.specs.Spells.{Spells, spells-give, spells-then, spells-as}
@@ -31,7 +31,7 @@ head-text last m n names = simp (append-assoc, append-nil)
 -- the first three lines spell the headers that keep the rules
 pub spells-header : (last : ℕ) → isSeparator last ≡ true
     → Spells (headerLines last) ((h : Header) × KeptHeader h) (λ x. x .0) (λ x. headText last (x .0))
-unfolding headerLines plain isWord all text isSeparator space newline
+unfolding headerLinesIn plain isWord all text isSeparator space newline
 spells-header last h = spells-as
     (spells-then _ (spells-field space refl (judges-word "levels" refl)) (λ _.
     spells-then _ (spells-field newline refl (judges-word "inputs" refl)) (λ _.

@@ -14,6 +14,7 @@ use Rattle.rules.specs.Lists.{range, all, any, same, find}
 use Rattle.rules.specs.Text.{text, digitByte, isDigit, decimal}
 use Rattle.rules.specs.Limits.{levelsFit, inputsFit, cellsFit, fewestInputs, mostInputs}
 use Rattle.rules.specs.Fields.{Judged, good, bad, Judge, judged}
+use Rattle.rules.specs.LooseSheet.{anyLevel}
 use Rattle.rules.specs.Sheets.{levelsField, inputsOf, inputsField, isLetter, letterFirst, isName, nameField, digitsField, levelField, inkField}
 use Rattle.rules.specs.Kept.{GateTable}
 use Rattle.laws.specs.Sizes.{levels-fit, inputs-fit}
@@ -204,7 +205,7 @@ judges-digits m p = record {
 -- ---- a row's levels and its ink
 
 -- one digit is a word
-digit-word : (d : ℕ) → isWord (digitByte d ∷ []) ≡ true
+pub digit-word : (d : ℕ) → isWord (digitByte d ∷ []) ≡ true
 unfolding isWord all digitByte
 digit-word d = rw (high-plain (48 + d) (omega arith), all) refl
 
@@ -231,3 +232,18 @@ ink-only m (b ∷ []) a e =
 pub judges-ink : (m : ℕ) → Judges (inkField m) ((d : ℕ) × (d < m)) (λ x. x .0) (λ x. digitByte (x .0) ∷ [])
 unfolding inkField
 judges-ink m = record { passes = λ x. rw (digit-byte m (x .0) (x .1), byte-digit (x .0)) refl; word = λ x. digit-word (x .0); only = ink-only m }
+
+-- a level field of a loose row that is good
+any-level-only : (m : ℕ) (w : List ℕ) (a : ℕ) → anyLevel m w ≡ good a → (x : (d : ℕ) × (d < m)) × (a ≡ x .0) × (w ≡ digitByte (x .0) ∷ [])
+unfolding anyLevel
+any-level-only m [] a e = absurd (not-good 5 a e)
+any-level-only m (b ∷ c ∷ w) a e = absurd (not-good 5 a e)
+any-level-only m (b ∷ []) a e =
+    let (t, q) = judged-good (isDigit m b) (b - 48) 5 a e in
+    let (h, k) = digit-back m b t in
+    ((b - 48, h), q, ap (λ c. c ∷ []) k)
+
+-- a level field of a loose row: any level below m
+pub judges-any-level : (m : ℕ) → Judges (anyLevel m) ((d : ℕ) × (d < m)) (λ x. x .0) (λ x. digitByte (x .0) ∷ [])
+unfolding anyLevel
+judges-any-level m = record { passes = λ x. rw (digit-byte m (x .0) (x .1), byte-digit (x .0)) refl; word = λ x. digit-word (x .0); only = any-level-only m }

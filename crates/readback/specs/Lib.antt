@@ -3,7 +3,8 @@
 -- is cut (`Cuts`, `CutSheets`). The way to the first: what
 -- a reader reads is said once for both directions (`Spells`, `Collects`); then field by field (`Fields`, `Decimals`, `Judges`, `References`),
 -- line by line (`Names`, `Header`, `Gates`), sheet by sheet (`NetSheets`, `TableSheets`). `Lines` and `GateLines` take
--- an accepted sheet as lines. `ArrivalSheets` and `ArrivalRefusals` have the same of arrival sheets.
+-- an accepted sheet as lines. `LooseFields`, `LooseSheets`, `LooseTables` and `LoosePlaces` have
+-- the same of loose table sheets, `ArrivalSheets` and `ArrivalRefusals` of arrival sheets.
 -- Assumes nothing.
 pub mod Spells
 pub mod Collects
@@ -27,5 +28,9 @@ pub mod TableLength
 pub mod CutSheets
 pub mod Lines
 pub mod GateLines
+pub mod LooseFields
+pub mod LooseSheets
+pub mod LooseTables
+pub mod LoosePlaces
 pub mod ArrivalSheets
 pub mod ArrivalRefusals

@@ -10,7 +10,7 @@ use lib.ListN.{length, getD}
 use Rattle.rules.specs.Lists.{any, same}
 use Rattle.rules.specs.Text.{space}
 use Rattle.rules.specs.Fields.{isSeparator}
-use Rattle.rules.specs.Sheets.{isName, nameFields}
+use Rattle.rules.specs.Sheets.{isName, nameFields, nameFieldsIn}
 use Rattle.rules.specs.Kept.{GoodNames}
 use Rattle.laws.specs.Same.{same-refl, same-comm}
 use Rattle.laws.specs.Distinct.{Unlike, unlike-differ}
@@ -57,11 +57,11 @@ ended-more last count w [] l = absurd (omega arith)
 ended-more last count w (v ∷ ws) l = refl
 
 -- good names, none of them among the earlier
-abbrev NewNames : List (List ℕ) → List (List ℕ) → Type 0
+abbrev pub NewNames : List (List ℕ) → List (List ℕ) → Type 0
 NewNames earlier ws = GoodNames ws × Fresh same earlier ws
 
 -- one name, then the others
-new-names : (earlier : List (List ℕ)) (w : List ℕ) (ws : List (List ℕ))
+pub new-names : (earlier : List (List ℕ)) (w : List ℕ) (ws : List (List ℕ))
     → (((isName w ≡ true) × (any (same w) earlier ≡ false)) × NewNames (earlier ++ (w ∷ [])) ws) ↔ NewNames earlier (w ∷ ws)
 new-names earlier w ws = (
   λ ((h, e), (g, f)).
@@ -73,7 +73,7 @@ new-names earlier w ws = (
 -- the names field by field
 pub spells-names : (last : ℕ) → isSeparator last ≡ true → (count : ℕ) (earlier : List (List ℕ))
     → Collects (nameFields last count earlier) earlier count (NewNames earlier) (ended last)
-unfolding nameFields ended
+unfolding nameFieldsIn ended
 spells-names last h zero earlier = collects-none earlier (NewNames earlier) (ended last) (tt, tt) refl
 spells-names last h (suc zero) earlier = collects-more _ earlier zero _ _ (NewNames earlier) (λ w. w ++ last ∷ []) (ended last) (ended last)
     (spells-field last h (judges-name earlier)) (λ w. spells-names last h zero (earlier ++ (w ∷ []))) (new-names earlier) (ended-one last)

@@ -1,8 +1,8 @@
--- The numbers with which a sheet is turned back: a net sheet with 1, 2, 3, 4, 6, 7 or 8, a table sheet with 1 to 6.
+-- The numbers with which a sheet is turned back: a net sheet with 1, 2, 3, 4, 6, 7 or 8, a table sheet with 1 to 6, a loose one with these and 20.
 -- Assumes nothing.
-use Prim.Native.Nat.{ℕ, zero, suc, _-_, _*_, _^_}
-use mathlib.Core.Path.{_≡_, refl}
-use mathlib.Core.Bool.{not, _&&_}
+use Prim.Native.Nat.{ℕ, zero, suc, _+_, _-_, _*_, _^_}
+use mathlib.Core.Path.{_≡_, refl, sym}
+use mathlib.Core.Bool.{Bool, true, false, not, _&&_}
 use mathlib.Core.Option.{Option, none, some}
 use mathlib.Core.List.{List, [], _∷_, _++_, map}
 use lib.ListN.{length}
@@ -10,17 +10,22 @@ use lib.Dec.{eqb}
 use Rattle.rules.specs.Lists.{all, any, same}
 use Rattle.rules.specs.Text.{space, newline, digitByte, isDigit}
 use Rattle.rules.specs.Limits.{levelsFit, cellsFit}
-use Rattle.rules.specs.Fields.{Judged, bad, judged, theWord}
-use Rattle.rules.specs.Sheets.{Gate, levelsField, inputsOf, inputsField, isName, nameField, nameFields, headerLines, referenceOf, referenceField, digitsField, usedBy, gateLine, gateLines, netSheet, levelsAt, levelField, inkField, levelFields, rowLines, tableSheet}
+use Rattle.rules.specs.Fields.{Read, read, turnedBack, Judged, bad, judged, strict, loose, Layout, theWord}
+use Rattle.rules.specs.Sheets.{Gate, levelsField, inputsOf, inputsField, isName, nameField, nameFieldsIn, headerLinesIn, referenceOf, referenceField, digitsField, usedBy, gateLine, gateLines, netSheet, levelsAt, levelField, inkField, levelFields, rowLines, tableSheet}
+use Rattle.rules.specs.LooseSheet.{Row, anyLevel, indexFields, isOf, notGiven, rowFrom, looseRows, looseSheet, readLoose}
 use Rattle.rules.specs.Reading.{readNet, readTable}
+use Rattle.readback.specs.Spells.{not-read}
 use Rattle.laws.specs.Distinct.{In}
-use Rattle.readback.specs.Among.{Among, AmongJudge, Refuses, named-bad, test-bad, among-give, among-then, among-field, among-word, among-closed, among-answer}
+use Rattle.readback.specs.Among.{Among, AmongJudge, Refuses, named-bad, named-turned, test-bad, among-give, among-then, among-field, among-field-in, among-word, among-closed, among-answer}
 
 abbrev pub netNumbers : List ℕ
 netNumbers = 1 ∷ 2 ∷ 3 ∷ 4 ∷ 6 ∷ 7 ∷ 8 ∷ []
 
 abbrev pub tableNumbers : List ℕ
 tableNumbers = 1 ∷ 2 ∷ 3 ∷ 4 ∷ 5 ∷ 6 ∷ []
+
+abbrev pub looseNumbers : List ℕ
+looseNumbers = 1 ∷ 2 ∷ 3 ∷ 4 ∷ 5 ∷ 6 ∷ 20 ∷ []
 
 -- The numbers that both kinds of sheet have are the section's; 7 and 8 are a net sheet's, and 5 a table sheet's.
 module _ (numbers : List ℕ) (one : In 1 numbers) (two : In 2 numbers) (three : In 3 numbers) (four : In 4 numbers) (six : In 6 numbers) where
@@ -68,21 +73,22 @@ module _ (numbers : List ℕ) (one : In 1 numbers) (two : In 2 numbers) (three :
 
   -- ---- the sheets
 
-  among-names : (last count : ℕ) (earlier : List (List ℕ)) → Among numbers (nameFields last count earlier)
-  unfolding nameFields
-  among-names last zero earlier = among-give numbers one earlier
-  among-names last (suc zero) earlier = among-then numbers one _ _ (among-field numbers one (nameField earlier) last (among-name earlier)) (λ w. among-give numbers one (earlier ++ (w ∷ [])))
-  among-names last (suc (suc count)) earlier =
-      among-then numbers one _ _ (among-field numbers one (nameField earlier) space (among-name earlier)) (λ w. among-names last (suc count) (earlier ++ (w ∷ [])))
+  module _ (layout : Layout) where
+    among-names : (last count : ℕ) (earlier : List (List ℕ)) → Among numbers (nameFieldsIn layout last count earlier)
+    unfolding nameFieldsIn
+    among-names last zero earlier = among-give numbers one earlier
+    among-names last (suc zero) earlier = among-then numbers one _ _ (among-field-in numbers one layout (nameField earlier) last (among-name earlier)) (λ w. among-give numbers one (earlier ++ (w ∷ [])))
+    among-names last (suc (suc count)) earlier =
+        among-then numbers one _ _ (among-field-in numbers one layout (nameField earlier) space (among-name earlier)) (λ w. among-names last (suc count) (earlier ++ (w ∷ [])))
 
-  among-header : (last : ℕ) → Among numbers (headerLines last)
-  unfolding headerLines
-  among-header last =
-      among-then numbers one _ _ (among-field numbers one (theWord "levels") space (among-word numbers one "levels")) (λ _.
-      among-then numbers one _ _ (among-field numbers one (theWord "inputs") newline (among-word numbers one "inputs")) (λ _.
-      among-then numbers one _ _ (among-field numbers one levelsField space among-levels) (λ m.
-      among-then numbers one _ _ (among-field numbers one (inputsField m) newline (among-inputs m)) (λ n.
-      among-then numbers one _ _ (among-names last n []) (λ names. among-give numbers one _)))))
+    among-header : (last : ℕ) → Among numbers (headerLinesIn layout last)
+    unfolding headerLinesIn
+    among-header last =
+        among-then numbers one _ _ (among-field-in numbers one layout (theWord "levels") space (among-word numbers one "levels")) (λ _.
+        among-then numbers one _ _ (among-field-in numbers one layout (theWord "inputs") newline (among-word numbers one "inputs")) (λ _.
+        among-then numbers one _ _ (among-field-in numbers one layout levelsField space among-levels) (λ m.
+        among-then numbers one _ _ (among-field-in numbers one layout (inputsField m) newline (among-inputs m)) (λ n.
+        among-then numbers one _ _ (among-names last n []) (λ names. among-give numbers one _)))))
 
   among-gate : In 7 numbers → In 8 numbers → (m : ℕ) (names : List (List ℕ)) (earlier : List Gate) → Among numbers (gateLine m names earlier)
   unfolding gateLine
@@ -99,7 +105,7 @@ module _ (numbers : List ℕ) (one : In 1 numbers) (two : In 2 numbers) (three :
   among-net : In 7 numbers → In 8 numbers → Among numbers netSheet
   unfolding netSheet
   among-net seven eight =
-      among-then numbers one _ _ (among-header newline) (λ h.
+      among-then numbers one _ _ (among-header strict newline) (λ h.
       among-then numbers one _ _ (among-field numbers one (theWord "left") space (among-word numbers one "left")) (λ _.
       among-then numbers one _ _ (among-field numbers one (theWord "right") space (among-word numbers one "right")) (λ _.
       among-then numbers one _ _ (among-field numbers one (theWord "table") newline (among-word numbers one "table")) (λ _.
@@ -121,12 +127,53 @@ module _ (numbers : List ℕ) (one : In 1 numbers) (two : In 2 numbers) (three :
   among-table : In 5 numbers → Among numbers tableSheet
   unfolding tableSheet
   among-table five =
-      among-then numbers one _ _ (among-header space) (λ h.
+      among-then numbers one _ _ (among-header strict space) (λ h.
       among-then numbers one _ _ (among-field numbers one (theWord "ink") newline (among-word numbers one "ink")) (λ _.
       among-then numbers one _ _ (among-rows five (h .levels) (h .inputs) 0 (h .levels ^ h .inputs) []) (λ inks.
       among-then numbers one _ _ (among-closed numbers one) (λ _. among-give numbers one _))))
 
--- ---- the two sheets
+  -- a loose sheet's levels, rows, and the whole
+  among-any-level : In 5 numbers → (m : ℕ) → AmongJudge numbers (anyLevel m)
+  unfolding anyLevel
+  among-any-level five m [] k e = named-bad numbers one 5 k five e
+  among-any-level five m (b ∷ []) k e = test-bad numbers one (isDigit m b) (b - 48) 5 k five e
+  among-any-level five m (b ∷ c ∷ w) k e = named-bad numbers one 5 k five e
+
+  among-index : In 5 numbers → (m count before : ℕ) → Among numbers (indexFields m count before)
+  unfolding indexFields
+  among-index five m zero before = among-give numbers one before
+  among-index five m (suc count) before = among-then numbers one _ _ (among-field-in numbers one loose (anyLevel m) space (among-any-level five m)) (λ l. among-index five m count (before * m + l))
+
+  among-not-given : In 20 numbers → (first : ℕ) (earlier : List Row) (p : ℕ) → Among numbers (notGiven first earlier p)
+  unfolding notGiven
+  among-not-given twenty first earlier p s at k place e = go (any (isOf p) earlier) e
+    where
+      go : (t : Bool) → _≡_ {A = Read (Unit {0})} (elim t [ true ↦ turnedBack 20 first | false ↦ read tt s at ]) (turnedBack k place) → In k numbers
+      go true e = named-turned numbers one 20 first k place twenty e
+      go false e = absurd (not-read k place tt s at (sym e))
+
+  among-loose-row : In 5 numbers → In 20 numbers → (m n : ℕ) (earlier : List Row) (first : ℕ) → Among numbers (rowFrom m n earlier first)
+  unfolding rowFrom
+  among-loose-row five twenty m n earlier first =
+      among-then numbers one _ _ (among-index five m n 0) (λ p.
+      among-then numbers one _ _ (among-not-given twenty first earlier p) (λ _.
+      among-then numbers one _ _ (among-field-in numbers one loose (inkField m) newline (among-ink m)) (λ ink. among-give numbers one _)))
+
+  among-loose-rows : In 5 numbers → In 20 numbers → (m n count : ℕ) (earlier : List Row) → Among numbers (looseRows m n count earlier)
+  unfolding looseRows
+  among-loose-rows five twenty m n zero earlier = among-give numbers one earlier
+  among-loose-rows five twenty m n (suc count) earlier =
+      among-then numbers one (λ s at. rowFrom m n earlier at s at) _ (λ s at. among-loose-row five twenty m n earlier at s at) (λ row. among-loose-rows five twenty m n count (earlier ++ (row ∷ [])))
+
+  among-loose-sheet : In 5 numbers → In 20 numbers → Among numbers looseSheet
+  unfolding looseSheet
+  among-loose-sheet five twenty =
+      among-then numbers one _ _ (among-header loose space) (λ h.
+      among-then numbers one _ _ (among-field-in numbers one loose (theWord "ink") newline (among-word numbers one "ink")) (λ _.
+      among-then numbers one _ _ (among-loose-rows five twenty (h .levels) (h .inputs) (h .levels ^ h .inputs) []) (λ rows.
+      among-then numbers one _ _ (among-closed numbers one) (λ _. among-give numbers one _))))
+
+-- ---- the three sheets
 
 pub net-refusal : Refuses netNumbers readNet
 unfolding readNet any
@@ -135,3 +182,7 @@ net-refusal = among-answer netNumbers netSheet (among-net netNumbers refl refl r
 pub table-refusal : Refuses tableNumbers readTable
 unfolding readTable any
 table-refusal = among-answer tableNumbers tableSheet (among-table tableNumbers refl refl refl refl refl refl)
+
+pub loose-refusal : Refuses looseNumbers readLoose
+unfolding readLoose any
+loose-refusal = among-answer looseNumbers looseSheet (among-loose-sheet looseNumbers refl refl refl refl refl refl refl)

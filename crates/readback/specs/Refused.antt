@@ -9,7 +9,7 @@ use native.Mathlib.Omega.{arith}
 use lib.ListN.{length, take, drop}
 use Rattle.rules.specs.Text.{space, newline}
 use Rattle.rules.specs.Fields.{Read, read, turnedBack, Reader, run, theWord}
-use Rattle.rules.specs.Sheets.{Gate, levelsField, inputsField, nameField, nameFields, headerLines, referenceField, digitsField, usedBy, gateLine, gateLines, netSheet, levelsAt, levelField, inkField, levelFields, rowLines, tableSheet}
+use Rattle.rules.specs.Sheets.{Gate, levelsField, inputsField, nameField, nameFields, nameFieldsIn, headerLines, headerLinesIn, referenceField, digitsField, usedBy, gateLine, gateLines, netSheet, levelsAt, levelField, inkField, levelFields, rowLines, tableSheet}
 use Rattle.rules.specs.Answers.{Answer, refused}
 use Rattle.rules.specs.Reading.{answered, readNet, readTable}
 use Rattle.readback.specs.Fronts.{FromFront, front-give, front-then, front-field, front-closed, turned-place, fieldEnd, turned-alike, turned-through}
@@ -17,13 +17,13 @@ use Rattle.readback.specs.Fronts.{FromFront, front-give, front-then, fro
 -- ---- the readers of sheets judge from the front
 
 front-names : (last count : ℕ) (earlier : List (List ℕ)) → FromFront (nameFields last count earlier)
-unfolding nameFields
+unfolding nameFieldsIn
 front-names last zero earlier = front-give earlier
 front-names last (suc zero) earlier = front-then _ (front-field (nameField earlier) last) (λ w. front-give (earlier ++ (w ∷ [])))
 front-names last (suc (suc count)) earlier = front-then _ (front-field (nameField earlier) space) (λ w. front-names last (suc count) (earlier ++ (w ∷ [])))
 
 front-header : (last : ℕ) → FromFront (headerLines last)
-unfolding headerLines
+unfolding headerLinesIn
 front-header last =
     front-then _ (front-field (theWord "levels") space) (λ _.
     front-then _ (front-field (theWord "inputs") newline) (λ _.

@@ -66,20 +66,61 @@ unfoldable pub separator : {A : Type 0} → A → ℕ → List ℕ → ℕ → R
 separator a due [] place = turnedBack 1 place
 separator a due (b ∷ s) place = elim (eqb b due) [ true ↦ read a s (suc place) | false ↦ turnedBack 1 place ]
 
+-- the bytes past the spaces at the front
+unfoldable pub pastSpaces : List ℕ → List ℕ
+pastSpaces [] = []
+pastSpaces (b ∷ s) = elim (eqb b space) [ true ↦ pastSpaces s | false ↦ b ∷ s ]
+
+-- how many spaces stand at the front
+unfoldable pub spacesIn : List ℕ → ℕ
+spacesIn [] = 0
+spacesIn (b ∷ s) = elim (eqb b space) [ true ↦ suc (spacesIn s) | false ↦ 0 ]
+
+-- any number of spaces, none too, passed over
+unfoldable pub spaces : {A : Type 0} → A → Reader A
+spaces a s at = read a (pastSpaces s) (at + spacesIn s)
+
+-- How fields are parted. Strictly: "Fields are parted by exactly one space", and the line feed stands straight after a line's last field. Loosely
+-- (document 02, K8): "one or more spaces between fields, spaces before a line feed".
+pub data Layout : Type 0 where
+  strict : Layout
+  loose : Layout
+
+-- Loosely, where a space is due, one stands there and any others are passed; where a line feed is due, any spaces are passed and it stands there. So
+-- "elsewhere 1 is placed after any spaces passed".
+unfoldable pub looseSeparator : {A : Type 0} → A → ℕ → Reader A
+looseSeparator a due s at =
+    elim (eqb due space) [ true ↦ then (separator a due s at) spaces | false ↦ then (spaces a s at) (λ a. separator a due) ]
+
+-- in either layout
+abbrev pub separatorIn : Layout → {A : Type 0} → A → ℕ → Reader A
+separatorIn strict a due s at = separator a due s at
+separatorIn loose a due s at = looseSeparator a due s at
+
 -- A judged field that starts at `at` and ends before `end`.
-unfoldable pub afterField : {A : Type 0} → Judged A → ℕ → List ℕ → ℕ → ℕ → Read A
-afterField (bad number) due rest at end = turnedBack number at
-afterField (good a) due rest at end = separator a due rest end
+unfoldable pub afterFieldIn : Layout → {A : Type 0} → Judged A → ℕ → List ℕ → ℕ → ℕ → Read A
+afterFieldIn layout (bad number) due rest at end = turnedBack number at
+afterFieldIn layout (good a) due rest at end = separatorIn layout a due rest end
 
 -- "An empty field is 1. Otherwise the field is judged, then the byte after it. The place is the field's first byte, or the
--- byte where the separator should stand"
-unfoldable pub fieldOf : {A : Type 0} → Judge A → ℕ → List ℕ → List ℕ → ℕ → Read A
-fieldOf judge due [] rest at = turnedBack 1 at
-fieldOf judge due (b ∷ w) rest at = afterField (judge (b ∷ w)) due rest at (at + suc (length w))
+-- byte where the separator should stand". So "a space that starts a line is 1 there" (document 02, K8).
+unfoldable pub fieldOfIn : Layout → {A : Type 0} → Judge A → ℕ → List ℕ → List ℕ → ℕ → Read A
+fieldOfIn layout judge due [] rest at = turnedBack 1 at
+fieldOfIn layout judge due (b ∷ w) rest at = afterFieldIn layout (judge (b ∷ w)) due rest at (at + suc (length w))
 
 -- the field at the front, with the separator that is due after it
-unfoldable pub field : {A : Type 0} → Judge A → ℕ → Reader A
-field judge due s at = fieldOf judge due (run s) (past s) at
+unfoldable pub fieldIn : Layout → {A : Type 0} → Judge A → ℕ → Reader A
+fieldIn layout judge due s at = fieldOfIn layout judge due (run s) (past s) at
+
+-- the three of a strict sheet
+abbrev pub afterField : {A : Type 0} → Judged A → ℕ → List ℕ → ℕ → ℕ → Read A
+afterField verdict due rest at end = afterFieldIn strict verdict due rest at end
+
+abbrev pub fieldOf : {A : Type 0} → Judge A → ℕ → List ℕ → List ℕ → ℕ → Read A
+fieldOf judge due w rest at = fieldOfIn strict judge due w rest at
+
+abbrev pub field : {A : Type 0} → Judge A → ℕ → Reader A
+field judge due s at = fieldIn strict judge due s at
 
 -- a fixed word
 unfoldable pub theWord : String → Judge (Unit {0})
@@ -92,5 +133,5 @@ closed (b ∷ s) at = turnedBack 1 at
 
 -- all of this file computes
 unfoldable pub computing : Unit {0}
-unfolding then isSeparator run past separator afterField fieldOf field theWord closed
+unfolding then isSeparator run past separator pastSpaces spacesIn spaces looseSeparator afterFieldIn fieldOfIn fieldIn theWord closed
 computing = tt

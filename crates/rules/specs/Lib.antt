@@ -6,7 +6,7 @@
 -- follows), the starred cases (`Cases`), every refusal by examples (`Refusals`), and what is judged first (`Orders`). Of document 02: shallow
 -- nets (`Layers`, `Shallow`, `ShallowSettling`, `Shallower`, with `ShallowCases`), every wiring of a table (`Family`, `FamilyCalls`, with
 -- `FamilyCases`), the comparison of two assignments (`Differences`, with `DifferenceCases`) and arrival times (`ArrivalSheet`, `Arrivals`, with
--- `ArrivalCases`).
+-- `ArrivalCases`) and loose table sheets (`LooseSheet`, `Tidying`, with `LooseCases`).
 -- `Evaluation` lets all of it compute.
 -- Assumes nothing.
 pub mod Lists
@@ -42,11 +42,14 @@ pub mod Programs
 pub mod Lister
 pub mod ArrivalSheet
 pub mod Arrivals
+pub mod LooseSheet
+pub mod Tidying
 pub mod Evaluation
 pub mod Cases
 pub mod ShallowCases
 pub mod FamilyCases
 pub mod DifferenceCases
 pub mod ArrivalCases
+pub mod LooseCases
 pub mod Refusals
 pub mod Orders

@@ -14,6 +14,7 @@ use Rattle.rules.specs.Settling.{settleCall, makeCall}
 use Rattle.rules.specs.FamilyCalls.{familyCountCall, familyTreeCall}
 use Rattle.rules.specs.Checking.{turnedDown, checkCall}
 use Rattle.rules.specs.Arrivals.{netRefused, arrivalsRefused, arrivalsCall}
+use Rattle.rules.specs.Tidying.{tidyCall}
 use Rattle.rules.specs.Evaluation.{computing}
 
 -- ---- a sheet
@@ -117,3 +118,21 @@ net-before-arrivals delay = refl
 pub name-before-time : (delay : ℕ) → arrivalsCall (printedNet oneGate) (text "name from to" ++ newline ∷ (text "b 00 0" ++ newline ∷ [])) delay ≡ arrivalsRefused 18 13
 unfolding computing oneGate
 name-before-time delay = refl
+
+-- ---- tidying: document 02, K8
+
+-- 20 is "judged just before its ink field": the ink is no digit, and both buffers are empty
+pub row-before-ink : tidyCall (text "levels inputs" ++ newline ∷ (text "2 2" ++ newline ∷ (text "a b ink" ++ newline ∷ (text "1 1 1" ++ newline ∷ (text "1 1 x" ++ newline ∷ []))))) [] []
+    ≡ record { answer = refused 20 32; cells = []; output = [] }
+unfolding computing
+row-before-ink = refl
+
+-- "13 and 15 follow it": both buffers short
+pub tidying-cells-before-output : tidyCall (printedTable noTree) [] [] ≡ record { answer = refused 13 8; cells = []; output = [] }
+unfolding computing noTree
+tidying-cells-before-output = refl
+
+-- the output short, with the cells written
+pub tidying-output-last : tidyCall (printedTable noTree) (nines 9) [] ≡ record { answer = refused 15 92; cells = noTree .inks ++ (9 ∷ []); output = [] }
+unfolding computing noTree nines
+tidying-output-last = refl

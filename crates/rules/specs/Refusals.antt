@@ -1,4 +1,4 @@
--- The examples of docs/REFUSALS.md as one theorem, `refusals-hold`: every refusal, 1 to 19, by calls that give it, with its number, its
+-- The examples of docs/REFUSALS.md as one theorem, `refusals-hold`: every refusal, 1 to 20, by calls that give it, with its number, its
 -- place, and what each buffer lent to the call holds afterwards. They compute, so that a reader who believes nothing sees each number
 -- come out. The document's examples are these and no others (rust/sitgurp/tests/refusals.rs).
 -- Assumes nothing.
@@ -21,6 +21,8 @@ use Rattle.rules.specs.TableWriting.{writeTableCall}
 use Rattle.rules.specs.Lister.{listing}
 use Rattle.rules.specs.ArrivalSheet.{readArrivals}
 use Rattle.rules.specs.Arrivals.{arrivalsCall, arrivalsRefused, netRefused}
+use Rattle.rules.specs.LooseSheet.{readLoose}
+use Rattle.rules.specs.Tidying.{tidyCall}
 use Rattle.rules.specs.Evaluation.{computing}
 use Rattle.rules.specs.Cases.{lineEnds, paper, digits, named}
 
@@ -50,6 +52,10 @@ pub record TableBack (sheet : List ℕ) (number place : ℕ) : Type 0 where
 pub record ArrivalsBack (names : List (List ℕ)) (sheet : List ℕ) (number place : ℕ) : Type 0 where
   pub arriving : (net-sheet : List ℕ) (net : Net) (delay : ℕ) → readNet net-sheet ≡ accepted net → net .header .names ≡ names
       → arrivalsCall net-sheet sheet delay ≡ arrivalsRefused number place
+
+-- A loose table sheet that is turned back, whatever else is lent to tidying.
+pub record LooseBack (sheet : List ℕ) (number place : ℕ) : Type 0 where
+  pub tidying : (cells output : List ℕ) → tidyCall sheet cells output ≡ record { answer = refused number place; cells = cells; output = output }
 
 -- Bare cells that are turned back: the same for every group and every marks buffer.
 pub record CellsBack (m n : ℕ) (cells : List ℕ) (number place : ℕ) : Type 0 where
@@ -83,6 +89,10 @@ pub arrivals-back : {names : List (List ℕ)} {sheet : List ℕ} {number place :
 unfolding arrivalsCall
 arrivals-back e = record { arriving = λ net-sheet net delay a is. rw (a, is, e, arrivalsCall) }
 
+pub loose-back : {sheet : List ℕ} {number place : ℕ} → readLoose sheet ≡ refused number place → LooseBack sheet number place
+unfolding tidyCall
+loose-back e = record { tidying = λ cells output. rw (e, tidyCall) }
+
 pub cells-back : {m n : ℕ} {cells : List ℕ} {number place : ℕ} → bareCells m n cells ≡ refused number place → CellsBack m n cells number place
 unfolding multiplicityCall markingCall onward
 cells-back e = record { counting = λ g. rw (e, multiplicityCall); marking = λ marks. rw (e, markingCall) }
@@ -105,6 +115,8 @@ pub data Example : Type 0 where
   count : (sheet : String) (cells marks number place : ℕ) (cells-then : String) (marks-then : List ℕ) → Example
   tree : (sheet : String) (order cells marks output number place : ℕ) (cells-then : String) (marks-then : List ℕ) → Example
   arrival : (sheet : String) (number place : ℕ) → Example
+  loose : (sheet : String) (number place : ℕ) → Example
+  tidy : (sheet : String) (cells output number place : ℕ) (cells-then : String) → Example
 
 -- The common statement: a call's whole result, its answer and every buffer lent to it.
 abbrev pub Comes : Example → Type 0
@@ -154,6 +166,11 @@ Comes (tree sheet order cells marks output number place cells-then marks-then) =
     }
 -- an arrival sheet for the inputs a and b, turned back by the one call that takes one
 Comes (arrival sheet number place) = ArrivalsBack (named "ab") (paper sheet) number place
+-- a loose table sheet, turned back by the one call that takes one; tidying, with the cells as said and the output as it was
+Comes (loose sheet number place) = LooseBack (paper sheet) number place
+Comes (tidy sheet cells output number place cells-then) =
+    tidyCall (paper sheet) (nines cells) (nines output)
+    ≡ record { answer = refused number place; cells = digits (text cells-then); output = nines output }
 
 -- every example of a list
 infixr 5 _and_
@@ -177,6 +194,12 @@ refusals =
     ∷ net "levels inputs/2 2/a b/left right table/a b 0001" 1 47
     ∷ net "levels inputs/2 2/a b/left right table/a b 0001/a b 0001/" 1 48
     ∷ table "levels inputs/2 2/a b ink/0 0 0/0 1 0/1 0 0/1 1 1/1 1 1/" 1 50
+    -- .. and in a loose sheet: a space that starts a line; after the spaces passed, a missing field and a missing line feed; too few rows; a row beyond the last
+    ∷ loose "levels inputs/2 2/ a b ink/" 1 18
+    ∷ loose "levels inputs/2 2/a b ink/0 0   /" 1 32
+    ∷ loose "levels inputs  2 2/" 1 15
+    ∷ loose "levels inputs/2 2/a b ink/1 1 1/0 0 0/" 1 38
+    ∷ loose "levels inputs/2 2/a b ink/1 1 1/1 0 0/0 1 0/0 0 0/0 0 0/" 1 50
     -- 2: levels
     ∷ net "levels inputs/1 2/" 2 14
     -- 3: inputs; the number of cells
@@ -189,6 +212,7 @@ refusals =
     ∷ table "levels inputs/2 2/a ink/" 4 20
     -- 5: a row's input level
     ∷ table "levels inputs/2 2/a b ink/0 0 1/1 0 0/" 5 32
+    ∷ loose "levels inputs/2 2/a b ink/1 2 0/" 5 28
     -- 6: an ink; a gate's table
     ∷ table "levels inputs/2 2/a b ink/0 0 2/" 6 30
     ∷ net "levels inputs/2 2/a b/left right table/a b 000/" 6 43
@@ -218,6 +242,7 @@ refusals =
     ∷ make "levels inputs/2 2/a b ink/0 0 0/0 1 0/1 0 0/1 1 1/" 3 0 0 13 4 "999" []
     ∷ check "levels inputs/2 2/a b/left right table/a b 0001/" "levels inputs/2 2/a b ink/0 0 0/0 1 0/1 0 0/1 1 1/" 3 13 4
     ∷ count "levels inputs/2 2/a b ink/0 0 0/0 1 0/1 0 0/1 1 1/" 3 0 13 4 "999" []
+    ∷ tidy "levels inputs/2 2/a b ink/1 1 1/1 0 0/0 1 0/0 0 0/" 3 50 13 4 "999"
     -- 14: the marks buffer
     ∷ settle "levels inputs/2 2/a b/left right table/a b 0001/" 4 0 48 14 1 "9999" []
     ∷ tree "levels inputs/2 2/a b ink/0 0 0/0 1 0/1 0 0/1 1 1/" 1 4 0 0 14 1 "9999" []
@@ -226,6 +251,7 @@ refusals =
     ∷ settle "levels inputs/2 2/a b/left right table/a b 0001/" 5 3 47 15 48 "00019" (0xa8 ∷ 9 ∷ 9 ∷ [])
     ∷ write "levels inputs/2 2/a b/left right table/a b 0001/" 49 15 50
     ∷ tree "levels inputs/2 2/a b ink/0 0 0/0 1 0/1 0 0/1 1 1/" 0 4 1 47 15 48 "0001" (0xa8 ∷ [])
+    ∷ tidy "levels inputs/2 2/a b ink/1 1 1/1 0 0/0 1 0/0 0 0/" 5 49 15 50 "00019"
     -- 16: no tree, whatever the output; the whole group has mark 1 too, but more members
     ∷ make "levels inputs/2 3/a b c ink/0 0 0 0/0 0 1 0/0 1 0 0/0 1 1 1/1 0 0 0/1 0 1 1/1 1 0 1/1 1 1 1/" 9 3 0 16 7 "000101119" (0x28 ∷ 0x42 ∷ 9 ∷ [])
     ∷ make
@@ -243,18 +269,22 @@ refusals =
     ∷ arrival "name from to/a 1.5 2/" 19 15
     ∷ arrival "name from to/a 0 65536/" 19 17
     ∷ arrival "name from to/a 8 7/" 19 17
+    -- 20: an assignment of an earlier row, whatever the ink; with no ink
+    ∷ loose "levels inputs/2 2/a b ink/1 1 1/0 0 0/1 1 1/" 20 38
+    ∷ loose "levels inputs/2 2/a b ink/1 1 1/1 1  /" 20 32
     ∷ []
 
 pub refusals-hold : AllCome refusals
 unfolding computing lineEnds paper digits named nines
 refusals-hold =
     net-back refl and net-back refl and table-back refl and net-back refl and net-back refl and net-back refl and net-back refl
-    and net-back refl and net-back refl and net-back refl and table-back refl and net-back refl and net-back refl and net-back refl
-    and table-back refl
-    and net-back refl and net-back refl and table-back refl and table-back refl and table-back refl and net-back refl and net-back refl
+    and net-back refl and net-back refl and net-back refl and table-back refl and loose-back refl and loose-back refl and loose-back refl
+    and loose-back refl and loose-back refl and net-back refl and net-back refl and net-back refl and table-back refl and net-back refl
+    and net-back refl and table-back refl and table-back refl and loose-back refl and table-back refl and net-back refl and net-back refl
     and net-back refl and net-back refl and net-back refl and net-back refl and cells-back refl and cells-back refl and cells-back refl
-    and cells-back refl and cells-back refl and refl and refl and refl and refl and refl and refl
+    and cells-back refl and cells-back refl and refl and refl and refl and refl and refl
     and refl and refl and refl and refl and refl and refl and refl
     and refl and refl and refl and refl and refl and refl and refl
-    and arrivals-back refl and arrivals-back refl and arrivals-back refl and arrivals-back refl and arrivals-back refl and arrivals-back refl
+    and refl and refl and refl and arrivals-back refl and arrivals-back refl and arrivals-back refl and arrivals-back refl
+    and arrivals-back refl and arrivals-back refl and loose-back refl and loose-back refl
     and none

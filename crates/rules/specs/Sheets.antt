@@ -9,7 +9,7 @@ use lib.Dec.{eqb, leb, ltb}
 use Rattle.rules.specs.Lists.{range, all, any, find, same}
 use Rattle.rules.specs.Text.{space, newline, text, digitByte, isDigit, decimal}
 use Rattle.rules.specs.Limits.{levelsFit, cellsFit, fewestInputs, mostInputs, mostNameBytes}
-use Rattle.rules.specs.Fields.{Reader, _>>=_, give, bad, Judge, judged, field, theWord, closed}
+use Rattle.rules.specs.Fields.{Reader, _>>=_, give, bad, Judge, judged, strict, Layout, field, fieldIn, theWord, closed}
 
 -- ---- the two header lines and the names
 
@@ -52,21 +52,28 @@ unfoldable pub nameField : List (List ℕ) → Judge (List ℕ)
 nameField earlier w = judged (isName w && not (any (same w) earlier)) w 4
 
 -- `count` names after those read before; `last` is the separator that is due after the last one
-unfoldable pub nameFields : ℕ → ℕ → List (List ℕ) → Reader (List (List ℕ))
-nameFields last zero earlier = give earlier
-nameFields last (suc zero) earlier = field (nameField earlier) last >>= λ w. give (earlier ++ (w ∷ []))
-nameFields last (suc (suc count)) earlier =
-    field (nameField earlier) space >>= λ w. nameFields last (suc count) (earlier ++ (w ∷ []))
+unfoldable pub nameFieldsIn : Layout → ℕ → ℕ → List (List ℕ) → Reader (List (List ℕ))
+nameFieldsIn layout last zero earlier = give earlier
+nameFieldsIn layout last (suc zero) earlier = fieldIn layout (nameField earlier) last >>= λ w. give (earlier ++ (w ∷ []))
+nameFieldsIn layout last (suc (suc count)) earlier =
+    fieldIn layout (nameField earlier) space >>= λ w. nameFieldsIn layout last (suc count) (earlier ++ (w ∷ []))
 
 -- "Both kinds of sheet start with the line `levels inputs`, then a line of two decimal values." Line 3 has the names.
-unfoldable pub headerLines : ℕ → Reader Header
-headerLines last = do
-  _ ← field (theWord "levels") space
-  _ ← field (theWord "inputs") newline
-  m ← field levelsField space
-  n ← field (inputsField m) newline
-  names ← nameFields last n []
+unfoldable pub headerLinesIn : Layout → ℕ → Reader Header
+headerLinesIn layout last = do
+  _ ← fieldIn layout (theWord "levels") space
+  _ ← fieldIn layout (theWord "inputs") newline
+  m ← fieldIn layout levelsField space
+  n ← fieldIn layout (inputsField m) newline
+  names ← nameFieldsIn layout last n []
   give (record { levels = m; inputs = n; names = names })
+
+-- the two of a strict sheet
+abbrev pub nameFields : ℕ → ℕ → List (List ℕ) → Reader (List (List ℕ))
+nameFields last count earlier = nameFieldsIn strict last count earlier
+
+abbrev pub headerLines : ℕ → Reader Header
+headerLines last = headerLinesIn strict last
 
 -- ---- net sheet
 
@@ -176,5 +183,5 @@ tableSheet = do
 
 -- all of this file computes
 unfoldable pub computing : Unit {0}
-unfolding levelsField inputsOf inputsField isLetter letterFirst isName nameField nameFields headerLines referenceText referenceOf referenceField digitsField usedBy gateLine gateLines netSheet level levelsAt levelField inkField levelFields rowLines tableSheet
+unfolding levelsField inputsOf inputsField isLetter letterFirst isName nameField nameFieldsIn headerLinesIn referenceText referenceOf referenceField digitsField usedBy gateLine gateLines netSheet level levelsAt levelField inkField levelFields rowLines tableSheet
 computing = tt

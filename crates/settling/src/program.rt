@@ -1,14 +1,12 @@
 // What the two programs print. Their mains only read and write.
-ghost use mathlib.Core.Path.{_≡_};
 ghost use mathlib.Core.List.{List};
 ghost use Prim.Native.Nat.{ℕ};
-ghost use lib.ListN.{take};
-ghost use Rattle.rules.specs.Limits.{mostRead};
 ghost use Rattle.rules.specs.Programs.{programOutput, settleProgram, makeProgram};
 ghost use Rattle.answers.specs.Answers.{madeOf};
 ghost use Rattle.settling.specs.Program.{Fits, Prints};
 use crate::calls;
 use answers::answer::Answer;
+use lines::input::first_read;
 use lines::refusal;
 use marks::stored;
 use radix::limits;
@@ -17,16 +15,6 @@ use radix::limits;
 pub struct Printed {
     pub bytes: [u8; limits::MOST_SETTLED],
     pub length: usize,
-}
-
-// As much of the input as a program reads.
-fn first_read(s: &[u8]) -> &[u8]
-    ensures { λ r. ⌜ now r ≡ take mostRead (now (s .entry)) ⌝ }
-{
-    if limits::MOST_READ < s.len() {
-        return &s[0..limits::MOST_READ];
-    }
-    s
 }
 
 // The sheet that a call wrote into `out`, or its refusal's two lines.

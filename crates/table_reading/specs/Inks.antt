@@ -39,7 +39,7 @@ ink-digit m ink h =
     sym (ink-good m ((zeroByte + ink) ∷ []) refl (omega arith) (omega arith)) ∙ ap good (omega arith)
 
 -- an ink that was read is a level
-ink-told : (m : ℕ) (w : List ℕ) (ink : ℕ) → inkField m w ≡ good ink → ink < m
+pub ink-told : (m : ℕ) (w : List ℕ) (ink : ℕ) → inkField m w ≡ good ink → ink < m
 unfolding inkField isDigit
 ink-told m [] ink e = let z : _≡_ {A = ℕ} 0 1 = cc in absurd (omega arith)
 ink-told m (b ∷ []) ink e =

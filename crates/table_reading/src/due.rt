@@ -19,7 +19,7 @@ const LEVEL: usize = ZERO + 256 * SPACE as usize;
 const INK: usize = ZERO + 256 * NEWLINE as usize;
 
 // The byte at `at` and the one after it.
-fn two_bytes(s: &[u8], at: usize) -> usize
+pub fn two_bytes(s: &[u8], at: usize) -> usize
     requires { ⌜ at + 1 < length (now s) ⌝ }
     ensures { λ r. ⌜ (r ≡ getD (now (s .entry)) at 0 + 256 * getD (now (s .entry)) (at + 1) 0) × (getD (now (s .entry)) at 0 < 256) ⌝ }
 {

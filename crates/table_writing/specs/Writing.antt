@@ -16,17 +16,13 @@ use Rattle.nets.specs.declared.forms.Header.{Header}
 use Rattle.nets.specs.declared.forms.Net.{Net}
 use Rattle.nets.specs.Evaluating.{Tabled}
 use Rattle.nets.specs.Forms.{netIn, tableIn}
-use Rattle.lines.specs.Names.{NamesInside}
+use Rattle.table_printing.specs.Lengths.{Measures}
 use Rattle.lines.specs.Put.{Wrote}
 use Rattle.accepted.specs.Taken.{NetTaken, names-inside, own-length, front-length, front-table}
 
 -- the answer, and the output after the call
 abbrev pub writtenOf : Answer → List ℕ → Written
 writtenOf r output = record { answer = answerOf r; output = output }
-
--- the length of a table sheet, whatever its `count` inks
-abbrev pub Measures : Header → ℕ → ℕ → Type 0
-Measures h count need = (s inks : List ℕ) → NamesInside s h → length inks ≡ count → need ≡ length (printedTable (tableIn s h inks))
 
 module _ (s : List ℕ) (h : Header) (net : Net) (taken : NetTaken s h net) (count need : ℕ) (is : count ≡ h .levels ^ h .inputs) (measures : Measures h count need)
     (output : List ℕ) where

@@ -1,4 +1,2 @@
-// A net sheet's table sheet, with its length known before it is written.
-pub mod lengths;
-pub mod table;
+// A net sheet's table sheet.
 pub mod write;

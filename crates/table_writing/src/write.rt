@@ -3,8 +3,6 @@ ghost use mathlib.Core.Path.{_≡_};
 ghost use Rattle.rules.specs.TableWriting.{writeTableCall};
 ghost use Rattle.table_writing.specs.Writing.{writtenOf};
 ghost use Rattle.accepted.specs.Taken.{NetTaken};
-use crate::lengths::table_length;
-use crate::table::print_table;
 use answers::answer::Answer;
 use answers::outcome::Outcome;
 use net_reading::net::read_net;
@@ -13,6 +11,8 @@ use nets::forms::Net;
 use nets::values;
 use radix::limits::MOST_CELLS;
 use radix::powers::power;
+use table_printing::lengths::table_length;
+use table_printing::table::print_table;
 
 // Refusal 15, or the table sheet of an accepted net sheet.
 fn write_accepted(sheet: &[u8], header: Header, net: Net, out: &mut [u8]) -> Answer

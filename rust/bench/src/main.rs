@@ -18,7 +18,7 @@ mod ratios;
 mod timing;
 
 use kinds::{names, KINDS, SIZES};
-use ratios::Against;
+use ratios::{Against, Laid};
 use reference::generate::TableKind;
 
 /// One row a size, one column a kind, and the geometric mean over the kinds.
@@ -55,6 +55,18 @@ fn main() {
         ratios::family_counting,
     );
     by_size("the last tree of the family / making", ratios::last_tree);
+    for (how, words) in [
+        (Laid::Strictly, "as a table sheet"),
+        (Laid::Reversed, "with its rows reversed"),
+        (Laid::Aligned, "so, with three spaces for one"),
+    ] {
+        by_size(
+            &format!(
+                "tidying a sheet laid {words} / reading it strictly; at 2 11 it is to be 3 at most"
+            ),
+            |m, n, kind| ratios::tidying(m, n, kind, how),
+        );
+    }
     by_size(
         "counting every group's classes, proved / second implementation",
         ratios::counting,

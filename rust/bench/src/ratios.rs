@@ -187,6 +187,49 @@ pub fn reading(m: usize, n: usize, kind: TableKind, against: Against) -> f64 {
     ratio(proved, other)
 }
 
+/// How a sheet is laid before it is tidied.
+#[derive(Clone, Copy, PartialEq, Eq)]
+pub enum Laid {
+    /// As a table sheet.
+    Strictly,
+    /// With its rows from the last to the first.
+    Reversed,
+    /// So, and with three spaces for one.
+    Aligned,
+}
+
+fn laid(sheet: &[u8], laid: Laid) -> Vec<u8> {
+    let text = std::str::from_utf8(sheet).expect("ASCII");
+    let mut lines: Vec<String> = text.lines().map(str::to_string).collect();
+    if laid != Laid::Strictly {
+        lines[3..].reverse();
+    }
+    let text = lines.join("\n") + "\n";
+    match laid {
+        Laid::Aligned => text.replace(' ', "   ").into_bytes(),
+        _ => text.into_bytes(),
+    }
+}
+
+/// Tidying a table sheet, laid as is said, against reading it strictly, both the library's.
+pub fn tidying(m: usize, n: usize, kind: TableKind, how: Laid) -> f64 {
+    let sheets = sheets(20, m, n, kind);
+    let loose: Vec<Vec<u8>> = sheets.iter().map(|sheet| laid(sheet, how)).collect();
+    let mut cells = vec![0; sitgurp::MOST_CELLS];
+    let mut output = vec![0; sitgurp::MOST_TABLE_SHEET];
+    for (sheet, loose) in sheets.iter().zip(&loose) {
+        let length = sitgurp::tidy(loose, &mut cells, &mut output).expect("a loose sheet");
+        assert_eq!(&output[..length], sheet, "the sheet that it was made of");
+    }
+    let tidying = least(&loose, |sheet| {
+        black_box(sitgurp::tidy(black_box(sheet), &mut cells, &mut output)).ok();
+    });
+    let reading = least(&sheets, |sheet| {
+        black_box(sitgurp::make(black_box(sheet), &mut [], &mut [], &mut [])).ok();
+    });
+    ratio(tidying, reading)
+}
+
 /// A table sheet, and beside it its own net; where it has none, a net under the same header.
 fn net_and_table(sheet: Vec<u8>, generator: &mut Generator) -> (Vec<u8>, Vec<u8>) {
     let net = sitgurp::made(&sheet).unwrap_or_else(|_| {

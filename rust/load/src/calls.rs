@@ -21,10 +21,11 @@ pub enum Kind {
     Arrivals,
     WriteTable,
     Listing,
+    Tidy,
 }
 
 impl Kind {
-    pub const ALL: [Kind; 15] = [
+    pub const ALL: [Kind; 16] = [
         Kind::Multiplicity,
         Kind::Multiplicities,
         Kind::FewestLevels,
@@ -40,6 +41,7 @@ impl Kind {
         Kind::Arrivals,
         Kind::WriteTable,
         Kind::Listing,
+        Kind::Tidy,
     ];
 
     /// The refusals that documents 01 and 02 have for this call; of the two that ask a table sheet's multiplicities, the sheet's. The shallower of
@@ -58,6 +60,7 @@ impl Kind {
             Kind::Arrivals => &[1, 2, 3, 4, 6, 7, 8, 18, 19],
             Kind::WriteTable => &[1, 2, 3, 4, 6, 7, 8, 15],
             Kind::Listing => &[1, 2, 3, 4, 6, 7, 8],
+            Kind::Tidy => &[1, 2, 3, 4, 5, 6, 13, 15, 20],
         }
     }
 }
@@ -93,6 +96,7 @@ impl Call {
             Kind::Arrivals => arrivals(&mut inputs),
             Kind::WriteTable => write_table(&mut inputs),
             Kind::Listing => listing(&mut inputs),
+            Kind::Tidy => tidy(&mut inputs),
         };
         Call {
             kind,
@@ -396,11 +400,8 @@ fn arrivals(inputs: &mut Inputs) -> Both {
 
 fn write_table(inputs: &mut Inputs) -> Both {
     let sheet = inputs.net_sheet();
-    // the rows, and about as much for the first three lines as the net sheet has
-    let rows = inputs.cells_needed() * (2 * inputs.n + 2);
-    let first_lines = sheet.split_inclusive(|&byte| byte == b'\n').take(3);
-    let names: usize = first_lines.map(<[u8]>::len).sum();
-    let buffers = vec![inputs.buffer(rows + names + b" ink".len())];
+    let length = inputs.table_sheet_length(&sheet) + b" ink".len();
+    let buffers = vec![inputs.buffer(length)];
     both(
         in_words(&[&sheet], &buffers),
         buffers,
@@ -432,6 +433,25 @@ fn listing(inputs: &mut Inputs) -> Both {
             Answer::of_second(reference::Lister::start(&sheet), |mut lister| {
                 Answer::Turns((0..TURNS).map(|_| lister.next().map(place)).collect())
             })
+        },
+    )
+}
+
+/// A loosely laid table sheet; the spaces of its first lines make the output a little longer than it needs.
+fn tidy(inputs: &mut Inputs) -> Both {
+    let sheet = inputs.loose_sheet();
+    let length = inputs.table_sheet_length(&sheet);
+    let buffers = vec![inputs.buffer(inputs.cells_needed()), inputs.buffer(length)];
+    both(
+        in_words(&[&sheet], &buffers),
+        buffers,
+        |buffers| {
+            let [cells, output] = lent(buffers);
+            Answer::of_proved(sitgurp::tidy(&sheet, cells, output), Answer::Value)
+        },
+        |buffers| {
+            let [cells, output] = lent(buffers);
+            Answer::of_second(reference::tidy(&sheet, cells, output), Answer::Value)
         },
     )
 }

@@ -72,6 +72,28 @@ impl Inputs {
         self.perhaps_damaged(good)
     }
 
+    /// A loosely laid table sheet, good half of the time.
+    pub fn loose_sheet(&mut self) -> Vec<u8> {
+        let kind = *self.generator.rng.pick(&TableKind::ALL);
+        let strict = self.generator.table_sheet(self.m, self.n, kind);
+        let mut sheet = self.generator.loosened(&strict);
+        match self.below(8) {
+            0..4 => {}
+            4..7 => sheet = self.generator.loosely_damaged(&sheet),
+            _ => sheet = self.perhaps_damaged(sheet),
+        }
+        sheet.shrink_to_fit();
+        sheet
+    }
+
+    /// About what a table sheet of the same first lines is long.
+    pub fn table_sheet_length(&self, sheet: &[u8]) -> usize {
+        let rows = self.cells_needed() * (2 * self.n + 2);
+        let first_lines = sheet.split_inclusive(|&byte| byte == b'\n').take(3);
+        let names: usize = first_lines.map(<[u8]>::len).sum();
+        rows + names
+    }
+
     /// An order number of a tree of this table sheet, or one at or past their count.
     pub fn order_number(&mut self, sheet: &[u8]) -> u64 {
         let count = sitgurp::Family::of(sheet).map_or(0, |family| family.size());

@@ -5,7 +5,7 @@ use std::collections::BTreeSet;
 use std::fmt;
 
 /// Refusals are numbered from 1; 0 stands for an accepted call.
-const ENDS: usize = 20;
+const ENDS: usize = 21;
 
 #[derive(Clone, Default)]
 struct Row {
@@ -101,6 +101,7 @@ mod tests {
             (Kind::Make, 16),
             (Kind::FamilyTree, 17),
             (Kind::Arrivals, 19),
+            (Kind::Tidy, 20),
             (Kind::Multiplicity, 0),
             (Kind::Listing, 8),
         ] {

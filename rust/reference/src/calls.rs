@@ -15,8 +15,8 @@ use crate::refusal::{self, require, Refusal};
 use crate::settled::settled_net;
 use crate::shallow::shallow_net;
 use crate::sheet::{
-    print_net_sheet, print_table_sheet, read_arrival_sheet, read_net_sheet, read_table_sheet,
-    Header,
+    print_net_sheet, print_table_sheet, read_arrival_sheet, read_loose_table_sheet, read_net_sheet,
+    read_table_sheet, Header,
 };
 
 /// What a check answers: "agreement or the lowest index that differs".
@@ -231,6 +231,16 @@ pub fn arrivals(net_sheet: &[u8], arrival_sheet: &[u8], delay: u8) -> Result<Set
 pub fn write_table(net_sheet: &[u8], out: &mut [u8]) -> Result<usize, Refusal> {
     let (header, net) = read_net_sheet(net_sheet)?;
     write_sheet(&print_table_sheet(&header, &net.table()), out)
+}
+
+/// A loosely laid table sheet to the table sheet of document 01. It "puts the inks
+/// in the cells buffer and writes the table sheet"; "13 and 15 follow" the sheet's
+/// refusals. Refusals 1 to 6, 20, 13, 15.
+pub fn tidy(sheet: &[u8], cells: &mut [u8], out: &mut [u8]) -> Result<usize, Refusal> {
+    let (header, table) = read_loose_table_sheet(sheet)?;
+    require(refusal::CELLS_SHORT, cells.len(), table.inks.len())?;
+    put(cells, &table.inks);
+    write_sheet(&print_table_sheet(&header, &table), out)
 }
 
 /// "A call that writes a sheet answers its length, and the sheet is that many

@@ -172,7 +172,7 @@ pub fn single_edits(sheet: &[u8]) -> impl Iterator<Item = Vec<u8>> + '_ {
 }
 
 /// The lines of a sheet, each with its line feed if it has one.
-fn lines(sheet: &[u8]) -> Vec<&[u8]> {
+pub(crate) fn lines(sheet: &[u8]) -> Vec<&[u8]> {
     sheet.split_inclusive(|&byte| byte == b'\n').collect()
 }
 
@@ -192,7 +192,7 @@ fn fields(sheet: &[u8]) -> Vec<Range<usize>> {
 }
 
 /// Where the fields of one line lie, lines counted from 0.
-fn fields_of_line(sheet: &[u8], line: usize) -> Vec<Range<usize>> {
+pub(crate) fn fields_of_line(sheet: &[u8], line: usize) -> Vec<Range<usize>> {
     let lines = lines(sheet);
     if line >= lines.len() {
         return Vec::new();
@@ -204,7 +204,7 @@ fn fields_of_line(sheet: &[u8], line: usize) -> Vec<Range<usize>> {
         .collect()
 }
 
-fn replace(sheet: &[u8], part: &Range<usize>, with: &[u8]) -> Vec<u8> {
+pub(crate) fn replace(sheet: &[u8], part: &Range<usize>, with: &[u8]) -> Vec<u8> {
     [&sheet[..part.start], with, &sheet[part.end..]].concat()
 }
 

@@ -93,11 +93,20 @@ pub fn count_field(field: &[u8], due: u8) -> Judged<()> {
     Ok(())
 }
 
+/// "An input field that is no digit below m is 5", where rows come in any order.
+pub fn level_field(field: &[u8], m: usize) -> Judged<u8> {
+    one_digit_below(field, m).ok_or(refusal::COUNT)
+}
+
 /// An ink is one digit below m: how an ink field is judged is said here alone.
 pub fn ink_field(field: &[u8], m: usize) -> Judged<u8> {
+    one_digit_below(field, m).ok_or(refusal::DIGITS)
+}
+
+fn one_digit_below(field: &[u8], m: usize) -> Option<u8> {
     match *field {
-        [byte] => digit_below(byte, m).ok_or(refusal::DIGITS),
-        _ => Err(refusal::DIGITS),
+        [byte] => digit_below(byte, m),
+        _ => None,
     }
 }
 

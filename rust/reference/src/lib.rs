@@ -9,7 +9,8 @@
 //! | `limits`   | "Sheets": the bounds, each in one place                   |
 //! | `refusal`  | "Turned back": a number, a place, the sheet it names      |
 //! | `fields`   | "Sheets": how a single field is judged                    |
-//! | `sheet`    | "Sheets": reading from the front, and printing            |
+//! | `sheet`    | "Sheets": reading from the front, and printing; the loose |
+//! |            | table sheets of document 02, "Sheets from spreadsheets"   |
 //! | `net`      | "Value of a net"                                          |
 //! | `groups`   | "Groups": alike, classes, multiplicity                    |
 //! | `marks`    | "Marks", and document 02's packing of them in a buffer    |
@@ -20,7 +21,8 @@
 //! | `calls`    | every call with the buffers lent to it                    |
 //! | `lister`   | "Listing"                                                 |
 //! | `programs` | "Two programs"                                            |
-//! | `rng`, `generate`, `damage` | seeded sheets, good and damaged, for tests |
+//! | `rng`, `generate`, `loose`, `damage` | seeded sheets, good, loose and  |
+//! |            | damaged, for tests                                        |
 //!
 //! Plain rather than quick: an assignment is a list of levels, a group's class
 //! is a column of inks, and nothing is reckoned that the text does not name.
@@ -34,6 +36,7 @@ pub mod generate;
 pub mod groups;
 pub mod limits;
 pub mod lister;
+pub mod loose;
 pub mod marks;
 pub mod net;
 pub mod programs;
@@ -46,7 +49,8 @@ pub mod sheet;
 pub use arrivals::Settling;
 pub use calls::{
     arrivals, check, family_count, family_tree, fewest_levels, make, make_shallow, marking,
-    multiplicities, multiplicity, settle, settle_shallow, shallower, write_table, Layered, Verdict,
+    multiplicities, multiplicity, settle, settle_shallow, shallower, tidy, write_table, Layered,
+    Verdict,
 };
 pub use limits::allowed_sizes;
 pub use lister::Lister;

@@ -5,7 +5,7 @@
 /// "A call that refuses either of two sheets judges the net first, and names
 /// the sheet it refuses; 12 names neither." Numbers 1 to 8 are about a sheet
 /// and name it, in the calls with one sheet too; 18 and 19 are about an arrival
-/// sheet and name it; 9 to 17 name neither.
+/// sheet and name it, 20 is about a table sheet; 9 to 17 name neither.
 #[derive(Clone, Copy, Debug, PartialEq, Eq)]
 pub enum Sheet {
     Net,
@@ -41,6 +41,7 @@ pub const NO_TREE: u8 = 16;
 pub const ORDER_NUMBER: u8 = 17;
 pub const NEXT_INPUT: u8 = 18;
 pub const TIME: u8 = 19;
+pub const REPEATED_ROW: u8 = 20;
 
 impl Refusal {
     /// A refusal that names no sheet (yet).

@@ -6,10 +6,10 @@
 
 use crate::arrivals::Arrival;
 use crate::fields::{
-    count_field, digit, digits_field, fixed_word, ink_field, inputs_field, levels_field,
-    name_field, next_input_field, reference_field, time_field, Judged,
+    count_field, digit, digits_field, fixed_word, ink_field, inputs_field, level_field,
+    levels_field, name_field, next_input_field, reference_field, time_field, Judged,
 };
-use crate::net::{all_inputs, count_up, Gate, Net, Table, Wire};
+use crate::net::{all_inputs, count_up, place_in_count, Gate, Net, Table, Wire};
 use crate::refusal::{self, Refusal, Sheet};
 
 const SPACE: u8 = b' ';
@@ -24,12 +24,27 @@ pub struct Header {
     pub names: Vec<Vec<u8>>,
 }
 
+/// What may stand between one field and the next.
+#[derive(Clone, Copy, Debug, PartialEq, Eq)]
+enum Spacing {
+    /// "Fields are parted by exactly one space."
+    Strict,
+    /// "One or more spaces between fields, spaces before a line feed."
+    Loose,
+}
+
 struct Reader<'a> {
     sheet: &'a [u8],
     at: usize,
+    spacing: Spacing,
 }
 
 impl<'a> Reader<'a> {
+    fn new(sheet: &'a [u8], spacing: Spacing) -> Reader<'a> {
+        let at = 0;
+        Reader { sheet, at, spacing }
+    }
+
     /// "A field is a longest run of bytes other than space (32) and line
     /// feed": the run that starts here, up to the sheet's end if need be.
     fn run(&self) -> &'a [u8] {
@@ -39,7 +54,7 @@ impl<'a> Reader<'a> {
         &rest[..length]
     }
 
-    /// One field and the one byte due after it. "The place is the field's first
+    /// One field and the separator due after it. "The place is the field's first
     /// byte, or the byte where the separator should stand".
     fn field<T>(
         &mut self,
@@ -52,11 +67,31 @@ impl<'a> Reader<'a> {
         }
         let value = judge(field).map_err(|number| self.refuse(number))?;
         self.at += field.len();
-        if self.sheet.get(self.at) != Some(&separator) {
+        self.separator(separator)?;
+        Ok(value)
+    }
+
+    /// The byte due after a field, with the spaces that a loose sheet may have
+    /// before a line feed or after a space. There "1 is placed after any spaces
+    /// passed"; but no space is passed at a line's start, where it is 1.
+    fn separator(&mut self, due: u8) -> Result<(), Refusal> {
+        if due == LINE_FEED && self.spacing == Spacing::Loose {
+            self.pass_spaces();
+        }
+        if self.sheet.get(self.at) != Some(&due) {
             return Err(self.refuse(refusal::LAYOUT));
         }
         self.at += 1;
-        Ok(value)
+        if due == SPACE && self.spacing == Spacing::Loose {
+            self.pass_spaces();
+        }
+        Ok(())
+    }
+
+    fn pass_spaces(&mut self) {
+        while self.sheet.get(self.at) == Some(&SPACE) {
+            self.at += 1;
+        }
     }
 
     /// "nothing after its last line"; otherwise 1 at "the first byte after
@@ -90,6 +125,15 @@ impl<'a> Reader<'a> {
             names.push(name.to_vec());
         }
         Ok(names)
+    }
+
+    /// The first three lines of a table sheet: "line 3 has the n input names and
+    /// then `ink`".
+    fn table_header(&mut self) -> Result<Header, Refusal> {
+        let (m, n) = self.size()?;
+        let names = self.names(n, SPACE)?;
+        self.field(|field| fixed_word(field, b"ink"), LINE_FEED)?;
+        Ok(Header { m, n, names })
     }
 
     /// The n - 1 gate lines.
@@ -138,6 +182,30 @@ impl<'a> Reader<'a> {
         }
     }
 
+    /// "Rows in any order": as many as there are cells, and each names another
+    /// assignment, so every assignment is named. Answers the inks in index order.
+    fn inks_in_any_order(&mut self, header: &Header) -> Result<Vec<u8>, Refusal> {
+        let inputs = all_inputs(header.n);
+        let cells = header.m.pow(header.n as u32);
+        let mut inks: Vec<Option<u8>> = vec![None; cells];
+        for _ in 0..cells {
+            let row = self.at;
+            let mut levels = Vec::new();
+            for _ in 0..header.n {
+                levels.push(self.field(|field| level_field(field, header.m), SPACE)?);
+            }
+            let index = place_in_count(&levels, &inputs, header.m);
+            if inks[index].is_some() {
+                // "Placed at the row's first field, judged just before its ink
+                // field, even an empty one."
+                return Err(Refusal::new(refusal::REPEATED_ROW, row as u64));
+            }
+            inks[index] = Some(self.field(|field| ink_field(field, header.m), LINE_FEED)?);
+        }
+        let named = inks.into_iter().map(|ink| ink.expect("named by some row"));
+        Ok(named.collect())
+    }
+
     /// "One line an input in order": its name, `from` and `to`.
     fn arrivals(&mut self, names: &[Vec<u8>]) -> Result<Vec<Arrival>, Refusal> {
         let mut arrivals = Vec::new();
@@ -157,7 +225,7 @@ pub fn read_net_sheet(sheet: &[u8]) -> Result<(Header, Net), Refusal> {
 }
 
 fn read_net(sheet: &[u8]) -> Result<(Header, Net), Refusal> {
-    let mut reader = Reader { sheet, at: 0 };
+    let mut reader = Reader::new(sheet, Spacing::Strict);
     let (m, n) = reader.size()?;
     let names = reader.names(n, LINE_FEED)?;
     let header = Header { m, n, names };
@@ -175,13 +243,26 @@ pub fn read_table_sheet(sheet: &[u8]) -> Result<(Header, Table), Refusal> {
 }
 
 fn read_table(sheet: &[u8]) -> Result<(Header, Table), Refusal> {
-    let mut reader = Reader { sheet, at: 0 };
-    let (m, n) = reader.size()?;
-    let names = reader.names(n, SPACE)?;
-    let header = Header { m, n, names };
-    reader.field(|field| fixed_word(field, b"ink"), LINE_FEED)?;
+    let mut reader = Reader::new(sheet, Spacing::Strict);
+    let header = reader.table_header()?;
     let inks = reader.inks(&header)?;
     reader.end()?;
+    let (m, n) = (header.m, header.n);
+    Ok((header, Table { m, n, inks }))
+}
+
+/// Reads a loosely laid table sheet: "one or more spaces between fields, spaces
+/// before a line feed, rows in any order". A refusal names it.
+pub fn read_loose_table_sheet(sheet: &[u8]) -> Result<(Header, Table), Refusal> {
+    read_loose_table(sheet).map_err(|refusal| refusal.naming(Sheet::Table))
+}
+
+fn read_loose_table(sheet: &[u8]) -> Result<(Header, Table), Refusal> {
+    let mut reader = Reader::new(sheet, Spacing::Loose);
+    let header = reader.table_header()?;
+    let inks = reader.inks_in_any_order(&header)?;
+    reader.end()?;
+    let (m, n) = (header.m, header.n);
     Ok((header, Table { m, n, inks }))
 }
 
@@ -192,7 +273,7 @@ pub fn read_arrival_sheet(sheet: &[u8], header: &Header) -> Result<Vec<Arrival>,
 }
 
 fn read_arrivals(sheet: &[u8], names: &[Vec<u8>]) -> Result<Vec<Arrival>, Refusal> {
-    let mut reader = Reader { sheet, at: 0 };
+    let mut reader = Reader::new(sheet, Spacing::Strict);
     reader.field(|field| fixed_word(field, b"name"), SPACE)?;
     reader.field(|field| fixed_word(field, b"from"), SPACE)?;
     reader.field(|field| fixed_word(field, b"to"), LINE_FEED)?;

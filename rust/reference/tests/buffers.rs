@@ -5,7 +5,7 @@ mod common;
 
 use common::*;
 use reference::{
-    check, family_count, family_tree, make, make_shallow, marking, settle, settle_shallow,
+    check, family_count, family_tree, make, make_shallow, marking, settle, settle_shallow, tidy,
     write_table, Refusal, Verdict,
 };
 
@@ -315,6 +315,10 @@ fn a_refused_sheet_changes_no_buffer() {
             let refusal = check(&sheet, &sheet, &mut cells).expect_err("a bad sheet");
             assert!((1..=8).contains(&refusal.number));
             assert_eq!(cells, lent(length));
+            let (mut c, mut o) = (lent(length), lent(length));
+            let refusal = tidy(&sheet, &mut c, &mut o).expect_err("a bad sheet");
+            assert!((1..=8).contains(&refusal.number));
+            assert_eq!([c, o], [(); 2].map(|_| lent(length)));
         }
     }
 }
@@ -334,6 +338,28 @@ fn write_table_at_every_length() {
         } else {
             assert_eq!(result, Ok(table.len()));
             assert_eq!(out, written(length, &table));
+        }
+    }
+}
+
+/// 13, then 15 with the cells written.
+#[test]
+fn tidy_at_every_length() {
+    let loose = lines("levels inputs/2 2/a  b ink /1 0 1/0 1 0/1 1 0/0 0 1/");
+    let strict = table_sheet(2, "a b", &[1, 0, 1, 0]);
+    for cells in lengths(4) {
+        for out in lengths(strict.len()) {
+            let (mut c, mut o) = (lent(cells), lent(out));
+            let answer = tidy(&loose, &mut c, &mut o);
+            match (cells < 4, out < strict.len()) {
+                (true, _) => assert_eq!(answer, Err(of_neither(13, 4))),
+                (_, true) => assert_eq!(answer, Err(of_neither(15, strict.len() as u64))),
+                _ => assert_eq!(answer, Ok(strict.len())),
+            }
+            let front = if cells < 4 { &[][..] } else { &[1, 0, 1, 0] };
+            assert_eq!(c, written(cells, front));
+            let front = if answer.is_ok() { &strict[..] } else { &[] };
+            assert_eq!(o, written(out, front));
         }
     }
 }

@@ -165,6 +165,14 @@ extern "C" {
         output: *mut u8,
         output_length: usize,
     ) -> Answer;
+    pub fn sitgurp_tidy(
+        sheet: *const u8,
+        sheet_length: usize,
+        cells: *mut u8,
+        cells_length: usize,
+        output: *mut u8,
+        output_length: usize,
+    ) -> Answer;
     pub fn sitgurp_gate_line(sheet: *const u8, sheet_length: usize, k: usize) -> Turn;
     pub fn sitgurp_arrivals(
         net_sheet: *const u8,

@@ -3,7 +3,8 @@
 //! Every call is the library's; nothing here decides what the library decides. Buffers are lent as in document 01, and
 //! [`settled`], [`made`] and [`table_of`] lend buffers of the sizes that always suffice. [`settled_shallow`] and [`made_shallow`] give the
 //! tree of fewest layers in place of the settled one, and [`Family`] walks every tree that computes a table. [`multiplicities`] and
-//! [`fewest_levels`] put together what calls of the library answer about a table without a tree. [`arrivals`] says when a net's output settles.
+//! [`fewest_levels`] put together what calls of the library answer about a table without a tree. [`arrivals`] says when a net's output settles. [`tidied`] makes a
+//! table sheet of one that a spreadsheet exported.
 //!
 //! ```
 //! let sheet = b"levels inputs\n2 3\na b c\nleft right table\na b 0110\n1 c 0110\n";
@@ -35,6 +36,7 @@ mod ffi;
 mod lister;
 mod refusal;
 mod shallow;
+mod tidying;
 
 pub use arrivals::{arrivals, Settling};
 pub use counting::{fewest_levels, multiplicities};
@@ -44,6 +46,7 @@ pub use refusal::{Named, Refusal};
 pub use shallow::{
     made_shallow, make_shallow, settle_shallow, settled_shallow, shallower, Layered,
 };
+pub use tidying::{tidied, tidy};
 
 /// The most cells that a table has, and so the cells buffer that always suffices.
 pub const MOST_CELLS: usize = 4_096;
@@ -62,11 +65,11 @@ pub enum Verdict {
     Differ(usize),
 }
 
-/// The answer of a call that takes one sheet or none: 1 to 8 are that sheet's.
+/// The answer of a call that takes one sheet or none: 1 to 8 and 20 are that sheet's.
 fn answered(answer: ffi::Answer, named: Named, sheet: &[u8]) -> Result<usize, Refusal> {
     match answer.number {
         0 => Ok(answer.value),
-        number @ 1..=8 => Err(Refusal::new(number, answer.value, named, sheet)),
+        number @ (1..=8 | 20) => Err(Refusal::new(number, answer.value, named, sheet)),
         number => Err(Refusal::new(number, answer.value, Named::Neither, sheet)),
     }
 }

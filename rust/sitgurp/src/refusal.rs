@@ -25,7 +25,7 @@ pub struct Refusal {
 
 impl Refusal {
     pub(crate) fn new(number: usize, place: usize, named: Named, sheet: &[u8]) -> Refusal {
-        let of_a_sheet = matches!(number, 1..=8 | 18 | 19);
+        let of_a_sheet = matches!(number, 1..=8 | 18..=20);
         let position = of_a_sheet.then(|| position(sheet, place));
         let inputs = match number {
             16 => names_of(sheet, place),
@@ -47,7 +47,7 @@ impl Refusal {
             2 => "levels is not one digit from 2 to 9",
             3 => "inputs is not a number from 2 to 12, or there are over 4,096 cells",
             4 => "a name is malformed, is `ink`, or is repeated",
-            5 => "a row's input level is not the next in the count",
+            5 => "a row's input level is not the next in the count, or in a loose sheet no digit below levels",
             6 => "an ink, or a gate's table, is not made of digits below levels",
             7 => "a reference is to no input and to no earlier gate",
             8 => "a reference was used before",
@@ -62,6 +62,7 @@ impl Refusal {
             17 => "the table has no tree of this number",
             18 => "a name is not the next input",
             19 => "a time is not a number from 0 to 65,535, or `to` is below `from`",
+            20 => "a row's assignment was given in an earlier row",
             _ => "unknown refusal",
         }
     }

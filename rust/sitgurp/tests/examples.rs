@@ -52,3 +52,12 @@ fn the_rule_written_for_awk_gives_its_table() {
         fs::read(folder.join("shade.table")).expect("a table sheet")
     );
 }
+
+#[test]
+fn what_a_spreadsheet_exported_is_tidied() {
+    let folder = Path::new(env!("CARGO_MANIFEST_DIR")).join("../../examples");
+    let exported = fs::read(folder.join("export.txt")).expect("a loose table sheet");
+    let table = fs::read(folder.join("export.table")).expect("a table sheet");
+    assert_eq!(sitgurp::tidied(&exported), Ok(table.clone()));
+    assert_eq!(sitgurp::tidied(&table), Ok(table));
+}

@@ -1,4 +1,4 @@
-//! The two proved programs, run on standard input, against what the second implementation says they print.
+//! The proved programs, run on standard input, against what the second implementation says they print.
 
 use reference::generate::{Generator, TableKind};
 use reference::programs::{make_program, settle_program};
@@ -79,12 +79,36 @@ fn damaged_sheets() {
     }
 }
 
+/// Loose sheets, tidied: the table sheet, or the refusal.
+#[test]
+fn loose_sheets() {
+    let strict = |n: usize| Generator::new(SEED + 2).table_sheet(2, n, TableKind::Random);
+    let loosened = |sheet: &[u8]| {
+        let text = String::from_utf8(sheet.to_vec()).expect("ASCII");
+        let mut lines: Vec<String> = text.lines().map(|l| l.replace(' ', "  ") + " ").collect();
+        lines[3..].reverse();
+        (lines.join("\n") + "\n").into_bytes()
+    };
+    for n in 2..10 {
+        assert_eq!(printed("tidy", &strict(n)), strict(n));
+        assert_eq!(printed("tidy", &loosened(&strict(n))), strict(n));
+    }
+    // 11 inputs: the strict sheet fits what a program reads, the loosened one does not
+    assert_eq!(printed("tidy", &strict(11)), strict(11));
+    assert_eq!(
+        printed("tidy", &loosened(&strict(11))),
+        b"number place\n1 65536\n"
+    );
+    let twice = b"levels inputs\n2 2\na b ink\n1 1 1\n1 1 1\n";
+    assert_eq!(printed("tidy", twice), b"number place\n20 32\n");
+}
+
 /// Of a file of 70,000 bytes a program reads the first 65,536: there the file stands when it has ended.
 #[test]
 fn a_program_reads_its_first_bytes() {
     let path = Path::new(env!("CARGO_TARGET_TMPDIR")).join("long_input");
     std::fs::write(&path, vec![b'0'; 70_000]).expect("a file");
-    for name in ["settle", "make"] {
+    for name in ["settle", "make", "tidy"] {
         let mut file = File::open(&path).expect("the file");
         let lent = file.try_clone().expect("the same file");
         let output = Command::new(program(name))

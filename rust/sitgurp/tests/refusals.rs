@@ -93,7 +93,7 @@ fn without_mark(lines: &[&str], end: &str) -> (String, Option<usize>) {
 /// sheets, or a sheet from the buffers that the call changed.
 fn example(kind: &str, body: &str, [number, place]: [usize; 2]) -> Example {
     let words = match kind {
-        "net" | "table" | "arrival" => &[][..],
+        "net" | "table" | "arrival" | "loose" => &[][..],
         "bare" => &["levels", "inputs"],
         "group" => &["levels", "inputs", "group"],
         "marking" => &["levels", "inputs", "marks"],
@@ -102,6 +102,7 @@ fn example(kind: &str, body: &str, [number, place]: [usize; 2]) -> Example {
         "count" => &["cells", "marks"],
         "tree" => &["number", "cells", "marks", "output"],
         "write" => &["output"],
+        "tidy" => &["cells", "output"],
         other => panic!("an example of {other:?}"),
     };
     let (mut numbers, rest) = match words {
@@ -118,6 +119,14 @@ fn example(kind: &str, body: &str, [number, place]: [usize; 2]) -> Example {
     let texts = match kind {
         "bare" | "group" | "marking" => vec![digits(&sheet)],
         "check" => vec![sheet, after.to_string()],
+        "tidy" => {
+            let cells = match after.trim_end().split_once(' ') {
+                Some(("cells", bytes)) => digits(bytes),
+                None => "9".repeat(numbers[0]),
+                _ => panic!("a buffer {after:?}"),
+            };
+            vec![sheet, cells]
+        }
         "settle" | "make" | "count" | "tree" => {
             let lengths = ["cells", "marks"].map(|buffer| {
                 let at = words.iter().position(|word| *word == buffer);
@@ -295,6 +304,17 @@ fn holds(example: &Example) {
             let checked = sitgurp::check(NET.as_bytes(), texts[0], &mut cells);
             assert_eq!(refused(checked), due(Named::Table));
         }
+        "loose" => {
+            let tidied = sitgurp::tidy(texts[0], &mut cells, &mut output);
+            assert_eq!(refused(tidied), due(Named::Table));
+        }
+        "tidy" => {
+            (cells, output) = (nines(numbers[0]), nines(numbers[1]));
+            let tidied = sitgurp::tidy(texts[0], &mut cells, &mut output);
+            assert_eq!(refused(tidied), due(Named::Neither));
+            assert_eq!(cells, bytes(&example.texts[1]));
+            cells = nines(0);
+        }
         "bare" => {
             let bare = bytes(&example.texts[0]);
             for group in 0..5 {
@@ -379,7 +399,7 @@ fn the_document_has_the_listed_examples() {
     }
     assert_eq!(shown.len(), listed.len());
     let numbers: BTreeSet<usize> = listed.iter().map(|e| e.number_and_place().0).collect();
-    assert_eq!(numbers, (1..=19).collect(), "each number has an example");
+    assert_eq!(numbers, (1..=20).collect(), "each number has an example");
 }
 
 #[test]
@@ -400,11 +420,11 @@ fn every_mark_stands_at_its_place() {
         let (number, place) = example.number_and_place();
         match number {
             // the end of a sheet, after a line feed, is marked in the line after it
-            1..=8 | 18 | 19 if place == body.len() && body.ends_with('\n') => {
+            1..=8 | 18..=20 if place == body.len() && body.ends_with('\n') => {
                 let last_line = body.trim_end().rfind('\n').map_or(0, |feed| feed + 1);
                 assert_eq!(marked, Some(last_line));
             }
-            1..=8 | 18 | 19 => assert_eq!(marked, Some(place), "{example:?}"),
+            1..=8 | 18..=20 => assert_eq!(marked, Some(place), "{example:?}"),
             // a cell and the space after it are two bytes of the line after the first
             10 => {
                 let start = body.find('\n').expect("two lines") + 1;

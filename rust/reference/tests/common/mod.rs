@@ -7,8 +7,8 @@ pub mod wirings;
 
 use reference::limits::{MOST_CELLS, MOST_INPUTS, MOST_NET_SHEET_BYTES};
 use reference::{
-    family_count, family_tree, make, make_shallow, settle, settle_shallow, write_table, Refusal,
-    Sheet,
+    family_count, family_tree, make, make_shallow, settle, settle_shallow, tidy, write_table,
+    Refusal, Sheet,
 };
 use std::collections::{HashMap, HashSet};
 
@@ -130,6 +130,13 @@ pub fn counted(sheet: &[u8]) -> Result<u64, Refusal> {
 pub fn numbered(sheet: &[u8], number: u64) -> Result<Vec<u8>, Refusal> {
     let (mut cells, mut marks, mut out) = ([7; CELLS], [7; MARKS], [7; NET_SHEET]);
     let length = family_tree(sheet, number, &mut cells, &mut marks, &mut out)?;
+    Ok(out[..length].to_vec())
+}
+
+/// The table sheet that a loose sheet tidies to.
+pub fn tidied(sheet: &[u8]) -> Result<Vec<u8>, Refusal> {
+    let (mut cells, mut out) = ([7; CELLS], vec![7; TABLE_SHEET]);
+    let length = tidy(sheet, &mut cells, &mut out)?;
     Ok(out[..length].to_vec())
 }
 

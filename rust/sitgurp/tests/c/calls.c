@@ -30,6 +30,10 @@ static int failures = 0;
 #define SETTLED HEADER "left right table\nb c 0110\na 1 0110\n"
 #define TABLE                                                                                                                \
     "levels inputs\n2 3\na b c ink\n0 0 0 0\n0 0 1 1\n0 1 0 1\n0 1 1 0\n1 0 0 1\n1 0 1 0\n1 1 0 0\n1 1 1 1\n"
+/* the same laid loosely, its rows from the last to the first */
+#define LOOSE                                                                                                                \
+    "levels   inputs \n2 3\na b c   ink\n1 1 1   1\n1 1 0   0\n1 0 1   0\n1 0 0   1\n0 1 1   0\n0 1 0   1\n0 0 1   1\n"      \
+    "0  0 0  0   \n"
 /* the ink of index 6 is changed */
 #define OTHER_TABLE                                                                                                          \
     "levels inputs\n2 3\na b c ink\n0 0 0 0\n0 0 1 1\n0 1 0 1\n0 1 1 0\n1 0 0 1\n1 0 1 0\n1 1 0 1\n1 1 1 1\n"
@@ -299,6 +303,24 @@ static void write_table(void) {
     HOLDS(output_holds(TABLE));
 }
 
+static void tidy(void) {
+    const size_t length = sizeof(TABLE) - 1;
+    fill();
+    HOLDS(is(sitgurp_tidy(TEXT(BAD_NAMES), cells, 0, output, 0), 4, 22));
+    HOLDS(is(sitgurp_tidy(TEXT("levels inputs\n2 3\n a b c ink\n"), cells, 0, output, 0), 1, 18));
+    HOLDS(is(sitgurp_tidy(TEXT("levels inputs\n2 3\na b c ink\n1 1 1 1\n1 1 1  \n"), cells, 0, output, 0), 20, 36));
+    HOLDS(is(sitgurp_tidy(TEXT(LOOSE), cells, 7, output, 0), 13, 8));
+    HOLDS(untouched());
+    HOLDS(is(sitgurp_tidy(TEXT(LOOSE), cells, 8, output, length - 1), 15, length));
+    HOLDS(cells_hold(sum_cells, 8) && output_holds(""));
+    fill();
+    HOLDS(is(sitgurp_tidy(TEXT(LOOSE), cells, sizeof cells, output, sizeof output), 0, length));
+    HOLDS(cells_hold(sum_cells, 8) && output_holds(TABLE));
+    fill();
+    HOLDS(is(sitgurp_tidy(TEXT(TABLE), cells, 8, output, length), 0, length));
+    HOLDS(cells_hold(sum_cells, 8) && output_holds(TABLE));
+}
+
 static void gate_line(void) {
     static const char net[] = NET;
     const size_t first = sizeof(HEADER "left right table\n") - 1;
@@ -357,6 +379,7 @@ int main(void) {
     check();
     arrivals();
     write_table();
+    tidy();
     gate_line();
     largest();
     return failures == 0 ? 0 : 1;

@@ -38,7 +38,7 @@ returns c = name-back _ 0 _ (c .before .before .before .word-field .ensures) _ _
 
 returns-2 : tie.Need-returns-2
 unfolding text
-returns-2 c = name-on _ 0 _ (at-next c .before .before .word-field .ensures) (c .two-words .result) _ _ (at-next c .next .given .1) (c .two-words .ensures .reads)
+returns-2 c = name-on _ 0 _ (at-next c .before .before .word-field .ensures) (c .two-words .result) _ _ (at-next c .next .given .1) (c .two-words .ensures)
 
 pub heading-line-spec : {M : Type 1} → statement M
 heading-line-spec =

@@ -1,9 +1,8 @@
 -- `fields::header::from_levels` meets its contract: the levels field, then the rest.
 -- Assumes nothing.
 use borrow.Author.Needs.{needs}
-use native.Mathlib.Omega.{arith}
 use Rattle.rules.specs.Text.{space, spaceByte}
-use Rattle.rules.specs.Fields.{field}
+use Rattle.rules.specs.Fields.{fieldIn}
 use Rattle.rules.specs.Sheets.{levelsField}
 use Rattle.fields.specs.Header.{fromLevels, fromInputs, rest-back, rest-on}
 use Rattle.fields.specs.Steps.{itself}
@@ -31,18 +30,18 @@ enum-known-value : tie.Need-enum-known-value
 enum-known-value c = search needs
 
 from-inputs-requires : tie.Need-from-inputs-requires
-from-inputs-requires c κs = let told = levels-on _ _ (at-start (at-levels c) .args .at) _ _ (c .before .value .given .1) _ (at-levels c .levels-field .ensures) in (told .0, omega (arith, told .1, at-start (at-levels c) .pre))
+from-inputs-requires c κs = levels-on _ _ (at-start (at-levels c) .args .at) _ _ (c .before .value .given .1) _ _ (at-levels c .levels-field .ensures)
 
 returns : tie.Need-returns
 unfolding fromLevels space
 returns c =
-    rest-back itself (field levelsField spaceByte) (fromInputs _) _ _ _ (c .before .before .before .before .levels-field .ensures) _ _ (c .turned .result)
+    rest-back itself (fieldIn _ levelsField spaceByte) (fromInputs _ _) _ _ _ (c .before .before .before .before .levels-field .ensures) _ _ (c .turned .result)
     (c .before .before .number .given .1) (c .turned .ensures)
 
 returns-2 : tie.Need-returns-2
 unfolding fromLevels space
 returns-2 c =
-    rest-on itself (field levelsField spaceByte) (fromInputs _) _ _ _ (at-levels (c .before) .levels-field .ensures) _ _ (c .from-inputs .result)
+    rest-on itself (fieldIn _ levelsField spaceByte) (fromInputs _ _) _ _ _ (at-levels (c .before) .levels-field .ensures) _ _ (c .from-inputs .result)
     (c .before .before .value .given .1) (c .from-inputs .ensures)
 
 pub from-levels-spec : {M : Type 1} → statement M

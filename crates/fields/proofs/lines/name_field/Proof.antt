@@ -14,15 +14,15 @@ is-new-name-requires c κs = search needs
 judged-requires : tie.Need-judged-requires
 judged-requires c κs = search needs
 
-after-field-requires : tie.Need-after-field-requires
-after-field-requires c κs = search needs
+after-field-in-requires : tie.Need-after-field-in-requires
+after-field-in-requires c κs = search needs
 
 returns : tie.Need-returns
 returns c =
-    name-read _ _ _ _ _ _ _ (c .after-field .result) (c .before .before .before .field-at .ensures)
-    (c .before .before .is-new-name .ensures) (c .before .judged .ensures) (c .after-field .ensures)
+    name-read _ _ _ _ _ _ _ _ (c .after-field-in .result) (c .before .before .before .field-at .ensures)
+    (c .before .before .is-new-name .ensures) (c .before .judged .ensures) (c .after-field-in .ensures)
 
 pub name-field-spec : {M : Type 1} → statement M
 name-field-spec =
     tie.close
-    (tie.spec field-at-requires is-new-name-requires judged-requires after-field-requires returns)
+    (tie.spec field-at-requires is-new-name-requires judged-requires after-field-in-requires returns)

@@ -41,7 +41,7 @@ returns c = left-back _ (at-start (c .before .before .before) .args .at) _ (c .b
 
 returns-2 : tie.Need-returns-2
 unfolding text
-returns-2 c = left-on _ (at-start (at-next c .before .before) .args .at) _ (at-next c .before .before .word-field .ensures) (c .two-words .result) _ _ (at-next c .next .given .1) (c .two-words .ensures .reads)
+returns-2 c = left-on _ (at-start (at-next c .before .before) .args .at) _ (at-next c .before .before .word-field .ensures) (c .two-words .result) _ _ (at-next c .next .given .1) (c .two-words .ensures)
 
 pub heading-line-spec : {M : Type 1} → statement M
 heading-line-spec =

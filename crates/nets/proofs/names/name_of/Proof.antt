@@ -12,9 +12,6 @@ mul-start c = search needs
 element-copy-out-start : tie.Need-element-copy-out-start
 element-copy-out-start c = search needs
 
-cast-start : tie.Need-cast-start
-cast-start c = search needs
-
 element-copy-out-end : tie.Need-element-copy-out-end
 element-copy-out-end c = search needs
 
@@ -43,7 +40,6 @@ name-of-spec =
     (tie.spec
     mul-start
     element-copy-out-start
-    cast-start
     element-copy-out-end
     cast-end
     add-end

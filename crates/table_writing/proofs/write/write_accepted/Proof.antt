@@ -2,7 +2,7 @@
 -- Assumes nothing.
 use native.Mathlib.Omega.{arith}
 use Rattle.accepted.specs.Taken.{held-size, sound, own-most, front-given}
-use Rattle.table_writing.specs.Tables.{table-inside}
+use Rattle.table_printing.specs.Tables.{table-inside}
 use Rattle.table_writing.specs.Writing.{output-short, output-long, output-written}
 use borrow.Author.Needs.{needs}
 use Rattle.table_writing.proofs.write.write_accepted.Statement.{statement}

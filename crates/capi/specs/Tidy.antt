@@ -1,0 +1,14 @@
+-- What tidying answers as two numbers, and its buffers.
+-- Assumes nothing.
+use Prim.Native.Nat.{ℕ}
+use mathlib.Core.Path.{_≡_}
+use mathlib.Core.List.{List}
+use Rattle.rules.specs.Tidying.{Tidied}
+use Rattle.capi.specs.declared.flat.SitgurpAnswer.{SitgurpAnswer}
+use Rattle.capi.specs.Flat.{flatOf}
+
+-- what tidying answers, and its two buffers
+pub record FlatTidied (tidied : Tidied) (r : SitgurpAnswer) (cells output : List ℕ) : Type 0 where
+  pub answer : r ≡ flatOf (tidied .answer)
+  pub cells-then : cells ≡ tidied .cells
+  pub output-then : output ≡ tidied .output

@@ -1,0 +1,39 @@
+-- `fields::words::two_words_in` meets its contract: a word, then the other.
+-- Assumes nothing.
+use borrow.Author.Needs.{needs}
+use Rattle.fields.specs.Words.{words-back, words-on}
+use Rattle.fields.proofs.words.two_words_in.Statement.{statement}
+use Rattle.fields.proofs.words.two_words_in.Tie as tie
+
+-- the start from the first word's read
+abbrev at-start : tie.After-word-field-in → tie.Start
+at-start c = c .before .before .before .before
+
+word-field-in-requires : tie.Need-word-field-in-requires
+word-field-in-requires c κs = search needs
+
+enum-known-number : tie.Need-enum-known-number
+enum-known-number c = search needs
+
+enum-known-next : tie.Need-enum-known-next
+enum-known-next c = search needs
+
+word-field-in-requires-2 : tie.Need-word-field-in-requires-2
+word-field-in-requires-2 c κs = search needs
+
+returns : tie.Need-returns
+returns c = words-back _ _ (at-start (c .before .before .before) .args .at) _ _ _ (c .before .before .before .word-field-in .ensures) _ _ (c .before .number .given .1)
+
+returns-2 : tie.Need-returns-2
+returns-2 c = words-on _ _ (at-start (c .before .before .before .before) .args .at) _ _ _ (c .before .before .before .before .word-field-in .ensures) _ _ (c .word-field-in2 .result) (c .before .before .next .given .1) (c .word-field-in2 .ensures)
+
+pub two-words-in-spec : {M : Type 1} → statement M
+two-words-in-spec =
+    tie.close
+    (tie.spec
+    word-field-in-requires
+    enum-known-number
+    enum-known-next
+    word-field-in-requires-2
+    returns
+    returns-2)

@@ -1,0 +1,30 @@
+-- `fields::words::word_field_in` meets its contract: a field that is tested.
+-- Assumes nothing.
+use borrow.Author.Needs.{needs}
+use Rattle.fields.specs.Judging.{field-tested-in}
+use Rattle.fields.specs.Steps.{nothing, spelled}
+use Rattle.fields.proofs.words.word_field_in.Statement.{statement}
+use Rattle.fields.proofs.words.word_field_in.Tie as tie
+
+field-at-requires : tie.Need-field-at-requires
+field-at-requires c κs = search needs
+
+same-bytes-requires : tie.Need-same-bytes-requires
+same-bytes-requires c κs = search needs
+
+judged-requires : tie.Need-judged-requires
+judged-requires c κs = search needs
+
+after-field-in-requires : tie.Need-after-field-in-requires
+after-field-in-requires c κs = search needs
+
+returns : tie.Need-returns
+unfolding spelled
+returns c =
+    field-tested-in nothing _ _ _ _ _ _ _ _ _ _ (c .after-field-in .result) (c .before .before .before .field-at .ensures) (c .before .judged .ensures)
+    (rw (c .before .before .same-bytes .ensures)) (c .after-field-in .ensures)
+
+pub word-field-in-spec : {M : Type 1} → statement M
+word-field-in-spec =
+    tie.close
+    (tie.spec field-at-requires same-bytes-requires judged-requires after-field-in-requires returns)

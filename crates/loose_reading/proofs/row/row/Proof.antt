@@ -1,0 +1,54 @@
+-- `loose_reading::row::row` meets its contract: the index, the mark at it, and the ink.
+-- Assumes nothing.
+use native.Mathlib.Omega.{arith}
+use Rattle.laws.specs.Sizes.{sized}
+use Rattle.loose_reading.specs.Row.{row-back, row-given, row-on}
+use borrow.Author.Needs.{needs}
+use Rattle.loose_reading.proofs.row.row.Statement.{statement}
+use Rattle.loose_reading.proofs.row.row.Tie as tie
+
+-- the start from the index's read, and that read from the mark's
+abbrev at-start : tie.After-index-fields → tie.Start
+at-start c = c .before .before .before
+
+abbrev at-index : tie.After-shared-slice-known3 → tie.After-index-fields
+at-index c = c .before .before .before .before
+
+index-fields-requires : tie.Need-index-fields-requires
+index-fields-requires c κs = search needs
+
+enum-known-number : tie.Need-enum-known-number
+enum-known-number c = search needs
+
+enum-known-value : tie.Need-enum-known-value
+enum-known-value c = search needs
+
+shared-slice-read-if1 : tie.Need-shared-slice-read-if1
+shared-slice-read-if1 c = omega (arith, at-index c .index-fields .ensures .below _ _ (c .before .before .value .given .1), at-start (at-index c) .pre .1)
+
+returns : tie.Need-returns
+returns c = row-given _ _ _ _ _ _ (at-index (c .before) .index-fields .ensures) _ _ (c .before .before .before .value .given .1) (c .if1 .taken)
+
+row-ink-requires : tie.Need-row-ink-requires
+row-ink-requires c κs = sized _ _ (at-start (at-index (c .before)) .pre .0) .levels-most
+
+returns-2 : tie.Need-returns-2
+returns-2 c = row-back _ _ _ _ _ _ (c .before .before .before .index-fields .ensures) _ _ (c .before .number .given .1)
+
+returns-3 : tie.Need-returns-3
+returns-3 c =
+    let told = c .before .before in
+    row-on _ _ _ _ _ _ (at-index told .index-fields .ensures) _ _ (told .before .before .value .given .1) (c .row-ink .result) (c .before .if1 .left) (c .row-ink .ensures)
+
+pub row-spec : {M : Type 1} → statement M
+row-spec =
+    tie.close
+    (tie.spec
+    index-fields-requires
+    enum-known-number
+    enum-known-value
+    shared-slice-read-if1
+    returns
+    row-ink-requires
+    returns-2
+    returns-3)

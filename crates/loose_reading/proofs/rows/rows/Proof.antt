@@ -1,0 +1,131 @@
+-- `loose_reading::rows::rows` meets its contract. The loop's invariant: k rows are read, and the rows from here are the rows from the start.
+-- Assumes nothing.
+use Prim.Native.Nat.{ℕ, _-_, _^_, _≤_, _<_}
+use mathlib.Core.Path.{_≡_, refl, sym, _∙_}
+use native.Mathlib.Omega.{arith}
+use borrow.Author.Needs.{needs}
+use lib.ListN.{length, length-set, length-replicate}
+use Rattle.rules.specs.Limits.{mostCells}
+use Rattle.laws.specs.Sizes.{Size, sized}
+use Rattle.loose_reading.specs.Rows.{InRows, zeros-blank, rows-start, rows-done, rows-back, rows-next}
+use Rattle.loose_reading.proofs.rows.rows.Statement.{statement}
+use Rattle.loose_reading.proofs.rows.rows.Tie as tie
+
+abbrev Inv-loop : tie.InvT-loop
+Inv-loop s at m n cells₀ given₀ count place₀ k₀ cells given place k =
+    (length cells ≡ length cells₀) × (length given ≡ mostCells) × InRows s at m n cells given place k
+
+abbrev μ-loop : tie.MeasureT-loop
+μ-loop s at m n cells₀ given₀ count place₀ k₀ cells given place k = m ^ n - k
+
+-- the start from the call of `power`, a turn's start from the row's read, and that read from the turn's end
+abbrev at-start : tie.After-power Inv-loop μ-loop → tie.Start Inv-loop μ-loop
+at-start c = c .before .before .before
+
+abbrev at-turn : tie.After-row Inv-loop μ-loop → tie.In-loop Inv-loop μ-loop
+at-turn c = c .before .before
+
+abbrev at-row : tie.After-known-told2 Inv-loop μ-loop → tie.After-row Inv-loop μ-loop
+at-row c = c .before .before .before
+
+-- the function's entry, seen from the loop's head
+abbrev start : tie.At-loop Inv-loop μ-loop → tie.Start Inv-loop μ-loop
+start c = at-start (c .before)
+
+-- the size is within a sheet's bounds
+size : (c : tie.Start Inv-loop μ-loop) → Size (c .args .m) (c .args .n)
+size c = sized (c .args .m) (c .args .n) (c .pre .0)
+
+-- a turn's row is due, and there is room for the cells and for their marks
+more : (c : tie.In-loop Inv-loop μ-loop) → c .before .loop .k < start (c .before) .args .m ^ start (c .before) .args .n
+more c = omega (arith, c .loop-test .taken, c .before .before .power .ensures)
+
+room : (c : tie.At-loop Inv-loop μ-loop) → start c .args .m ^ start c .args .n ≤ length (c .loop .cells)
+room c = omega (arith, c .loop .inv .0, start c .pre .1)
+
+marked : (c : tie.At-loop Inv-loop μ-loop) → start c .args .m ^ start c .args .n ≤ length (c .loop .given)
+marked c = omega (arith, c .loop .inv .1, size (start c) .cells-most)
+
+power-requires : tie.Need-power-requires Inv-loop μ-loop
+power-requires c κs = omega (arith, size (c .before .before))
+
+loop-holds : tie.Need-loop-holds Inv-loop μ-loop
+loop-holds c =
+    let from = at-start c in
+    (refl, length-replicate {A = ℕ} mostCells 0, rows-start _ _ _ _ _ _ (omega (arith, size from .levels-least)) (from .pre .2) (zeros-blank mostCells))
+
+slice-aggregate-row : tie.Need-slice-aggregate-row Inv-loop μ-loop
+slice-aggregate-row c = sym (c .before .before .loop .inv .1)
+
+row-requires : tie.Need-row-requires Inv-loop μ-loop
+row-requires c κs = (start (c .before .before) .pre .0, marked (c .before .before))
+
+enum-known-read : tie.Need-enum-known-read Inv-loop μ-loop
+enum-known-read c = search needs
+
+same-length : tie.Need-same-length Inv-loop μ-loop
+same-length c = at-turn (c .before .before .before) .before .loop .inv .0
+
+returns : tie.Need-returns Inv-loop μ-loop
+returns c =
+    let read = c .before .before .before in
+    let turn = at-turn read in
+    rows-back _ _ _ _ _ _ _ _ (turn .before .loop .inv .2) (more turn) _ (read .row .ensures) _ _ (c .before .read .given .1) _
+
+enum-known-read-2 : tie.Need-enum-known-read-2 Inv-loop μ-loop
+enum-known-read-2 c = search needs
+
+cast-cells : tie.Need-cast-cells Inv-loop μ-loop
+cast-cells c = omega (arith, at-row c .row .ensures .held _ _ _ (c .before .read2 .given .1) .1, size (start (at-turn (at-row c) .before)) .levels-most)
+
+slice-write-cells : tie.Need-slice-write-cells Inv-loop μ-loop
+slice-write-cells c = omega (arith, at-row c .row .ensures .held _ _ _ (c .before .read2 .given .1) .0, room (at-turn (at-row c) .before))
+
+array-write-given : tie.Need-array-write-given Inv-loop μ-loop
+array-write-given c = omega (arith, at-row c .row .ensures .held _ _ _ (c .before .read2 .given .1) .0, size (start (at-turn (at-row c) .before)) .cells-most)
+
+add-k : tie.Need-add-k Inv-loop μ-loop
+add-k c =
+    let turn = at-turn (at-row c) in
+    omega (arith, turn .loop-test .taken, turn .before .before .power .ok)
+
+loop-less : tie.Need-loop-less Inv-loop μ-loop
+loop-less c = omega (arith, more (at-turn (at-row c)))
+
+loop-again : tie.Need-loop-again Inv-loop μ-loop
+loop-again c =
+    let turn = at-turn (at-row c) in
+    let head = turn .before in (
+      simp length-set (head .loop .inv .0),
+      simp length-set (head .loop .inv .1),
+      rows-next _ _ _ _ _ _ _ _ (head .loop .inv .2) (more turn) _ (at-row c .row .ensures) _ _ _ (c .before .read2 .given .1) (room head) (marked head),
+    )
+
+same-length-2 : tie.Need-same-length-2 Inv-loop μ-loop
+same-length-2 c = c .before .loop .inv .0
+
+returns-2 : tie.Need-returns-2 Inv-loop μ-loop
+returns-2 c = rows-done _ _ _ _ _ _ _ _ (c .before .loop .inv .2) (omega (arith, c .loop-test .left, c .before .before .power .ensures)) (room (c .before))
+
+pub rows-spec : {M : Type 1} → statement M
+rows-spec =
+    tie.close
+    (tie.spec
+    Inv-loop
+    μ-loop
+    power-requires
+    loop-holds
+    slice-aggregate-row
+    row-requires
+    enum-known-read
+    same-length
+    returns
+    enum-known-read-2
+    cast-cells
+    slice-write-cells
+    array-write-given
+    add-k
+    loop-less
+    loop-again
+    same-length-2
+    returns-2)

@@ -1,0 +1,54 @@
+-- `loose_reading::sheet::read_loose` meets its contract: the header, then the rest.
+-- Assumes nothing.
+use borrow.Author.Needs.{needs}
+use Rattle.rules.specs.Text.{space}
+use Rattle.loose_reading.specs.Parts.{header-refused, header-on}
+use Rattle.loose_reading.proofs.sheet.read_loose.Statement.{statement}
+use Rattle.loose_reading.proofs.sheet.read_loose.Tie as tie
+
+-- the start, the header's read and where it ends, each from the next
+abbrev at-start : tie.After-header-lines-in → tie.Start
+at-start c = c .before .before .before
+
+abbrev at-header : tie.After-step2 → tie.After-header-lines-in
+at-header c = c .before .before .before
+
+abbrev at-step : tie.After-from-ink-arg → tie.After-step2
+at-step c = c .before .before
+
+header-lines-in-requires : tie.Need-header-lines-in-requires
+header-lines-in-requires c κs = search needs
+
+enum-known-step : tie.Need-enum-known-step
+enum-known-step c = search needs
+
+enum-known-step-2 : tie.Need-enum-known-step-2
+enum-known-step-2 c = search needs
+
+from-ink-requires : tie.Need-from-ink-requires
+from-ink-requires c κs = (at-header (at-step c) .header-lines-in .ensures .held _ _ (at-step c .step2 .given .1) .fits, at-start (at-header (at-step c)) .pre .0, at-start (at-header (at-step c)) .pre .1)
+
+returns : tie.Need-returns
+unfolding space
+returns c = header-refused _ _ _ (c .before .before .before .before .header-lines-in .ensures) _ _ (c .before .step .given .1)
+
+same-length : tie.Need-same-length
+same-length c = search needs
+
+returns-2 : tie.Need-returns-2
+unfolding space
+returns-2 c =
+    header-on _ _ _ (at-header (at-step (c .before .before .before)) .header-lines-in .ensures) _ _ _
+    (at-step (c .before .before .before) .step2 .given .1) (c .before .before .from-ink .ensures)
+
+pub read-loose-spec : {M : Type 1} → statement M
+read-loose-spec =
+    tie.close
+    (tie.spec
+    header-lines-in-requires
+    enum-known-step
+    enum-known-step-2
+    from-ink-requires
+    returns
+    same-length
+    returns-2)

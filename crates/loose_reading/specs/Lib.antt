@@ -1,0 +1,7 @@
+pub mod Answers
+pub mod Index
+pub mod Levels
+pub mod Parts
+pub mod Plain
+pub mod Row
+pub mod Rows

@@ -1,0 +1,32 @@
+// A field of one digit with its separator straight after it: two bytes, which are looked at as one number. Most fields stand so, and any other is
+// judged.
+ghost use Prim.Native.Nat.{ℕ, _<_, _≤_};
+ghost use mathlib.Core.Path.{_≡_};
+ghost use Rattle.rules.specs.Limits.{mostLevels};
+ghost use Rattle.fields.specs.declared.steps.Found.the-variants.{At};
+ghost use Rattle.table_reading.specs.Plain.{Plain};
+use fields::runs::ZERO;
+use fields::steps::Found;
+use table_reading::due::two_bytes;
+
+// The digit below m that stands at `at` with `due` after it.
+pub fn plain_digit(s: &[u8], at: usize, m: usize, due: u8) -> Found
+    requires { ⌜ m ≤ mostLevels ⌝ }
+    ensures { λ r. ⌜ ((d : ℕ) → r ≡ At d → Plain (now (s .entry)) at d due × (d < m)) ⌝ }
+{
+    if s.len() < 2 {
+        return Found::Nowhere;
+    }
+    if s.len() - 2 < at {
+        return Found::Nowhere;
+    }
+    let zero = ZERO + 256 * due as usize;
+    let two = two_bytes(s, at);
+    if two < zero {
+        return Found::Nowhere;
+    }
+    if m <= two - zero {
+        return Found::Nowhere;
+    }
+    Found::At(two - zero)
+}

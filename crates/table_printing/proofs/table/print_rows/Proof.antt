@@ -1,0 +1,127 @@
+-- `table_printing::table::print_rows` meets its contract. The loop's invariant: `levels` begins with the levels of index k, and the rows
+-- from k on are left to write at p.
+-- Assumes nothing.
+use Prim.Native.Nat.{ℕ, _+_, _-_, _≤_, _<_}
+use mathlib.Core.Path.{_≡_, refl, ap, _∙_}
+use mathlib.Core.List.{List, _++_}
+use native.Mathlib.Nat.{sub-zero}
+use native.Mathlib.Omega.{arith}
+use lib.ListN.{length, getD, take, drop}
+use Rattle.rules.specs.Limits.{mostLevels, mostInputs}
+use Rattle.rules.specs.Sheets.{levelsAt}
+use Rattle.rules.specs.Printed.{printedRows}
+use Rattle.laws.specs.Levels.{zeros-front, levels-length, levels-below, front-next, front-kept}
+use Rattle.lines.specs.Put.{Room, Left, all-left, put-left, room-for, none-left}
+use Rattle.table_printing.specs.Rows.{rowText, rows-next, rows-end}
+use Rattle.table_printing.proofs.table.print_rows.Statement.{statement}
+use Rattle.table_printing.proofs.table.print_rows.Tie as tie
+
+abbrev Inv-loop : tie.InvT-loop
+Inv-loop m n inks out₀ at levels₀ k₀ p₀ out levels k p =
+    (length levels ≡ mostInputs) × (take n levels ≡ levelsAt m n k) × Left out p (printedRows m n k (drop k inks)) out₀ at (printedRows m n 0 inks)
+
+abbrev μ-loop : tie.MeasureT-loop
+μ-loop m n inks out₀ at levels₀ k₀ p₀ out levels k p = length inks - k
+
+-- the start from a turn's start; in a turn, its start and the row's call from the next call
+abbrev at-start : tie.In-loop Inv-loop μ-loop → tie.Start Inv-loop μ-loop
+at-start c = c .before .before .before .before
+
+abbrev at-turn : tie.After-print-row-arg2 Inv-loop μ-loop → tie.In-loop Inv-loop μ-loop
+at-turn c = c .before .before .before .before
+
+abbrev at-row : tie.After-levels2 Inv-loop μ-loop → tie.After-print-row Inv-loop μ-loop
+at-row c = c .before .before .before
+
+-- the front of the levels, as `print_row` is lent it
+module _ (m n k : ℕ) (levels : List ℕ) (front : take n levels ≡ levelsAt m n k) where
+  lent : take (n - 0) levels ≡ levelsAt m n k
+  lent = ap (λ (j : ℕ). take j levels) (sub-zero n) ∙ front
+
+  digits : 0 < m → m ≤ mostLevels → (i : ℕ) → i < length (take (n - 0) levels) → getD (take (n - 0) levels) i 0 < 10
+  digits pos few i h = rw lent (omega (arith, levels-below m n k i pos (omega (arith, levels-length m n k, ap length lent))))
+
+  module _ (inks : List ℕ) (h : k < length inks) {out : List ℕ} {p : ℕ} {out₀ : List ℕ} {at : ℕ} {t : List ℕ}
+      (l : Left out p (printedRows m n k (drop k inks)) out₀ at t) where
+    first-row : Left out p (rowText (take (n - 0) levels) (getD inks k 0) ++ printedRows m n (k + 1) (drop (k + 1) inks)) out₀ at t
+    first-row = rw lent (rw (rows-next m n k inks h) at l)
+
+    row-room : Room out p (rowText (take (n - 0) levels) (getD inks k 0))
+    row-room = room-for (rowText (take (n - 0) levels) (getD inks k 0)) (printedRows m n (k + 1) (drop (k + 1) inks)) first-row
+
+loop-holds : tie.Need-loop-holds Inv-loop μ-loop
+loop-holds c = (refl, zeros-front (c .before .before .args .m) (c .before .before .args .n) mostInputs (omega arith), all-left (c .before .before .pre .4))
+
+sub-print-row : tie.Need-sub-print-row Inv-loop μ-loop
+sub-print-row c = omega arith
+
+part-print-row-start : tie.Need-part-print-row-start Inv-loop μ-loop
+part-print-row-start c = omega arith
+
+part-print-row-end : tie.Need-part-print-row-end Inv-loop μ-loop
+part-print-row-end c = omega (arith, at-start (c .before) .pre .2, c .before .before .loop .inv .0)
+
+shared-slice-read-print-row : tie.Need-shared-slice-read-print-row Inv-loop μ-loop
+shared-slice-read-print-row c = omega arith
+
+print-row-requires : tie.Need-print-row-requires Inv-loop μ-loop
+print-row-requires c κs =
+    let start = at-start (at-turn c) in
+    let at = at-turn c .before .loop in
+    let more = at-turn c .loop-test .taken in (
+      digits (start .args .m) (start .args .n) (at .k) (at .levels) (at .inv .1) (start .pre .0) (start .pre .1),
+      start .pre .3 (at .k) more,
+      row-room (start .args .m) (start .args .n) (at .k) (at .levels) (at .inv .1) (start .args .inks .now) more (at .inv .2),
+    )
+
+slice-aggregate-next-levels : tie.Need-slice-aggregate-next-levels Inv-loop μ-loop
+slice-aggregate-next-levels c = omega arith
+
+next-levels-requires : tie.Need-next-levels-requires Inv-loop μ-loop
+next-levels-requires c κs =
+    let start = at-start (at-turn (at-row c .before)) in
+    (omega (arith, start .pre .1), omega (arith, start .pre .2, at-turn (at-row c .before) .before .loop .inv .0))
+
+add-k : tie.Need-add-k Inv-loop μ-loop
+add-k c = omega arith
+
+loop-less : tie.Need-loop-less Inv-loop μ-loop
+loop-less c = omega arith
+
+loop-again : tie.Need-loop-again Inv-loop μ-loop
+loop-again c =
+    let row = at-row (c .before .before) in
+    let start = at-start (at-turn (row .before)) in
+    let at = at-turn (row .before) .before .loop in
+    let did = c .before .next-levels .ensures in
+    let front = at .inv .1 in (
+      front-kept (start .args .m) (start .args .n) (at .k) (start .pre .0) _ _ front did (omega (arith, start .pre .2, at .inv .0)) ∙ at .inv .0,
+      front-next (start .args .m) (start .args .n) (at .k) (start .pre .0) _ _ front did,
+      put-left (first-row (start .args .m) (start .args .n) (at .k) (at .levels) front (start .args .inks .now) (at-turn (row .before) .loop-test .taken) (at .inv .2)) (row .print-row .ensures),
+    )
+
+same-length : tie.Need-same-length Inv-loop μ-loop
+same-length c = c .before .loop .inv .2 .kept
+
+returns : tie.Need-returns Inv-loop μ-loop
+returns c = none-left (rw (rows-end (c .before .before .before .before .args .m) (c .before .before .before .before .args .n) (c .before .loop .k) (c .before .before .before .before .args .inks .now) (c .loop-test .left)) at (c .before .loop .inv .2))
+
+pub print-rows-spec : {M : Type 1} → statement M
+print-rows-spec =
+    tie.close
+    (tie.spec
+    Inv-loop
+    μ-loop
+    loop-holds
+    sub-print-row
+    part-print-row-start
+    part-print-row-end
+    shared-slice-read-print-row
+    print-row-requires
+    slice-aggregate-next-levels
+    next-levels-requires
+    add-k
+    loop-less
+    loop-again
+    same-length
+    returns)

@@ -1,0 +1,62 @@
+// A table sheet.
+ghost use Prim.Native.Nat.{ℕ, _+_, _≤_, _<_};
+ghost use lib.ListN.{length, getD};
+ghost use Rattle.rules.specs.Limits.{mostLevels, mostInputs};
+ghost use Rattle.rules.specs.Printed.{printedRows, printedTable};
+ghost use Rattle.lines.specs.Put.{Put, Room, Wrote};
+ghost use Rattle.table_printing.specs.Rows.{rowText};
+ghost use Rattle.nets.specs.Forms.{tableIn};
+ghost use Rattle.table_printing.specs.Tables.{TableInside};
+use lines::header::print_names;
+use lines::header::print_pair;
+use lines::put::copy;
+use nets::forms::Header;
+use nets::levels::next_levels;
+use radix::limits::MOST_INPUTS;
+
+// A row: each level with a space behind it, then the ink with a line feed.
+fn print_row(levels: &[u8], ink: u8, out: &mut [u8], at: usize) -> usize
+    requires { ⌜ ((k : ℕ) → k < length (now levels) → getD (now levels) k 0 < 10) × (ink < 10) × Room (now out) at (rowText (now levels) ink) ⌝ }
+    ensures { λ r. ⌜ Put (now (out .entry)) at (rowText (now (levels .entry)) ink) (now (out .exit)) r ⌝ }
+{
+    let mut i: usize = 0;
+    let mut p: usize = at;
+    while i < levels.len() {
+        out[p] = b'0' + levels[i];
+        out[p + 1] = b' ';
+        i += 1;
+        p += 2;
+    }
+    out[p] = b'0' + ink;
+    out[p + 1] = b'\n';
+    p + 2
+}
+
+// The rows of all cells.
+fn print_rows(m: usize, n: usize, inks: &[u8], out: &mut [u8], at: usize) -> usize
+    requires { ⌜ (0 < m) × (m ≤ mostLevels) × (n ≤ mostInputs) × ((k : ℕ) → k < length (now inks) → getD (now inks) k 0 < 10) × Room (now out) at (printedRows m n 0 (now inks)) ⌝ }
+    ensures { λ r. ⌜ Put (now (out .entry)) at (printedRows m n 0 (now (inks .entry))) (now (out .exit)) r ⌝ }
+{
+    let mut levels = [0u8; MOST_INPUTS];
+    let mut k: usize = 0;
+    let mut p: usize = at;
+    while k < inks.len() {
+        p = print_row(&levels[0..n], inks[k], out, p);
+        next_levels(m, n, &mut levels);
+        k += 1;
+    }
+    p
+}
+
+// Writes the table sheet of the header's names and the inks to the front of `out`, and answers its length.
+pub fn print_table(s: &[u8], h: Header, inks: &[u8], out: &mut [u8]) -> usize
+    requires { ⌜ TableInside (now s) h (now inks) × (length (printedTable (tableIn (now s) h (now inks))) ≤ length (now out)) ⌝ }
+    ensures { λ r. ⌜ Wrote (now (out .entry)) (printedTable (tableIn (now (s .entry)) h (now (inks .entry)))) (now (out .exit)) r ⌝ }
+{
+    let levels = h.levels;
+    let inputs = h.inputs;
+    let p = print_pair(b"levels inputs\n", levels, inputs, out, 0);
+    let p = print_names(s, h, inputs, out, p);
+    let p = copy(b"ink\n", out, p);
+    print_rows(levels, inputs, inks, out, p)
+}

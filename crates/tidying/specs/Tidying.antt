@@ -1,0 +1,127 @@
+-- Tidying: a loose sheet that was read, its cells and its table sheet.
+-- Assumes nothing.
+use Prim.Native.Nat.{ℕ, _+_, _-_, _^_, _≤_, _<_}
+use mathlib.Core.Path.{_≡_, refl, sym, ap, _∙_, subst}
+use mathlib.Core.List.{List}
+use native.Mathlib.Nat.{sub-zero}
+use native.Mathlib.Omega.{arith}
+use lib.ListN.{length, take}
+use lib.Seq.{length-take-le}
+use Rattle.rules.specs.Limits.{mostCells}
+use Rattle.rules.specs.Sheets.{Table}
+use Rattle.rules.specs.Printed.{printedTable}
+use Rattle.rules.specs.Answers.{accepted, refused, written}
+use Rattle.rules.specs.LooseSheet.{LooseTable, readLoose, tableOfLoose}
+use Rattle.rules.specs.Tidying.{Tidied, tidiedSheet, tidiedInto, tidyCall}
+use Rattle.laws.specs.Bounds.{Below, below-at}
+use Rattle.laws.specs.Tidying.{tidy-accepted, tidied-13, tidied-sheet, tidied-15, tidied-written}
+use Rattle.nets.specs.Forms.{headerOf, tableIn}
+use Rattle.nets.specs.declared.forms.Header.{Header}
+use Rattle.fields.specs.Header.{HeaderHeld}
+use Rattle.answers.specs.Answers.{answerOf, outcomeAs}
+use Rattle.answers.specs.declared.answer.Answer.{Answer}
+use Rattle.answers.specs.declared.outcome.Outcome.the-variants.{Accepted, Refused}
+use Rattle.table_reading.specs.Answers.{inksIn}
+use Rattle.loose_reading.specs.Answers.{LooseReads, looseIn}
+use Rattle.loose_reading.specs.declared.sheet.LooseRead.{LooseRead}
+use Rattle.lines.specs.Put.{Put, Wrote, put-wrote}
+use Rattle.accepted.specs.Taken.{held-size, names-inside}
+use Rattle.table_printing.specs.Lengths.{Measures}
+use Rattle.table_printing.specs.Tables.{TableInside}
+
+-- the answer, and the two buffers after the call
+abbrev pub tidiedOf : Answer → List ℕ → List ℕ → Tidied
+tidiedOf r cells output = record { answer = answerOf r; cells = cells; output = output }
+
+-- the header of an accepted loose sheet, whose inks stand at the front of `cells` in index order
+pub record LooseTaken (s : List ℕ) (h : Header) (cells : List ℕ) : Type 0 where
+  pub table : LooseTable
+  pub reads : readLoose s ≡ accepted table
+  pub tidied : tableOfLoose table ≡ tableIn s h (inksIn cells h)
+  pub header : HeaderHeld s h
+  pub below : Below (h .levels) (inksIn cells h)
+  pub room : mostCells ≤ length cells
+
+-- ---- what reading answers
+
+module _ (s cells : List ℕ) (r : LooseRead) (read : LooseReads s cells r) where
+  pub loose-taken : mostCells ≤ length cells → r .outcome ≡ Accepted → LooseTaken s (r .header) cells
+  unfolding tableOfLoose headerOf
+  loose-taken room e =
+      let held = read .held e in
+      record {
+        table = looseIn s (r .header) (read .rows);
+        reads = sym (read .answer) ∙ ap (outcomeAs (looseIn s (r .header) (read .rows))) e;
+        tidied = ap (tableIn s (r .header)) (sym (held .inks .inks));
+        header = held .header;
+        below = held .inks .below;
+        room = room;
+      }
+
+  pub loose-refused : (number place : ℕ) → r .outcome ≡ Refused number place → readLoose s ≡ refused number place
+  loose-refused number place e = sym (read .answer) ∙ ap (outcomeAs (looseIn s (r .header) (read .rows))) e
+
+-- ---- the cells
+
+module _ (s : List ℕ) (h : Header) (inks : List ℕ) (taken : LooseTaken s h inks) (count : ℕ) (is : count ≡ h .levels ^ h .inputs) where
+  front : take (count - 0) inks ≡ inksIn inks h
+  front = ap (λ (k : ℕ). take k inks) (sub-zero count ∙ is)
+
+  pub count-most : count ≤ mostCells
+  count-most = omega (arith, is, held-size s h (taken .header) .cells-most)
+
+  pub front-length : length (take (count - 0) inks) ≡ count
+  front-length = ap (λ (k : ℕ). length (take k inks)) (sub-zero count) ∙ length-take-le count inks (omega (arith, count-most, taken .room))
+
+  pub front-inside : TableInside s h (take (count - 0) inks)
+  front-inside =
+      let size = held-size s h (taken .header) in
+      record {
+        names = names-inside s h (taken .header);
+        someLevels = omega (arith, size .levels-least);
+        levels = size .levels-most;
+        digits = λ k l. omega (arith, size .levels-most, below-at (h .levels) (take (count - 0) inks) (subst (Below (h .levels)) (sym front) (taken .below)) k l);
+      }
+
+  module _ (cells output : List ℕ) where
+    -- the call, from the table on
+    into : tidyCall s cells output ≡ tidiedInto (tableIn s h (inksIn inks h)) cells output
+    into = tidy-accepted s cells output (taken .table) (taken .reads) ∙ ap (λ (t : Table). tidiedInto t cells output) (taken .tidied)
+
+    pub cells-short : length cells < count → record { answer = refused 13 count; cells = cells; output = output } ≡ tidyCall s cells output
+    unfolding headerOf
+    cells-short short =
+        (λ i. record { answer = refused 13 (is i); cells = cells; output = output })
+        ∙ sym (into ∙ tidied-13 (tableIn s h (inksIn inks h)) cells output (subst (λ (k : ℕ). length cells < k) is short))
+
+    pub cells-written : count ≤ length cells → (filled : List ℕ) (end : ℕ) → Put cells 0 (take (count - 0) inks) filled end → (r : Answer) (after : List ℕ)
+        → ((others : List ℕ) → tidiedOf r others after ≡ tidiedSheet (printedTable (tableIn s h (take (count - 0) inks))) others output)
+        → tidiedOf r filled after ≡ tidyCall s cells output
+    unfolding headerOf
+    cells-written long filled end put r after sheet =
+        let wrote = put-wrote (omega (arith, front-length)) put in
+        sheet filled
+        ∙ (λ i. tidiedSheet (printedTable (tableIn s h (front i))) ((wrote .text ∙ ap (written cells) front) i) output)
+        ∙ sym (into ∙ tidied-sheet (tableIn s h (inksIn inks h)) cells output (subst (λ (k : ℕ). k ≤ length cells) is long))
+
+-- ---- the sheet
+
+module _ (s : List ℕ) (h : Header) (inks : List ℕ) (inside : TableInside s h inks) (need : ℕ) (measures : Measures h (length inks) need) (output : List ℕ) where
+  need-is : need ≡ length (printedTable (tableIn s h inks))
+  need-is = measures s inks (inside .names) refl
+
+  pub output-short : length output < need → (cells : List ℕ)
+      → record { answer = refused 15 need; cells = cells; output = output } ≡ tidiedSheet (printedTable (tableIn s h inks)) cells output
+  output-short short cells =
+      (λ i. record { answer = refused 15 (need-is i); cells = cells; output = output })
+      ∙ sym (tidied-15 (printedTable (tableIn s h inks)) cells output (subst (λ (k : ℕ). length output < k) need-is short))
+
+  module _ (long : need ≤ length output) where
+    pub output-long : length (printedTable (tableIn s h inks)) ≤ length output
+    output-long = subst (λ (k : ℕ). k ≤ length output) need-is long
+
+    pub output-written : (filled : List ℕ) (answer : ℕ) → Wrote output (printedTable (tableIn s h inks)) filled answer → (cells : List ℕ)
+        → record { answer = accepted answer; cells = cells; output = filled } ≡ tidiedSheet (printedTable (tableIn s h inks)) cells output
+    output-written filled answer wrote cells =
+        (λ i. record { answer = accepted (wrote .length i); cells = cells; output = wrote .text i })
+        ∙ sym (tidied-written (printedTable (tableIn s h inks)) cells output output-long)

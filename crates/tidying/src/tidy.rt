@@ -1,0 +1,67 @@
+// The tidying call: from a loose table sheet to the table sheet of document 01, and its inks in the cells buffer.
+ghost use mathlib.Core.Path.{_≡_};
+ghost use mathlib.Core.List.{List};
+ghost use Prim.Native.Nat.{ℕ, _≤_};
+ghost use lib.ListN.{length};
+ghost use Rattle.rules.specs.Limits.{mostCells};
+ghost use Rattle.rules.specs.Printed.{printedTable};
+ghost use Rattle.rules.specs.Tidying.{tidiedSheet, tidyCall};
+ghost use Rattle.nets.specs.Forms.{tableIn};
+ghost use Rattle.table_printing.specs.Tables.{TableInside};
+ghost use Rattle.tidying.specs.Tidying.{LooseTaken, tidiedOf};
+use answers::answer::Answer;
+use answers::outcome::Outcome;
+use lines::put::copy;
+use loose_reading::sheet::read_loose;
+use nets::forms::Header;
+use radix::limits::MOST_CELLS;
+use radix::powers::power;
+use table_printing::lengths::table_length;
+use table_printing::table::print_table;
+
+// Refusal 15, or the table sheet of the header's names and the inks, and its length.
+fn write_sheet(s: &[u8], header: Header, inks: &[u8], out: &mut [u8]) -> Answer
+    requires { ⌜ TableInside (now s) header (now inks) × (length (now inks) ≤ mostCells) ⌝ }
+    ensures { λ r. ⌜ ((cells : List ℕ) → tidiedOf r cells (now (out .exit)) ≡ tidiedSheet (printedTable (tableIn (now (s .entry)) header (now (inks .entry)))) cells (now (out .entry))) ⌝ }
+{
+    let need = table_length(header, inks.len());
+    if out.len() < need {
+        return Answer::Refused {
+            number: 15,
+            place: need,
+        };
+    }
+    Answer::Accepted(print_table(s, header, inks, out))
+}
+
+// Refusal 13, or the inks of an accepted sheet, which stand at the front of `inks`, in the cells buffer, and then the table sheet.
+fn tidy_accepted(s: &[u8], header: Header, inks: &[u8], cells: &mut [u8], out: &mut [u8]) -> Answer
+    requires { ⌜ LooseTaken (now s) header (now inks) ⌝ }
+    ensures { λ r. ⌜ tidiedOf r (now (cells .exit)) (now (out .exit)) ≡ tidyCall (now (s .entry)) (now (cells .entry)) (now (out .entry)) ⌝ }
+{
+    let count = power(header.levels, header.inputs);
+    if cells.len() < count {
+        return Answer::Refused {
+            number: 13,
+            place: count,
+        };
+    }
+    let table = &inks[0..count];
+    copy(table, cells, 0);
+    write_sheet(s, header, table, out)
+}
+
+// Puts the inks of a loose table sheet in the cells buffer, in index order, writes its table sheet to the front of `out`, and answers the length. Any
+// bytes may come in.
+pub fn tidy(sheet: &[u8], cells: &mut [u8], out: &mut [u8]) -> Answer
+    ensures { λ r. ⌜ tidiedOf r (now (cells .exit)) (now (out .exit)) ≡ tidyCall (now (sheet .entry)) (now (cells .entry)) (now (out .entry)) ⌝ }
+{
+    let mut inks = [0u8; MOST_CELLS];
+    let read = read_loose(sheet, &mut inks);
+    let outcome = read.outcome;
+    let header = read.header;
+    match outcome {
+        Outcome::Refused { number, place } => Answer::Refused { number, place },
+        Outcome::Accepted => tidy_accepted(sheet, header, &inks, cells, out),
+    }
+}

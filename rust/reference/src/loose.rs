@@ -1,0 +1,69 @@
+//! Loosely laid table sheets, as spreadsheets export them, and the damages that
+//! tell readers of these apart.
+
+use crate::damage::{fields_of_line, lines, replace};
+use crate::generate::Generator;
+
+/// The lines before the rows of a table sheet.
+const LINES_BEFORE_ROWS: usize = 3;
+
+impl Generator {
+    /// A table sheet with its rows in any order and spaces wherever a loose sheet
+    /// may have them.
+    pub fn loosened(&mut self, sheet: &[u8]) -> Vec<u8> {
+        let shuffled = self.rows_shuffled(sheet);
+        self.spaced(&shuffled)
+    }
+
+    /// The sheet with its rows in any order.
+    pub fn rows_shuffled(&mut self, sheet: &[u8]) -> Vec<u8> {
+        let mut lines = lines(sheet);
+        let rows = lines.len().min(LINES_BEFORE_ROWS);
+        self.rng.shuffle(&mut lines[rows..]);
+        lines.concat()
+    }
+
+    /// The sheet with more spaces beside those that part fields, and some before
+    /// line feeds.
+    pub fn spaced(&mut self, sheet: &[u8]) -> Vec<u8> {
+        let mut spaced = Vec::new();
+        for &byte in sheet {
+            if byte == b' ' || byte == b'\n' {
+                let spaces = *self.rng.pick(&[0, 0, 0, 1, 1, 2, 5]);
+                spaced.extend(vec![b' '; spaces]);
+            }
+            spaced.push(byte);
+        }
+        spaced
+    }
+
+    /// A loose sheet with one damage, often one of those that a strict reader
+    /// would not tell from any other.
+    pub fn loosely_damaged(&mut self, sheet: &[u8]) -> Vec<u8> {
+        let line = self.rng.below(lines(sheet).len().max(1));
+        let fields = fields_of_line(sheet, line);
+        let (Some(first), Some(last)) = (fields.first(), fields.last()) else {
+            return self.damaged(sheet);
+        };
+        match self.rng.below(6) {
+            // a space at a line's start
+            0 => replace(sheet, &(first.start..first.start), b" "),
+            // the last field away, and the spaces before it left
+            1 => replace(sheet, last, b""),
+            // the last field away, with all spaces before it
+            2 => {
+                let before = fields.iter().rev().nth(1);
+                let start = before.map_or(first.start, |field| field.end);
+                replace(sheet, &(start..last.end), b"")
+            }
+            // the line in the stead of another
+            3 => {
+                let mut lines = lines(sheet);
+                let other = self.rng.below(lines.len());
+                lines[other] = lines[line];
+                lines.concat()
+            }
+            _ => self.damaged(sheet),
+        }
+    }
+}
