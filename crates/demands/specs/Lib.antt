@@ -14,6 +14,9 @@ pub mod ShallowRefusals
 pub mod FamilyOutcomes
 pub mod FamilyNumbers
 pub mod ArrivalNumbers
+pub mod JobNumbers
+pub mod JobMoves
+pub mod Jobs
 pub mod NeverZero
 pub mod Makes
 pub mod Checks
