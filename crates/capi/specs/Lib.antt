@@ -8,3 +8,6 @@ pub mod Shallower
 pub mod WriteTable
 pub mod Check
 pub mod ArrivalTimes
+pub mod JobStep
+pub mod JobOpen
+pub mod JobMark
