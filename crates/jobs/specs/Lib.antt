@@ -4,3 +4,4 @@ pub mod Stepping
 pub mod Asking
 pub mod Finishing
 pub mod Calls
+pub mod Reached

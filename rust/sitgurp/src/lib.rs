@@ -3,7 +3,8 @@
 //! Every call is the library's; nothing here decides what the library decides. Buffers are lent as in document 01, and
 //! [`settled`], [`made`] and [`table_of`] lend buffers of the sizes that always suffice. [`settled_shallow`] and [`made_shallow`] give the
 //! tree of fewest layers in place of the settled one, and [`Family`] walks every tree that computes a table. [`multiplicities`] and
-//! [`fewest_levels`] put together what calls of the library answer about a table without a tree. [`arrivals`] says when a net's output settles.
+//! [`fewest_levels`] put together what calls of the library answer about a table without a tree. [`arrivals`] says when a net's output settles. [`Job`] marks a table
+//! one group a step, so that its caller can do other things in between.
 //!
 //! ```
 //! let sheet = b"levels inputs\n2 3\na b c\nleft right table\na b 0110\n1 c 0110\n";
@@ -30,6 +31,7 @@ mod arrivals;
 mod counting;
 mod family;
 mod ffi;
+mod job;
 mod lister;
 mod refusal;
 mod shallow;
@@ -37,6 +39,7 @@ mod shallow;
 pub use arrivals::{arrivals, Settling};
 pub use counting::{fewest_levels, multiplicities};
 pub use family::{family_count, family_tree, Family};
+pub use job::{Job, Passing};
 pub use lister::Lister;
 pub use refusal::{Named, Refusal};
 pub use shallow::{

@@ -1,7 +1,7 @@
 //! The examples of docs/REFUSALS.md: they are the list of crates/rules/specs/Refusals.antt, in its order; the library gives each its
 //! number, its place and its buffers; and the mark in the document stands at the place.
 
-use sitgurp::{Layered, Lister, Named, Refusal};
+use sitgurp::{Job, Layered, Lister, Named, Refusal};
 use std::collections::BTreeSet;
 use std::path::Path;
 
@@ -102,6 +102,9 @@ fn example(kind: &str, body: &str, [number, place]: [usize; 2]) -> Example {
         "count" => &["cells", "marks"],
         "tree" => &["number", "cells", "marks", "output"],
         "write" => &["output"],
+        "further" => &["steps"],
+        "ask" => &["steps", "group"],
+        "finish" => &["steps", "cells", "marks", "output"],
         other => panic!("an example of {other:?}"),
     };
     let (mut numbers, rest) = match words {
@@ -118,7 +121,7 @@ fn example(kind: &str, body: &str, [number, place]: [usize; 2]) -> Example {
     let texts = match kind {
         "bare" | "group" | "marking" => vec![digits(&sheet)],
         "check" => vec![sheet, after.to_string()],
-        "settle" | "make" | "count" | "tree" => {
+        "settle" | "make" | "count" | "tree" | "finish" => {
             let lengths = ["cells", "marks"].map(|buffer| {
                 let at = words.iter().position(|word| *word == buffer);
                 numbers[at.expect("a buffer of this call")]
@@ -214,6 +217,13 @@ fn refused<T: std::fmt::Debug>(answer: Result<T, Refusal>) -> (usize, usize, Nam
     (refusal.number, refusal.place, refusal.named)
 }
 
+/// The job on a sheet, the empty one where it is turned back, after so many steps.
+fn job_after(sheet: &[u8], steps: usize) -> Job {
+    let (mut job, _) = Job::open(sheet);
+    (0..steps).for_each(|_| job.step().expect("a group still to go"));
+    job
+}
+
 /// A call on a sheet, the cells, the marks and the output.
 type SheetCall<T> = fn(&[u8], &mut [u8], &mut [u8], &mut [u8]) -> Result<T, Refusal>;
 
@@ -255,6 +265,30 @@ fn holds(example: &Example) {
             assert_eq!(refused(tree), due(Named::Table));
             let checked = sitgurp::check(NET.as_bytes(), texts[0], &mut cells);
             assert_eq!(refused(checked), due(Named::Table));
+            let (job, refusal) = Job::open(texts[0]);
+            assert_eq!(refused(refusal.map_or(Ok(()), Err)), due(Named::Table));
+            assert_eq!((job.groups(), job.passed()), (0, 0));
+        }
+        "further" => {
+            let mut job = job_after(texts[0], numbers[0]);
+            let before = job.clone();
+            assert_eq!(refused(job.step()), due(Named::Neither));
+            assert_eq!(job, before);
+        }
+        "ask" => {
+            let job = job_after(texts[0], numbers[0]);
+            assert_eq!(refused(job.mark(numbers[1])), due(Named::Neither));
+        }
+        "finish" => {
+            let job = job_after(texts[0], numbers[0]);
+            (cells, marks, output) = (nines(numbers[1]), nines(numbers[2]), nines(numbers[3]));
+            let finished = job.finish(&mut cells, &mut marks, &mut output);
+            assert_eq!(refused(finished), due(Named::Neither));
+            assert_eq!(
+                [&cells, &marks],
+                [1, 2].map(|k| bytes(&example.texts[k])).each_ref()
+            );
+            (cells, marks) = (nines(0), nines(0));
         }
         "bare" => {
             let bare = bytes(&example.texts[0]);
@@ -344,7 +378,8 @@ fn the_document_has_the_listed_examples() {
     }
     assert_eq!(shown.len(), listed.len());
     let numbers: BTreeSet<usize> = listed.iter().map(|e| e.number_and_place().0).collect();
-    assert_eq!(numbers, (1..=19).collect(), "each number has an example");
+    let due = (1..=19).chain(21..=22);
+    assert_eq!(numbers, due.collect(), "each number has an example");
 }
 
 #[test]
@@ -417,5 +452,10 @@ fn a_refusal_in_words() {
             "the table has no tree of this number (refusal 17 at number {})",
             family.size()
         )
+    );
+    let job = Job::of(include_bytes!("../../../examples/majority.table"));
+    assert_eq!(
+        said(job.expect("a table sheet").finished()),
+        "the job is not done (refusal 22; 7 groups are still to go)"
     );
 }

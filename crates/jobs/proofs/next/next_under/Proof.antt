@@ -1,7 +1,7 @@
 -- `jobs::next::next_under` meets its contract: all groups are passed, or the next one is marked from the front of the cells and of the marks.
 -- Assumes nothing.
 use native.Mathlib.Omega.{arith}
-use lib.Pow.{pow-pos}
+use lib.Pow.{pow-mono}
 use Rattle.laws.specs.Sizes.{Size}
 use Rattle.jobs.specs.Forms.{front-size, front-groups}
 use Rattle.jobs.specs.Stepping.{next-done, next-marked, part-length}
@@ -29,7 +29,7 @@ power-requires : tie.Need-power-requires
 power-requires c κs = (omega arith, omega (arith, size (c .before .before .before) .inputs-most))
 
 sub-if1 : tie.Need-sub-if1
-sub-if1 c = omega (arith, c .power .ensures, pow-pos (at-start c .args .h .inputs))
+sub-if1 c = omega (arith, c .power .ensures, pow-mono (size (at-start c) .inputs-least))
 
 returns : tie.Need-returns
 returns c =
