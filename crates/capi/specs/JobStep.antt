@@ -1,14 +1,15 @@
 -- A step of a job as the call for C gives it: two numbers, the marks and how many groups have been passed.
 -- Assumes nothing.
-use Prim.Native.Nat.{ℕ, _+_, _≤_, _<_}
+use Prim.Native.Nat.{ℕ, _+_, _<_}
 use mathlib.Core.Path.{_≡_, sym, ap, _∙_}
 use mathlib.Core.List.{List}
 use lib.ListN.{set}
 use Rattle.rules.specs.Answers.{Answer, accepted, refused, written}
-use Rattle.rules.specs.Jobs.{Job, groupsOf, further, Stepped, stepJob}
+use Rattle.rules.specs.Jobs.{Job, further, Stepped, stepJob}
 use Rattle.laws.specs.Jobs.{step-done, step-on}
-use Rattle.jobs.specs.Forms.{jobIn}
-use Rattle.jobs.specs.Stepping.{nextMark, marks-same, marks-further, job-further}
+use Rattle.jobs.specs.declared.next.Next.the-variants.{Done, Mark}
+use Rattle.jobs.specs.Forms.{mostGroups, jobIn}
+use Rattle.jobs.specs.Stepping.{NextMark, marks-same, marks-further, job-further}
 use Rattle.capi.specs.declared.flat.SitgurpAnswer.{SitgurpAnswer}
 
 -- 0 and 0; or the refusal's number and place
@@ -27,7 +28,12 @@ module _ (lines cells marks : List ℕ) (passed : ℕ) where
   abbrev job : Job
   job = jobIn lines cells marks passed
 
-  pub flat-step-done : groupsOf job ≤ passed → FlatStepped lines cells marks passed (record { number = 21; value = 0 }) marks passed
+  -- there is room for the next mark
+  pub next-room : (mark : ℕ) → NextMark job (Mark mark) → passed + 1 < mostGroups
+  unfolding jobIn
+  next-room mark (on, room, is) = room
+
+  pub flat-step-done : NextMark job Done → FlatStepped lines cells marks passed (record { number = 21; value = 0 }) marks passed
   unfolding jobIn
   flat-step-done h =
       let e = step-done job h in
@@ -38,10 +44,10 @@ module _ (lines cells marks : List ℕ) (passed : ℕ) where
         stands = sym (ap (λ (s : Stepped). s .job) e);
       }
 
-  pub flat-step-on : passed < groupsOf job → (mark : ℕ) → mark ≡ nextMark job
+  pub flat-step-on : (mark : ℕ) → NextMark job (Mark mark)
       → FlatStepped lines cells marks passed (record { number = 0; value = 0 }) (set marks (passed + 1) mark) (passed + 1)
   unfolding jobIn further
-  flat-step-on h mark is =
+  flat-step-on mark (h, room, is) =
       let e = step-on job h in
       record {
         answer = sym (ap (λ (s : Stepped). flatDone (s .answer)) e);

@@ -20,9 +20,12 @@ pub extern "C" fn sitgurp_job_open_parts(
     let opened = opening::open(sheet);
     let outcome = opened.outcome;
     let new = opened.job;
-    *lines = new.lines;
-    *cells = new.cells;
-    *marks = new.marks;
+    let own_lines = new.lines;
+    let own_cells = new.cells;
+    let own_marks = new.marks;
+    *lines = own_lines;
+    *cells = own_cells;
+    *marks = own_marks;
     *passed = new.passed;
     flat_done(outcome)
 }
