@@ -28,6 +28,10 @@ extern "C" {
 #define SITGURP_MOST_NET_SHEET 512
 #define SITGURP_MOST_TABLE_SHEET 106627
 
+/* The parts of a job: its own first lines, and its own marks, one byte a group. */
+#define SITGURP_JOB_LINES 128
+#define SITGURP_JOB_MARKS 4096
+
 /* number 0: accepted, and value is the answer; otherwise number is the refusal's, and value its place */
 typedef struct sitgurp_answer {
     size_t number;
@@ -82,6 +86,25 @@ typedef struct sitgurp_arrival_times {
     double earliest;
     double latest;
 } sitgurp_arrival_times;
+
+/*
+ * A job: marking that goes one group a step. The caller owns it, sitgurp_job_open fills it, and a copy of it is a job too. lines has the sheet's first
+ * lines up to the last name, cells the inks, one byte a cell, and marks every group's mark at its number, one byte each, 0 where the group has not been
+ * passed; passed is how many groups have been passed, in the order of their numbers from 1. Any bytes are a job: where lines are no table sheet's first
+ * lines it has no inputs, and its other calls take the cells, the marks and passed as they stand.
+ */
+typedef struct sitgurp_job {
+    uint8_t lines[SITGURP_JOB_LINES];
+    uint8_t cells[SITGURP_MOST_CELLS];
+    uint8_t marks[SITGURP_JOB_MARKS];
+    size_t passed;
+} sitgurp_job;
+
+/* kind 0: value is the group's mark; 1: the group is not reached, and value is 0; 2: refused with 11 at place value */
+typedef struct sitgurp_mark {
+    size_t kind;
+    size_t value;
+} sitgurp_mark;
 
 /*
  * The number of classes of a group, however large; within the sizes of a sheet it is at most 625.
@@ -195,6 +218,53 @@ sitgurp_turn sitgurp_gate_line(const uint8_t *sheet, size_t sheet_length, size_t
  */
 sitgurp_arrival_times sitgurp_arrivals(const uint8_t *net_sheet, size_t net_sheet_length, const uint8_t *arrival_sheet,
                                        size_t arrival_sheet_length, uint8_t delay);
+
+/*
+ * The calls on a job as the library has them, by the job's parts: lines of SITGURP_JOB_LINES bytes, cells (own) of SITGURP_MOST_CELLS, marks of
+ * SITGURP_JOB_MARKS, and passed. The functions after them take the whole job.
+ */
+sitgurp_answer sitgurp_job_open_parts(const uint8_t *sheet, size_t sheet_length, uint8_t *lines, uint8_t *cells, uint8_t *marks,
+                                      size_t *passed);
+sitgurp_answer sitgurp_job_step_parts(const uint8_t *lines, const uint8_t *cells, uint8_t *marks, size_t *passed);
+sitgurp_mark sitgurp_job_mark_parts(const uint8_t *lines, const uint8_t *marks, size_t passed, size_t group);
+sitgurp_answer sitgurp_job_finish_parts(const uint8_t *lines, const uint8_t *own, size_t passed, uint8_t *cells, size_t cells_length,
+                                        uint8_t *marks, size_t marks_length, uint8_t *output, size_t output_length);
+
+/*
+ * Opens a job on a table sheet, and writes every byte of it. Answers 0. A sheet that is refused opens the empty job: no inputs, no groups, already done.
+ * Refusals: 1 to 6 (the sheet).
+ */
+static inline sitgurp_answer sitgurp_job_open(const uint8_t *sheet, size_t sheet_length, sitgurp_job *job) {
+    return sitgurp_job_open_parts(sheet, sheet_length, job->lines, job->cells, job->marks, &job->passed);
+}
+
+/*
+ * Marks the next group: one more is passed. Answers 0. After 2 to the power n, less 1, steps the job is done.
+ * Refusals: 21 (the job is done; value 0), which changes no byte.
+ */
+static inline sitgurp_answer sitgurp_job_step(sitgurp_job *job) {
+    return sitgurp_job_step_parts(job->lines, job->cells, job->marks, &job->passed);
+}
+
+/*
+ * The mark of a group: the final one where the group has been passed, otherwise that it is not reached. Writes nothing.
+ * Refusals: 11 (the group is 0, or not below 2 to the power n).
+ */
+static inline sitgurp_mark sitgurp_job_mark(const sitgurp_job *job, size_t group) {
+    return sitgurp_job_mark_parts(job->lines, job->marks, job->passed, group);
+}
+
+/*
+ * What sitgurp_make comes to on the sheet that the job was opened on, from the job's own names and cells, with the same buffers. The job stays as it was,
+ * and may be finished again.
+ * Refusals: 9 (an empty job; value 0), 10 (a cell not below m, which no job that was opened has), 22 (the job is not done; value is the groups still to
+ * go), and then sitgurp_make's 13, 14, 16, 15. 9, 10 and 22 change no byte.
+ */
+static inline sitgurp_answer sitgurp_job_finish(const sitgurp_job *job, uint8_t *cells, size_t cells_length, uint8_t *marks,
+                                                size_t marks_length, uint8_t *output, size_t output_length) {
+    return sitgurp_job_finish_parts(job->lines, job->cells, job->passed, cells, cells_length, marks, marks_length, output,
+                                    output_length);
+}
 
 #ifdef __cplusplus
 }

@@ -9,3 +9,6 @@ pub mod WriteTable
 pub mod Tidy
 pub mod Check
 pub mod ArrivalTimes
+pub mod JobStep
+pub mod JobOpen
+pub mod JobMark

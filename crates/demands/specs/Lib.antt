@@ -15,6 +15,9 @@ pub mod FamilyOutcomes
 pub mod FamilyNumbers
 pub mod ArrivalNumbers
 pub mod TidyingNumbers
+pub mod JobNumbers
+pub mod JobMoves
+pub mod Jobs
 pub mod NeverZero
 pub mod Makes
 pub mod Checks

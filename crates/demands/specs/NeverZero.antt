@@ -3,7 +3,7 @@
 use Prim.Native.Nat.{ℕ}
 use mathlib.Core.Path.{_≡_, refl, sym}
 use mathlib.Core.Bool.{true≢false}
-use mathlib.Core.List.{List}
+use mathlib.Core.List.{List, [], _∷_}
 use Rattle.rules.specs.Lists.{any}
 use Rattle.rules.specs.Answers.{refused, Named, netNamed, tableNamed, neither}
 use Rattle.rules.specs.Multiplicity.{multiplicityCall}
@@ -16,8 +16,9 @@ use Rattle.rules.specs.TableWriting.{writeTableCall}
 use Rattle.rules.specs.Tidying.{tidyCall}
 use Rattle.rules.specs.Lister.{listing}
 use Rattle.rules.specs.Arrivals.{netRefused, arrivalsRefused, arrivalsCall}
+use Rattle.rules.specs.Jobs.{Job, openJob, stepJob, askJob, finishJob}
 use Rattle.laws.specs.Distinct.{In}
-use Rattle.readback.specs.Numbers.{netNumbers}
+use Rattle.readback.specs.Numbers.{netNumbers, tableNumbers}
 use Rattle.demands.specs.Numbers.{not-given}
 use Rattle.demands.specs.MultiplicityNumbers.{multiplicity-numbers, multiplicityNumbers}
 use Rattle.demands.specs.MarkingNumbers.{marking-numbers, markingNumbers}
@@ -30,6 +31,7 @@ use Rattle.demands.specs.TableWritingNumbers.{write-table-numbers, write
 use Rattle.demands.specs.TidyingNumbers.{tidy-numbers, tidyNumbers}
 use Rattle.demands.specs.ListingNumbers.{listing-numbers}
 use Rattle.demands.specs.ArrivalNumbers.{arrivals-numbers}
+use Rattle.demands.specs.JobNumbers.{open-numbers, step-numbers, ask-numbers, finish-numbers, finishNumbers}
 
 -- No call refuses with 0: over C, where 0 says that a call accepted, the two are told apart.
 pub never-0 : (place : ℕ)
@@ -47,6 +49,10 @@ pub never-0 : (place : ℕ)
     × ((s : List ℕ) (k : ℕ) → listing s k ≡ refused 0 place → ⊥)
     × ((s r : List ℕ) (delay : ℕ) → arrivalsCall s r delay ≡ netRefused 0 place → ⊥)
     × ((s r : List ℕ) (delay : ℕ) → arrivalsCall s r delay ≡ arrivalsRefused 0 place → ⊥)
+    × ((s : List ℕ) → openJob s .answer ≡ refused 0 place → ⊥)
+    × ((job : Job) → stepJob job .answer ≡ refused 0 place → ⊥)
+    × ((job : Job) (g : ℕ) → askJob job g .answer ≡ refused 0 place → ⊥)
+    × ((job : Job) (cells marks output : List ℕ) → finishJob job cells marks output .made .answer ≡ refused 0 place → ⊥)
 unfolding any
 never-0 place = (
   λ m n cells g. not-given multiplicityNumbers _ (multiplicity-numbers m n cells g) 0 place refl,
@@ -63,6 +69,10 @@ never-0 place = (
   λ s k. not-given netNumbers _ (listing-numbers s k) 0 place refl,
   λ s r delay e. true≢false (sym (arrivals-numbers s r delay .net 0 place e)),
   λ s r delay e. true≢false (sym (arrivals-numbers s r delay .arrivals 0 place e)),
+  λ s. not-given tableNumbers _ (open-numbers s) 0 place refl,
+  λ job. not-given (21 ∷ []) _ (step-numbers job) 0 place refl,
+  λ job g. not-given (11 ∷ []) _ (ask-numbers job g) 0 place refl,
+  λ job cells marks output. not-given finishNumbers _ (finish-numbers job cells marks output) 0 place refl,
 )
   where
     no-0 : (named : Named) → In 0 (checkNumbers named) → ⊥

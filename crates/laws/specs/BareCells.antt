@@ -1,18 +1,23 @@
 -- What bare cells come to, one law for each outcome, and what follows of those that are accepted.
 -- Assumes nothing.
 use Prim.Native.Nat.{ℕ, _^_, _≤_, _<_}
-use mathlib.Core.Path.{_≡_, refl, ap}
+use mathlib.Core.Path.{_≡_, refl, ap, _∙_}
 use mathlib.Core.Bool.{Bool, true, false, not, and-false}
 use mathlib.Core.List.{List}
 use native.Mathlib.Omega.{arith}
 use lib.Dec.{eqb, ltb}
 use lib.ListN.{length}
 use borrow.Author.Tests.{eqb-true, eqb-false, eq-eqb, ne-eqb, lt-ltb, le-ltb}
-use Rattle.rules.specs.Lists.{firstPlace}
+use Rattle.rules.specs.Lists.{all, firstPlace}
 use Rattle.rules.specs.Limits.{sizeFits}
+use Rattle.rules.specs.Sheets.{Table}
+use Rattle.rules.specs.Kept.{KeptTable}
 use Rattle.rules.specs.Answers as answers
 use Rattle.rules.specs.BareCells.{bareCells}
+use Rattle.laws.specs.Answers.{not-refused}
 use Rattle.laws.specs.FirstPlaces.{all-place}
+use Rattle.laws.specs.Sizes.{kept-fits}
+use Rattle.laws.specs.Tests.{all-each}
 
 module _ (m n : ℕ) (cells : List ℕ) where
   pub bare-size : sizeFits m n ≡ false → answers.refused 9 0 ≡ bareCells m n cells
@@ -45,3 +50,26 @@ module _ (m n : ℕ) (cells : List ℕ) where
       go true fits true count = (fits, eqb-true _ _ count)
       go true fits false count = absurd (never e (bare-length (eqb-false _ _ count)))
       go false fits t count = absurd (never e (bare-size fits))
+
+  -- .. and each cell is below m
+  pub bare-inks : answers.accepted tt ≡ bareCells m n cells → all (λ c. ltb c m) cells ≡ true
+  unfolding bareCells
+  bare-inks e = go (all (λ c. ltb c m) cells) refl
+    where
+      go : (t : Bool) → all (λ c. ltb c m) cells ≡ t → all (λ c. ltb c m) cells ≡ true
+      go true h = h
+      go false h =
+          let (fits, count) = bare-accepted e in
+          let back : bareCells m n cells ≡ answers.refused 10 (firstPlace (λ c. not (ltb c m)) cells) = rw (fits, eq-eqb (length cells) (m ^ n) count, h, bareCells) in
+          absurd (not-refused tt 10 _ (e ∙ back))
+
+-- the inks of a table that keeps the rules are bare cells that are accepted
+pub bare-kept : (t : Table) → KeptTable t → bareCells (t .header .levels) (t .header .inputs) (t .inks) ≡ answers.accepted tt
+unfolding bareCells
+bare-kept t kept =
+    rw (
+      kept-fits (t .header) (kept .header),
+      eq-eqb (length (t .inks)) (t .header .levels ^ t .header .inputs) (kept .count),
+      all-each (λ c. ltb c (t .header .levels)) 0 (t .inks) (λ k h. lt-ltb _ _ (kept .below k h)),
+      bareCells,
+    )

@@ -6,6 +6,7 @@ pub mod Decimals
 pub mod Distinct
 pub mod Finds
 pub mod FirstPlaces
+pub mod Jobs
 pub mod Levels
 pub mod Layers
 pub mod Settling

@@ -5,8 +5,8 @@
 -- the calls with what they turn back (`Answers`, `Reading` and `BareCells` are what they share; a file for each call or pair of calls
 -- follows), the starred cases (`Cases`), every refusal by examples (`Refusals`), and what is judged first (`Orders`). Of document 02: shallow
 -- nets (`Layers`, `Shallow`, `ShallowSettling`, `Shallower`, with `ShallowCases`), every wiring of a table (`Family`, `FamilyCalls`, with
--- `FamilyCases`), the comparison of two assignments (`Differences`, with `DifferenceCases`) and arrival times (`ArrivalSheet`, `Arrivals`, with
--- `ArrivalCases`) and loose table sheets (`LooseSheet`, `Tidying`, with `LooseCases`).
+-- `FamilyCases`), the comparison of two assignments (`Differences`, with `DifferenceCases`), arrival times (`ArrivalSheet`, `Arrivals`, with
+-- `ArrivalCases`), loose table sheets (`LooseSheet`, `Tidying`, with `LooseCases`), and marking as a job (`Jobs`, with `JobCases`).
 -- `Evaluation` lets all of it compute.
 -- Assumes nothing.
 pub mod Lists
@@ -44,6 +44,7 @@ pub mod ArrivalSheet
 pub mod Arrivals
 pub mod LooseSheet
 pub mod Tidying
+pub mod Jobs
 pub mod Evaluation
 pub mod Cases
 pub mod ShallowCases
@@ -51,5 +52,6 @@ pub mod FamilyCases
 pub mod DifferenceCases
 pub mod ArrivalCases
 pub mod LooseCases
+pub mod JobCases
 pub mod Refusals
 pub mod Orders

@@ -1,4 +1,4 @@
--- The examples of docs/REFUSALS.md as one theorem, `refusals-hold`: every refusal, 1 to 20, by calls that give it, with its number, its
+-- The examples of docs/REFUSALS.md as one theorem, `refusals-hold`: every refusal, 1 to 22, by calls that give it, with its number, its
 -- place, and what each buffer lent to the call holds afterwards. They compute, so that a reader who believes nothing sees each number
 -- come out. The document's examples are these and no others (rust/sitgurp/tests/refusals.rs).
 -- Assumes nothing.
@@ -23,6 +23,7 @@ use Rattle.rules.specs.ArrivalSheet.{readArrivals}
 use Rattle.rules.specs.Arrivals.{arrivalsCall, arrivalsRefused, netRefused}
 use Rattle.rules.specs.LooseSheet.{readLoose}
 use Rattle.rules.specs.Tidying.{tidyCall}
+use Rattle.rules.specs.Jobs.{Job, emptyJob, openJob, stepJob, askJob, finishJob, step, afterMoves}
 use Rattle.rules.specs.Evaluation.{computing}
 use Rattle.rules.specs.Cases.{lineEnds, paper, digits, named}
 
@@ -47,6 +48,7 @@ pub record TableBack (sheet : List ℕ) (number place : ℕ) : Type 0 where
       → familyTreeCall sheet order cells marks output ≡ record { answer = refused number place; cells = cells; marks = marks; output = output }
   pub checking : (net-sheet cells : List ℕ) (net : Net) → readNet net-sheet ≡ accepted net
       → checkCall net-sheet sheet cells ≡ record { answer = turnedDown tableNamed number place; cells = cells }
+  pub opening : openJob sheet ≡ record { job = emptyJob; answer = refused number place }
 
 -- An arrival sheet for inputs of these names that is turned back: the same behind every accepted net sheet with these names, whatever the delay.
 pub record ArrivalsBack (names : List (List ℕ)) (sheet : List ℕ) (number place : ℕ) : Type 0 where
@@ -75,13 +77,14 @@ net-back e =
     }
 
 pub table-back : {sheet : List ℕ} {number place : ℕ} → readTable sheet ≡ refused number place → TableBack sheet number place
-unfolding makeCall familyCountCall familyTreeCall checkCall
+unfolding makeCall familyCountCall familyTreeCall checkCall openJob
 table-back e =
     record {
       making = λ cells marks output. rw (e, makeCall);
       counting = λ cells marks. rw (e, familyCountCall);
       numbering = λ order cells marks output. rw (e, familyTreeCall);
       checking = λ net-sheet cells net a. rw (a, e, checkCall);
+      opening = rw (e, openJob);
     }
 
 pub arrivals-back : {names : List (List ℕ)} {sheet : List ℕ} {number place : ℕ} → readArrivals names sheet ≡ refused number place
@@ -101,6 +104,10 @@ cells-back e = record { counting = λ g. rw (e, multiplicityCall); marking = λ 
 unfoldable pub nines : ℕ → List ℕ
 nines k = replicate k 9
 
+-- The job on a sheet after so many steps.
+unfoldable pub jobAfter : String → ℕ → Job
+jobAfter sheet steps = afterMoves (replicate steps step) (openJob (paper sheet) .job)
+
 -- An example, by what it is of. Buffers are given by their lengths, and cells and buffers afterwards by their digits.
 pub data Example : Type 0 where
   net : (sheet : String) (number place : ℕ) → Example
@@ -117,6 +124,9 @@ pub data Example : Type 0 where
   arrival : (sheet : String) (number place : ℕ) → Example
   loose : (sheet : String) (number place : ℕ) → Example
   tidy : (sheet : String) (cells output number place : ℕ) (cells-then : String) → Example
+  further : (sheet : String) (steps number place : ℕ) → Example
+  ask : (sheet : String) (steps g number place : ℕ) → Example
+  finish : (sheet : String) (steps cells marks output number place : ℕ) (cells-then : String) (marks-then : List ℕ) → Example
 
 -- The common statement: a call's whole result, its answer and every buffer lent to it.
 abbrev pub Comes : Example → Type 0
@@ -171,6 +181,22 @@ Comes (loose sheet number place) = LooseBack (paper sheet) number place
 Comes (tidy sheet cells output number place cells-then) =
     tidyCall (paper sheet) (nines cells) (nines output)
     ≡ record { answer = refused number place; cells = digits (text cells-then); output = nines output }
+-- a job after so many steps: one step further, the mark of a group, finishing; it comes back as it was
+Comes (further sheet steps number place) =
+    stepJob (jobAfter sheet steps) ≡ record { job = jobAfter sheet steps; answer = refused number place }
+Comes (ask sheet steps g number place) =
+    askJob (jobAfter sheet steps) g ≡ record { job = jobAfter sheet steps; answer = refused number place }
+Comes (finish sheet steps cells marks output number place cells-then marks-then) =
+    finishJob (jobAfter sheet steps) (nines cells) (nines marks) (nines output)
+    ≡ record {
+      job = jobAfter sheet steps;
+      made = record {
+        answer = refused number place;
+        cells = digits (text cells-then);
+        marks = digits (text marks-then);
+        output = nines output;
+      };
+    }
 
 -- every example of a list
 infixr 5 _and_
@@ -228,11 +254,13 @@ refusals =
     ∷ bare 1 2 "0" 9 0
     ∷ bare 2 1 "01" 9 0
     ∷ bare 2 13 "01" 9 0
+    ∷ finish "levels inputs/2 2/a b b ink/" 0 4 4 48 9 0 "9999" (nines 4)
     -- 10: a cell
     ∷ bare 2 2 "0112" 10 3
     -- 11: the group
     ∷ group 2 2 "0111" 4 11 0
     ∷ group 2 2 "0111" 0 11 0
+    ∷ ask "levels inputs/2 2/a b ink/0 0 0/0 1 0/1 0 0/1 1 1/" 1 4 11 0
     -- 12: names, inputs, levels that differ
     ∷ check "levels inputs/2 2/a b/left right table/a b 0001/" "levels inputs/2 2/b a ink/0 0 0/0 1 0/1 0 0/1 1 1/" 4 12 0
     ∷ check "levels inputs/2 3/a b c/left right table/a b 0001/1 c 0001/" "levels inputs/2 2/a b ink/0 0 0/0 1 0/1 0 0/1 1 1/" 4 12 0
@@ -272,19 +300,24 @@ refusals =
     -- 20: an assignment of an earlier row, whatever the ink; with no ink
     ∷ loose "levels inputs/2 2/a b ink/1 1 1/0 0 0/1 1 1/" 20 38
     ∷ loose "levels inputs/2 2/a b ink/1 1 1/1 1  /" 20 32
+    -- 21: a job that is done; the empty job, beside a refusal, is done from the start
+    ∷ further "levels inputs/2 2/a b ink/0 0 0/0 1 0/1 0 0/1 1 1/" 3 21 0
+    ∷ further "levels inputs/2 2/a b b ink/" 0 21 0
+    -- 22: a job that is not done, whatever the buffers
+    ∷ finish "levels inputs/2 2/a b ink/0 0 0/0 1 0/1 0 0/1 1 1/" 0 4 4 48 22 3 "9999" (nines 4)
+    ∷ finish "levels inputs/2 2/a b ink/0 0 0/0 1 0/1 0 0/1 1 1/" 2 0 0 0 22 1 "" []
     ∷ []
 
 pub refusals-hold : AllCome refusals
-unfolding computing lineEnds paper digits named nines
+unfolding computing lineEnds paper digits named nines jobAfter
 refusals-hold =
     net-back refl and net-back refl and table-back refl and net-back refl and net-back refl and net-back refl and net-back refl
     and net-back refl and net-back refl and net-back refl and table-back refl and loose-back refl and loose-back refl and loose-back refl
     and loose-back refl and loose-back refl and net-back refl and net-back refl and net-back refl and table-back refl and net-back refl
     and net-back refl and table-back refl and table-back refl and loose-back refl and table-back refl and net-back refl and net-back refl
     and net-back refl and net-back refl and net-back refl and net-back refl and cells-back refl and cells-back refl and cells-back refl
-    and cells-back refl and cells-back refl and refl and refl and refl and refl and refl
-    and refl and refl and refl and refl and refl and refl and refl
-    and refl and refl and refl and refl and refl and refl and refl
-    and refl and refl and refl and arrivals-back refl and arrivals-back refl and arrivals-back refl and arrivals-back refl
-    and arrivals-back refl and arrivals-back refl and loose-back refl and loose-back refl
+    and cells-back refl and refl and cells-back refl and refl and refl and refl and refl and refl and refl and refl and refl and refl
+    and refl and refl and refl and refl and refl and refl and refl and refl and refl and refl and refl and refl and refl and refl
+    and arrivals-back refl and arrivals-back refl and arrivals-back refl and arrivals-back refl and arrivals-back refl
+    and arrivals-back refl and loose-back refl and loose-back refl and refl and refl and refl and refl
     and none

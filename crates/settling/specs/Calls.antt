@@ -8,7 +8,7 @@ use Rattle.rules.specs.Sheets.{Table}
 use Rattle.rules.specs.Sheets as sheets
 use Rattle.rules.specs.Answers.{Answer, accepted, onward, refused}
 use Rattle.rules.specs.Reading.{readNet, readTable, tableOfNet}
-use Rattle.rules.specs.Settling.{Made, settledNet, settleCall, makeCall}
+use Rattle.rules.specs.Settling.{Made, settledNet, madeInto, settleCall, makeCall}
 use Rattle.rules.specs.ShallowSettling.{LayeredMade, layeredInto, makeShallowCall, settleShallowCall, shallowNet, withLayers}
 use Rattle.laws.specs.Settling.{settle-accepted, settle-refused, make-accepted, make-refused}
 use Rattle.laws.specs.ShallowSettling.{plain, plain-layered}
@@ -65,6 +65,12 @@ plainMade made = record { answer = plain (made .answer); cells = made .cells; ma
 plain-with : (count : ℕ) (made : Made) → plainMade (withLayers count made) ≡ made
 unfolding plainMade withLayers
 plain-with count made = λ i. record { answer = plain-layered count (made .answer) i; cells = made .cells; marks = made .marks; output = made .output }
+
+-- making from a table
+pub into-plain : (netFor : Table → sheets.Net) (t : Table) (cells marks output : List ℕ)
+    → plainMade (layeredInto netFor t cells marks output) ≡ madeInto netFor t cells marks output
+unfolding layeredInto
+into-plain netFor t cells marks output = plain-with _ _
 
 module _ (s cells marks output : List ℕ) where
   -- document 01's settling, ..

@@ -10,7 +10,7 @@ use answers::layered::Layered;
 use wirings::choice::Choice;
 
 // The answer without the count of layers.
-fn length_alone(answer: Layered) -> Answer
+pub fn length_alone(answer: Layered) -> Answer
     ensures { λ r. ⌜ answerOf r ≡ plain (layeredOf answer) ⌝ }
 {
     match answer {

@@ -3,3 +3,4 @@ pub mod calls;
 pub mod chosen;
 pub mod program;
 pub mod shallow;
+pub mod table;

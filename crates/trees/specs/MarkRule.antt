@@ -176,7 +176,7 @@ module _ (m n : ℕ) (pos : 0 < m) (f : ℕ → ℕ) where
   marks-length = marks-below-length m n f (2 ^ n)
 
   -- each mark is the rule's, with all marks at hand
-  mark-rule : (g : ℕ) → g < 2 ^ n → marked g ≡ markOf m n f (marksOf m n f) g
+  pub mark-rule : (g : ℕ) → g < 2 ^ n → marked g ≡ markOf m n f (marksOf m n f) g
   unfolding marksOf
   mark-rule g g< =
       mark-below m n f (2 ^ n) g g<

@@ -8,6 +8,7 @@
 //! | `plain_sheets` | reading and checking in plain Rust                            |
 //! | `ratios`       | one ratio for each thing that is timed                        |
 //! | `growth`       | what one more input costs                                     |
+//! | `steps`        | the longest step of a job                                     |
 //! | `timing`       | times, and tables of ratios                                   |
 
 mod growth;
@@ -15,6 +16,7 @@ mod kinds;
 mod plain;
 mod plain_sheets;
 mod ratios;
+mod steps;
 mod timing;
 
 use kinds::{names, KINDS, SIZES};
@@ -46,6 +48,7 @@ fn main() {
         |m, n, kind| ratios::checking(m, n, kind, Against::Plain),
     );
     growth::marking();
+    steps::longest();
     by_size(
         "shallow making / making; at 2 11 it is to be 3 at most",
         ratios::shallow_making,

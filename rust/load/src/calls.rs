@@ -22,10 +22,11 @@ pub enum Kind {
     WriteTable,
     Listing,
     Tidy,
+    Job,
 }
 
 impl Kind {
-    pub const ALL: [Kind; 16] = [
+    pub const ALL: [Kind; 17] = [
         Kind::Multiplicity,
         Kind::Multiplicities,
         Kind::FewestLevels,
@@ -42,6 +43,7 @@ impl Kind {
         Kind::WriteTable,
         Kind::Listing,
         Kind::Tidy,
+        Kind::Job,
     ];
 
     /// The refusals that documents 01 and 02 have for this call; of the two that ask a table sheet's multiplicities, the sheet's. The shallower of
@@ -61,6 +63,7 @@ impl Kind {
             Kind::WriteTable => &[1, 2, 3, 4, 6, 7, 8, 15],
             Kind::Listing => &[1, 2, 3, 4, 6, 7, 8],
             Kind::Tidy => &[1, 2, 3, 4, 5, 6, 13, 15, 20],
+            Kind::Job => &[1, 2, 3, 4, 5, 6, 9, 11, 13, 14, 15, 16, 21, 22],
         }
     }
 }
@@ -97,6 +100,7 @@ impl Call {
             Kind::WriteTable => write_table(&mut inputs),
             Kind::Listing => listing(&mut inputs),
             Kind::Tidy => tidy(&mut inputs),
+            Kind::Job => job(&mut inputs),
         };
         Call {
             kind,
@@ -452,6 +456,74 @@ fn tidy(inputs: &mut Inputs) -> Both {
         |buffers| {
             let [cells, output] = lent(buffers);
             Answer::of_second(reference::tidy(&sheet, cells, output), Answer::Value)
+        },
+    )
+}
+
+/// What is asked of a job last; its opening, too, is an answer.
+#[derive(Clone, Copy, Debug)]
+enum Last {
+    Opening,
+    Step,
+    Mark(usize),
+    Finish,
+}
+
+/// A job that goes some steps, with a group asked after each, and what is asked of it last.
+fn job(inputs: &mut Inputs) -> Both {
+    let sheet = inputs.table_sheet();
+    let asked: Vec<usize> = (0..inputs.steps()).map(|_| inputs.group()).collect();
+    let last = match inputs.below(8) {
+        0 | 1 => Last::Opening,
+        2 => Last::Step,
+        3 => Last::Mark(inputs.group()),
+        _ => Last::Finish,
+    };
+    let buffers = sheet_buffers(inputs, &sheet);
+    let steps = asked.len();
+    both(
+        format!(
+            "{}\n{steps} steps, then {last:?}",
+            in_words(&[&sheet], &buffers)
+        ),
+        buffers,
+        |buffers| {
+            let [cells, marks, output] = lent(buffers);
+            let (mut job, refusal) = sitgurp::Job::open(&sheet);
+            let step =
+                |job: &mut sitgurp::Job| Answer::of_proved(job.step(), |()| Answer::Value(0));
+            let opening = Answer::of_proved(refusal.map_or(Ok(0), Err), Answer::Value);
+            let mut before = vec![opening.clone()];
+            for &group in &asked {
+                before.push(step(&mut job));
+                before.push(Answer::of_proved(job.mark(group), Answer::Mark));
+            }
+            let last = match last {
+                Last::Opening => opening,
+                Last::Step => step(&mut job),
+                Last::Mark(group) => Answer::of_proved(job.mark(group), Answer::Mark),
+                Last::Finish => Answer::of_proved(job.finish(cells, marks, output), Answer::Value),
+            };
+            Answer::Job(before, Box::new(last))
+        },
+        |buffers| {
+            let [cells, marks, output] = lent(buffers);
+            let (mut job, refusal) = reference::Job::open(&sheet);
+            let step =
+                |job: &mut reference::Job| Answer::of_second(job.step(), |()| Answer::Value(0));
+            let opening = Answer::of_second(refusal.map_or(Ok(0), Err), Answer::Value);
+            let mut before = vec![opening.clone()];
+            for &group in &asked {
+                before.push(step(&mut job));
+                before.push(Answer::of_second(job.mark(group as u64), Answer::Mark));
+            }
+            let last = match last {
+                Last::Opening => opening,
+                Last::Step => step(&mut job),
+                Last::Mark(group) => Answer::of_second(job.mark(group as u64), Answer::Mark),
+                Last::Finish => Answer::of_second(job.finish(cells, marks, output), Answer::Value),
+            };
+            Answer::Job(before, Box::new(last))
         },
     )
 }

@@ -21,6 +21,10 @@ pub enum Answer {
     Counts(Vec<usize>),
     /// The lister's turns: where a line begins and how long it is, or that none is left.
     Turns(Vec<Option<(usize, usize)>>),
+    /// A group's mark, or that it is not reached.
+    Mark(Option<u8>),
+    /// What a job answered before it was last asked, and then.
+    Job(Vec<Answer>, Box<Answer>),
     Refused {
         number: usize,
         place: usize,
@@ -66,6 +70,7 @@ impl Answer {
     pub fn number(&self) -> usize {
         match self {
             Answer::Refused { number, .. } => *number,
+            Answer::Job(_, last) => last.number(),
             _ => 0,
         }
     }
@@ -141,6 +146,11 @@ mod tests {
             Answer::Counts(vec![0, 2, 2, 1]),
             Answer::Turns(vec![Some((4, 8)), None]),
             Answer::Turns(vec![Some((4, 8)), Some((4, 8))]),
+            Answer::Mark(None),
+            Answer::Mark(Some(0)),
+            Answer::Job(vec![], Box::new(Answer::Mark(None))),
+            Answer::Job(vec![Answer::Value(0)], Box::new(Answer::Mark(None))),
+            Answer::Job(vec![Answer::Value(0)], Box::new(Answer::Value(0))),
             refused(4, Named::Net),
             refused(4, Named::Table),
             refused(5, Named::Net),

@@ -94,6 +94,24 @@ impl Inputs {
         rows + names
     }
 
+    /// How many steps a job goes: all, some, or a few more than there are.
+    pub fn steps(&mut self) -> usize {
+        let groups = self.groups();
+        match self.below(4) {
+            0 => self.below(groups),
+            1 => groups,
+            _ => groups - 1,
+        }
+    }
+
+    /// A group that may be any, or none.
+    pub fn group(&mut self) -> usize {
+        match self.below(8) {
+            0 => *self.generator.rng.pick(&ODD_NUMBERS),
+            _ => self.below(self.groups() + 1),
+        }
+    }
+
     /// An order number of a tree of this table sheet, or one at or past their count.
     pub fn order_number(&mut self, sheet: &[u8]) -> u64 {
         let count = sitgurp::Family::of(sheet).map_or(0, |family| family.size());

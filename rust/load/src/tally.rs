@@ -5,7 +5,7 @@ use std::collections::BTreeSet;
 use std::fmt;
 
 /// Refusals are numbered from 1; 0 stands for an accepted call.
-const ENDS: usize = 21;
+const ENDS: usize = 23;
 
 #[derive(Clone, Default)]
 struct Row {
@@ -102,6 +102,7 @@ mod tests {
             (Kind::FamilyTree, 17),
             (Kind::Arrivals, 19),
             (Kind::Tidy, 20),
+            (Kind::Job, 22),
             (Kind::Multiplicity, 0),
             (Kind::Listing, 8),
         ] {

@@ -166,14 +166,35 @@ fn write_tree(
     Ok(Layered { length, layers })
 }
 
+/// What making writes, of a table whose marks are known. Refusals 13, 14, 16, 15.
+pub(crate) fn write_settled(
+    header: &Header,
+    table: &Table,
+    of_groups: &[u8],
+    cells: &mut [u8],
+    marks: &mut [u8],
+    out: &mut [u8],
+) -> Result<usize, Refusal> {
+    require_room(table, cells, marks)?;
+    put(cells, &table.inks);
+    marks::store(of_groups, marks);
+    let net = settled_net(table, of_groups).ok_or_else(|| no_tree(of_groups, table.n))?;
+    write_sheet(&print_net_sheet(header, &net), out)
+}
+
 /// The table into the cells, its marks into the marks; answers the marks.
 fn write_marks(table: &Table, cells: &mut [u8], marks: &mut [u8]) -> Result<Vec<u8>, Refusal> {
-    require(refusal::CELLS_SHORT, cells.len(), table.inks.len())?;
-    require(refusal::MARKS_SHORT, marks.len(), marks::needed(table.n))?;
+    require_room(table, cells, marks)?;
     let of_groups = marks_of(table);
     put(cells, &table.inks);
     marks::store(&of_groups, marks);
     Ok(of_groups)
+}
+
+/// Refusals 13 and 14, of a table and its marks.
+fn require_room(table: &Table, cells: &[u8], marks: &[u8]) -> Result<(), Refusal> {
+    require(refusal::CELLS_SHORT, cells.len(), table.inks.len())?;
+    require(refusal::MARKS_SHORT, marks.len(), marks::needed(table.n))
 }
 
 fn no_tree(marks: &[u8], n: usize) -> Refusal {

@@ -18,6 +18,7 @@
 //! | `shallow`  | document 02, "Shallow nets": the tree of fewest layers    |
 //! | `family`   | document 02, "The whole family of trees": counts, numbers |
 //! | `arrivals` | document 02, "Arrival times known only between bounds"     |
+//! | `job`      | document 02, "Marking that yields to the pen"             |
 //! | `calls`    | every call with the buffers lent to it                    |
 //! | `lister`   | "Listing"                                                 |
 //! | `programs` | "Two programs"                                            |
@@ -34,6 +35,7 @@ pub mod family;
 pub mod fields;
 pub mod generate;
 pub mod groups;
+pub mod job;
 pub mod limits;
 pub mod lister;
 pub mod loose;
@@ -52,6 +54,7 @@ pub use calls::{
     multiplicities, multiplicity, settle, settle_shallow, shallower, tidy, write_table, Layered,
     Verdict,
 };
+pub use job::Job;
 pub use limits::allowed_sizes;
 pub use lister::Lister;
 pub use programs::{make_program, settle_program};

@@ -1,7 +1,7 @@
 //! "Marks": which groups have few enough classes, and which of them can be
 //! built from inputs.
 
-use crate::groups::{is_member, members, multiplicities, whole};
+use crate::groups::{is_member, members, multiplicities, multiplicity, whole};
 use crate::net::Table;
 
 /// "0 if it is empty or its multiplicity is over m."
@@ -17,23 +17,32 @@ pub fn marks_of(table: &Table) -> Vec<u8> {
     marks_with(&multiplicities(table), table.n, table.m)
 }
 
+/// The mark of one group, from the marks of the groups of lower number: a part of
+/// a group has a lower number.
+pub fn mark_of(table: &Table, lower: &[u8], group: usize) -> u8 {
+    mark_with(multiplicity(table, group), lower, group, table.n, table.m)
+}
+
 /// The marks that groups of these multiplicities have with `most` in place of
-/// m. A single input has mark 2 whatever `most` is: it is a leaf, and no gate
-/// gives it.
+/// m.
 fn marks_with(multiplicities: &[usize], n: usize, most: usize) -> Vec<u8> {
     let mut marks = Vec::new();
     for (group, &multiplicity) in multiplicities.iter().enumerate() {
-        // A part of a group has a lower number, so its mark is there already.
-        let mark = match members(group, n).len() {
-            0 => NONE,
-            1 => TREE,
-            _ if multiplicity > most => NONE,
-            _ if split(&marks, group, n).is_some() => TREE,
-            _ => STUCK,
-        };
-        marks.push(mark);
+        marks.push(mark_with(multiplicity, &marks, group, n, most));
     }
     marks
+}
+
+/// A single input has mark 2 whatever `most` is: it is a leaf, and no gate gives
+/// it.
+fn mark_with(multiplicity: usize, lower: &[u8], group: usize, n: usize, most: usize) -> u8 {
+    match members(group, n).len() {
+        0 => NONE,
+        1 => TREE,
+        _ if multiplicity > most => NONE,
+        _ if split(lower, group, n).is_some() => TREE,
+        _ => STUCK,
+    }
 }
 
 /// The least k for which the whole group has mark 2 with k in place of m: how

@@ -6,7 +6,7 @@ mod common;
 use common::*;
 use reference::{
     check, family_count, family_tree, make, make_shallow, marking, settle, settle_shallow, tidy,
-    write_table, Refusal, Verdict,
+    write_table, Job, Refusal, Verdict,
 };
 
 /// A lent buffer with something in it: no two neighbours are equal, and none is
@@ -55,6 +55,19 @@ fn third_tree(
     out: &mut [u8],
 ) -> Result<usize, Refusal> {
     family_tree(sheet, 2, cells, marks, out)
+}
+
+/// A job on the sheet, gone all its steps and finished.
+fn finished_job(
+    sheet: &[u8],
+    cells: &mut [u8],
+    marks: &mut [u8],
+    out: &mut [u8],
+) -> Result<usize, Refusal> {
+    let (mut job, refusal) = Job::open(sheet);
+    assert_eq!(refusal, None);
+    while job.step().is_ok() {}
+    job.finish(cells, marks, out)
 }
 
 /// A sheet with what settling or making is to write from it.
@@ -135,22 +148,24 @@ fn make_at_every_length() {
         usize::from((x[2] == 0 && most >= 1) || (x[2] == 1 && most == 2))
     };
     let gates = "a d 000011022/1 b 012112222/2 c 000100110";
-    Example {
-        call: make,
-        sheet: rule_sheet(3, "a b c d", rule),
-        cells: inks_of(3, 4, rule),
-        // {a, d}, {a, b, d} and the whole have trees, {a, b, c} has none.
-        marks: packed(&[0, 2, 2, 0, 2, 0, 0, 1, 2, 2, 0, 2, 0, 0, 0, 2]),
-        result: Ok(net_sheet(3, "a b c d", gates)),
+    for call in [make as Call, finished_job] {
+        Example {
+            call,
+            sheet: rule_sheet(3, "a b c d", rule),
+            cells: inks_of(3, 4, rule),
+            // {a, d}, {a, b, d} and the whole have trees, {a, b, c} has none.
+            marks: packed(&[0, 2, 2, 0, 2, 0, 0, 1, 2, 2, 0, 2, 0, 0, 0, 2]),
+            result: Ok(net_sheet(3, "a b c d", gates)),
+        }
+        .assert_all_lengths();
     }
-    .assert_all_lengths();
 }
 
 /// Case 5: 16 comes before 15, and leaves cells and marks written.
 #[test]
 fn make_without_a_tree_at_every_length() {
     let rule = |x: &[usize]| usize::from(x.iter().sum::<usize>() >= 2);
-    for call in [make as Call, make_shallow_length] {
+    for call in [make as Call, make_shallow_length, finished_job] {
         Example {
             call,
             sheet: rule_sheet(2, "a b c", rule),

@@ -58,6 +58,14 @@ pub struct ArrivalTimes {
     pub latest: f64,
 }
 
+/// `kind` is 0 where `value` is the group's mark, 1 where it is not reached, 2 for refusal 11 at place `value`.
+#[repr(C)]
+#[derive(Clone, Copy)]
+pub struct Mark {
+    pub kind: usize,
+    pub value: usize,
+}
+
 /// Settling and making: a sheet, then the cells, the marks and the output lent.
 pub type SheetCall<A> = unsafe extern "C" fn(
     sheet: *const u8,
@@ -181,4 +189,35 @@ extern "C" {
         arrival_sheet_length: usize,
         delay: u8,
     ) -> ArrivalTimes;
+    pub fn sitgurp_job_open_parts(
+        sheet: *const u8,
+        sheet_length: usize,
+        lines: *mut u8,
+        cells: *mut u8,
+        marks: *mut u8,
+        passed: *mut usize,
+    ) -> Answer;
+    pub fn sitgurp_job_step_parts(
+        lines: *const u8,
+        cells: *const u8,
+        marks: *mut u8,
+        passed: *mut usize,
+    ) -> Answer;
+    pub fn sitgurp_job_mark_parts(
+        lines: *const u8,
+        marks: *const u8,
+        passed: usize,
+        group: usize,
+    ) -> Mark;
+    pub fn sitgurp_job_finish_parts(
+        lines: *const u8,
+        own: *const u8,
+        passed: usize,
+        cells: *mut u8,
+        cells_length: usize,
+        marks: *mut u8,
+        marks_length: usize,
+        output: *mut u8,
+        output_length: usize,
+    ) -> Answer;
 }

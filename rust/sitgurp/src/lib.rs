@@ -5,6 +5,7 @@
 //! tree of fewest layers in place of the settled one, and [`Family`] walks every tree that computes a table. [`multiplicities`] and
 //! [`fewest_levels`] put together what calls of the library answer about a table without a tree. [`arrivals`] says when a net's output settles. [`tidied`] makes a
 //! table sheet of one that a spreadsheet exported.
+//! [`Job`] marks a table one group a step, so that its caller can do other things in between.
 //!
 //! ```
 //! let sheet = b"levels inputs\n2 3\na b c\nleft right table\na b 0110\n1 c 0110\n";
@@ -33,6 +34,7 @@ mod arrivals;
 mod counting;
 mod family;
 mod ffi;
+mod job;
 mod lister;
 mod refusal;
 mod shallow;
@@ -41,6 +43,7 @@ mod tidying;
 pub use arrivals::{arrivals, Settling};
 pub use counting::{fewest_levels, multiplicities};
 pub use family::{family_count, family_tree, Family};
+pub use job::{Job, Passing};
 pub use lister::Lister;
 pub use refusal::{Named, Refusal};
 pub use shallow::{

@@ -63,6 +63,8 @@ impl Refusal {
             18 => "a name is not the next input",
             19 => "a time is not a number from 0 to 65,535, or `to` is below `from`",
             20 => "a row's assignment was given in an earlier row",
+            21 => "the job is done",
+            22 => "the job is not done",
             _ => "unknown refusal",
         }
     }
@@ -108,6 +110,7 @@ impl fmt::Display for Refusal {
             (13..=15, _) => write!(f, "; {} bytes are needed)", self.place),
             (16, _) => write!(f, " at group {}: {})", self.place, self.inputs.join(", ")),
             (17, _) => write!(f, " at number {})", self.place),
+            (22, _) => write!(f, "; {} groups are still to go)", self.place),
             _ => write!(f, ")"),
         }
     }

@@ -1,4 +1,5 @@
-//! A C program over include/sitgurp.h and the static library: every call on accepted and refused inputs, in tests/c/calls.c.
+//! C programs over include/sitgurp.h and the static library: every call on accepted and refused inputs, in tests/c/calls.c and, of a job, in
+//! tests/c/jobs.c.
 
 use std::path::{Path, PathBuf};
 use std::process::{Command, Output};
@@ -31,15 +32,25 @@ fn strict_cc(source: &str) -> Command {
     cc
 }
 
-#[test]
-fn every_call_from_c() {
-    let program = Path::new(env!("CARGO_TARGET_TMPDIR")).join("calls");
-    let mut cc = strict_cc("tests/c/calls.c");
+/// Compiles a program of tests/c against the library, and runs it.
+fn runs_well(name: &str) {
+    let program = Path::new(env!("CARGO_TARGET_TMPDIR")).join(name);
+    let mut cc = strict_cc(&format!("tests/c/{name}.c"));
     cc.arg(repository().join("target/staticlib/libcapi.a"))
         .arg("-o")
         .arg(&program);
     assert_ends_well(&run(&mut cc));
     assert_ends_well(&run(&mut Command::new(program)));
+}
+
+#[test]
+fn every_call_from_c() {
+    runs_well("calls");
+}
+
+#[test]
+fn every_call_on_a_job_from_c() {
+    runs_well("jobs");
 }
 
 fn read(path: &str) -> String {
@@ -67,12 +78,14 @@ fn c_type(rust: &str) -> String {
         "u8" => "uint8_t",
         "*const u8" => "const uint8_t *",
         "*mut u8" => "uint8_t *",
+        "*mut usize" => "size_t *",
         "Answer" => "sitgurp_answer",
         "Shallow" => "sitgurp_shallow",
         "Which" => "sitgurp_which",
         "Verdict" => "sitgurp_verdict",
         "ArrivalTimes" => "sitgurp_arrival_times",
         "Turn" => "sitgurp_turn",
+        "Mark" => "sitgurp_mark",
         other => panic!("type {other}"),
     };
     known.to_string()
@@ -95,12 +108,29 @@ fn in_rust(text: &str) -> Vec<Declared> {
     declarations.collect()
 }
 
+/// Without comments.
+fn bare(text: &str) -> String {
+    text.split("/*")
+        .map(|part| part.split("*/").last().unwrap_or(""))
+        .collect()
+}
+
+/// The functions that the header has whole, `static inline R name(T a, ...) { return f(..); }`, and the header without them.
+fn inline_functions(text: &str) -> (Vec<String>, String) {
+    let text = bare(text);
+    let mut parts = text.split("static inline ");
+    let mut rest = parts.next().expect("a first part").to_string();
+    let mut functions = Vec::new();
+    for part in parts {
+        let (function, after) = part.split_once("\n}\n").expect("its end");
+        functions.push(function.to_string());
+        rest.push_str(after);
+    }
+    (functions, rest)
+}
+
 /// `R name(T a, ...);`, where a `*` stands at the name.
 fn in_c(text: &str) -> Vec<Declared> {
-    let text: String = text
-        .split("/*")
-        .map(|part| part.split("*/").last().unwrap_or(""))
-        .collect();
     let declarations = text.split(';').filter_map(|part| {
         let (before, parameters) = part.trim().strip_suffix(')')?.split_once('(')?;
         let (result, name) = before.lines().last()?.split_once(' ')?;
@@ -131,6 +161,9 @@ fn in_rattle(text: &str) -> Vec<(String, Vec<String>, String)> {
             "u8" => vec!["uint8_t"],
             "&[u8]" | "&'a [u8]" => vec!["const uint8_t *", "size_t"],
             "&mut [u8]" => vec!["uint8_t *", "size_t"],
+            "&mut usize" => vec!["size_t *"],
+            array if array.starts_with("&[u8; ") => vec!["const uint8_t *"],
+            array if array.starts_with("&mut [u8; ") => vec!["uint8_t *"],
             other => panic!("type {other}"),
         });
         let result = rest.split_whitespace().nth(1).expect("a result");
@@ -149,7 +182,8 @@ fn in_rattle(text: &str) -> Vec<(String, Vec<String>, String)> {
 #[test]
 fn the_header_declares_what_rust_and_the_proved_crate_declare() {
     let mut rust = in_rust(&read("rust/sitgurp/src/ffi.rs"));
-    let mut c = in_c(&read("include/sitgurp.h"));
+    let (_, declared) = inline_functions(&read("include/sitgurp.h"));
+    let mut c = in_c(&declared);
     let mut rattle = in_rattle(&read_all("crates/capi/src"));
     rust.sort();
     c.sort();
@@ -160,7 +194,35 @@ fn the_header_declares_what_rust_and_the_proved_crate_declare() {
         (name, types, result)
     });
     assert_eq!(rattle, c_types.collect::<Vec<_>>());
-    assert_eq!(rattle.len(), 13);
+    assert_eq!(rattle.len(), 17);
+}
+
+/// A job is a struct for its caller, and its parts are lent to the library: each of these calls hands the struct's own fields on, in the order of the
+/// parameters that bear their names.
+#[test]
+fn a_call_on_a_job_hands_its_parts_on() {
+    let (functions, declared) = inline_functions(&read("include/sitgurp.h"));
+    let declared = in_c(&declared);
+    for function in &functions {
+        let (head, body) = function.split_once('{').expect("a body");
+        let head = in_c(&format!("{};", head.trim())).remove(0);
+        let call = body.trim().strip_prefix("return ").expect("one call");
+        let (to, handed) = call.split_once('(').expect("arguments");
+        assert_eq!(to, format!("{}_parts", head.0));
+        let handed = handed.strip_suffix(");").expect("its end").split(',');
+        let (_, parameters, result) = declared.iter().find(|one| one.0 == to).expect("declared");
+        assert_eq!(*result, head.2);
+        let due = parameters.iter().map(|(name, of)| match &name[..] {
+            own if head.1.iter().any(|(mine, _)| mine == own) => own.to_string(),
+            // finishing has a cells buffer besides
+            "own" => "job->cells".to_string(),
+            "passed" if of.ends_with('*') => "&job->passed".to_string(),
+            part => format!("job->{part}"),
+        });
+        let handed: Vec<&str> = handed.map(str::trim).collect();
+        assert_eq!(handed, due.collect::<Vec<_>>());
+    }
+    assert_eq!(functions.len(), 4);
 }
 
 #[test]

@@ -1,7 +1,7 @@
 //! The examples of docs/REFUSALS.md: they are the list of crates/rules/specs/Refusals.antt, in its order; the library gives each its
 //! number, its place and its buffers; and the mark in the document stands at the place.
 
-use sitgurp::{Layered, Lister, Named, Refusal};
+use sitgurp::{Job, Layered, Lister, Named, Refusal};
 use std::collections::BTreeSet;
 use std::path::Path;
 
@@ -103,6 +103,9 @@ fn example(kind: &str, body: &str, [number, place]: [usize; 2]) -> Example {
         "tree" => &["number", "cells", "marks", "output"],
         "write" => &["output"],
         "tidy" => &["cells", "output"],
+        "further" => &["steps"],
+        "ask" => &["steps", "group"],
+        "finish" => &["steps", "cells", "marks", "output"],
         other => panic!("an example of {other:?}"),
     };
     let (mut numbers, rest) = match words {
@@ -127,7 +130,7 @@ fn example(kind: &str, body: &str, [number, place]: [usize; 2]) -> Example {
             };
             vec![sheet, cells]
         }
-        "settle" | "make" | "count" | "tree" => {
+        "settle" | "make" | "count" | "tree" | "finish" => {
             let lengths = ["cells", "marks"].map(|buffer| {
                 let at = words.iter().position(|word| *word == buffer);
                 numbers[at.expect("a buffer of this call")]
@@ -202,6 +205,9 @@ fn examples_of(list: &str) -> Vec<&str> {
     parts
 }
 
+/// The calls that have a marks buffer.
+const WITH_MARKS: [&str; 5] = ["settle", "make", "count", "tree", "finish"];
+
 /// One example of the list: a word, then quoted texts, with `/` for the line feed, and numbers; last a marks buffer, where the call has one.
 fn listed_example(words: &str) -> Example {
     let (kind, words) = words.trim().split_once(char::is_whitespace).expect("words");
@@ -210,7 +216,7 @@ fn listed_example(words: &str) -> Example {
     for (part, words) in words.split('"').enumerate() {
         if part % 2 == 1 {
             texts.push(words.replace("\\r", "\r").replace('/', "\n"));
-        } else if texts.len() == 2 && kind != "check" {
+        } else if texts.len() == 2 && WITH_MARKS.contains(&kind) {
             texts.push(listed_bytes(words.trim()));
         } else {
             let words = words.split_whitespace();
@@ -231,7 +237,10 @@ fn listed_bytes(list: &str) -> String {
         return vec!["9"; count.parse().expect("a number")].join(" ");
     }
     let bytes = list.split('∷').map(str::trim);
-    bytes.filter(|byte| *byte != "[]").collect::<Vec<_>>().join(" ")
+    bytes
+        .filter(|byte| *byte != "[]")
+        .collect::<Vec<_>>()
+        .join(" ")
 }
 
 // ---- the library
@@ -260,6 +269,13 @@ fn marks_bytes(words: &str) -> Vec<u8> {
 fn refused<T: std::fmt::Debug>(answer: Result<T, Refusal>) -> (usize, usize, Named) {
     let refusal = answer.expect_err("an example is refused");
     (refusal.number, refusal.place, refusal.named)
+}
+
+/// The job on a sheet, the empty one where it is turned back, after so many steps.
+fn job_after(sheet: &[u8], steps: usize) -> Job {
+    let (mut job, _) = Job::open(sheet);
+    (0..steps).for_each(|_| job.step().expect("a group still to go"));
+    job
 }
 
 /// A call on a sheet, the cells, the marks and the output.
@@ -303,6 +319,28 @@ fn holds(example: &Example) {
             assert_eq!(refused(tree), due(Named::Table));
             let checked = sitgurp::check(NET.as_bytes(), texts[0], &mut cells);
             assert_eq!(refused(checked), due(Named::Table));
+            let (job, refusal) = Job::open(texts[0]);
+            assert_eq!(refused(refusal.map_or(Ok(()), Err)), due(Named::Table));
+            assert_eq!((job.groups(), job.passed()), (0, 0));
+        }
+        "further" => {
+            let mut job = job_after(texts[0], numbers[0]);
+            let before = job.clone();
+            assert_eq!(refused(job.step()), due(Named::Neither));
+            assert_eq!(job, before);
+        }
+        "ask" => {
+            let job = job_after(texts[0], numbers[0]);
+            assert_eq!(refused(job.mark(numbers[1])), due(Named::Neither));
+        }
+        "finish" => {
+            let job = job_after(texts[0], numbers[0]);
+            (cells, marks, output) = (nines(numbers[1]), nines(numbers[2]), nines(numbers[3]));
+            let finished = job.finish(&mut cells, &mut marks, &mut output);
+            assert_eq!(refused(finished), due(Named::Neither));
+            assert_eq!(cells, bytes(&example.texts[1]));
+            assert_eq!(marks, marks_bytes(&example.texts[2]));
+            (cells, marks) = (nines(0), nines(0));
         }
         "loose" => {
             let tidied = sitgurp::tidy(texts[0], &mut cells, &mut output);
@@ -399,7 +437,7 @@ fn the_document_has_the_listed_examples() {
     }
     assert_eq!(shown.len(), listed.len());
     let numbers: BTreeSet<usize> = listed.iter().map(|e| e.number_and_place().0).collect();
-    assert_eq!(numbers, (1..=20).collect(), "each number has an example");
+    assert_eq!(numbers, (1..=22).collect(), "each number has an example");
 }
 
 #[test]
@@ -472,5 +510,10 @@ fn a_refusal_in_words() {
             "the table has no tree of this number (refusal 17 at number {})",
             family.size()
         )
+    );
+    let job = Job::of(include_bytes!("../../../examples/majority.table"));
+    assert_eq!(
+        said(job.expect("a table sheet").finished()),
+        "the job is not done (refusal 22; 7 groups are still to go)"
     );
 }

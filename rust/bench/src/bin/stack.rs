@@ -41,6 +41,15 @@ struct Lent {
     cells: Vec<u8>,
     marks: Vec<u8>,
     output: Vec<u8>,
+    job: JobParts,
+}
+
+/// A job on the table, by its parts.
+struct JobParts {
+    lines: Vec<u8>,
+    cells: Vec<u8>,
+    marks: Vec<u8>,
+    passed: usize,
 }
 
 impl Lent {
@@ -52,7 +61,13 @@ impl Lent {
         let sheet = print_table_sheet(&header, &table);
         let arrivals = generator.arrival_sheet(&header);
         let mut other = || print_net_sheet(&header, &generator.net(m, n));
-        Lent {
+        let job = JobParts {
+            lines: vec![0; 128],
+            cells: vec![0; 4_096],
+            marks: vec![0; 4_096],
+            passed: 0,
+        };
+        let mut lent = Lent {
             m,
             n,
             net: sitgurp::made(&sheet).unwrap_or_else(|_| other()),
@@ -62,7 +77,10 @@ impl Lent {
             cells: vec![0; sitgurp::MOST_CELLS],
             marks: vec![0; sitgurp::MOST_MARKS],
             output: vec![0; sitgurp::MOST_TABLE_SHEET],
-        }
+            job,
+        };
+        job_open(&mut lent);
+        lent
     }
 
     /// A call on the table sheet or on the net sheet, with all three buffers.
@@ -87,7 +105,7 @@ impl Lent {
 
 type Call = fn(&mut Lent);
 
-const CALLS: [(&str, Call); 13] = [
+const CALLS: [(&str, Call); 17] = [
     ("sitgurp_multiplicity", multiplicity),
     ("sitgurp_marking", marking),
     ("sitgurp_settle", |lent| {
@@ -109,6 +127,10 @@ const CALLS: [(&str, Call); 13] = [
     ("sitgurp_arrivals", arrivals),
     ("sitgurp_write_table", write_table),
     ("sitgurp_gate_line", gate_line),
+    ("sitgurp_job_open_parts", job_open),
+    ("sitgurp_job_step_parts", job_step),
+    ("sitgurp_job_mark_parts", job_mark),
+    ("sitgurp_job_finish_parts", job_finish),
 ];
 
 /// Of half the inputs and of all of them.
@@ -212,6 +234,59 @@ fn write_table(lent: &mut Lent) {
 fn gate_line(lent: &mut Lent) {
     let net = &lent.net;
     black_box(unsafe { ffi::sitgurp_gate_line(net.as_ptr(), net.len(), lent.n - 2) });
+}
+
+fn job_open(lent: &mut Lent) {
+    let (table, job) = (&lent.table, &mut lent.job);
+    black_box(unsafe {
+        ffi::sitgurp_job_open_parts(
+            table.as_ptr(),
+            table.len(),
+            job.lines.as_mut_ptr(),
+            job.cells.as_mut_ptr(),
+            job.marks.as_mut_ptr(),
+            &mut job.passed,
+        )
+    });
+}
+
+/// Every step.
+fn job_step(lent: &mut Lent) {
+    let job = &mut lent.job;
+    let mut step = || unsafe {
+        ffi::sitgurp_job_step_parts(
+            job.lines.as_ptr(),
+            job.cells.as_ptr(),
+            job.marks.as_mut_ptr(),
+            &mut job.passed,
+        )
+    };
+    while black_box(step()).number == 0 {}
+}
+
+fn job_mark(lent: &mut Lent) {
+    let job = &lent.job;
+    black_box(unsafe {
+        ffi::sitgurp_job_mark_parts(job.lines.as_ptr(), job.marks.as_ptr(), job.passed, 1)
+    });
+}
+
+/// As if all groups had been passed.
+fn job_finish(lent: &mut Lent) {
+    let (job, cells, marks) = (&lent.job, &mut lent.cells, &mut lent.marks);
+    black_box(unsafe {
+        ffi::sitgurp_job_finish_parts(
+            job.lines.as_ptr(),
+            job.cells.as_ptr(),
+            usize::MAX,
+            cells.as_mut_ptr(),
+            cells.len(),
+            marks.as_mut_ptr(),
+            marks.len(),
+            lent.output.as_mut_ptr(),
+            lent.output.len(),
+        )
+    });
 }
 
 /// Words of paint from an address on.

@@ -1,0 +1,57 @@
+-- A step of a job as the call for C gives it: two numbers, the marks and how many groups have been passed.
+-- Assumes nothing.
+use Prim.Native.Nat.{ℕ, _+_, _<_}
+use mathlib.Core.Path.{_≡_, sym, ap, _∙_}
+use mathlib.Core.List.{List}
+use lib.ListN.{set}
+use Rattle.rules.specs.Answers.{Answer, accepted, refused, written}
+use Rattle.rules.specs.Jobs.{Job, further, Stepped, stepJob}
+use Rattle.laws.specs.Jobs.{step-done, step-on}
+use Rattle.jobs.specs.declared.next.Next.the-variants.{Done, Mark}
+use Rattle.jobs.specs.Forms.{mostGroups, jobIn}
+use Rattle.jobs.specs.Stepping.{NextMark, marks-same, marks-further, job-further}
+use Rattle.capi.specs.declared.flat.SitgurpAnswer.{SitgurpAnswer}
+
+-- 0 and 0; or the refusal's number and place
+abbrev pub flatDone : Answer (Unit {0}) → SitgurpAnswer
+flatDone (accepted _) = record { number = 0; value = 0 }
+flatDone (refused number place) = record { number = number; value = place }
+
+pub record FlatStepped (lines cells marks : List ℕ) (passed : ℕ) (r : SitgurpAnswer) (marks-after : List ℕ) (passed-after : ℕ) : Type 0 where
+  pub answer : r ≡ flatDone (stepJob (jobIn lines cells marks passed) .answer)
+  pub marks-then : marks-after ≡ written marks (stepJob (jobIn lines cells marks passed) .job .marks)
+  pub passed-then : passed-after ≡ stepJob (jobIn lines cells marks passed) .job .passed
+  -- the job that these bytes are
+  pub stands : jobIn lines cells marks-after passed-after ≡ stepJob (jobIn lines cells marks passed) .job
+
+module _ (lines cells marks : List ℕ) (passed : ℕ) where
+  abbrev job : Job
+  job = jobIn lines cells marks passed
+
+  -- there is room for the next mark
+  pub next-room : (mark : ℕ) → NextMark job (Mark mark) → passed + 1 < mostGroups
+  unfolding jobIn
+  next-room mark (on, room, is) = room
+
+  pub flat-step-done : NextMark job Done → FlatStepped lines cells marks passed (record { number = 21; value = 0 }) marks passed
+  unfolding jobIn
+  flat-step-done h =
+      let e = step-done job h in
+      record {
+        answer = sym (ap (λ (s : Stepped). flatDone (s .answer)) e);
+        marks-then = marks-same lines cells marks passed ∙ sym (ap (λ (s : Stepped). written marks (s .job .marks)) e);
+        passed-then = sym (ap (λ (s : Stepped). s .job .passed) e);
+        stands = sym (ap (λ (s : Stepped). s .job) e);
+      }
+
+  pub flat-step-on : (mark : ℕ) → NextMark job (Mark mark)
+      → FlatStepped lines cells marks passed (record { number = 0; value = 0 }) (set marks (passed + 1) mark) (passed + 1)
+  unfolding jobIn further
+  flat-step-on mark (h, room, is) =
+      let e = step-on job h in
+      record {
+        answer = sym (ap (λ (s : Stepped). flatDone (s .answer)) e);
+        marks-then = marks-further lines cells marks passed h mark is ∙ sym (ap (λ (s : Stepped). written marks (s .job .marks)) e);
+        passed-then = sym (ap (λ (s : Stepped). s .job .passed) e);
+        stands = job-further lines cells marks passed h mark is ∙ sym (ap (λ (s : Stepped). s .job) e);
+      }

@@ -1,0 +1,28 @@
+// Finishing a job for C, by its parts.
+ghost use mathlib.Core.List.{List};
+ghost use Prim.Native.Nat.{ℕ};
+ghost use Rattle.rules.specs.Jobs.{finishJob};
+ghost use Rattle.jobs.specs.Forms.{jobIn};
+ghost use Rattle.capi.specs.Made.{FlatMade};
+use crate::flat::SitgurpAnswer;
+use crate::flat::flat;
+use jobs::finishing;
+use jobs::job;
+use radix::limits;
+
+// What making comes to from the job's own table, of which `own` are the cells; or refusal 9, 10 or 22.
+#[no_mangle]
+pub extern "C" fn sitgurp_job_finish_parts(
+    lines: &[u8; job::MOST_LINES],
+    own: &[u8; limits::MOST_CELLS],
+    passed: usize,
+    cells: &mut [u8],
+    marks: &mut [u8],
+    out: &mut [u8],
+) -> SitgurpAnswer
+    ensures { λ r. ⌜ ((own-marks : List ℕ)
+        → FlatMade (finishJob (jobIn (now (lines .entry)) (now (own .entry)) own-marks passed) (now (cells .entry)) (now (marks .entry)) (now (out .entry)) .made)
+        r (now (cells .exit)) (now (marks .exit)) (now (out .exit))) ⌝ }
+{
+    flat(finishing::finish_in(lines, own, passed, cells, marks, out))
+}

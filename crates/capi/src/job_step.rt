@@ -1,0 +1,56 @@
+// A step of a job for C, by its parts.
+ghost use mathlib.Core.Path.{_≡_};
+ghost use Rattle.jobs.specs.Forms.{jobIn};
+ghost use Rattle.answers.specs.Answers.{outcomeAs};
+ghost use Rattle.capi.specs.JobStep.{flatDone, FlatStepped};
+use crate::flat::SitgurpAnswer;
+use answers::outcome::Outcome;
+use jobs::job;
+use jobs::next;
+use jobs::next::Next;
+use radix::limits;
+
+// Number 0 with value 0: accepted. Any other number: that refusal, and `value` is its place.
+pub fn flat_done(outcome: Outcome) -> SitgurpAnswer
+    ensures { λ r. ⌜ r ≡ flatDone (outcomeAs tt outcome) ⌝ }
+{
+    match outcome {
+        Outcome::Accepted => SitgurpAnswer {
+            number: 0,
+            value: 0,
+        },
+        Outcome::Refused { number, place } => SitgurpAnswer {
+            number,
+            value: place,
+        },
+    }
+}
+
+// One group further, or refusal 21.
+#[no_mangle]
+pub extern "C" fn sitgurp_job_step_parts(
+    lines: &[u8; job::MOST_LINES],
+    cells: &[u8; limits::MOST_CELLS],
+    marks: &mut [u8; job::MOST_GROUPS],
+    passed: &mut usize,
+) -> SitgurpAnswer
+    ensures { λ r. ⌜ FlatStepped (now (lines .entry)) (now (cells .entry)) (now (marks .entry)) (now (passed .entry)) r (now (marks .exit)) (now (passed .exit)) ⌝ }
+{
+    let before = *passed;
+    let found = next::next_mark(lines, cells, marks, before);
+    match found {
+        Next::Done => SitgurpAnswer {
+            number: 21,
+            value: 0,
+        },
+        Next::Mark(mark) => {
+            let g = before + 1;
+            marks[g] = mark;
+            *passed = g;
+            SitgurpAnswer {
+                number: 0,
+                value: 0,
+            }
+        }
+    }
+}

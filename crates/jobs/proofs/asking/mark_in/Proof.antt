@@ -1,0 +1,40 @@
+-- `jobs::asking::mark_in` meets its contract: the job's lines are read, or there is no table. Assumes nothing.
+use Rattle.rules.specs.Text.{space}
+use Rattle.jobs.specs.Forms.{fronted, not-fronted}
+use Rattle.jobs.specs.Asking.{ask-none}
+use borrow.Author.Needs.{needs}
+use Rattle.jobs.proofs.asking.mark_in.Statement.{statement}
+use Rattle.jobs.proofs.asking.mark_in.Tie as tie
+
+-- the start, from the read
+abbrev at-start : tie.After-header-lines → tie.Start
+at-start c = c .before .before .before
+
+header-lines-requires : tie.Need-header-lines-requires
+header-lines-requires c κs = search needs
+
+enum-told : tie.Need-enum-told
+enum-told c = search needs
+
+enum-told-2 : tie.Need-enum-told-2
+enum-told-2 c = search needs
+
+mark-under-requires : tie.Need-mark-under-requires
+unfolding space
+mark-under-requires c κs =
+    let read = c .before .before .before in
+    (fronted _ _ (read .header-lines .ensures) _ _ (c .enum-told2 .given .1), at-start read .pre)
+
+returns : tie.Need-returns
+unfolding space
+returns c =
+    let read = c .before .before .before in
+    λ cells. ask-none _ _ _ _ (not-fronted _ _ (read .header-lines .ensures) _ _ (c .enum-told .given .1)) cells
+
+returns-2 : tie.Need-returns-2
+returns-2 c = search needs
+
+pub mark-in-spec : {M : Type 1} → statement M
+mark-in-spec =
+    tie.close
+    (tie.spec header-lines-requires enum-told enum-told-2 mark-under-requires returns returns-2)

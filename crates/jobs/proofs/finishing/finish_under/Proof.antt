@@ -1,0 +1,80 @@
+-- `jobs::finishing::finish_under` meets its contract: a refusal, or what making from the job's table comes to. Assumes nothing.
+use mathlib.Core.Path.{_≡_, sym, ap, _∙_}
+use mathlib.Core.List.{List, []}
+use Prim.Native.Nat.{ℕ}
+use Rattle.rules.specs.Answers.{accepted}
+use Rattle.rules.specs.Jobs.{mayFinish}
+use Rattle.answers.specs.Answers.{outcomeAs}
+use Rattle.jobs.specs.Finishing.{jobWith, may-given, finished-not, finished-made}
+use borrow.Author.Needs.{needs}
+use Rattle.jobs.proofs.finishing.finish_under.Statement.{statement}
+use Rattle.jobs.proofs.finishing.finish_under.Tie as tie
+
+-- the start, the judgement, the match on it and the making, each from the next
+abbrev at-start : tie.After-may-finish → tie.Start
+at-start c = c .before .before .before .before .before .before
+
+abbrev at-judged : tie.After-enum-told → tie.After-may-finish
+at-judged c = c .before .before
+
+abbrev at-told : tie.After-make-table-arg3 → tie.After-enum-told
+at-told c = c .before .before .before
+
+abbrev at-made : tie.After-slice-known6 → tie.After-make-table
+at-made c = c .before .before .before .before .before .before
+
+-- the job may be finished
+may : (c : tie.After-enum-told) →
+    let start = at-start (at-judged c) in
+    (marks : List ℕ) → accepted tt ≡ mayFinish (jobWith (start .args .lines .now) (start .args .h) (start .pre) (start .args .inks .now) (start .args .passed) marks)
+may c marks = sym (ap (outcomeAs tt) (c .enum-told .given .1)) ∙ at-judged c .may-finish .ensures marks
+
+may-finish-requires : tie.Need-may-finish-requires
+may-finish-requires c κs = search needs
+
+enum-known-judged : tie.Need-enum-known-judged
+enum-known-judged c = search needs
+
+enum-told : tie.Need-enum-told
+enum-told c = search needs
+
+make-table-requires : tie.Need-make-table-requires
+make-table-requires c κs =
+    let start = at-start (at-judged (at-told c)) in
+    may-given _ _ (start .pre) _ (start .args .passed) [] (may (at-told c) [])
+
+returns : tie.Need-returns
+returns c =
+    let judged = c .before .before .before in
+    let start = at-start judged in
+    λ own. finished-not _ _ (start .pre) _ _ own _ _ _ _ _ (sym (ap (outcomeAs tt) (c .before .judged .given .1)) ∙ judged .may-finish .ensures own)
+
+same-length : tie.Need-same-length
+same-length c = search needs
+
+same-length-2 : tie.Need-same-length-2
+same-length-2 c = search needs
+
+same-length-3 : tie.Need-same-length-3
+same-length-3 c = search needs
+
+returns-2 : tie.Need-returns-2
+returns-2 c =
+    let made = at-made c in
+    let told = at-told (made .before) in
+    let start = at-start (at-judged told) in
+    λ own. made .make-table .ensures ∙ finished-made _ _ (start .pre) _ _ own _ _ _ (may told own)
+
+pub finish-under-spec : {M : Type 1} → statement M
+finish-under-spec =
+    tie.close
+    (tie.spec
+    may-finish-requires
+    enum-known-judged
+    enum-told
+    make-table-requires
+    returns
+    same-length
+    same-length-2
+    same-length-3
+    returns-2)

@@ -1,0 +1,54 @@
+-- `jobs::job::Job::finish` meets its contract: the finishing of its parts. Assumes nothing.
+use mathlib.Core.Path.{_≡_, refl, sym, _∙_}
+use native.Mathlib.Omega.{arith}
+use lib.ListN.{length, length-map}
+use Rattle.rules.specs.Limits.{mostCells}
+use borrow.Author.Needs.{needs}
+use Rattle.jobs.proofs.job.Job.finish.Statement.{statement}
+use Rattle.jobs.proofs.job.Job.finish.Tie as tie
+
+-- the start, from the arguments, and the call, from its answer
+abbrev at-start : tie.After-finish-in-arg3 → tie.Start
+at-start c = c .before .before .before .before .before .before .before .before .before .before
+
+abbrev at-finished : tie.After-slice-known6 → tie.After-finish-in
+at-finished c = c .before .before .before .before .before .before
+
+-- an array of the job has its length
+cells-length : (c : tie.Start) → length (c .args .self .cells) ≡ mostCells
+cells-length c = sym (length-map (c .args .self .cells) (λ v. v)) ∙ c .good .0 .1 .1 .1 .0 .1 .0 .1
+
+slice-aggregate-finish-in : tie.Need-slice-aggregate-finish-in
+slice-aggregate-finish-in c = search needs
+
+slice-aggregate-finish-in-2 : tie.Need-slice-aggregate-finish-in-2
+slice-aggregate-finish-in-2 c = search needs
+
+finish-in-requires : tie.Need-finish-in-requires
+finish-in-requires c κs = omega (arith, cells-length (at-start c))
+
+same-length : tie.Need-same-length
+same-length c = search needs
+
+same-length-2 : tie.Need-same-length-2
+same-length-2 c = search needs
+
+same-length-3 : tie.Need-same-length-3
+same-length-3 c = search needs
+
+returns : tie.Need-returns
+returns c =
+    let did = at-finished c in
+    record { same = refl; made = did .finish-in .ensures (at-start (did .before) .args .self .marks) }
+
+pub finish-spec : {M : Type 1} → statement M
+finish-spec =
+    tie.close
+    (tie.spec
+    slice-aggregate-finish-in
+    slice-aggregate-finish-in-2
+    finish-in-requires
+    same-length
+    same-length-2
+    same-length-3
+    returns)

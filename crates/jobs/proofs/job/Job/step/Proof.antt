@@ -1,0 +1,74 @@
+-- `jobs::job::Job::step` meets its contract: the job as it is, or with the next group's mark. Assumes nothing.
+use mathlib.Core.Path.{_≡_, sym, _∙_, subst}
+use native.Mathlib.Omega.{arith}
+use lib.ListN.{length, length-map}
+use Rattle.rules.specs.Limits.{mostCells}
+use Rattle.jobs.specs.Forms.{mostGroups, jobIn, jobOf}
+use Rattle.jobs.specs.Stepping.{NextMark}
+use Rattle.jobs.specs.Calls.{stepped-done, stepped-on}
+use borrow.Author.Needs.{needs}
+use Rattle.jobs.proofs.job.Job.step.Statement.{statement}
+use Rattle.jobs.proofs.job.Job.step.Tie as tie
+
+-- the start, from the arguments
+abbrev at-start : tie.After-marks2 → tie.Start
+at-start c = c .before .before .before .before .before .before
+
+-- the next group, from the mark that was found
+abbrev at-next : tie.After-known-told → tie.After-next-mark
+at-next c = c .before .before .before
+
+-- an array of the job has its length
+cells-length : (c : tie.Start) → length (c .args .self .cells) ≡ mostCells
+cells-length c = sym (length-map (c .args .self .cells) (λ v. v)) ∙ c .good .0 .1 .1 .1 .0 .1 .0 .1
+
+marks-length : (c : tie.Start) → length (c .args .self .marks) ≡ mostGroups
+marks-length c = sym (length-map (c .args .self .marks) (λ v. v)) ∙ c .good .0 .1 .1 .1 .1 .0 .1 .0 .1
+
+slice-aggregate-next-mark : tie.Need-slice-aggregate-next-mark
+slice-aggregate-next-mark c = search needs
+
+slice-aggregate-next-mark-2 : tie.Need-slice-aggregate-next-mark-2
+slice-aggregate-next-mark-2 c = search needs
+
+slice-aggregate-next-mark-3 : tie.Need-slice-aggregate-next-mark-3
+slice-aggregate-next-mark-3 c = search needs
+
+next-mark-requires : tie.Need-next-mark-requires
+next-mark-requires c κs = (omega (arith, cells-length (at-start c)), omega (arith, marks-length (at-start c)))
+
+enum-told : tie.Need-enum-told
+enum-told c = search needs
+
+enum-known-found : tie.Need-enum-known-found
+enum-known-found c = search needs
+
+marked-requires : tie.Need-marked-requires
+unfolding jobIn
+marked-requires c κs = subst (NextMark (jobOf (at-start (at-next c .before) .args .self))) (c .before .found .given .1) (at-next c .next-mark .ensures) .1
+
+returns : tie.Need-returns
+returns c =
+    let next = c .before .before in
+    let self = at-start (next .before) .args .self in
+    stepped-done self (subst (NextMark (jobOf self)) (c .enum-told .given .1) (next .next-mark .ensures))
+
+returns-2 : tie.Need-returns-2
+returns-2 c =
+    let told = c .before in
+    let self = at-start (at-next told .before) .args .self in
+    stepped-on self _ (subst (NextMark (jobOf self)) (told .before .found .given .1) (at-next told .next-mark .ensures)) _ (c .marked .ensures)
+
+pub step-spec : {M : Type 1} → statement M
+step-spec =
+    tie.close
+    (tie.spec
+    slice-aggregate-next-mark
+    slice-aggregate-next-mark-2
+    slice-aggregate-next-mark-3
+    next-mark-requires
+    enum-told
+    enum-known-found
+    marked-requires
+    returns
+    returns-2)

@@ -1,0 +1,75 @@
+-- `jobs::opening::own_lines` meets its contract: after each call, what is left to write. Assumes nothing.
+use Prim.Native.Nat.{ℕ}
+use mathlib.Core.List.{List, [], _∷_, _++_}
+use native.Mathlib.Omega.{arith}
+use lib.ListN.{replicate}
+use Rattle.rules.specs.Text.{space, newline, text, decimal}
+use Rattle.rules.specs.Printed.{line}
+use Rattle.readback.specs.Header.{headText}
+use Rattle.nets.specs.Forms.{nameIn, headerOf}
+use Rattle.lines.specs.Put.{Left, parts-left, put-left, room-for, last-put, put-wrote}
+use Rattle.lines.specs.Lines.{spacedFrom}
+use Rattle.jobs.specs.Forms.{mostLines}
+use Rattle.jobs.specs.Opening.{linesOf, head-parts}
+use borrow.Author.Needs.{needs}
+use Rattle.jobs.proofs.opening.own_lines.Statement.{statement}
+use Rattle.jobs.proofs.opening.own_lines.Tie as tie
+
+-- the start and each call, from the next
+abbrev at-start : tie.After-lines → tie.Start
+at-start c = c .before .before .before
+
+abbrev at-pair : tie.After-lines3 → tie.After-print-pair
+at-pair c = c .before .before
+
+abbrev pair-start : tie.After-print-pair → tie.Start
+pair-start c = at-start (c .before)
+
+abbrev firstTwo : tie.Start → List ℕ
+firstTwo c = line (text "levels" ∷ text "inputs" ∷ []) ++ line (decimal (c .args .h .levels) ∷ decimal (c .args .h .inputs) ∷ [])
+
+abbrev names : tie.Start → List ℕ
+names c = spacedFrom (nameIn (c .args .s .now) (c .args .h)) 0 (c .args .h .inputs)
+
+abbrev Rest : tie.Start → List ℕ → ℕ → List ℕ → Type 0
+Rest c out at t = Left out at t (replicate mostLines 0) 0 (headText space (headerOf (c .args .s .now) (c .args .h)))
+
+start : (c : tie.Start) → Rest c (replicate mostLines 0) 0 (firstTwo c ++ names c)
+start c = parts-left (head-parts (c .args .s .now) (c .args .h)) (omega (arith, c .pre .room))
+
+after-pair : (c : tie.After-print-pair) → Rest (pair-start c) (c .print-pair .last .1 .1 .1 .0) (c .print-pair .result) (names (pair-start c))
+unfolding line text space newline
+after-pair c = put-left (start (pair-start c)) (c .print-pair .ensures)
+
+slice-aggregate-print-pair : tie.Need-slice-aggregate-print-pair
+slice-aggregate-print-pair c = search needs
+
+slice-aggregate-print-pair-2 : tie.Need-slice-aggregate-print-pair-2
+slice-aggregate-print-pair-2 c = search needs
+
+print-pair-requires : tie.Need-print-pair-requires
+unfolding line text space newline
+print-pair-requires c κs = room-for (firstTwo (at-start c)) (names (at-start c)) (start (at-start c))
+
+slice-aggregate-print-names : tie.Need-slice-aggregate-print-names
+slice-aggregate-print-names c = search needs
+
+print-names-requires : tie.Need-print-names-requires
+print-names-requires c κs = (pair-start (at-pair c) .pre .names, omega arith, after-pair (at-pair c) .room)
+
+returns : tie.Need-returns
+unfolding linesOf
+returns c =
+    let pair = at-pair (c .before .before) in
+    put-wrote (pair-start pair .pre .room) (last-put (after-pair pair) (c .before .print-names .ensures)) .text
+
+pub own-lines-spec : {M : Type 1} → statement M
+own-lines-spec =
+    tie.close
+    (tie.spec
+    slice-aggregate-print-pair
+    slice-aggregate-print-pair-2
+    print-pair-requires
+    slice-aggregate-print-names
+    print-names-requires
+    returns)

@@ -1,0 +1,61 @@
+-- What the answer to an asking stands for, and its outcomes.
+-- Assumes nothing.
+use Prim.Native.Nat.{ℕ, _^_, _≤_, _<_}
+use mathlib.Core.Path.{_≡_, sym, ap, _∙_}
+use mathlib.Core.List.{List}
+use native.Mathlib.Decide.{ℕ-discrete}
+use native.Mathlib.Omega.{arith}
+use lib.ListN.{getD, take}
+use lib.Seq.{getD-take}
+use Rattle.rules.specs.Answers as answers
+use Rattle.rules.specs.Answers.{accepted, refused}
+use Rattle.rules.specs.Jobs as rules
+use Rattle.rules.specs.Jobs.{noTable, Asked, askJob, final, notReached}
+use Rattle.laws.specs.Jobs.{ask-empty, ask-over, ask-passed, ask-ahead}
+use Rattle.nets.specs.declared.forms.Header.{Header}
+use Rattle.nets.specs.Forms.{headerOf}
+use Rattle.jobs.specs.Forms.{Fronted, tableFrom, jobIn, front-table}
+use Rattle.jobs.specs.declared.asking.Reached.{Reached}
+use Rattle.jobs.specs.declared.asking.Reached.the-variants.{Final, NotReached, Refused}
+
+abbrev pub reachedAs : Reached → answers.Answer rules.Reached
+reachedAs (Final mark) = accepted (final mark)
+reachedAs NotReached = accepted notReached
+reachedAs (Refused number place) = refused number place
+
+-- a job with no table
+pub ask-none : (lines marks : List ℕ) (passed g : ℕ) → ((cells : List ℕ) → tableFrom lines cells ≡ noTable)
+    → (cells : List ℕ) → refused 11 0 ≡ askJob (jobIn lines cells marks passed) g .answer
+unfolding jobIn noTable
+ask-none lines marks passed g none cells = go (ℕ-discrete g 0)
+  where
+    go : Dec (g ≡ 0) → refused 11 0 ≡ askJob (jobIn lines cells marks passed) g .answer
+    go (yes e) = sym (ap (λ (a : Asked). a .answer) (ask-empty (jobIn lines cells marks passed) g e))
+    go (no ne) =
+        let no-inputs : tableFrom lines cells .header .inputs ≡ 0 = ap (λ t. t .header .inputs) (none cells) in
+        sym (ap (λ (a : Asked). a .answer) (ask-over (jobIn lines cells marks passed) g (rw no-inputs (omega arith))))
+
+module _ (lines : List ℕ) (h : Header) (is : Fronted lines h) (marks : List ℕ) (passed g : ℕ) (cells : List ℕ) where
+  abbrev job : rules.Job
+  job = jobIn lines cells marks passed
+
+  inputs-are : job .table .header .inputs ≡ h .inputs
+  unfolding jobIn headerOf
+  inputs-are = ap (λ t. t .header .inputs) (front-table lines h is cells)
+
+  pub asked-empty : g ≡ 0 → refused 11 0 ≡ askJob job g .answer
+  asked-empty e = sym (ap (λ (a : Asked). a .answer) (ask-empty job g e))
+
+  pub asked-over : 2 ^ h .inputs ≤ g → refused 11 0 ≡ askJob job g .answer
+  asked-over l = sym (ap (λ (a : Asked). a .answer) (ask-over job g (rw inputs-are l)))
+
+  module _ (some : g ≡ 0 → ⊥) (below : g < 2 ^ h .inputs) where
+    pub asked-ahead : passed < g → accepted notReached ≡ askJob job g .answer
+    unfolding jobIn
+    asked-ahead l = sym (ap (λ (a : Asked). a .answer) (ask-ahead job g some (rw inputs-are below) l))
+
+    pub asked-passed : g ≤ passed → accepted (final (getD marks g 0)) ≡ askJob job g .answer
+    unfolding jobIn
+    asked-passed l =
+        ap (λ (v : ℕ). accepted (final v)) (sym (getD-take (2 ^ job .table .header .inputs) marks g 0 (rw inputs-are below)))
+        ∙ sym (ap (λ (a : Asked). a .answer) (ask-passed job g some (rw inputs-are below) l))

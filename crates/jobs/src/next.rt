@@ -1,0 +1,77 @@
+// The next group of a job: its mark, or that all groups have been passed.
+ghost use mathlib.Core.Path.{_≡_};
+ghost use mathlib.Core.Bool.{true};
+ghost use Prim.Native.Nat.{_+_, _^_, _≤_, _<_};
+ghost use lib.ListN.{length};
+ghost use Rattle.rules.specs.Limits.{sizeFits, mostCells};
+ghost use Rattle.rules.specs.Marks.{markOf};
+ghost use Rattle.rules.specs.Answers.{inkIn};
+ghost use Rattle.jobs.specs.Forms.{Fronted, mostGroups, jobIn};
+ghost use Rattle.jobs.specs.Stepping.{NextMark, withMark};
+use crate::job::Job;
+use fields::header::header_lines;
+use fields::runs::SPACE;
+use fields::steps::Step;
+use marks::group;
+use nets::forms::Header;
+use radix::limits;
+use radix::powers;
+
+pub enum Next {
+    Done,
+    Mark(u8),
+}
+
+// The mark of group g, from those of the groups below it. The work arrays stand here.
+fn mark_one(m: usize, n: usize, inks: &[u8], g: usize, marks: &[u8]) -> u8
+    requires { ⌜ (sizeFits m n ≡ true) × (m ^ n ≤ length (now inks)) × (g < 2 ^ n) × (g ≤ length (now marks)) ⌝ }
+    ensures { λ r. ⌜ r ≡ markOf m n (inkIn (now (inks .entry))) (now (marks .entry)) g ⌝ }
+{
+    let mut xs = [0u16; limits::MOST_CELLS];
+    let mut ys = [0u16; limits::MOST_CELLS];
+    group::mark_group(m, n, inks, g, &mut xs, &mut ys, marks)
+}
+
+// Under the header h of the job's lines.
+fn next_under(lines: &[u8], h: Header, cells: &[u8], marks: &[u8], passed: usize) -> Next
+    requires { ⌜ Fronted (now lines) h × (mostCells ≤ length (now cells)) × (mostGroups ≤ length (now marks)) ⌝ }
+    ensures { λ r. ⌜ NextMark (jobIn (now (lines .entry)) (now (cells .entry)) (now (marks .entry)) passed) r ⌝ }
+{
+    let levels = h.levels;
+    let inputs = h.inputs;
+    let end = powers::power(2, inputs);
+    if end - 1 <= passed {
+        return Next::Done;
+    }
+    let count = powers::power(levels, inputs);
+    Next::Mark(mark_one(levels, inputs, &cells[0..count], passed + 1, &marks[0..end]))
+}
+
+// Of a job by its parts. Lines that are no sheet's first lines have no groups.
+pub fn next_mark(lines: &[u8], cells: &[u8], marks: &[u8], passed: usize) -> Next
+    requires { ⌜ (mostCells ≤ length (now cells)) × (mostGroups ≤ length (now marks)) ⌝ }
+    ensures { λ r. ⌜ NextMark (jobIn (now (lines .entry)) (now (cells .entry)) (now (marks .entry)) passed) r ⌝ }
+{
+    let read = header_lines(lines, SPACE);
+    let h = read.header;
+    let step = read.step;
+    match step {
+        Step::Back {
+            number: _,
+            place: _,
+        } => Next::Done,
+        Step::On { value: _, next: _ } => next_under(lines, h, cells, marks, passed),
+    }
+}
+
+// The job with the next group's mark.
+pub fn marked(job: Job, mark: u8) -> Job
+    requires { ⌜ job .passed + 1 < mostGroups ⌝ }
+    ensures { λ r. ⌜ r ≡ withMark job mark ⌝ }
+{
+    let mut after = job;
+    let g = after.passed + 1;
+    after.marks[g] = mark;
+    after.passed = g;
+    after
+}
