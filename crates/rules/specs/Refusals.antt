@@ -1,4 +1,4 @@
--- The examples of docs/REFUSALS.md as one theorem, `refusals-hold`: every refusal, 1 to 19, by calls that give it, with its number, its
+-- The examples of docs/REFUSALS.md as one theorem, `refusals-hold`: every refusal, 1 to 19 and 23, by calls that give it, with its number, its
 -- place, and what each buffer lent to the call holds afterwards. They compute, so that a reader who believes nothing sees each number
 -- come out. The document's examples are these and no others (rust/sitgurp/tests/refusals.rs).
 -- Assumes nothing.
@@ -17,6 +17,7 @@ use Rattle.rules.specs.Marking.{markingCall}
 use Rattle.rules.specs.Settling.{settleCall, makeCall}
 use Rattle.rules.specs.FamilyCalls.{familyCountCall, familyTreeCall}
 use Rattle.rules.specs.Checking.{turnedDown, checkCall}
+use Rattle.rules.specs.Keeping.{turnedAway, keepCall}
 use Rattle.rules.specs.TableWriting.{writeTableCall}
 use Rattle.rules.specs.Lister.{listing}
 use Rattle.rules.specs.ArrivalSheet.{readArrivals}
@@ -35,8 +36,10 @@ pub record NetBack (sheet : List ℕ) (number place : ℕ) : Type 0 where
   pub writing : (output : List ℕ) → writeTableCall sheet output ≡ record { answer = refused number place; output = output }
   pub turn : (k : ℕ) → listing sheet k ≡ refused number place
   pub arriving : (arrival-sheet : List ℕ) (delay : ℕ) → arrivalsCall sheet arrival-sheet delay ≡ netRefused number place
+  pub keeping : (table-sheet cells output : List ℕ)
+      → keepCall sheet table-sheet cells output ≡ record { answer = turnedAway netNamed number place; cells = cells; output = output }
 
--- A table sheet that is turned back: the same, in a check behind every accepted net sheet.
+-- A table sheet that is turned back: the same, in a check and in keeping behind every accepted net sheet.
 pub record TableBack (sheet : List ℕ) (number place : ℕ) : Type 0 where
   pub making : (cells marks output : List ℕ)
       → makeCall sheet cells marks output ≡ record { answer = refused number place; cells = cells; marks = marks; output = output }
@@ -45,6 +48,8 @@ pub record TableBack (sheet : List ℕ) (number place : ℕ) : Type 0 where
       → familyTreeCall sheet order cells marks output ≡ record { answer = refused number place; cells = cells; marks = marks; output = output }
   pub checking : (net-sheet cells : List ℕ) (net : Net) → readNet net-sheet ≡ accepted net
       → checkCall net-sheet sheet cells ≡ record { answer = turnedDown tableNamed number place; cells = cells }
+  pub keeping : (net-sheet cells output : List ℕ) (net : Net) → readNet net-sheet ≡ accepted net
+      → keepCall net-sheet sheet cells output ≡ record { answer = turnedAway tableNamed number place; cells = cells; output = output }
 
 -- An arrival sheet for inputs of these names that is turned back: the same behind every accepted net sheet with these names, whatever the delay.
 pub record ArrivalsBack (names : List (List ℕ)) (sheet : List ℕ) (number place : ℕ) : Type 0 where
@@ -58,7 +63,7 @@ pub record CellsBack (m n : ℕ) (cells : List ℕ) (number place : ℕ) : Type 
 
 -- What is read decides all of these.
 pub net-back : {sheet : List ℕ} {number place : ℕ} → readNet sheet ≡ refused number place → NetBack sheet number place
-unfolding settleCall checkCall writeTableCall listing onward arrivalsCall
+unfolding settleCall checkCall writeTableCall listing onward arrivalsCall keepCall
 net-back e =
     record {
       settling = λ cells marks output. rw (e, settleCall);
@@ -66,16 +71,18 @@ net-back e =
       writing = λ output. rw (e, writeTableCall);
       turn = λ k. rw (e, listing);
       arriving = λ arrival-sheet delay. rw (e, arrivalsCall);
+      keeping = λ table-sheet cells output. rw (e, keepCall);
     }
 
 pub table-back : {sheet : List ℕ} {number place : ℕ} → readTable sheet ≡ refused number place → TableBack sheet number place
-unfolding makeCall familyCountCall familyTreeCall checkCall
+unfolding makeCall familyCountCall familyTreeCall checkCall keepCall
 table-back e =
     record {
       making = λ cells marks output. rw (e, makeCall);
       counting = λ cells marks. rw (e, familyCountCall);
       numbering = λ order cells marks output. rw (e, familyTreeCall);
       checking = λ net-sheet cells net a. rw (a, e, checkCall);
+      keeping = λ net-sheet cells output net a. rw (a, e, keepCall);
     }
 
 pub arrivals-back : {names : List (List ℕ)} {sheet : List ℕ} {number place : ℕ} → readArrivals names sheet ≡ refused number place
@@ -105,6 +112,7 @@ pub data Example : Type 0 where
   count : (sheet : String) (cells marks number place : ℕ) (cells-then marks-then : String) → Example
   tree : (sheet : String) (order cells marks output number place : ℕ) (cells-then marks-then : String) → Example
   arrival : (sheet : String) (number place : ℕ) → Example
+  keep : (net-sheet table-sheet : String) (cells output number place : ℕ) (cells-then : String) → Example
 
 -- The common statement: a call's whole result, its answer and every buffer lent to it.
 abbrev pub Comes : Example → Type 0
@@ -154,6 +162,10 @@ Comes (tree sheet order cells marks output number place cells-then marks-then) =
     }
 -- an arrival sheet for the inputs a and b, turned back by the one call that takes one
 Comes (arrival sheet number place) = ArrivalsBack (named "ab") (paper sheet) number place
+-- a wiring of an accepted net sheet kept for an accepted table sheet, which names neither: cells as said, the output as it was
+Comes (keep net-sheet table-sheet cells output number place cells-then) =
+    keepCall (paper net-sheet) (paper table-sheet) (nines cells) (nines output)
+    ≡ record { answer = turnedAway neither number place; cells = digits (text cells-then); output = nines output }
 
 -- every example of a list
 infixr 5 _and_
@@ -213,11 +225,13 @@ refusals =
     ∷ check "levels inputs/2 2/a b/left right table/a b 0001/" "levels inputs/2 2/b a ink/0 0 0/0 1 0/1 0 0/1 1 1/" 4 12 0
     ∷ check "levels inputs/2 3/a b c/left right table/a b 0001/1 c 0001/" "levels inputs/2 2/a b ink/0 0 0/0 1 0/1 0 0/1 1 1/" 4 12 0
     ∷ check "levels inputs/3 2/a b/left right table/a b 000011012/" "levels inputs/2 2/a b ink/0 0 0/0 1 0/1 0 0/1 1 1/" 0 12 0
+    ∷ keep "levels inputs/2 2/a b/left right table/a b 0001/" "levels inputs/2 2/b a ink/0 0 0/0 1 0/1 0 0/1 1 1/" 4 48 12 0 "9999"
     -- 13: the cells buffer
     ∷ settle "levels inputs/2 2/a b/left right table/a b 0001/" 3 4 48 13 4 "999" "9999"
     ∷ make "levels inputs/2 2/a b ink/0 0 0/0 1 0/1 0 0/1 1 1/" 3 3 0 13 4 "999" "999"
     ∷ check "levels inputs/2 2/a b/left right table/a b 0001/" "levels inputs/2 2/a b ink/0 0 0/0 1 0/1 0 0/1 1 1/" 3 13 4
     ∷ count "levels inputs/2 2/a b ink/0 0 0/0 1 0/1 0 0/1 1 1/" 3 3 13 4 "999" "999"
+    ∷ keep "levels inputs/2 3/a b c/left right table/a b 0001/1 c 0111/" "levels inputs/2 3/a b c ink/0 0 0 0/0 0 1 0/0 1 0 0/0 1 1 1/1 0 0 0/1 0 1 1/1 1 0 1/1 1 1 1/" 7 60 13 8 "9999999"
     -- 14: the marks buffer
     ∷ settle "levels inputs/2 2/a b/left right table/a b 0001/" 4 3 48 14 4 "9999" "999"
     ∷ tree "levels inputs/2 2/a b ink/0 0 0/0 1 0/1 0 0/1 1 1/" 1 4 3 0 14 4 "9999" "999"
@@ -226,6 +240,7 @@ refusals =
     ∷ settle "levels inputs/2 2/a b/left right table/a b 0001/" 5 6 47 15 48 "00019" "022299"
     ∷ write "levels inputs/2 2/a b/left right table/a b 0001/" 49 15 50
     ∷ tree "levels inputs/2 2/a b ink/0 0 0/0 1 0/1 0 0/1 1 1/" 0 4 4 47 15 48 "0001" "0222"
+    ∷ keep "levels inputs/2 2/a b/left right table/a b 0001/" "levels inputs/2 2/a b ink/0 0 0/0 1 1/1 0 1/1 1 1/" 5 47 15 48 "01119"
     -- 16: no tree, whatever the output; the whole group has mark 1 too, but more members
     ∷ make "levels inputs/2 3/a b c ink/0 0 0 0/0 0 1 0/0 1 0 0/0 1 1 1/1 0 0 0/1 0 1 1/1 1 0 1/1 1 1 1/" 9 9 0 16 7 "000101119" "022020019"
     ∷ make
@@ -243,6 +258,9 @@ refusals =
     ∷ arrival "name from to/a 1.5 2/" 19 15
     ∷ arrival "name from to/a 0 65536/" 19 17
     ∷ arrival "name from to/a 8 7/" 19 17
+    -- 23: three classes of a and b, whatever the output; of a, b and c, at the second gate
+    ∷ keep "levels inputs/2 3/a b c/left right table/a b 0001/1 c 0111/" "levels inputs/2 3/a b c ink/0 0 0 0/0 0 1 0/0 1 0 0/0 1 1 1/1 0 0 0/1 0 1 1/1 1 0 1/1 1 1 1/" 9 0 23 1 "000101119"
+    ∷ keep "levels inputs/2 4/a b c d/left right table/a b 0110/c 1 0001/2 d 0001/" "levels inputs/2 4/a b c d ink/0 0 0 0 0/0 0 0 1 0/0 0 1 0 0/0 0 1 1 1/0 1 0 0 0/0 1 0 1 1/0 1 1 0 1/0 1 1 1 1/1 0 0 0 0/1 0 0 1 1/1 0 1 0 1/1 0 1 1 1/1 1 0 0 0/1 1 0 1 0/1 1 1 0 0/1 1 1 1 1/" 16 80 23 2 "0001011101110001"
     ∷ []
 
 pub refusals-hold : AllCome refusals
@@ -255,6 +273,7 @@ refusals-hold =
     and net-back refl and net-back refl and net-back refl and net-back refl and cells-back refl and cells-back refl and cells-back refl
     and cells-back refl and cells-back refl and refl and refl and refl and refl and refl and refl
     and refl and refl and refl and refl and refl and refl and refl
-    and refl and refl and refl and refl and refl and refl and refl
+    and refl and refl and refl and refl and refl and refl and refl and refl and refl and refl
     and arrivals-back refl and arrivals-back refl and arrivals-back refl and arrivals-back refl and arrivals-back refl and arrivals-back refl
+    and refl and refl
     and none
