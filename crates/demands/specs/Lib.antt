@@ -14,6 +14,7 @@ pub mod ShallowRefusals
 pub mod FamilyOutcomes
 pub mod FamilyNumbers
 pub mod ArrivalNumbers
+pub mod KeepingNumbers
 pub mod NeverZero
 pub mod Makes
 pub mod Checks
@@ -37,3 +38,6 @@ pub mod FamilyTreeClause
 pub mod FamilyOrder
 pub mod FamilyRules
 pub mod Arrivals
+pub mod KeptNets
+pub mod Keeping
+pub mod KeepingLengths

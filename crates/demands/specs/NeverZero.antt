@@ -15,6 +15,7 @@ use Rattle.rules.specs.Checking.{turnedDown, checkCall}
 use Rattle.rules.specs.TableWriting.{writeTableCall}
 use Rattle.rules.specs.Lister.{listing}
 use Rattle.rules.specs.Arrivals.{netRefused, arrivalsRefused, arrivalsCall}
+use Rattle.rules.specs.Keeping.{turnedAway, keepCall}
 use Rattle.laws.specs.Distinct.{In}
 use Rattle.readback.specs.Numbers.{netNumbers}
 use Rattle.demands.specs.Numbers.{not-given}
@@ -28,6 +29,7 @@ use Rattle.demands.specs.CheckingNumbers.{check-numbers, checkNumbers}
 use Rattle.demands.specs.TableWritingNumbers.{write-table-numbers, writeTableNumbers}
 use Rattle.demands.specs.ListingNumbers.{listing-numbers}
 use Rattle.demands.specs.ArrivalNumbers.{arrivals-numbers}
+use Rattle.demands.specs.KeepingNumbers.{keep-numbers, keepNumbers}
 
 -- No call refuses with 0: over C, where 0 says that a call accepted, the two are told apart.
 pub never-0 : (place : ℕ)
@@ -44,6 +46,7 @@ pub never-0 : (place : ℕ)
     × ((s : List ℕ) (k : ℕ) → listing s k ≡ refused 0 place → ⊥)
     × ((s r : List ℕ) (delay : ℕ) → arrivalsCall s r delay ≡ netRefused 0 place → ⊥)
     × ((s r : List ℕ) (delay : ℕ) → arrivalsCall s r delay ≡ arrivalsRefused 0 place → ⊥)
+    × ((s r cells output : List ℕ) (named : Named) → keepCall s r cells output .answer ≡ turnedAway named 0 place → ⊥)
 unfolding any
 never-0 place = (
   λ m n cells g. not-given multiplicityNumbers _ (multiplicity-numbers m n cells g) 0 place refl,
@@ -59,9 +62,15 @@ never-0 place = (
   λ s k. not-given netNumbers _ (listing-numbers s k) 0 place refl,
   λ s r delay e. true≢false (sym (arrivals-numbers s r delay .net 0 place e)),
   λ s r delay e. true≢false (sym (arrivals-numbers s r delay .arrivals 0 place e)),
+  λ s r cells output named e. no-keeping-0 named (keep-numbers s r cells output named 0 place e),
 )
   where
     no-0 : (named : Named) → In 0 (checkNumbers named) → ⊥
     no-0 netNamed e = true≢false (sym e)
     no-0 tableNamed e = true≢false (sym e)
     no-0 neither e = true≢false (sym e)
+
+    no-keeping-0 : (named : Named) → In 0 (keepNumbers named) → ⊥
+    no-keeping-0 netNamed e = true≢false (sym e)
+    no-keeping-0 tableNamed e = true≢false (sym e)
+    no-keeping-0 neither e = true≢false (sym e)

@@ -14,6 +14,7 @@ pub mod FamilyCalls
 pub mod ButSheet
 pub mod Shallower
 pub mod Checking
+pub mod Keeping
 pub mod TableWriting
 pub mod Pastes
 pub mod Pigeonhole
