@@ -7,4 +7,5 @@ pub mod Layered
 pub mod Shallower
 pub mod WriteTable
 pub mod Check
+pub mod Keep
 pub mod ArrivalTimes

@@ -27,6 +27,7 @@ use Rattle.laws.specs.Answers.{written-front}
 use Rattle.laws.specs.Keeping.{keep-net-refused, keep-table-refused, keep-accepted, keep-12, keep-13, keep-23, keep-15, keep-written}
 use Rattle.readback.specs.ReadBack.{net-accepted, net-read-back, table-accepted}
 use Rattle.readback.specs.Length.{net-length}
+use Rattle.trees.specs.EquallyLong.{equally-long}
 use Rattle.trees.specs.KeptWirings.{roomy-before, crowded-at}
 use Rattle.trees.specs.ChangedGates.{changed-below, changed-exactly, none-changed}
 use Rattle.trees.specs.NetTables.{levels-pos, inputs-several}
@@ -188,7 +189,13 @@ module _ (s r cells : List ℕ) (past : Past s r cells) where
     pub kept-table : tableOfNet (keptNet net t) ≡ t
     kept-table = kept-has-table net t kept-net kept-t (past .header) roomy
 
-    -- .. and never over 512 bytes
+    -- .. as long as the sheet handed in, ..
+    pub kept-as-long : length sheetFor ≡ length s
+    kept-as-long =
+        equally-long (keptNet net t) net (kept-keeps net t kept-net kept-t (past .header) roomy) kept-net (kept-header net t)
+        ∙ ap length (sym (net-accepted s net (past .reads-net) .0))
+
+    -- .. and so never over 512 bytes
     pub kept-short : length sheetFor ≤ mostSettled
     kept-short = net-length (keptNet net t) (kept-keeps net t kept-net kept-t (past .header) roomy)
 

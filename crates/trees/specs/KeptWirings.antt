@@ -29,7 +29,9 @@ use Rattle.trees.specs.Classes.{Few}
 use Rattle.trees.specs.Levels.{part-whole}
 use Rattle.trees.specs.Carried.{carried-several, carried-input}
 use Rattle.trees.specs.DigitRule.{Parts, join-several, gate-digit, gate-table}
-use Rattle.trees.specs.Forest.{withTrees, joined, inputTrees, trees-length, inputs-length}
+use Rattle.trees.specs.Wirings.{group-below}
+use Rattle.trees.specs.Homes.{grown-inputs, grown-gates}
+use Rattle.trees.specs.Forest.{treeAt, withTrees, joined, inputTrees, trees-length, inputs-length}
 use Rattle.trees.specs.NetTree.{TreeOf, net-tree, net-whole}
 use Rattle.trees.specs.Existence.{tree-few}
 use Rattle.trees.specs.Fillings.{linkGroup, withGroups, groups-earlier, groups-length, inputs-grouped, Fillable}
@@ -160,6 +162,20 @@ groups-of-trees forest [] back = refl
 groups-of-trees forest (g ∷ gates) back =
     ap (λ (gs : List ℕ). withGroups gs (gateLinks gates)) (groups-joined forest g (back .0) (back .1))
     ∙ groups-of-trees (forest ++ (joined forest g ∷ [])) gates (rw length-snoc (back .2))
+
+-- and groups of inputs below n
+pub group-small : (m n : ℕ) (gates : List Gate) → IsNet m n gates → (r : ℕ) → r < n + length gates
+    → getD (withGroups (inputGroups n) (gateLinks gates)) r 0 < 2 ^ n
+group-small m n gates net r h =
+    let forest : List Tree = withTrees (inputTrees n) gates in
+    let back : RefersBack (length (inputTrees n)) gates = rw inputs-length (net .rules .back) in
+    let grown = grown-gates m n gates [] (inputTrees n) (grown-inputs m n) back (net .rules .once) (net .rules .tables) in
+    let r< : r < length forest = omega (arith, trees-length (inputTrees n) gates, inputs-length n) in
+    subst⁻¹ (λ (g : ℕ). g < 2 ^ n)
+    (ap (λ (gs : List ℕ). getD (withGroups gs (gateLinks gates)) r 0) (sym (inputs-in n))
+    ∙ ap (λ (gs : List ℕ). getD gs r 0) (groups-of-trees (inputTrees n) gates back)
+    ∙ group-at forest r r<)
+    (group-below n (wiringIn (treeAt forest r)) (grown .once r r<))
 
 -- a net's last gate has all inputs below it
 last-whole : (m n : ℕ) (gates : List Gate) → 1 < n → IsNet m n gates

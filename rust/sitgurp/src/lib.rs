@@ -4,6 +4,7 @@
 //! [`settled`], [`made`] and [`table_of`] lend buffers of the sizes that always suffice. [`settled_shallow`] and [`made_shallow`] give the
 //! tree of fewest layers in place of the settled one, and [`Family`] walks every tree that computes a table. [`multiplicities`] and
 //! [`fewest_levels`] put together what calls of the library answer about a table without a tree. [`arrivals`] says when a net's output settles.
+//! [`kept`] keeps a net's wiring, and fills its gates anew for another table.
 //!
 //! ```
 //! let sheet = b"levels inputs\n2 3\na b c\nleft right table\na b 0110\n1 c 0110\n";
@@ -30,6 +31,7 @@ mod arrivals;
 mod counting;
 mod family;
 mod ffi;
+mod keep;
 mod lister;
 mod refusal;
 mod shallow;
@@ -37,6 +39,7 @@ mod shallow;
 pub use arrivals::{arrivals, Settling};
 pub use counting::{fewest_levels, multiplicities};
 pub use family::{family_count, family_tree, Family};
+pub use keep::{keep, kept, Kept};
 pub use lister::Lister;
 pub use refusal::{Named, Refusal};
 pub use shallow::{

@@ -62,6 +62,7 @@ impl Refusal {
             17 => "the table has no tree of this number",
             18 => "a name is not the next input",
             19 => "a time is not a number from 0 to 65,535, or `to` is below `from`",
+            23 => "no gate tables give this wiring the table",
             _ => "unknown refusal",
         }
     }
@@ -106,6 +107,7 @@ impl fmt::Display for Refusal {
             (13..=15, _) => write!(f, "; {} bytes are needed)", self.place),
             (16, _) => write!(f, " at group {}: {})", self.place, self.inputs.join(", ")),
             (17, _) => write!(f, " at number {})", self.place),
+            (23, _) => write!(f, " at gate {})", self.place),
             _ => write!(f, ")"),
         }
     }
