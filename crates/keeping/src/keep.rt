@@ -20,7 +20,14 @@ use radix::powers::power;
 use table_reading::sheet::read_table;
 
 // The inks in the cells buffer, and then refusal 23, refusal 15 or the sheet.
-fn keep_filled(s: &[u8], header: Header, net: Net, inks: &[u8], cells: &mut [u8], out: &mut [u8]) -> Kept
+fn keep_filled(
+    s: &[u8],
+    header: Header,
+    net: Net,
+    inks: &[u8],
+    cells: &mut [u8],
+    out: &mut [u8],
+) -> Kept
     requires { ⌜ Ready (now s) header net (now inks) (now cells) ⌝ }
     ensures { λ r. ⌜ keptOf r (now (cells .exit)) (now (out .exit))
         ≡ filledInto (netIn (now (s .entry)) header net) (tableIn (now (s .entry)) header (now (inks .entry))) (now (cells .entry)) (now (out .entry)) ⌝ }

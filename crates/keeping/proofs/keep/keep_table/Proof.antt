@@ -29,7 +29,9 @@ slice-aggregate-keep-accepted : tie.Need-slice-aggregate-keep-accepted
 slice-aggregate-keep-accepted c = search needs
 
 keep-accepted-requires : tie.Need-keep-accepted-requires
-keep-accepted-requires c κs = (at-start (at-read (c .before)) .pre, table-taken _ _ _ (at-read (c .before) .read-table .ensures) (c .before .before .enum-told .given .1))
+keep-accepted-requires c κs =
+    let inks = c .before .before in
+    (at-start (at-read inks) .pre, table-taken _ _ _ (at-read inks .read-table .ensures) (inks .before .enum-told .given .1))
 
 returns : tie.Need-returns
 returns c =
