@@ -2,7 +2,7 @@
 -- the sheet written is an accepted net with the given wiring and exactly the table, and the set is exactly the gates that changed. Keeping again
 -- changes nothing; keeping the wiring of the settled net gives making's very sheet; every sheet of a family is what keeping makes of its own wiring.
 -- Assumes nothing.
-use Prim.Native.Nat.{ℕ, zero, suc, _-_, _^_, _≤_, _<_}
+use Prim.Native.Nat.{ℕ, suc, _-_, _^_, _≤_, _<_}
 use mathlib.Core.Path.{_≡_, refl, sym, ap, ap₂, _∙_, subst, subst⁻¹}
 use mathlib.Core.Logic.{_↔_, _≢_}
 use mathlib.Core.Bool.{Bool, true, false}
@@ -22,7 +22,7 @@ use Rattle.rules.specs.Reading.{readNet, readTable, tableOfNet}
 use Rattle.rules.specs.Checking.{sameHeader}
 use Rattle.rules.specs.Settling.{settledNet, makeCall}
 use Rattle.rules.specs.FamilyCalls.{familyNet, familyTreeCall}
-use Rattle.rules.specs.Keeping.{gateLinks, keptNet, roomyGates, roomyBefore, tableAt, changedGates, Keeping, rewritten, turnedAway, KeptWiring, keptInto, keepCall}
+use Rattle.rules.specs.Keeping.{gateLinks, keptNet, roomyBefore, tableAt, changedGates, Keeping, rewritten, turnedAway, KeptWiring, keptInto, keepCall}
 use Rattle.laws.specs.Answers.{written-front}
 use Rattle.laws.specs.Keeping.{keep-net-refused, keep-table-refused, keep-accepted, keep-12, keep-13, keep-23, keep-15, keep-written}
 use Rattle.readback.specs.ReadBack.{net-accepted, net-read-back, table-accepted}

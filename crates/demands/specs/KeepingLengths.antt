@@ -13,7 +13,7 @@ use Rattle.rules.specs.Sheets.{Net, Table}
 use Rattle.rules.specs.Answers.{Answer, accepted, refused, Named, netNamed, tableNamed, neither}
 use Rattle.rules.specs.Reading.{readNet, readTable}
 use Rattle.rules.specs.Checking.{sameHeader}
-use Rattle.rules.specs.Keeping.{Keeping, rewritten, turnedAway, KeptWiring, keepCall}
+use Rattle.rules.specs.Keeping.{Keeping, turnedAway, KeptWiring, keepCall}
 use Rattle.laws.specs.Distinct.{In}
 use Rattle.laws.specs.Keeping.{keep-net-refused, keep-table-refused, keep-accepted, keep-12}
 use Rattle.readback.specs.Numbers.{netNumbers, tableNumbers, net-refusal, table-refusal}

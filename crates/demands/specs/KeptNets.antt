@@ -1,15 +1,11 @@
 -- Document 02, K10, said of nets and tables: when a net's wiring can be filled for a table, and what filling it gives.
 -- Assumes nothing.
 use Prim.Native.Nat.{ℕ, _^_, _≤_, _<_}
-use mathlib.Core.Path.{_≡_, refl, sym, ap, _∙_, subst, subst⁻¹}
+use mathlib.Core.Path.{_≡_, refl, sym, ap, _∙_, subst⁻¹}
 use mathlib.Core.Logic.{_↔_}
-use mathlib.Core.List.{List, map}
-use native.Mathlib.Nat.{lt-of-not-le}
-use native.Mathlib.Decide.{decLe}
+use mathlib.Core.List.{List}
 use lib.ListN.{length}
 use Rattle.rules.specs.Sheets.{Header, Gate, Net, Table}
-use Rattle.rules.specs.Wirings.{Link, linksOf}
-use Rattle.rules.specs.Filling.{filled}
 use Rattle.rules.specs.Settled.{settledGates}
 use Rattle.rules.specs.Family.{familyGates}
 use Rattle.rules.specs.Kept.{KeptNet, KeptTable}
@@ -17,11 +13,11 @@ use Rattle.rules.specs.Answers.{inkIn}
 use Rattle.rules.specs.Reading.{tableOfNet}
 use Rattle.rules.specs.Settling.{settledNet}
 use Rattle.rules.specs.FamilyCalls.{familyNet}
-use Rattle.rules.specs.Keeping.{gateLinks, keptGates, keptNet, roomyGates, roomyBefore}
+use Rattle.rules.specs.Keeping.{gateLinks, keptGates, keptNet, roomyBefore}
 use Rattle.trees.specs.NetTables.{levels-pos, inputs-several}
 use Rattle.trees.specs.Uniqueness.{table-is, table-at}
 use Rattle.trees.specs.KeptLinks.{same-net, kept-links, kept-by-links, filled-kept, kept-again}
-use Rattle.trees.specs.KeptWirings.{Filling, GatesFew, filling-few, kept-fills, all-roomy, no-filling}
+use Rattle.trees.specs.KeptWirings.{Filling, filling-few, kept-fills, all-roomy, no-filling}
 
 -- A filling of the net's wiring that computes the table: the same left and right at every gate line, with any gate tables.
 abbrev pub FillingFor : Net → Table → List Gate → Type 0

@@ -20,7 +20,7 @@ same-length-2 c = search needs
 
 returns : tie.Need-returns
 returns c =
-    let did = c .before .before .before .keep .ensures in
+    let did = c .before .before .before .before .before .keep .ensures in
     record {
       answer = c .flat-kept .ensures ∙ ap (λ (r : KeptWiring). flatKept (r .answer)) did;
       cells-then = ap (λ (r : KeptWiring). r .cells) did;
