@@ -73,6 +73,7 @@ fn c_type(rust: &str) -> String {
         "Verdict" => "sitgurp_verdict",
         "ArrivalTimes" => "sitgurp_arrival_times",
         "Turn" => "sitgurp_turn",
+        "Kept" => "sitgurp_kept",
         other => panic!("type {other}"),
     };
     known.to_string()
@@ -160,7 +161,7 @@ fn the_header_declares_what_rust_and_the_proved_crate_declare() {
         (name, types, result)
     });
     assert_eq!(rattle, c_types.collect::<Vec<_>>());
-    assert_eq!(rattle.len(), 13);
+    assert_eq!(rattle.len(), 14);
 }
 
 #[test]
