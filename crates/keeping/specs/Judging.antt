@@ -1,7 +1,7 @@
 -- Keeping the wiring of two accepted sheets: headers, the cells buffer, then the gates' groups and the sheet.
 -- Assumes nothing.
 use Prim.Native.Nat.{ℕ, suc, _+_, _-_, _^_, _≤_, _<_}
-use mathlib.Core.Path.{_≡_, refl, sym, ap, ap₂, _∙_, subst, subst⁻¹, subst₂}
+use mathlib.Core.Path.{_≡_, sym, ap, ap₂, _∙_, subst⁻¹, subst₂}
 use mathlib.Core.Bool.{Bool, true, false, not, _&&_, and-eq-true-iff}
 use mathlib.Core.List.{List}
 use native.Mathlib.Nat.{lt-of-not-le}
@@ -13,7 +13,6 @@ use borrow.Author.Tests.{lt-ltb, le-ltb, not-true, not-false}
 use Rattle.rules.specs.Sheets as sheets
 use Rattle.rules.specs.Sheets.{Table}
 use Rattle.rules.specs.Printed.{printedNet}
-use Rattle.rules.specs.Limits.{sizeFits}
 use Rattle.rules.specs.Filling.{inputGroups, filled}
 use Rattle.rules.specs.Kept.{IsNet, KeptHeader}
 use Rattle.rules.specs.Answers.{inkIn, neither, written}
@@ -37,11 +36,10 @@ use Rattle.digits.specs.Sized.{Sized, sized}
 use Rattle.filling.specs.Filled.{Filled}
 use Rattle.filling.specs.MadeNet.{NetOf}
 use Rattle.table_reading.specs.Answers.{inksIn}
-use Rattle.lines.specs.Put.{Put, put-wrote}
 use Rattle.answers.specs.declared.answer.Answer.{Answer}
 use Rattle.answers.specs.Answers.{answerOf, madeOf}
 use Rattle.accepted.specs.Taken.{NetTaken, TableTaken, Given, sound, held-size, names-inside, inks-front, inks-given}
-use Rattle.synthesis.specs.Outcomes.{given-size, given-count, given-below, net-is}
+use Rattle.synthesis.specs.Outcomes.{given-size, given-count, given-below}
 use Rattle.keeping.specs.declared.answer.Kept.{Kept}
 use Rattle.keeping.specs.Answers.{keepingOf, keptOf, withChanged, sheetKept, filledInto}
 

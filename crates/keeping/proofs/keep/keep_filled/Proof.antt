@@ -1,6 +1,5 @@
 -- `keeping::keep::keep_filled` meets its contract: the inks copied, then 23, or what is written anew. Assumes nothing.
 use mathlib.Core.Path.{_≡_}
-use mathlib.Core.List.{List}
 use borrow.Author.Needs.{needs}
 use Rattle.rules.specs.Answers.{written}
 use Rattle.lines.specs.Put.{put-wrote}
