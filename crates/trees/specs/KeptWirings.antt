@@ -2,7 +2,7 @@
 -- digits at its gates compute the table exactly when each gate's group has at most m classes, and then the class rule's do.
 -- Assumes nothing.
 use Prim.Native.Nat.{ℕ, suc, _+_, _-_, _^_, _≤_, _<_}
-use mathlib.Core.Path.{_≡_, refl, sym, ap, ap₂, _∙_, subst, subst⁻¹}
+use mathlib.Core.Path.{_≡_, refl, sym, ap, _∙_, subst⁻¹}
 use mathlib.Core.Logic.{_↔_, ⊎-elim}
 use mathlib.Core.Bool.{Bool, true, false}
 use mathlib.Core.List.{List, [], _∷_, _++_, List·Memᴰ}
@@ -12,11 +12,11 @@ use native.Mathlib.Omega.{arith}
 use lib.ListN.{length, getD, length-map, List·getD-append}
 use lib.Seq.{getD-append-seam}
 use lib.Dec.{ltb, eqb·suc-zero}
-use borrow.Author.Tests.{ltb-true, ltb-false, lt-ltb}
+use borrow.Author.Tests.{ltb-true, ltb-false}
 use Rattle.rules.specs.Sheets.{Gate, level, levelsAt}
 use Rattle.rules.specs.Value.{gateValue, withGates, value}
 use Rattle.rules.specs.Groups.{part, wholeGroup, multiplicity}
-use Rattle.rules.specs.Wirings.{Wiring, input, gate, groupOf, Link}
+use Rattle.rules.specs.Wirings.{Wiring, input, gate, Link}
 use Rattle.rules.specs.Filling.{carried, given, gateDigits, inputGroups, filledFrom, filled}
 use Rattle.rules.specs.Family.{gateGroups}
 use Rattle.rules.specs.Keeping.{linkOf, gateLinks, keptGates, roomyGates}
@@ -34,7 +34,7 @@ use Rattle.trees.specs.Homes.{grown-inputs, grown-gates}
 use Rattle.trees.specs.Forest.{treeAt, withTrees, joined, inputTrees, trees-length, inputs-length}
 use Rattle.trees.specs.NetTree.{TreeOf, net-tree, net-whole}
 use Rattle.trees.specs.Existence.{tree-few}
-use Rattle.trees.specs.Fillings.{linkGroup, withGroups, groups-earlier, groups-length, inputs-grouped, Fillable}
+use Rattle.trees.specs.Fillings.{linkGroup, withGroups, inputs-grouped, Fillable}
 use Rattle.trees.specs.GateLinks.{treeGroup, groupsIn, group-at, groups-joined, inputs-in, gates-fillable}
 use Rattle.trees.specs.NormalWirings.{Joins, joins-cases, joins-none}
 use Rattle.trees.specs.GateGroups.{net-joins}
