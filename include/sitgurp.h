@@ -66,6 +66,18 @@ typedef struct sitgurp_verdict {
 } sitgurp_verdict;
 
 /*
+ * number 0: accepted, value is the sheet's length, and changed the set of the gates whose tables changed, as the sum of 2 to the power of each one's number,
+ * from 1; named is 0. Otherwise number is the refusal's, value its place, and changed 0; a refusal names the net sheet (named 1), the table sheet (2) or
+ * neither (0).
+ */
+typedef struct sitgurp_kept {
+    size_t named;
+    size_t number;
+    size_t value;
+    size_t changed;
+} sitgurp_kept;
+
+/*
  * kind 0: none is left, and first and second are 0; 1: a gate line, the second bytes of the sheet from byte first on, without its
  * line feed; 2: refused, with number first at place second
  */
@@ -186,6 +198,17 @@ sitgurp_which sitgurp_shallower(const uint8_t *first, size_t first_length, const
  */
 sitgurp_verdict sitgurp_check(const uint8_t *net_sheet, size_t net_sheet_length, const uint8_t *table_sheet,
                               size_t table_sheet_length, uint8_t *cells, size_t cells_length);
+
+/*
+ * Keeps the wiring of a net sheet, and fills its gates anew so that the net has the table of a table sheet: writes that sheet's inks into cells and the net
+ * sheet into output. Left and right of every gate line stay as they are, and so do the lines' order and the header; gate tables follow the rule of the settled
+ * net. Needs m to the power n bytes, and the net sheet's length.
+ * Refusals: 1 to 4 and 6 to 8 (the net sheet), 1 to 6 (the table sheet), 12 (the sheets differ in m, n or names; value 0), 13 (cells too short), 23 (no gate tables
+ * give this wiring that table; value is the number of the first gate whose group has more than m classes), 15 (output too short); the value of 13 and 15 is
+ * the length needed. 23 and 15 leave cells written and output as it was; every other refusal changes no byte. 12, 13, 15 and 23 name neither sheet.
+ */
+sitgurp_kept sitgurp_keep(const uint8_t *net_sheet, size_t net_sheet_length, const uint8_t *table_sheet, size_t table_sheet_length,
+                          uint8_t *cells, size_t cells_length, uint8_t *output, size_t output_length);
 
 /*
  * Writes the table sheet of a net sheet into output, and answers its length, which is what it needs.

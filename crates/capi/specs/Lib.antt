@@ -8,6 +8,7 @@ pub mod Shallower
 pub mod WriteTable
 pub mod Tidy
 pub mod Check
+pub mod Keep
 pub mod ArrivalTimes
 pub mod JobStep
 pub mod JobOpen

@@ -17,7 +17,7 @@ pub struct SitgurpVerdict {
     pub value: usize,
 }
 
-fn flat_named(named: Named) -> usize
+pub fn flat_named(named: Named) -> usize
     ensures { λ r. ⌜ r ≡ flatNamed (namedOf named) ⌝ }
 {
     match named {

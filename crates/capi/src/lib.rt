@@ -9,6 +9,7 @@ pub mod job_finish;
 pub mod job_mark;
 pub mod job_open;
 pub mod job_step;
+pub mod keep;
 pub mod layered;
 pub mod make;
 pub mod make_shallow;

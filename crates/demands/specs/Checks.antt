@@ -44,7 +44,7 @@ unfolding sameNames
 same-names [] = refl
 same-names (w ∷ ws) = rw (same-refl w, same-names ws)
 
-same-header : (h k : Header) → h ≡ k → sameHeader h k ≡ true
+pub same-header : (h k : Header) → h ≡ k → sameHeader h k ≡ true
 unfolding sameHeader
 same-header h k e = subst (λ (l : Header). sameHeader h l ≡ true) e (rw (eq-eqb (h .levels) (h .levels) refl, eq-eqb (h .inputs) (h .inputs) refl, same-names (h .names)))
 
@@ -57,7 +57,7 @@ names-same (v ∷ vs) (w ∷ ws) e =
     let (first, others) = and-eq-true-iff (same v w) (sameNames vs ws) .0 e in
     ap₂ _∷_ (same-true v w first) (names-same vs ws others)
 
-header-same : (h k : Header) → sameHeader h k ≡ true → h ≡ k
+pub header-same : (h k : Header) → sameHeader h k ≡ true → h ≡ k
 unfolding sameHeader
 header-same h k e =
     let (sizes, names) = and-eq-true-iff (eqb (h .levels) (k .levels) && eqb (h .inputs) (k .inputs)) (sameNames (h .names) (k .names)) .0 e in

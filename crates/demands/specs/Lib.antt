@@ -18,6 +18,7 @@ pub mod TidyingNumbers
 pub mod JobNumbers
 pub mod JobMoves
 pub mod Jobs
+pub mod KeepingNumbers
 pub mod NeverZero
 pub mod Makes
 pub mod Checks
@@ -44,3 +45,6 @@ pub mod Arrivals
 pub mod StoredMarks
 pub mod AnyStore
 pub mod Tidying
+pub mod KeptNets
+pub mod Keeping
+pub mod KeepingLengths

@@ -17,6 +17,7 @@ use Rattle.rules.specs.Tidying.{tidyCall}
 use Rattle.rules.specs.Lister.{listing}
 use Rattle.rules.specs.Arrivals.{netRefused, arrivalsRefused, arrivalsCall}
 use Rattle.rules.specs.Jobs.{Job, openJob, stepJob, askJob, finishJob}
+use Rattle.rules.specs.Keeping.{turnedAway, keepCall}
 use Rattle.laws.specs.Distinct.{In}
 use Rattle.readback.specs.Numbers.{netNumbers, tableNumbers}
 use Rattle.demands.specs.Numbers.{not-given}
@@ -32,6 +33,7 @@ use Rattle.demands.specs.TidyingNumbers.{tidy-numbers, tidyNumbers}
 use Rattle.demands.specs.ListingNumbers.{listing-numbers}
 use Rattle.demands.specs.ArrivalNumbers.{arrivals-numbers}
 use Rattle.demands.specs.JobNumbers.{open-numbers, step-numbers, ask-numbers, finish-numbers, finishNumbers}
+use Rattle.demands.specs.KeepingNumbers.{keep-numbers, keepNumbers}
 
 -- No call refuses with 0: over C, where 0 says that a call accepted, the two are told apart.
 pub never-0 : (place : ℕ)
@@ -53,6 +55,7 @@ pub never-0 : (place : ℕ)
     × ((job : Job) → stepJob job .answer ≡ refused 0 place → ⊥)
     × ((job : Job) (g : ℕ) → askJob job g .answer ≡ refused 0 place → ⊥)
     × ((job : Job) (cells marks output : List ℕ) → finishJob job cells marks output .made .answer ≡ refused 0 place → ⊥)
+    × ((s r cells output : List ℕ) (named : Named) → keepCall s r cells output .answer ≡ turnedAway named 0 place → ⊥)
 unfolding any
 never-0 place = (
   λ m n cells g. not-given multiplicityNumbers _ (multiplicity-numbers m n cells g) 0 place refl,
@@ -73,9 +76,15 @@ never-0 place = (
   λ job. not-given (21 ∷ []) _ (step-numbers job) 0 place refl,
   λ job g. not-given (11 ∷ []) _ (ask-numbers job g) 0 place refl,
   λ job cells marks output. not-given finishNumbers _ (finish-numbers job cells marks output) 0 place refl,
+  λ s r cells output named e. no-keeping-0 named (keep-numbers s r cells output named 0 place e),
 )
   where
     no-0 : (named : Named) → In 0 (checkNumbers named) → ⊥
     no-0 netNamed e = true≢false (sym e)
     no-0 tableNamed e = true≢false (sym e)
     no-0 neither e = true≢false (sym e)
+
+    no-keeping-0 : (named : Named) → In 0 (keepNumbers named) → ⊥
+    no-keeping-0 netNamed e = true≢false (sym e)
+    no-keeping-0 tableNamed e = true≢false (sym e)
+    no-keeping-0 neither e = true≢false (sym e)

@@ -55,7 +55,7 @@ fn join(
 }
 
 // Writes the inputs' groups to the front of `groups`.
-fn input_groups(n: usize, groups: &mut [u16])
+pub fn input_groups(n: usize, groups: &mut [u16])
     requires { ⌜ (n ≤ mostInputs) × (n ≤ length (now groups)) ⌝ }
     ensures { λ _. ⌜ take n (now (groups .exit)) ≡ inputGroups n ⌝ }
 {

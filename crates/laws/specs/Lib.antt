@@ -15,6 +15,7 @@ pub mod FamilyCalls
 pub mod ButSheet
 pub mod Shallower
 pub mod Checking
+pub mod Keeping
 pub mod TableWriting
 pub mod Tidying
 pub mod Pastes

@@ -27,6 +27,7 @@ use Rattle.rules.specs.ShallowSettling as shallowSettling
 use Rattle.rules.specs.FamilyCalls as familyCalls
 use Rattle.rules.specs.Shallower as shallower
 use Rattle.rules.specs.Checking as checking
+use Rattle.rules.specs.Keeping as keeping
 use Rattle.rules.specs.TableWriting as tableWriting
 use Rattle.rules.specs.Programs as programs
 use Rattle.rules.specs.Lister as lister
@@ -37,5 +38,8 @@ use Rattle.rules.specs.Tidying as tidying
 use Rattle.rules.specs.Jobs as jobs
 
 unfoldable pub computing : Unit {0}
-unfolding lists.computing text.computing limits.computing fields.computing sheets.computing printed.computing value.computing groups.computing differences.computing marks.computing wirings.computing filling.computing settled.computing layers.computing shallow.computing family.computing answers.computing reading.computing bareCells.computing multiplicity.computing marking.computing settling.computing shallowSettling.computing familyCalls.computing shallower.computing checking.computing tableWriting.computing programs.computing lister.computing arrivalSheet.computing arrivals.computing looseSheet.computing tidying.computing jobs.computing
+
+
+unfoldable pub computing : Unit {0}
+unfolding lists.computing text.computing limits.computing fields.computing sheets.computing printed.computing value.computing groups.computing differences.computing marks.computing wirings.computing filling.computing settled.computing layers.computing shallow.computing family.computing answers.computing reading.computing bareCells.computing multiplicity.computing marking.computing settling.computing shallowSettling.computing familyCalls.computing shallower.computing checking.computing tableWriting.computing programs.computing lister.computing arrivalSheet.computing arrivals.computing looseSheet.computing tidying.computing jobs.computing keeping.computing
 computing = tt

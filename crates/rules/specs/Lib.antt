@@ -6,7 +6,8 @@
 -- follows), the starred cases (`Cases`), every refusal by examples (`Refusals`), and what is judged first (`Orders`). Of document 02: shallow
 -- nets (`Layers`, `Shallow`, `ShallowSettling`, `Shallower`, with `ShallowCases`), every wiring of a table (`Family`, `FamilyCalls`, with
 -- `FamilyCases`), the comparison of two assignments (`Differences`, with `DifferenceCases`), arrival times (`ArrivalSheet`, `Arrivals`, with
--- `ArrivalCases`), loose table sheets (`LooseSheet`, `Tidying`, with `LooseCases`), and marking as a job (`Jobs`, with `JobCases`).
+-- `ArrivalCases`), loose table sheets (`LooseSheet`, `Tidying`, with `LooseCases`), marking as a job (`Jobs`, with `JobCases`), and a wiring kept
+-- (`Keeping`, with `KeepingCases`).
 -- `Evaluation` lets all of it compute.
 -- Assumes nothing.
 pub mod Lists
@@ -37,6 +38,7 @@ pub mod ShallowSettling
 pub mod FamilyCalls
 pub mod Shallower
 pub mod Checking
+pub mod Keeping
 pub mod TableWriting
 pub mod Programs
 pub mod Lister
@@ -53,5 +55,6 @@ pub mod DifferenceCases
 pub mod ArrivalCases
 pub mod LooseCases
 pub mod JobCases
+pub mod KeepingCases
 pub mod Refusals
 pub mod Orders

@@ -13,6 +13,7 @@ use Rattle.rules.specs.Multiplicity.{multiplicityCall}
 use Rattle.rules.specs.Settling.{settleCall, makeCall}
 use Rattle.rules.specs.FamilyCalls.{familyCountCall, familyTreeCall}
 use Rattle.rules.specs.Checking.{turnedDown, checkCall}
+use Rattle.rules.specs.Keeping.{turnedAway, keepCall}
 use Rattle.rules.specs.Arrivals.{netRefused, arrivalsRefused, arrivalsCall}
 use Rattle.rules.specs.Tidying.{tidyCall}
 use Rattle.rules.specs.Evaluation.{computing}
@@ -106,6 +107,40 @@ table-before-headers = refl
 pub headers-before-cells : checkCall (printedNet oneGate) (printedTable noTree) [] ≡ record { answer = turnedDown neither 12 0; cells = [] }
 unfolding computing oneGate noTree
 headers-before-cells = refl
+
+-- ---- keeping a wiring: document 02, K10: both sheets, then 12, 13, 23, 15
+
+-- the net of a, b and c that has `noTree`'s header
+unfoldable pub twoGates : Net
+twoGates =
+    record {
+      header = noTree .header;
+      gates = record { left = 0; right = 1; digits = 0 ∷ 0 ∷ 0 ∷ 1 ∷ [] } ∷ record { left = 3; right = 2; digits = 0 ∷ 1 ∷ 1 ∷ 1 ∷ [] } ∷ [];
+    }
+
+-- the net sheet first: neither sheet has a byte; then the table sheet
+pub keeping-net-first : keepCall [] [] [] [] ≡ record { answer = turnedAway netNamed 1 0; cells = []; output = [] }
+unfolding computing
+keeping-net-first = refl
+
+pub keeping-table-next : keepCall (printedNet oneGate) [] [] [] ≡ record { answer = turnedAway tableNamed 1 0; cells = []; output = [] }
+unfolding computing oneGate
+keeping-table-next = refl
+
+-- 12 before 13: two headers, and no cells
+pub keeping-headers-before-cells : keepCall (printedNet oneGate) (printedTable noTree) [] [] ≡ record { answer = turnedAway neither 12 0; cells = []; output = [] }
+unfolding computing oneGate noTree
+keeping-headers-before-cells = refl
+
+-- 13 before 23: no tree, so no filling, and no cells
+pub keeping-cells-before-filling : keepCall (printedNet twoGates) (printedTable noTree) [] [] ≡ record { answer = turnedAway neither 13 8; cells = []; output = [] }
+unfolding computing twoGates noTree
+keeping-cells-before-filling = refl
+
+-- 23 before 15: the output empty, and no filling
+pub keeping-filling-before-output : keepCall (printedNet twoGates) (printedTable noTree) (nines 8) [] ≡ record { answer = turnedAway neither 23 1; cells = noTree .inks; output = [] }
+unfolding computing twoGates noTree nines
+keeping-filling-before-output = refl
 
 -- ---- arrival times: document 02, K5
 

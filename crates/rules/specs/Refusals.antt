@@ -1,4 +1,4 @@
--- The examples of docs/REFUSALS.md as one theorem, `refusals-hold`: every refusal, 1 to 22, by calls that give it, with its number, its
+-- The examples of docs/REFUSALS.md as one theorem, `refusals-hold`: every refusal, 1 to 23, by calls that give it, with its number, its
 -- place, and what each buffer lent to the call holds afterwards. They compute, so that a reader who believes nothing sees each number
 -- come out. The document's examples are these and no others (rust/sitgurp/tests/refusals.rs).
 -- Assumes nothing.
@@ -17,6 +17,7 @@ use Rattle.rules.specs.Marking.{markingCall}
 use Rattle.rules.specs.Settling.{settleCall, makeCall}
 use Rattle.rules.specs.FamilyCalls.{familyCountCall, familyTreeCall}
 use Rattle.rules.specs.Checking.{turnedDown, checkCall}
+use Rattle.rules.specs.Keeping.{turnedAway, keepCall}
 use Rattle.rules.specs.TableWriting.{writeTableCall}
 use Rattle.rules.specs.Lister.{listing}
 use Rattle.rules.specs.ArrivalSheet.{readArrivals}
@@ -38,8 +39,10 @@ pub record NetBack (sheet : List ℕ) (number place : ℕ) : Type 0 where
   pub writing : (output : List ℕ) → writeTableCall sheet output ≡ record { answer = refused number place; output = output }
   pub turn : (k : ℕ) → listing sheet k ≡ refused number place
   pub arriving : (arrival-sheet : List ℕ) (delay : ℕ) → arrivalsCall sheet arrival-sheet delay ≡ netRefused number place
+  pub keeping : (table-sheet cells output : List ℕ)
+      → keepCall sheet table-sheet cells output ≡ record { answer = turnedAway netNamed number place; cells = cells; output = output }
 
--- A table sheet that is turned back: the same, in a check behind every accepted net sheet.
+-- A table sheet that is turned back: the same, in a check and in keeping behind every accepted net sheet.
 pub record TableBack (sheet : List ℕ) (number place : ℕ) : Type 0 where
   pub making : (cells marks output : List ℕ)
       → makeCall sheet cells marks output ≡ record { answer = refused number place; cells = cells; marks = marks; output = output }
@@ -49,6 +52,8 @@ pub record TableBack (sheet : List ℕ) (number place : ℕ) : Type 0 where
   pub checking : (net-sheet cells : List ℕ) (net : Net) → readNet net-sheet ≡ accepted net
       → checkCall net-sheet sheet cells ≡ record { answer = turnedDown tableNamed number place; cells = cells }
   pub opening : openJob sheet ≡ record { job = emptyJob; answer = refused number place }
+  pub keeping : (net-sheet cells output : List ℕ) (net : Net) → readNet net-sheet ≡ accepted net
+      → keepCall net-sheet sheet cells output ≡ record { answer = turnedAway tableNamed number place; cells = cells; output = output }
 
 -- An arrival sheet for inputs of these names that is turned back: the same behind every accepted net sheet with these names, whatever the delay.
 pub record ArrivalsBack (names : List (List ℕ)) (sheet : List ℕ) (number place : ℕ) : Type 0 where
@@ -66,7 +71,7 @@ pub record CellsBack (m n : ℕ) (cells : List ℕ) (number place : ℕ) : Type 
 
 -- What is read decides all of these.
 pub net-back : {sheet : List ℕ} {number place : ℕ} → readNet sheet ≡ refused number place → NetBack sheet number place
-unfolding settleCall checkCall writeTableCall listing onward arrivalsCall
+unfolding settleCall checkCall writeTableCall listing onward arrivalsCall keepCall
 net-back e =
     record {
       settling = λ cells marks output. rw (e, settleCall);
@@ -74,10 +79,11 @@ net-back e =
       writing = λ output. rw (e, writeTableCall);
       turn = λ k. rw (e, listing);
       arriving = λ arrival-sheet delay. rw (e, arrivalsCall);
+      keeping = λ table-sheet cells output. rw (e, keepCall);
     }
 
 pub table-back : {sheet : List ℕ} {number place : ℕ} → readTable sheet ≡ refused number place → TableBack sheet number place
-unfolding makeCall familyCountCall familyTreeCall checkCall openJob
+unfolding makeCall familyCountCall familyTreeCall checkCall openJob keepCall
 table-back e =
     record {
       making = λ cells marks output. rw (e, makeCall);
@@ -85,6 +91,7 @@ table-back e =
       numbering = λ order cells marks output. rw (e, familyTreeCall);
       checking = λ net-sheet cells net a. rw (a, e, checkCall);
       opening = rw (e, openJob);
+      keeping = λ net-sheet cells output net a. rw (a, e, keepCall);
     }
 
 pub arrivals-back : {names : List (List ℕ)} {sheet : List ℕ} {number place : ℕ} → readArrivals names sheet ≡ refused number place
@@ -127,6 +134,7 @@ pub data Example : Type 0 where
   further : (sheet : String) (steps number place : ℕ) → Example
   ask : (sheet : String) (steps g number place : ℕ) → Example
   finish : (sheet : String) (steps cells marks output number place : ℕ) (cells-then : String) (marks-then : List ℕ) → Example
+  keep : (net-sheet table-sheet : String) (cells output number place : ℕ) (cells-then : String) → Example
 
 -- The common statement: a call's whole result, its answer and every buffer lent to it.
 abbrev pub Comes : Example → Type 0
@@ -193,10 +201,14 @@ Comes (finish sheet steps cells marks output number place cells-then marks-then)
       made = record {
         answer = refused number place;
         cells = digits (text cells-then);
-        marks = digits (text marks-then);
+        marks = marks-then;
         output = nines output;
       };
     }
+-- a wiring of an accepted net sheet kept for an accepted table sheet, which names neither: cells as said, the output as it was
+Comes (keep net-sheet table-sheet cells output number place cells-then) =
+    keepCall (paper net-sheet) (paper table-sheet) (nines cells) (nines output)
+    ≡ record { answer = turnedAway neither number place; cells = digits (text cells-then); output = nines output }
 
 -- every example of a list
 infixr 5 _and_
@@ -265,12 +277,14 @@ refusals =
     ∷ check "levels inputs/2 2/a b/left right table/a b 0001/" "levels inputs/2 2/b a ink/0 0 0/0 1 0/1 0 0/1 1 1/" 4 12 0
     ∷ check "levels inputs/2 3/a b c/left right table/a b 0001/1 c 0001/" "levels inputs/2 2/a b ink/0 0 0/0 1 0/1 0 0/1 1 1/" 4 12 0
     ∷ check "levels inputs/3 2/a b/left right table/a b 000011012/" "levels inputs/2 2/a b ink/0 0 0/0 1 0/1 0 0/1 1 1/" 0 12 0
+    ∷ keep "levels inputs/2 2/a b/left right table/a b 0001/" "levels inputs/2 2/b a ink/0 0 0/0 1 0/1 0 0/1 1 1/" 4 48 12 0 "9999"
     -- 13: the cells buffer
     ∷ settle "levels inputs/2 2/a b/left right table/a b 0001/" 3 1 48 13 4 "999" (nines 1)
     ∷ make "levels inputs/2 2/a b ink/0 0 0/0 1 0/1 0 0/1 1 1/" 3 0 0 13 4 "999" []
     ∷ check "levels inputs/2 2/a b/left right table/a b 0001/" "levels inputs/2 2/a b ink/0 0 0/0 1 0/1 0 0/1 1 1/" 3 13 4
     ∷ count "levels inputs/2 2/a b ink/0 0 0/0 1 0/1 0 0/1 1 1/" 3 0 13 4 "999" []
     ∷ tidy "levels inputs/2 2/a b ink/1 1 1/1 0 0/0 1 0/0 0 0/" 3 50 13 4 "999"
+    ∷ keep "levels inputs/2 3/a b c/left right table/a b 0001/1 c 0111/" "levels inputs/2 3/a b c ink/0 0 0 0/0 0 1 0/0 1 0 0/0 1 1 1/1 0 0 0/1 0 1 1/1 1 0 1/1 1 1 1/" 7 60 13 8 "9999999"
     -- 14: the marks buffer
     ∷ settle "levels inputs/2 2/a b/left right table/a b 0001/" 4 0 48 14 1 "9999" []
     ∷ tree "levels inputs/2 2/a b ink/0 0 0/0 1 0/1 0 0/1 1 1/" 1 4 0 0 14 1 "9999" []
@@ -280,6 +294,7 @@ refusals =
     ∷ write "levels inputs/2 2/a b/left right table/a b 0001/" 49 15 50
     ∷ tree "levels inputs/2 2/a b ink/0 0 0/0 1 0/1 0 0/1 1 1/" 0 4 1 47 15 48 "0001" (0xa8 ∷ [])
     ∷ tidy "levels inputs/2 2/a b ink/1 1 1/1 0 0/0 1 0/0 0 0/" 5 49 15 50 "00019"
+    ∷ keep "levels inputs/2 2/a b/left right table/a b 0001/" "levels inputs/2 2/a b ink/0 0 0/0 1 1/1 0 1/1 1 1/" 5 47 15 48 "01119"
     -- 16: no tree, whatever the output; the whole group has mark 1 too, but more members
     ∷ make "levels inputs/2 3/a b c ink/0 0 0 0/0 0 1 0/0 1 0 0/0 1 1 1/1 0 0 0/1 0 1 1/1 1 0 1/1 1 1 1/" 9 3 0 16 7 "000101119" (0x28 ∷ 0x42 ∷ 9 ∷ [])
     ∷ make
@@ -306,6 +321,9 @@ refusals =
     -- 22: a job that is not done, whatever the buffers
     ∷ finish "levels inputs/2 2/a b ink/0 0 0/0 1 0/1 0 0/1 1 1/" 0 4 4 48 22 3 "9999" (nines 4)
     ∷ finish "levels inputs/2 2/a b ink/0 0 0/0 1 0/1 0 0/1 1 1/" 2 0 0 0 22 1 "" []
+    -- 23: three classes of a and b, whatever the output; of a, b and c, at the second gate
+    ∷ keep "levels inputs/2 3/a b c/left right table/a b 0001/1 c 0111/" "levels inputs/2 3/a b c ink/0 0 0 0/0 0 1 0/0 1 0 0/0 1 1 1/1 0 0 0/1 0 1 1/1 1 0 1/1 1 1 1/" 9 0 23 1 "000101119"
+    ∷ keep "levels inputs/2 4/a b c d/left right table/a b 0110/c 1 0001/2 d 0001/" "levels inputs/2 4/a b c d ink/0 0 0 0 0/0 0 0 1 0/0 0 1 0 0/0 0 1 1 1/0 1 0 0 0/0 1 0 1 1/0 1 1 0 1/0 1 1 1 1/1 0 0 0 0/1 0 0 1 1/1 0 1 0 1/1 0 1 1 1/1 1 0 0 0/1 1 0 1 0/1 1 1 0 0/1 1 1 1 1/" 16 80 23 2 "0001011101110001"
     ∷ []
 
 pub refusals-hold : AllCome refusals
@@ -317,7 +335,7 @@ refusals-hold =
     and net-back refl and table-back refl and table-back refl and loose-back refl and table-back refl and net-back refl and net-back refl
     and net-back refl and net-back refl and net-back refl and net-back refl and cells-back refl and cells-back refl and cells-back refl
     and cells-back refl and refl and cells-back refl and refl and refl and refl and refl and refl and refl and refl and refl and refl
-    and refl and refl and refl and refl and refl and refl and refl and refl and refl and refl and refl and refl and refl and refl
-    and arrivals-back refl and arrivals-back refl and arrivals-back refl and arrivals-back refl and arrivals-back refl
-    and arrivals-back refl and loose-back refl and loose-back refl and refl and refl and refl and refl
+    and refl and refl and refl and refl and refl and refl and refl and refl and refl and refl and refl and refl and refl and refl and refl
+    and refl and refl and arrivals-back refl and arrivals-back refl and arrivals-back refl and arrivals-back refl and arrivals-back refl
+    and arrivals-back refl and loose-back refl and loose-back refl and refl and refl and refl and refl and refl and refl
     and none

@@ -9,7 +9,7 @@ use Rattle.rules.specs.Lists.{range, concatMap}
 use Rattle.rules.specs.Sheets.{Header, Gate, Net, referenceText, usedBy}
 use Rattle.rules.specs.Printed.{line, firstLines, printedGate, printedNet}
 use Rattle.rules.specs.Kept.{GateTable, Tables, IsNet, KeptNet}
-use Rattle.trees.specs.GroupSum.{sum}
+use Rattle.rules.specs.Family.{total}
 use Rattle.trees.specs.UsedOnce.{used-sum}
 
 module _ (m : ℕ) (names : List (List ℕ)) where
@@ -24,8 +24,8 @@ module _ (m : ℕ) (names : List (List ℕ)) where
 
   -- all gate lines
   gates-length : (gates : List Gate) → Tables m gates
-      → length (concatMap (printedGate names) gates) ≡ sum (map referenceLength (usedBy gates)) + length gates * (m * m + 3)
-  unfolding concatMap sum usedBy
+      → length (concatMap (printedGate names) gates) ≡ total (map referenceLength (usedBy gates)) + length gates * (m * m + 3)
+  unfolding concatMap total usedBy
   gates-length [] t = omega arith
   gates-length (g ∷ gates) t = rw length-append (omega (arith, gate-length g (t .0), gates-length gates (t .1)))
 
@@ -36,7 +36,7 @@ module _ (m : ℕ) (names : List (List ℕ)) where
       let count : length g ≡ length h = omega (arith, net-g .count, net-h .count) in
       gates-length g (net-g .rules .tables)
       ∙ ap (λ (s : ℕ). s + length g * (m * m + 3)) (used-sum referenceLength m n g net-g)
-      ∙ ap (λ (k : ℕ). sum (map referenceLength (range 0 (k + k))) + k * (m * m + 3)) count
+      ∙ ap (λ (k : ℕ). total (map referenceLength (range 0 (k + k))) + k * (m * m + 3)) count
       ∙ ap (λ (s : ℕ). s + length h * (m * m + 3)) (sym (used-sum referenceLength m n h net-h))
       ∙ sym (gates-length h (net-h .rules .tables))
 

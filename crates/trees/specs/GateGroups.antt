@@ -17,6 +17,7 @@ use Rattle.rules.specs.Sheets.{Gate, usedBy}
 use Rattle.rules.specs.Wirings.{Wiring, input, gate, groupOf, Link, gatesIn, linksOf}
 use Rattle.rules.specs.Filling.{inputGroups, filledFrom, filled}
 use Rattle.rules.specs.Family.{groupsFrom, gateGroups, SameWiring}
+use Rattle.rules.specs.Keeping.{linkOf}
 use Rattle.rules.specs.Kept.{RefersBack, IsNet}
 use Rattle.laws.specs.Tests.{mem-any, two-ways}
 use Rattle.laws.specs.Places.{length-snoc}
@@ -26,7 +27,7 @@ use Rattle.trees.specs.Trees.{Tree, leaf, wiringIn, EachOnce}
 use Rattle.trees.specs.Forest.{treeAt, joined, withTrees, inputTrees, trees-length, inputs-length, input-at}
 use Rattle.trees.specs.NetTree.{net-tree, net-whole, net-uses-gates, net-uses-inputs}
 use Rattle.trees.specs.Fillings.{linkGroup, withGroups, groups-append, ownLink, Grouped, inputs-grouped, grouped-after, groupsAfter, left-group, right-group}
-use Rattle.trees.specs.GateLinks.{linkOf, treeGroup, groupsIn, group-at, groups-joined, inputs-in}
+use Rattle.trees.specs.GateLinks.{treeGroup, groupsIn, group-at, groups-joined, inputs-in}
 use Rattle.trees.specs.NormalWirings.{groupsJoined, Joins, SameGates, joins-left, joins-right, joins-own, joins-cases, joins-none, Turned, turned-same, same-turned}
 
 -- ---- a wiring's links, filled

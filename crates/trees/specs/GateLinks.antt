@@ -12,6 +12,7 @@ use Rattle.rules.specs.Lists.{range}
 use Rattle.rules.specs.Sheets.{Gate, usedBy}
 use Rattle.rules.specs.Wirings.{groupOf, Link}
 use Rattle.rules.specs.Filling.{inputGroups}
+use Rattle.rules.specs.Keeping.{linkOf, gateLinks}
 use Rattle.rules.specs.Kept.{RefersBack, Distinct, Tables, GateRules}
 use Rattle.laws.specs.Concat.{map-append}
 use Rattle.laws.specs.Distinct.{NotIn}
@@ -24,14 +25,6 @@ use Rattle.trees.specs.Wirings.{group-below, group-some}
 use Rattle.trees.specs.Forest.{treeAt, joined, inputTrees, inputs-length}
 use Rattle.trees.specs.Homes.{Grown, grown-inputs, sides-apart, grown-snoc, heads-unused}
 use Rattle.trees.specs.Fillings.{linkGroup, withGroups, groups-earlier, inputs-grouped, Fillable}
-
--- a gate line without its table
-abbrev pub linkOf : Gate → Link
-linkOf g = record { left = g .left; right = g .right }
-
--- the links of a gate list
-abbrev pub gateLinks : List Gate → List Link
-gateLinks gates = map linkOf gates
 
 -- the group of the inputs below a tree
 abbrev pub treeGroup : Tree → ℕ

@@ -7,28 +7,25 @@ use mathlib.Core.List.{List, [], _∷_, map}
 use native.Mathlib.Omega.{arith}
 use Rattle.rules.specs.Lists.{range, those}
 use Rattle.rules.specs.Groups.{member}
+use Rattle.rules.specs.Family.{total}
 use Rattle.laws.specs.Ranges.{range-shift}
 use Rattle.trees.specs.Members.{low-bit, member-suc}
 
-unfoldable pub sum : List ℕ → ℕ
-sum [] = 0
-sum (x ∷ xs) = x + sum xs
-
 -- the sum of 2 to the power i over the inputs that pass
 abbrev pub powers : (ℕ → Bool) → List ℕ → ℕ
-powers test inputs = sum (map (λ i. 2 ^ i) (those test inputs))
+powers test inputs = total (map (λ i. 2 ^ i) (those test inputs))
 
-powers-cons : (test : ℕ → Bool) (i : ℕ) (is : List ℕ) → powers test (i ∷ is) ≡ cond (test i) (2 ^ i) 0 + powers test is
-unfolding sum those
+pub powers-cons : (test : ℕ → Bool) (i : ℕ) (is : List ℕ) → powers test (i ∷ is) ≡ cond (test i) (2 ^ i) 0 + powers test is
+unfolding total those
 powers-cons test i is =
-    elim (test i) as (λ t. sum (map (λ j. 2 ^ j) (elim t [ true ↦ i ∷ those test is | false ↦ those test is ])) ≡ cond t (2 ^ i) 0 + powers test is) [
+    elim (test i) as (λ t. total (map (λ j. 2 ^ j) (elim t [ true ↦ i ∷ those test is | false ↦ those test is ])) ≡ cond t (2 ^ i) 0 + powers test is) [
       | true ↦ refl
       | false ↦ omega arith
     ]
 
 -- one place on, each power is twice what it was
-powers-shift : (test : ℕ → Bool) (is : List ℕ) → powers test (map suc is) ≡ 2 * powers (λ i. test (suc i)) is
-unfolding sum those
+pub powers-shift : (test : ℕ → Bool) (is : List ℕ) → powers test (map suc is) ≡ 2 * powers (λ i. test (suc i)) is
+unfolding total those
 powers-shift test [] = refl
 powers-shift test (i ∷ is) =
     omega (arith, powers-cons test (suc i) (map suc is), powers-cons (λ j. test (suc j)) i is, powers-shift test is, twice (test (suc i)))
@@ -39,7 +36,7 @@ powers-shift test (i ∷ is) =
 
 -- a group's number is the sum over its members
 pub group-sum : (n g : ℕ) → g < 2 ^ n → powers (λ i. member i g) (range 0 n) ≡ g
-unfolding sum those range
+unfolding total those range
 group-sum zero g h = omega arith
 group-sum (suc n) g h =
     omega (arith, powers-cons (λ i. member i g) 0 (range 1 n), low-bit g, later, group-sum n (g / 2) (omega arith))

@@ -47,6 +47,9 @@ pub mod Families
 pub mod FamilyWirings
 pub mod GateGroups
 pub mod FamilyNets
+pub mod KeptLinks
+pub mod KeptWirings
+pub mod ChangedGates
 pub mod FamilyBounds
 pub mod Covers
 pub mod Reps

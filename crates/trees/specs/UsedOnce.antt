@@ -17,7 +17,7 @@ use Rattle.rules.specs.Kept.{Distinct, IsNet}
 use Rattle.laws.specs.Tests.{any-cons, by-test}
 use Rattle.laws.specs.Ranges.{map-range-suc}
 use Rattle.laws.specs.Distinct.{In, NotIn, not-in-cons, all-stand}
-use Rattle.trees.specs.GroupSum.{sum}
+use Rattle.rules.specs.Family.{total}
 use Rattle.trees.specs.NetTree.{past-unused, used-length}
 
 -- ---- a list without one number
@@ -62,39 +62,39 @@ but-distinct r (x ∷ xs) d =
 
 -- ---- sums
 
-sum-snoc : (xs : List ℕ) (x : ℕ) → sum (xs ++ (x ∷ [])) ≡ sum xs + x
-unfolding sum
+sum-snoc : (xs : List ℕ) (x : ℕ) → total (xs ++ (x ∷ [])) ≡ total xs + x
+unfolding total
 sum-snoc [] x = omega arith
 sum-snoc (y ∷ xs) x = omega (arith, sum-snoc xs x)
 
 module _ (f : ℕ → ℕ) where
   -- the sum over a list is that over what is left, and one value
-  sum-but : (r : ℕ) (xs : List ℕ) → In r xs → sum (map f xs) ≡ sum (map f (but r xs)) + f r
-  unfolding sum but any
+  sum-but : (r : ℕ) (xs : List ℕ) → In r xs → total (map f xs) ≡ total (map f (but r xs)) + f r
+  unfolding total but any
   sum-but r [] is = absurd (true≢false (sym is))
   sum-but r (x ∷ xs) is = go (eqb r x) refl (sym (any-cons (eqb r) x xs) ∙ is) (sum-but r xs)
     where
-      go : (t : Bool) → eqb r x ≡ t → (t || any (eqb r) xs) ≡ true → (In r xs → sum (map f xs) ≡ sum (map f (but r xs)) + f r)
-          → sum (map f (x ∷ xs)) ≡ sum (map f (elim t as (λ _. List ℕ) [ true ↦ xs | false ↦ x ∷ but r xs ])) + f r
+      go : (t : Bool) → eqb r x ≡ t → (t || any (eqb r) xs) ≡ true → (In r xs → total (map f xs) ≡ total (map f (but r xs)) + f r)
+          → total (map f (x ∷ xs)) ≡ total (map f (elim t as (λ _. List ℕ) [ true ↦ xs | false ↦ x ∷ but r xs ])) + f r
       go true e is later = rw (eqb-true r x e) (omega arith)
       go false e is later = omega (arith, later is)
 
   -- over k numbers below k of which none stands twice it is that over all the numbers below k
-  sum-all : (k : ℕ) (xs : List ℕ) → Distinct xs → ((z : ℕ) → k ≤ z → NotIn z xs) → k ≤ length xs → sum (map f xs) ≡ sum (map f (range 0 k))
-  unfolding sum range
+  sum-all : (k : ℕ) (xs : List ℕ) → Distinct xs → ((z : ℕ) → k ≤ z → NotIn z xs) → k ≤ length xs → total (map f xs) ≡ total (map f (range 0 k))
+  unfolding total range
   sum-all zero [] d small enough = refl
   sum-all zero (x ∷ xs) d small enough = absurd (not-in-cons x x xs .0 (small x (omega arith)) .0 refl)
   sum-all (suc k) xs d small enough =
       sum-but k xs (all-stand (suc k) xs d small enough k (omega arith))
       ∙ ap (λ (s : ℕ). s + f k) (sum-all k (but k xs) (but-distinct k xs d) smaller (omega (arith, but-length k xs)))
-      ∙ sym (ap sum (map-range-suc f k) ∙ sum-snoc (map f (range 0 k)) (f k))
+      ∙ sym (ap total (map-range-suc f k) ∙ sum-snoc (map f (range 0 k)) (f k))
     where
       smaller : (z : ℕ) → k ≤ z → NotIn z (but k xs)
       smaller z h =
           by-cases (ℕ-discrete z k) (λ e. rw e (but-gone k xs d)) (λ ne. but-not k z xs (small z (omega arith)))
 
   -- over the references that a net uses
-  pub used-sum : (m n : ℕ) (gates : List Gate) → IsNet m n gates → sum (map f (usedBy gates)) ≡ sum (map f (range 0 (length gates + length gates)))
+  pub used-sum : (m n : ℕ) (gates : List Gate) → IsNet m n gates → total (map f (usedBy gates)) ≡ total (map f (range 0 (length gates + length gates)))
   used-sum m n gates net =
       sum-all (length gates + length gates) (usedBy gates) (net .rules .once)
       (λ z h. past-unused n gates (net .rules .back) z (omega (arith, net .count)))

@@ -71,6 +71,10 @@ fn main() {
         );
     }
     by_size(
+        "keeping a wiring / making; at 2 11 it is to be 1 at most on each kind with a tree",
+        ratios::keeping,
+    );
+    by_size(
         "counting every group's classes, proved / second implementation",
         ratios::counting,
     );

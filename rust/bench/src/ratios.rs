@@ -239,6 +239,37 @@ fn net_and_table(sheet: Vec<u8>, generator: &mut Generator) -> (Vec<u8>, Vec<u8>
     (net, sheet)
 }
 
+/// Keeping a table's own wiring against making, both the library's. A table without a tree is refused by both, and its wiring is another net's.
+pub fn keeping(m: usize, n: usize, kind: TableKind) -> f64 {
+    let mut generator = Generator::new(20);
+    let sheets: Vec<(Vec<u8>, Vec<u8>)> = sheets(20, m, n, kind)
+        .into_iter()
+        .map(|sheet| net_and_table(sheet, &mut generator))
+        .collect();
+    for (net, table) in &sheets {
+        match (sitgurp::made(table), sitgurp::kept(net, table)) {
+            (Ok(made), kept) => assert_eq!(kept, Ok((made, Vec::new())), "kept as it was made"),
+            (Err(_), kept) => assert_eq!(kept.expect_err("no tree").number, 23),
+        }
+    }
+    let (mut cells, mut marks) = (vec![0; sitgurp::MOST_CELLS], vec![0; sitgurp::MOST_MARKS]);
+    let mut output = vec![0; sitgurp::MOST_NET_SHEET];
+    let keeping = least(&sheets, |(net, table)| {
+        black_box(sitgurp::keep(
+            black_box(net),
+            table,
+            &mut cells,
+            &mut output,
+        ))
+        .ok();
+    });
+    let making = least(&sheets, |(_, table)| {
+        let table = black_box(table);
+        black_box(sitgurp::make(table, &mut cells, &mut marks, &mut output)).ok();
+    });
+    ratio(keeping, making)
+}
+
 /// A net sheet against a table sheet. A table with a tree is checked to its last cell, any other to the first that differs.
 pub fn checking(m: usize, n: usize, kind: TableKind, against: Against) -> f64 {
     let mut generator = Generator::new(14);

@@ -23,10 +23,11 @@ pub enum Kind {
     Listing,
     Tidy,
     Job,
+    Keep,
 }
 
 impl Kind {
-    pub const ALL: [Kind; 17] = [
+    pub const ALL: [Kind; 18] = [
         Kind::Multiplicity,
         Kind::Multiplicities,
         Kind::FewestLevels,
@@ -44,6 +45,7 @@ impl Kind {
         Kind::Listing,
         Kind::Tidy,
         Kind::Job,
+        Kind::Keep,
     ];
 
     /// The refusals that documents 01 and 02 have for this call; of the two that ask a table sheet's multiplicities, the sheet's. The shallower of
@@ -64,6 +66,7 @@ impl Kind {
             Kind::Listing => &[1, 2, 3, 4, 6, 7, 8],
             Kind::Tidy => &[1, 2, 3, 4, 5, 6, 13, 15, 20],
             Kind::Job => &[1, 2, 3, 4, 5, 6, 9, 11, 13, 14, 15, 16, 21, 22],
+            Kind::Keep => &[1, 2, 3, 4, 5, 6, 7, 8, 12, 13, 15, 23],
         }
     }
 }
@@ -101,6 +104,7 @@ impl Call {
             Kind::Listing => listing(&mut inputs),
             Kind::Tidy => tidy(&mut inputs),
             Kind::Job => job(&mut inputs),
+            Kind::Keep => keep(&mut inputs),
         };
         Call {
             kind,
@@ -524,6 +528,31 @@ fn job(inputs: &mut Inputs) -> Both {
                 Last::Finish => Answer::of_second(job.finish(cells, marks, output), Answer::Value),
             };
             Answer::Job(before, Box::new(last))
+        },
+    )
+}
+
+/// A net's own table, or one that its wiring may not compute.
+fn keep(inputs: &mut Inputs) -> Both {
+    let (net, table) = inputs.net_and_table_sheet();
+    let buffers = vec![
+        inputs.buffer(inputs.cells_needed()),
+        inputs.buffer(net.len().min(MOST_NET_SHEET)),
+    ];
+    both(
+        in_words(&[&net, &table], &buffers),
+        buffers,
+        |buffers| {
+            let [cells, output] = lent(buffers);
+            let answer = sitgurp::keep(&net, &table, cells, output);
+            Answer::of_proved(answer, |kept| {
+                Answer::Kept(kept.length, kept.changed as u64)
+            })
+        },
+        |buffers| {
+            let [cells, output] = lent(buffers);
+            let answer = reference::keep(&net, &table, cells, output);
+            Answer::of_second(answer, |kept| Answer::Kept(kept.length, kept.changed))
         },
     )
 }

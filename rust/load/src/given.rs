@@ -21,6 +21,8 @@ pub enum Answer {
     Counts(Vec<usize>),
     /// The lister's turns: where a line begins and how long it is, or that none is left.
     Turns(Vec<Option<(usize, usize)>>),
+    /// A sheet's length and the set of the gates that changed.
+    Kept(usize, u64),
     /// A group's mark, or that it is not reached.
     Mark(Option<u8>),
     /// What a job answered before it was last asked, and then.
@@ -146,6 +148,9 @@ mod tests {
             Answer::Counts(vec![0, 2, 2, 1]),
             Answer::Turns(vec![Some((4, 8)), None]),
             Answer::Turns(vec![Some((4, 8)), Some((4, 8))]),
+            Answer::Kept(4, 2),
+            Answer::Kept(4, 4),
+            Answer::Kept(5, 2),
             Answer::Mark(None),
             Answer::Mark(Some(0)),
             Answer::Job(vec![], Box::new(Answer::Mark(None))),

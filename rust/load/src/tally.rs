@@ -5,7 +5,7 @@ use std::collections::BTreeSet;
 use std::fmt;
 
 /// Refusals are numbered from 1; 0 stands for an accepted call.
-const ENDS: usize = 23;
+const ENDS: usize = 24;
 
 #[derive(Clone, Default)]
 struct Row {
@@ -103,6 +103,7 @@ mod tests {
             (Kind::Arrivals, 19),
             (Kind::Tidy, 20),
             (Kind::Job, 22),
+            (Kind::Keep, 23),
             (Kind::Multiplicity, 0),
             (Kind::Listing, 8),
         ] {

@@ -8,6 +8,7 @@
 use crate::arrivals::{self, Settling};
 use crate::family::{self, family_net};
 use crate::groups::{self, whole};
+use crate::kept::{changed, refilled};
 use crate::limits::cell_count;
 use crate::marks::{self, first_stuck, marks_of};
 use crate::net::{Net, Table};
@@ -32,6 +33,14 @@ pub enum Verdict {
 pub struct Layered {
     pub length: usize,
     pub layers: usize,
+}
+
+/// What keeping a wiring answers: the length of the sheet that it wrote, and "the
+/// set of the gates whose table field differs from the old one".
+#[derive(Clone, Copy, Debug, PartialEq, Eq)]
+pub struct Kept {
+    pub length: usize,
+    pub changed: u64,
 }
 
 /// "The multiplicity call gives the true number of classes, however large."
@@ -207,11 +216,7 @@ fn no_tree(marks: &[u8], n: usize) -> Refusal {
 /// cells buffer", whether they agree or not.
 /// Refusals: the net's 1 to 8, the table's 1 to 6, 12, 13.
 pub fn check(net_sheet: &[u8], table_sheet: &[u8], cells: &mut [u8]) -> Result<Verdict, Refusal> {
-    let (net_header, net) = read_net_sheet(net_sheet)?;
-    let (table_header, table) = read_table_sheet(table_sheet)?;
-    if net_header != table_header {
-        return Err(Refusal::new(refusal::UNLIKE_SHEETS, 0));
-    }
+    let (_, net, table) = read_both(net_sheet, table_sheet)?;
     require(refusal::CELLS_SHORT, cells.len(), table.inks.len())?;
     put(cells, &table.inks);
     let values = net.table().inks;
@@ -220,6 +225,37 @@ pub fn check(net_sheet: &[u8], table_sheet: &[u8], cells: &mut [u8]) -> Result<V
         Some(index) => Verdict::Differ(index as u64),
         None => Verdict::Agree,
     })
+}
+
+/// "Take a net sheet and a table sheet with the same m, n and names. Fill the gates
+/// anew [..] over the given wiring, and write the sheet." The table sheet's inks go
+/// to the cells buffer. 23: "place the number of the first gate whose group has
+/// more than m classes, judged after 12 and 13 and before 15"; it "leaves the cells
+/// written". Refusals: the net's 1 to 8, the table's 1 to 6, 12, 13, 23, 15.
+pub fn keep(
+    net_sheet: &[u8],
+    table_sheet: &[u8],
+    cells: &mut [u8],
+    out: &mut [u8],
+) -> Result<Kept, Refusal> {
+    let (header, old, table) = read_both(net_sheet, table_sheet)?;
+    require(refusal::CELLS_SHORT, cells.len(), table.inks.len())?;
+    put(cells, &table.inks);
+    let new = refilled(&old, &table).map_err(|gate| Refusal::new(refusal::WIRING, gate as u64))?;
+    let length = write_sheet(&print_net_sheet(&header, &new), out)?;
+    let changed = changed(&old, &new);
+    Ok(Kept { length, changed })
+}
+
+/// A net and a table under one header. "A call that refuses either of two sheets
+/// judges the net first"; 12: the "sheets differ in m, n or names; place 0".
+fn read_both(net_sheet: &[u8], table_sheet: &[u8]) -> Result<(Header, Net, Table), Refusal> {
+    let (header, net) = read_net_sheet(net_sheet)?;
+    let (table_header, table) = read_table_sheet(table_sheet)?;
+    if header != table_header {
+        return Err(Refusal::new(refusal::UNLIKE_SHEETS, 0));
+    }
+    Ok((header, net, table))
 }
 
 /// "A call takes two net sheets and hands back the shallower sheet itself, the

@@ -19,6 +19,7 @@
 //! | `family`   | document 02, "The whole family of trees": counts, numbers |
 //! | `arrivals` | document 02, "Arrival times known only between bounds"     |
 //! | `job`      | document 02, "Marking that yields to the pen"             |
+//! | `kept`     | document 02, "Keep my wiring"                             |
 //! | `calls`    | every call with the buffers lent to it                    |
 //! | `lister`   | "Listing"                                                 |
 //! | `programs` | "Two programs"                                            |
@@ -36,6 +37,7 @@ pub mod fields;
 pub mod generate;
 pub mod groups;
 pub mod job;
+pub mod kept;
 pub mod limits;
 pub mod lister;
 pub mod loose;
@@ -50,9 +52,9 @@ pub mod sheet;
 
 pub use arrivals::Settling;
 pub use calls::{
-    arrivals, check, family_count, family_tree, fewest_levels, make, make_shallow, marking,
-    multiplicities, multiplicity, settle, settle_shallow, shallower, tidy, write_table, Layered,
-    Verdict,
+    arrivals, check, family_count, family_tree, fewest_levels, keep, make, make_shallow, marking,
+    multiplicities, multiplicity, settle, settle_shallow, shallower, tidy, write_table, Kept,
+    Layered, Verdict,
 };
 pub use job::Job;
 pub use limits::allowed_sizes;

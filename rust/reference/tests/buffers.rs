@@ -5,8 +5,8 @@ mod common;
 
 use common::*;
 use reference::{
-    check, family_count, family_tree, make, make_shallow, marking, settle, settle_shallow, tidy,
-    write_table, Job, Refusal, Verdict,
+    check, family_count, family_tree, keep, make, make_shallow, marking, settle, settle_shallow,
+    tidy, write_table, Job, Kept, Refusal, Verdict,
 };
 
 /// A lent buffer with something in it: no two neighbours are equal, and none is
@@ -375,6 +375,38 @@ fn tidy_at_every_length() {
             assert_eq!(c, written(cells, front));
             let front = if answer.is_ok() { &strict[..] } else { &[] };
             assert_eq!(o, written(out, front));
+        }
+    }
+}
+
+/// 13, then 23, then 15; these two leave the cells written.
+#[test]
+fn keep_at_every_length() {
+    let sum = inks_of(2, 3, |x| x.iter().sum::<usize>() % 2);
+    let most = inks_of(2, 3, |x| usize::from(x.iter().sum::<usize>() >= 2));
+    let net = net_sheet(2, "a b c", "b a 0110/c 1 1001");
+    let new = net_sheet(2, "a b c", "b a 0110/c 1 0110");
+    for (inks, filled) in [(sum, true), (most, false)] {
+        let table = table_sheet(2, "a b c", &inks);
+        for cells in lengths(8) {
+            for out in lengths(new.len()) {
+                let (mut c, mut o) = (lent(cells), lent(out));
+                let answer = keep(&net, &table, &mut c, &mut o);
+                let due = match (cells < 8, filled, out < new.len()) {
+                    (true, _, _) => Err(of_neither(13, 8)),
+                    (_, false, _) => Err(of_neither(23, 1)),
+                    (_, _, true) => Err(of_neither(15, new.len() as u64)),
+                    _ => Ok(Kept {
+                        length: new.len(),
+                        changed: 4,
+                    }),
+                };
+                assert_eq!(answer, due);
+                let front = if cells < 8 { &[][..] } else { &inks };
+                assert_eq!(c, written(cells, front));
+                let front = if answer.is_ok() { &new[..] } else { &[] };
+                assert_eq!(o, written(out, front));
+            }
         }
     }
 }

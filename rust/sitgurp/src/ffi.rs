@@ -66,6 +66,17 @@ pub struct Mark {
     pub value: usize,
 }
 
+/// `number` is 0 where the call is accepted, `value` is the sheet's length and `changed` the set of the gates that changed; otherwise a refusal's number and place,
+/// that names the net sheet (`named` 1), the table sheet (2) or neither (0), and `changed` is 0.
+#[repr(C)]
+#[derive(Clone, Copy)]
+pub struct Kept {
+    pub named: usize,
+    pub number: usize,
+    pub value: usize,
+    pub changed: usize,
+}
+
 /// Settling and making: a sheet, then the cells, the marks and the output lent.
 pub type SheetCall<A> = unsafe extern "C" fn(
     sheet: *const u8,
@@ -167,6 +178,16 @@ extern "C" {
         cells: *mut u8,
         cells_length: usize,
     ) -> Verdict;
+    pub fn sitgurp_keep(
+        net_sheet: *const u8,
+        net_sheet_length: usize,
+        table_sheet: *const u8,
+        table_sheet_length: usize,
+        cells: *mut u8,
+        cells_length: usize,
+        output: *mut u8,
+        output_length: usize,
+    ) -> Kept;
     pub fn sitgurp_write_table(
         sheet: *const u8,
         sheet_length: usize,

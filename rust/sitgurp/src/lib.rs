@@ -6,6 +6,7 @@
 //! [`fewest_levels`] put together what calls of the library answer about a table without a tree. [`arrivals`] says when a net's output settles. [`tidied`] makes a
 //! table sheet of one that a spreadsheet exported.
 //! [`Job`] marks a table one group a step, so that its caller can do other things in between.
+//! [`kept`] keeps a net's wiring, and fills its gates anew for another table.
 //!
 //! ```
 //! let sheet = b"levels inputs\n2 3\na b c\nleft right table\na b 0110\n1 c 0110\n";
@@ -35,6 +36,7 @@ mod counting;
 mod family;
 mod ffi;
 mod job;
+mod keep;
 mod lister;
 mod refusal;
 mod shallow;
@@ -44,6 +46,7 @@ pub use arrivals::{arrivals, Settling};
 pub use counting::{fewest_levels, multiplicities};
 pub use family::{family_count, family_tree, Family};
 pub use job::{Job, Passing};
+pub use keep::{keep, kept, Kept};
 pub use lister::Lister;
 pub use refusal::{Named, Refusal};
 pub use shallow::{

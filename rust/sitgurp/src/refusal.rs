@@ -65,6 +65,7 @@ impl Refusal {
             20 => "a row's assignment was given in an earlier row",
             21 => "the job is done",
             22 => "the job is not done",
+            23 => "no gate tables give this wiring the table",
             _ => "unknown refusal",
         }
     }
@@ -111,6 +112,7 @@ impl fmt::Display for Refusal {
             (16, _) => write!(f, " at group {}: {})", self.place, self.inputs.join(", ")),
             (17, _) => write!(f, " at number {})", self.place),
             (22, _) => write!(f, "; {} groups are still to go)", self.place),
+            (23, _) => write!(f, " at gate {})", self.place),
             _ => write!(f, ")"),
         }
     }

@@ -86,6 +86,7 @@ fn c_type(rust: &str) -> String {
         "ArrivalTimes" => "sitgurp_arrival_times",
         "Turn" => "sitgurp_turn",
         "Mark" => "sitgurp_mark",
+        "Kept" => "sitgurp_kept",
         other => panic!("type {other}"),
     };
     known.to_string()
@@ -194,7 +195,7 @@ fn the_header_declares_what_rust_and_the_proved_crate_declare() {
         (name, types, result)
     });
     assert_eq!(rattle, c_types.collect::<Vec<_>>());
-    assert_eq!(rattle.len(), 17);
+    assert_eq!(rattle.len(), 20);
 }
 
 /// A job is a struct for its caller, and its parts are lent to the library: each of these calls hands the struct's own fields on, in the order of the

@@ -106,6 +106,7 @@ fn example(kind: &str, body: &str, [number, place]: [usize; 2]) -> Example {
         "further" => &["steps"],
         "ask" => &["steps", "group"],
         "finish" => &["steps", "cells", "marks", "output"],
+        "keep" => &["cells", "output"],
         other => panic!("an example of {other:?}"),
     };
     let (mut numbers, rest) = match words {
@@ -120,6 +121,17 @@ fn example(kind: &str, body: &str, [number, place]: [usize; 2]) -> Example {
         None => (rest.to_string(), ""),
     };
     let texts = match kind {
+        "keep" => {
+            let (table, after) = match after.split_once("\n\n") {
+                Some((table, after)) => (format!("{table}\n"), after),
+                None => (after.to_string(), ""),
+            };
+            let cells = match after.trim_end().strip_prefix("cells ") {
+                Some(bytes) => digits(bytes),
+                None => "9".repeat(numbers[0]),
+            };
+            vec![sheet, table, cells]
+        }
         "bare" | "group" | "marking" => vec![digits(&sheet)],
         "check" => vec![sheet, after.to_string()],
         "tidy" => {
@@ -301,6 +313,8 @@ fn holds(example: &Example) {
             assert_eq!(refused(Lister::start(texts[0])), due(Named::Net));
             let arrivals = sitgurp::arrivals(texts[0], b"", 0);
             assert_eq!(refused(arrivals), due(Named::Net));
+            let kept = sitgurp::keep(texts[0], b"", &mut cells, &mut output);
+            assert_eq!(refused(kept), due(Named::Net));
         }
         "arrival" => {
             for delay in [0, 255] {
@@ -319,6 +333,8 @@ fn holds(example: &Example) {
             assert_eq!(refused(tree), due(Named::Table));
             let checked = sitgurp::check(NET.as_bytes(), texts[0], &mut cells);
             assert_eq!(refused(checked), due(Named::Table));
+            let kept = sitgurp::keep(NET.as_bytes(), texts[0], &mut cells, &mut output);
+            assert_eq!(refused(kept), due(Named::Table));
             let (job, refusal) = Job::open(texts[0]);
             assert_eq!(refused(refusal.map_or(Ok(()), Err)), due(Named::Table));
             assert_eq!((job.groups(), job.passed()), (0, 0));
@@ -397,6 +413,13 @@ fn holds(example: &Example) {
             let checked = sitgurp::check(texts[0], texts[1], &mut cells);
             assert_eq!(refused(checked), due(Named::Neither));
         }
+        "keep" => {
+            (cells, output) = (nines(numbers[0]), nines(numbers[1]));
+            let kept = sitgurp::keep(texts[0], texts[1], &mut cells, &mut output);
+            assert_eq!(refused(kept), due(Named::Neither));
+            assert_eq!(cells, bytes(&example.texts[2]));
+            cells = nines(0);
+        }
         "write" => {
             output = nines(numbers[0]);
             let written = sitgurp::write_table(texts[0], &mut output);
@@ -437,7 +460,7 @@ fn the_document_has_the_listed_examples() {
     }
     assert_eq!(shown.len(), listed.len());
     let numbers: BTreeSet<usize> = listed.iter().map(|e| e.number_and_place().0).collect();
-    assert_eq!(numbers, (1..=22).collect(), "each number has an example");
+    assert_eq!(numbers, (1..=23).collect(), "each number has an example");
 }
 
 #[test]

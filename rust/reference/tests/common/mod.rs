@@ -7,7 +7,7 @@ pub mod wirings;
 
 use reference::limits::{MOST_CELLS, MOST_INPUTS, MOST_NET_SHEET_BYTES};
 use reference::{
-    family_count, family_tree, make, make_shallow, settle, settle_shallow, tidy, write_table,
+    family_count, family_tree, keep, make, make_shallow, settle, settle_shallow, tidy, write_table,
     Refusal, Sheet,
 };
 use std::collections::{HashMap, HashSet};
@@ -131,6 +131,14 @@ pub fn numbered(sheet: &[u8], number: u64) -> Result<Vec<u8>, Refusal> {
     let (mut cells, mut marks, mut out) = ([7; CELLS], [7; MARKS], [7; NET_SHEET]);
     let length = family_tree(sheet, number, &mut cells, &mut marks, &mut out)?;
     Ok(out[..length].to_vec())
+}
+
+/// The net sheet with its wiring kept and its gates filled for a table sheet, and
+/// the set of the gates that changed.
+pub fn kept(net: &[u8], table: &[u8]) -> Result<(Vec<u8>, u64), Refusal> {
+    let (mut cells, mut out) = ([7; CELLS], [7; NET_SHEET]);
+    let answer = keep(net, table, &mut cells, &mut out)?;
+    Ok((out[..answer.length].to_vec(), answer.changed))
 }
 
 /// The table sheet that a loose sheet tidies to.

@@ -108,6 +108,10 @@ static int says(sitgurp_verdict verdict, size_t kind, size_t named, size_t numbe
     return verdict.kind == kind && verdict.named == named && verdict.number == number && verdict.value == value;
 }
 
+static int is_kept(sitgurp_kept kept, size_t named, size_t number, size_t value, size_t changed) {
+    return kept.named == named && kept.number == number && kept.value == value && kept.changed == changed;
+}
+
 static int turns(sitgurp_turn turn, size_t kind, size_t first, size_t second) {
     return turn.kind == kind && turn.first == first && turn.second == second;
 }
@@ -279,6 +283,34 @@ static void check(void) {
     HOLDS(says(sitgurp_check(TEXT(SETTLED), TEXT(TABLE), cells, 8), 0, 0, 0, 0));
 }
 
+/* a wiring and sides that are not the settled net's, with other tables than the sum modulo 2 has */
+static void keep(void) {
+    static const char other[] = HEADER "left right table\nc b 0001\n1 a 0110\n";
+    static const char kept[] = HEADER "left right table\nc b 0110\n1 a 0110\n";
+    const size_t length = sizeof(kept) - 1;
+    fill();
+    HOLDS(is_kept(sitgurp_keep(TEXT(BAD_NET), TEXT(BAD_NAMES), cells, 0, output, 0), 1, 8, 43, 0));
+    HOLDS(is_kept(sitgurp_keep(TEXT(NET), TEXT(BAD_NAMES), cells, 0, output, 0), 2, 4, 22, 0));
+    HOLDS(is_kept(sitgurp_keep(TEXT(CHAIN), TEXT(TABLE), cells, 0, output, 0), 0, 12, 0, 0));
+    HOLDS(is_kept(sitgurp_keep(TEXT(other), TEXT(MAJORITY), cells, 7, output, sizeof output), 0, 13, 8, 0));
+    HOLDS(untouched());
+    HOLDS(is_kept(sitgurp_keep(TEXT(other), TEXT(MAJORITY), cells, 8, output, 0), 0, 23, 1, 0));
+    HOLDS(cells_hold(majority_cells, 8) && marks_hold(marks, 0) && output_holds(""));
+    fill();
+    HOLDS(is_kept(sitgurp_keep(TEXT(other), TEXT(TABLE), cells, sizeof cells, output, length - 1), 0, 15, length, 0));
+    HOLDS(cells_hold(sum_cells, 8) && output_holds(""));
+    HOLDS(is_kept(sitgurp_keep(TEXT(other), TEXT(TABLE), cells, 8, output, sizeof output), 0, 0, length, 2));
+    HOLDS(cells_hold(sum_cells, 8) && marks_hold(marks, 0) && output_holds(kept));
+    /* again: no gate changes */
+    fill();
+    HOLDS(is_kept(sitgurp_keep(TEXT(kept), TEXT(TABLE), cells, 8, output, length), 0, 0, length, 0));
+    HOLDS(output_holds(kept));
+    /* the settled net's wiring gives the settled net */
+    fill();
+    HOLDS(is_kept(sitgurp_keep(TEXT(HEADER "left right table\nb c 0000\na 1 0001\n"), TEXT(TABLE), cells, 8, output, length), 0, 0, length, 6));
+    HOLDS(output_holds(SETTLED));
+}
+
 /* two gates lie on the way from a and from b, one on the way from c */
 static void arrivals(void) {
     HOLDS(settles(sitgurp_arrivals(TEXT(NET), TEXT("name from to\na 0 4\nb 2 2\nc 10 12\n"), 4), 3.5, 4.0));
@@ -377,6 +409,7 @@ int main(void) {
     family_count();
     family_tree();
     check();
+    keep();
     arrivals();
     write_table();
     tidy();

@@ -1,0 +1,4 @@
+pub mod Answers
+pub mod Groups
+pub mod Changed
+pub mod Judging

@@ -1,0 +1,123 @@
+// The keep call: a net sheet's wiring, filled anew for a table sheet.
+ghost use mathlib.Core.Path.{_≡_};
+ghost use Rattle.rules.specs.Keeping.{keepCall};
+ghost use Rattle.nets.specs.Forms.{netIn, tableIn};
+ghost use Rattle.keeping.specs.Answers.{keptOf, filledInto};
+ghost use Rattle.accepted.specs.Taken.{NetTaken, TableTaken};
+ghost use Rattle.keeping.specs.Judging.{Ready};
+use crate::answer::Kept;
+use crate::crowded::roomy_gates;
+use crate::rewrite::rewrite;
+use answers::named::Named;
+use answers::outcome::Outcome;
+use checking::headers::same_header;
+use lines::put::copy;
+use net_reading::net::read_net;
+use nets::forms::Header;
+use nets::forms::Net;
+use radix::limits::MOST_CELLS;
+use radix::powers::power;
+use table_reading::sheet::read_table;
+
+// The inks in the cells buffer, and then refusal 23, refusal 15 or the sheet.
+fn keep_filled(
+    s: &[u8],
+    header: Header,
+    net: Net,
+    inks: &[u8],
+    cells: &mut [u8],
+    out: &mut [u8],
+) -> Kept
+    requires { ⌜ Ready (now s) header net (now inks) (now cells) ⌝ }
+    ensures { λ r. ⌜ keptOf r (now (cells .exit)) (now (out .exit))
+        ≡ filledInto (netIn (now (s .entry)) header net) (tableIn (now (s .entry)) header (now (inks .entry))) (now (cells .entry)) (now (out .entry)) ⌝ }
+{
+    copy(inks, cells, 0);
+    let roomy = roomy_gates(net, inks);
+    if roomy < net.gates {
+        return Kept::Refused {
+            named: Named::Neither,
+            number: 23,
+            place: roomy + 1,
+        };
+    }
+    rewrite(s, header, net, inks, out)
+}
+
+// The net sheet s and the table sheet t, both accepted: refusal 12 or 13, or what the wiring comes to. The inks of t stand at the front of `inks`.
+fn keep_accepted(
+    s: &[u8],
+    header: Header,
+    net: Net,
+    t: &[u8],
+    other: Header,
+    inks: &[u8],
+    cells: &mut [u8],
+    out: &mut [u8],
+) -> Kept
+    requires { ⌜ NetTaken (now s) header net × TableTaken (now t) other (now inks) ⌝ }
+    ensures { λ r. ⌜ keptOf r (now (cells .exit)) (now (out .exit)) ≡ keepCall (now (s .entry)) (now (t .entry)) (now (cells .entry)) (now (out .entry)) ⌝ }
+{
+    let count = power(header.levels, header.inputs);
+    let same = same_header(s, header, t, other);
+    if !same {
+        return Kept::Refused {
+            named: Named::Neither,
+            number: 12,
+            place: 0,
+        };
+    }
+    if cells.len() < count {
+        return Kept::Refused {
+            named: Named::Neither,
+            number: 13,
+            place: count,
+        };
+    }
+    keep_filled(s, header, net, &inks[0..count], cells, out)
+}
+
+// The wiring of the accepted net sheet s, for the table sheet t.
+fn keep_table(
+    s: &[u8],
+    header: Header,
+    net: Net,
+    t: &[u8],
+    cells: &mut [u8],
+    out: &mut [u8],
+) -> Kept
+    requires { ⌜ NetTaken (now s) header net ⌝ }
+    ensures { λ r. ⌜ keptOf r (now (cells .exit)) (now (out .exit)) ≡ keepCall (now (s .entry)) (now (t .entry)) (now (cells .entry)) (now (out .entry)) ⌝ }
+{
+    let mut inks = [0u8; MOST_CELLS];
+    let read = read_table(t, &mut inks);
+    let outcome = read.outcome;
+    let other = read.header;
+    match outcome {
+        Outcome::Refused { number, place } => Kept::Refused {
+            named: Named::Table,
+            number,
+            place,
+        },
+        Outcome::Accepted => keep_accepted(s, header, net, t, other, &inks, cells, out),
+    }
+}
+
+// Keeps a net sheet's wiring, and fills its gates anew for a table sheet, whose inks go to the cells buffer. Any bytes may come in.
+pub fn keep(net_sheet: &[u8], table_sheet: &[u8], cells: &mut [u8], out: &mut [u8]) -> Kept
+    ensures { λ r. ⌜ keptOf r (now (cells .exit)) (now (out .exit))
+        ≡ keepCall (now («net_sheet» .entry)) (now («table_sheet» .entry)) (now (cells .entry)) (now (out .entry)) ⌝ }
+{
+    let read = read_net(net_sheet);
+    let outcome = read.outcome;
+    let header = read.header;
+    let net = read.net;
+    match outcome {
+        Outcome::Refused { number, place } => Kept::Refused {
+            named: Named::Net,
+            number,
+            place,
+        },
+        Outcome::Accepted => keep_table(net_sheet, header, net, table_sheet, cells, out),
+    }
+}
