@@ -14,6 +14,7 @@ use Rattle.rules.specs.Settling.{settleCall, makeCall}
 use Rattle.rules.specs.FamilyCalls.{familyCountCall, familyTreeCall}
 use Rattle.rules.specs.Checking.{turnedDown, checkCall}
 use Rattle.rules.specs.Arrivals.{netRefused, arrivalsRefused, arrivalsCall}
+use Rattle.rules.specs.Glyphs.{glyphCall}
 use Rattle.rules.specs.Evaluation.{computing}
 
 -- ---- a sheet
@@ -117,3 +118,20 @@ net-before-arrivals delay = refl
 pub name-before-time : (delay : ℕ) → arrivalsCall (printedNet oneGate) (text "name from to" ++ newline ∷ (text "b 00 0" ++ newline ∷ [])) delay ≡ arrivalsRefused 18 13
 unfolding computing oneGate
 name-before-time delay = refl
+
+-- ---- glyphs: document 02, K11: "judged in that order after the net sheet and before 15"
+
+-- no net sheet, no picture, no offsets and no output
+pub net-before-picture : (width height : ℕ) → glyphCall [] width height [] [] [] ≡ record { answer = refused 1 0; output = [] }
+unfolding computing
+net-before-picture width height = refl
+
+-- no picture, no offsets and no output
+pub picture-before-offsets : glyphCall (printedNet oneGate) 1 1 [] [] [] ≡ record { answer = refused 24 0; output = [] }
+unfolding computing oneGate
+picture-before-offsets = refl
+
+-- no offsets and no output
+pub offsets-before-output : glyphCall (printedNet oneGate) 1 1 (0 ∷ []) [] [] ≡ record { answer = refused 25 0; output = [] }
+unfolding computing oneGate
+offsets-before-output = refl

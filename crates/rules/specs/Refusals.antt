@@ -1,4 +1,4 @@
--- The examples of docs/REFUSALS.md as one theorem, `refusals-hold`: every refusal, 1 to 19, by calls that give it, with its number, its
+-- The examples of docs/REFUSALS.md as one theorem, `refusals-hold`: every refusal, 1 to 19, 24 and 25, by calls that give it, with its number, its
 -- place, and what each buffer lent to the call holds afterwards. They compute, so that a reader who believes nothing sees each number
 -- come out. The document's examples are these and no others (rust/sitgurp/tests/refusals.rs).
 -- Assumes nothing.
@@ -7,6 +7,7 @@ use Prim.Native.String.{String}
 use mathlib.Core.Path.{_≡_, refl}
 use mathlib.Core.List.{List, [], _∷_}
 use lib.ListN.{replicate}
+use lib.IntN.{ℤ}
 use Rattle.rules.specs.Text.{text}
 use Rattle.rules.specs.Sheets.{Net}
 use Rattle.rules.specs.Answers.{accepted, refused, onward, netNamed, tableNamed, neither}
@@ -21,8 +22,10 @@ use Rattle.rules.specs.TableWriting.{writeTableCall}
 use Rattle.rules.specs.Lister.{listing}
 use Rattle.rules.specs.ArrivalSheet.{readArrivals}
 use Rattle.rules.specs.Arrivals.{arrivalsCall, arrivalsRefused, netRefused}
+use Rattle.rules.specs.Glyphs.{glyphCall}
 use Rattle.rules.specs.Evaluation.{computing}
 use Rattle.rules.specs.Cases.{lineEnds, paper, digits, named}
+use Rattle.rules.specs.GlyphCases.{signedFrom, signed}
 
 -- ---- what an example says
 
@@ -35,6 +38,8 @@ pub record NetBack (sheet : List ℕ) (number place : ℕ) : Type 0 where
   pub writing : (output : List ℕ) → writeTableCall sheet output ≡ record { answer = refused number place; output = output }
   pub turn : (k : ℕ) → listing sheet k ≡ refused number place
   pub arriving : (arrival-sheet : List ℕ) (delay : ℕ) → arrivalsCall sheet arrival-sheet delay ≡ netRefused number place
+  pub printing : (width height : ℕ) (picture : List ℕ) (offsets : List ℤ) (output : List ℕ)
+      → glyphCall sheet width height picture offsets output ≡ record { answer = refused number place; output = output }
 
 -- A table sheet that is turned back: the same, in a check behind every accepted net sheet.
 pub record TableBack (sheet : List ℕ) (number place : ℕ) : Type 0 where
@@ -58,7 +63,7 @@ pub record CellsBack (m n : ℕ) (cells : List ℕ) (number place : ℕ) : Type 
 
 -- What is read decides all of these.
 pub net-back : {sheet : List ℕ} {number place : ℕ} → readNet sheet ≡ refused number place → NetBack sheet number place
-unfolding settleCall checkCall writeTableCall listing onward arrivalsCall
+unfolding settleCall checkCall writeTableCall listing onward arrivalsCall glyphCall
 net-back e =
     record {
       settling = λ cells marks output. rw (e, settleCall);
@@ -66,6 +71,7 @@ net-back e =
       writing = λ output. rw (e, writeTableCall);
       turn = λ k. rw (e, listing);
       arriving = λ arrival-sheet delay. rw (e, arrivalsCall);
+      printing = λ width height picture offsets output. rw (e, glyphCall);
     }
 
 pub table-back : {sheet : List ℕ} {number place : ℕ} → readTable sheet ≡ refused number place → TableBack sheet number place
@@ -105,6 +111,7 @@ pub data Example : Type 0 where
   count : (sheet : String) (cells marks number place : ℕ) (cells-then marks-then : String) → Example
   tree : (sheet : String) (order cells marks output number place : ℕ) (cells-then marks-then : String) → Example
   arrival : (sheet : String) (number place : ℕ) → Example
+  glyph : (sheet picture offsets : String) (width height output number place : ℕ) → Example
 
 -- The common statement: a call's whole result, its answer and every buffer lent to it.
 abbrev pub Comes : Example → Type 0
@@ -154,6 +161,10 @@ Comes (tree sheet order cells marks output number place cells-then marks-then) =
     }
 -- an arrival sheet for the inputs a and b, turned back by the one call that takes one
 Comes (arrival sheet number place) = ArrivalsBack (named "ab") (paper sheet) number place
+-- a glyph: the output as it was
+Comes (glyph sheet picture offsets width height output number place) =
+    glyphCall (paper sheet) width height (digits (text picture)) (signed offsets) (nines output)
+    ≡ record { answer = refused number place; output = nines output }
 
 -- every example of a list
 infixr 5 _and_
@@ -226,6 +237,7 @@ refusals =
     ∷ settle "levels inputs/2 2/a b/left right table/a b 0001/" 5 6 47 15 48 "00019" "022299"
     ∷ write "levels inputs/2 2/a b/left right table/a b 0001/" 49 15 50
     ∷ tree "levels inputs/2 2/a b ink/0 0 0/0 1 0/1 0 0/1 1 1/" 0 4 4 47 15 48 "0001" "0222"
+    ∷ glyph "levels inputs/2 2/a b/left right table/a b 0110/" "01 11" "0 0 -1 0" 2 2 3 15 4
     -- 16: no tree, whatever the output; the whole group has mark 1 too, but more members
     ∷ make "levels inputs/2 3/a b c ink/0 0 0 0/0 0 1 0/0 1 0 0/0 1 1 1/1 0 0 0/1 0 1 1/1 1 0 1/1 1 1 1/" 9 9 0 16 7 "000101119" "022020019"
     ∷ make
@@ -243,10 +255,20 @@ refusals =
     ∷ arrival "name from to/a 1.5 2/" 19 15
     ∷ arrival "name from to/a 0 65536/" 19 17
     ∷ arrival "name from to/a 8 7/" 19 17
+    -- 24: a side of 0; of 65; the number of cells; a cell's level
+    ∷ glyph "levels inputs/2 2/a b/left right table/a b 0110/" "" "0 0 -1 0" 0 2 4 24 0
+    ∷ glyph "levels inputs/2 2/a b/left right table/a b 0110/" "00000000000000000000000000000000000000000000000000000000000000000" "0 0 -1 0" 65 1 65 24 0
+    ∷ glyph "levels inputs/2 2/a b/left right table/a b 0110/" "01 1" "0 0 -1 0" 2 2 4 24 0
+    ∷ glyph "levels inputs/2 2/a b/left right table/a b 0110/" "01 12" "0 0 -1 0" 2 2 4 24 0
+    -- 25: one missing; one too many; one too far
+    ∷ glyph "levels inputs/2 2/a b/left right table/a b 0110/" "01 11" "0 0 -1" 2 2 4 25 0
+    ∷ glyph "levels inputs/2 2/a b/left right table/a b 0110/" "01 11" "0 0 -1 0 0" 2 2 4 25 0
+    ∷ glyph "levels inputs/2 2/a b/left right table/a b 0110/" "01 11" "0 0 -3 0" 2 2 4 25 0
+    ∷ glyph "levels inputs/2 2/a b/left right table/a b 0110/" "01 11" "0 0 0 3" 2 2 4 25 0
     ∷ []
 
 pub refusals-hold : AllCome refusals
-unfolding computing lineEnds paper digits named nines
+unfolding computing lineEnds paper digits named nines signedFrom signed
 refusals-hold =
     net-back refl and net-back refl and table-back refl and net-back refl and net-back refl and net-back refl and net-back refl
     and net-back refl and net-back refl and net-back refl and table-back refl and net-back refl and net-back refl and net-back refl
@@ -256,5 +278,7 @@ refusals-hold =
     and cells-back refl and cells-back refl and refl and refl and refl and refl and refl and refl
     and refl and refl and refl and refl and refl and refl and refl
     and refl and refl and refl and refl and refl and refl and refl
+    and refl
     and arrivals-back refl and arrivals-back refl and arrivals-back refl and arrivals-back refl and arrivals-back refl and arrivals-back refl
+    and refl and refl and refl and refl and refl and refl and refl and refl
     and none
