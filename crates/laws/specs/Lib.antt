@@ -37,5 +37,7 @@ pub mod Digits
 pub mod Times
 pub mod Quarters
 pub mod Arrivals
+pub mod Glyphs
+pub mod Pictures
 pub mod ArrivalEnds
 pub mod SettlingTimes
