@@ -2,7 +2,7 @@
 -- Assumes nothing.
 use Prim.Native.Nat.{ℕ, zero, suc, _+_, _*_, _^_, _≤_, _<_}
 use mathlib.Core.Path.{_≡_, refl, sym, ap, _∙_}
-use mathlib.Core.Bool.{Bool, true, false, _&&_, and-eq-true-iff}
+use mathlib.Core.Bool.{Bool, true, false, _&&_, and-false, and-eq-true-iff}
 use mathlib.Core.List.{List, map}
 use native.Mathlib.Nat.{zero-add, add-zero, mul-comm, mul-le-mul-right}
 use native.Mathlib.Numerals.{add-one}
@@ -11,7 +11,7 @@ use lib.ListN.{length, getD}
 use lib.IntN.{ℤ, pos, negsuc, _+ℤ_}
 use lib.Dec.{ltb}
 use lib.Arith.{digits-lt}
-use borrow.Author.Tests.{ltb-true}
+use borrow.Author.Tests.{ltb-true, lt-ltb, le-ltb}
 use Rattle.rules.specs.Lists.{range, concatMap}
 use Rattle.rules.specs.Sheets.{Gate, Net, levelsAt}
 use Rattle.rules.specs.Value.{value, tableOf}
@@ -28,6 +28,40 @@ glyph-length net width height picture offsets =
     concat-length (λ y. map (λ x. newCell net width height picture offsets x y) (range 0 width)) width
     (λ y. map-range-length (λ x. newCell net width height picture offsets x y) 0 width) (range 0 height)
     ∙ rw range-length (mul-comm height width)
+
+-- ---- the level of an old cell
+
+module _ (width height : ℕ) (picture : List ℕ) where
+  pub level-in : (x y : ℕ) → x < width → y < height → levelAt width height picture (pos x) (pos y) ≡ getD picture (y * width + x) 0
+  unfolding levelAt
+  level-in x y h k =
+      let both : (ltb x width && ltb y height) ≡ true = and-eq-true-iff (ltb x width) (ltb y height) .1 (lt-ltb x width h, lt-ltb y height k) in
+      rw (both, levelAt)
+
+  -- "outside the picture the level is 0": past the last column, below the last row
+  pub level-across : (x : ℕ) (y : ℤ) → width ≤ x → levelAt width height picture (pos x) y ≡ 0
+  unfolding levelAt
+  level-across x (pos y) h = rw (le-ltb x width h, levelAt)
+  level-across x (negsuc y) h = refl
+
+  pub level-along : (x : ℤ) (y : ℕ) → height ≤ y → levelAt width height picture x (pos y) ≡ 0
+  unfolding levelAt
+  level-along (pos x) y h =
+      let none : (ltb x width && ltb y height) ≡ false = rw (le-ltb y height h) (and-false (ltb x width)) in
+      rw (none, levelAt)
+  level-along (negsuc x) y h = refl
+
+  -- before the first column, above the first row
+  pub level-left : (x : ℕ) (y : ℤ) → levelAt width height picture (negsuc x) y ≡ 0
+  unfolding levelAt
+  level-left x y = refl
+
+  pub level-above : (x : ℤ) (y : ℕ) → levelAt width height picture x (negsuc y) ≡ 0
+  unfolding levelAt
+  level-above (pos x) y = refl
+  level-above (negsuc x) y = refl
+
+-- ---- values
 
 -- what a net gives at levels is the value at their index
 pub value-levels : (m n p : ℕ) (gates : List Gate) → value m n gates p ≡ valueWith m n gates (levelsAt m n p)
