@@ -59,10 +59,11 @@ picture-fits m width height picture = (
         below = λ k h. ltb-true _ _ (all-mem (λ l. ltb l m) (mem-getD picture k 0 h) below);
       },
   λ is.
-      and-eq-true-iff (sideFits width && sideFits height && eqb (length picture) (width * height)) (all (λ l. ltb l m) picture) .1
-      (and-eq-true-iff (sideFits width && sideFits height) (eqb (length picture) (width * height)) .1
-      (and-eq-true-iff (sideFits width) (sideFits height) .1 (side-fits width .1 (is .across), side-fits height .1 (is .along)), eq-eqb _ _ (is .count)),
-      all-each (λ l. ltb l m) 0 picture (λ k h. lt-ltb _ _ (is .below k h))),
+      and-eq-true-iff (sideFits width && sideFits height && eqb (length picture) (width * height)) (all (λ l. ltb l m) picture) .1 (
+        and-eq-true-iff (sideFits width && sideFits height) (eqb (length picture) (width * height)) .1
+            (and-eq-true-iff (sideFits width) (sideFits height) .1 (side-fits width .1 (is .across), side-fits height .1 (is .along)), eq-eqb _ _ (is .count)),
+        all-each (λ l. ltb l m) 0 picture (λ k h. lt-ltb _ _ (is .below k h)),
+      ),
 )
 
 pub offsets-fit : (n : ℕ) (offsets : List ℤ) → (offsetsFit n offsets ≡ true) ↔ AreOffsets n offsets

@@ -139,9 +139,9 @@ loop-again c =
     let head = at-head turn in
     let did = at-call c .gate-values .ensures in (
       gates-more _ _ _ _ _ (head-start head .pre) (head .loop .k) (head .loop .at) (head .loop .to) (head .loop .wires) (head .loop .inv .0) (turn .if1 .taken)
-      (head .loop .from) (head .loop .inv .1) _ did,
+          (head .loop .from) (head .loop .inv .1) _ did,
       from-more _ _ _ _ _ (head-start head .pre) (head .loop .k) (head .loop .at) (head .loop .to) (head .loop .wires) (head .loop .inv .0) (turn .if1 .taken)
-      (head .loop .from) (head .loop .inv .1),
+          (head .loop .from) (head .loop .inv .1),
     )
 
 -- ---- the last gate's
