@@ -5,6 +5,7 @@ pub mod family_count;
 pub mod family_tree;
 pub mod flat;
 pub mod gate_line;
+pub mod glyph;
 pub mod layered;
 pub mod make;
 pub mod make_shallow;

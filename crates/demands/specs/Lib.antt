@@ -14,6 +14,7 @@ pub mod ShallowRefusals
 pub mod FamilyOutcomes
 pub mod FamilyNumbers
 pub mod ArrivalNumbers
+pub mod GlyphNumbers
 pub mod NeverZero
 pub mod Makes
 pub mod Checks
@@ -37,3 +38,4 @@ pub mod FamilyTreeClause
 pub mod FamilyOrder
 pub mod FamilyRules
 pub mod Arrivals
+pub mod Glyphs

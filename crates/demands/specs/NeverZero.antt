@@ -4,6 +4,7 @@ use Prim.Native.Nat.{ℕ}
 use mathlib.Core.Path.{_≡_, refl, sym}
 use mathlib.Core.Bool.{true≢false}
 use mathlib.Core.List.{List}
+use lib.IntN.{ℤ}
 use Rattle.rules.specs.Lists.{any}
 use Rattle.rules.specs.Answers.{refused, Named, netNamed, tableNamed, neither}
 use Rattle.rules.specs.Multiplicity.{multiplicityCall}
@@ -15,6 +16,7 @@ use Rattle.rules.specs.Checking.{turnedDown, checkCall}
 use Rattle.rules.specs.TableWriting.{writeTableCall}
 use Rattle.rules.specs.Lister.{listing}
 use Rattle.rules.specs.Arrivals.{netRefused, arrivalsRefused, arrivalsCall}
+use Rattle.rules.specs.Glyphs.{glyphCall}
 use Rattle.laws.specs.Distinct.{In}
 use Rattle.readback.specs.Numbers.{netNumbers}
 use Rattle.demands.specs.Numbers.{not-given}
@@ -28,6 +30,7 @@ use Rattle.demands.specs.CheckingNumbers.{check-numbers, checkNumbers}
 use Rattle.demands.specs.TableWritingNumbers.{write-table-numbers, writeTableNumbers}
 use Rattle.demands.specs.ListingNumbers.{listing-numbers}
 use Rattle.demands.specs.ArrivalNumbers.{arrivals-numbers}
+use Rattle.demands.specs.GlyphNumbers.{glyph-numbers, glyphNumbers}
 
 -- No call refuses with 0: over C, where 0 says that a call accepted, the two are told apart.
 pub never-0 : (place : ℕ)
@@ -44,6 +47,7 @@ pub never-0 : (place : ℕ)
     × ((s : List ℕ) (k : ℕ) → listing s k ≡ refused 0 place → ⊥)
     × ((s r : List ℕ) (delay : ℕ) → arrivalsCall s r delay ≡ netRefused 0 place → ⊥)
     × ((s r : List ℕ) (delay : ℕ) → arrivalsCall s r delay ≡ arrivalsRefused 0 place → ⊥)
+    × ((s : List ℕ) (width height : ℕ) (picture : List ℕ) (offsets : List ℤ) (output : List ℕ) → glyphCall s width height picture offsets output .answer ≡ refused 0 place → ⊥)
 unfolding any
 never-0 place = (
   λ m n cells g. not-given multiplicityNumbers _ (multiplicity-numbers m n cells g) 0 place refl,
@@ -59,6 +63,7 @@ never-0 place = (
   λ s k. not-given netNumbers _ (listing-numbers s k) 0 place refl,
   λ s r delay e. true≢false (sym (arrivals-numbers s r delay .net 0 place e)),
   λ s r delay e. true≢false (sym (arrivals-numbers s r delay .arrivals 0 place e)),
+  λ s width height picture offsets output. not-given glyphNumbers _ (glyph-numbers s width height picture offsets output) 0 place refl,
 )
   where
     no-0 : (named : Named) → In 0 (checkNumbers named) → ⊥
