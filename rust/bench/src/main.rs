@@ -8,8 +8,10 @@
 //! | `plain_sheets` | reading and checking in plain Rust                            |
 //! | `ratios`       | one ratio for each thing that is timed                        |
 //! | `growth`       | what one more input costs                                     |
+//! | `glyphs`       | a glyph against plain Rust, gate by gate                      |
 //! | `timing`       | times, and tables of ratios                                   |
 
+mod glyphs;
 mod growth;
 mod kinds;
 mod plain;
@@ -41,6 +43,7 @@ fn main() {
         |m, n, kind| ratios::checking(m, n, kind, Against::Plain),
     );
     growth::marking();
+    glyphs::by_size(&SIZES);
     by_size(
         "shallow making / making; at 2 11 it is to be 3 at most",
         ratios::shallow_making,

@@ -3,7 +3,8 @@
 //! Every call is the library's; nothing here decides what the library decides. Buffers are lent as in document 01, and
 //! [`settled`], [`made`] and [`table_of`] lend buffers of the sizes that always suffice. [`settled_shallow`] and [`made_shallow`] give the
 //! tree of fewest layers in place of the settled one, and [`Family`] walks every tree that computes a table. [`multiplicities`] and
-//! [`fewest_levels`] put together what calls of the library answer about a table without a tree. [`arrivals`] says when a net's output settles.
+//! [`fewest_levels`] put together what calls of the library answer about a table without a tree. [`arrivals`] says when a net's output settles,
+//! and [`glyph`] prints a picture by a net.
 //!
 //! ```
 //! let sheet = b"levels inputs\n2 3\na b c\nleft right table\na b 0110\n1 c 0110\n";
@@ -30,14 +31,18 @@ mod arrivals;
 mod counting;
 mod family;
 mod ffi;
+mod glyph;
 mod lister;
+mod picture;
 mod refusal;
 mod shallow;
 
 pub use arrivals::{arrivals, Settling};
 pub use counting::{fewest_levels, multiplicities};
 pub use family::{family_count, family_tree, Family};
+pub use glyph::{glyph, glyph_of};
 pub use lister::Lister;
+pub use picture::Picture;
 pub use refusal::{Named, Refusal};
 pub use shallow::{
     made_shallow, make_shallow, settle_shallow, settled_shallow, shallower, Layered,
@@ -51,6 +56,8 @@ pub const MOST_MARKS: usize = 1 << 12;
 pub const MOST_NET_SHEET: usize = 512;
 /// The output that always suffices for a table sheet: 2 levels with 12 inputs, all names 8 bytes long.
 pub const MOST_TABLE_SHEET: usize = 106_627;
+/// The output that always suffices for a picture.
+pub const MOST_PICTURE: usize = 64 * 64;
 
 /// What checking says of a net and a table under the same header.
 #[derive(Clone, Copy, Debug, PartialEq, Eq)]

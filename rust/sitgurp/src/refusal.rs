@@ -62,6 +62,8 @@ impl Refusal {
             17 => "the table has no tree of this number",
             18 => "a name is not the next input",
             19 => "a time is not a number from 0 to 65,535, or `to` is below `from`",
+            24 => "a side is not 1 to 64, the cells are not width times height, or a cell's level is not below levels",
+            25 => "there are not two offsets for each input, or one is not from -2 to 2",
             _ => "unknown refusal",
         }
     }

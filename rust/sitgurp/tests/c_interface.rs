@@ -67,6 +67,7 @@ fn c_type(rust: &str) -> String {
         "u8" => "uint8_t",
         "*const u8" => "const uint8_t *",
         "*mut u8" => "uint8_t *",
+        "*const i8" => "const int8_t *",
         "Answer" => "sitgurp_answer",
         "Shallow" => "sitgurp_shallow",
         "Which" => "sitgurp_which",
@@ -131,6 +132,7 @@ fn in_rattle(text: &str) -> Vec<(String, Vec<String>, String)> {
             "u8" => vec!["uint8_t"],
             "&[u8]" | "&'a [u8]" => vec!["const uint8_t *", "size_t"],
             "&mut [u8]" => vec!["uint8_t *", "size_t"],
+            "&[i8]" => vec!["const int8_t *", "size_t"],
             other => panic!("type {other}"),
         });
         let result = rest.split_whitespace().nth(1).expect("a result");
@@ -160,7 +162,7 @@ fn the_header_declares_what_rust_and_the_proved_crate_declare() {
         (name, types, result)
     });
     assert_eq!(rattle, c_types.collect::<Vec<_>>());
-    assert_eq!(rattle.len(), 13);
+    assert_eq!(rattle.len(), 14);
 }
 
 #[test]
@@ -171,6 +173,7 @@ fn the_header_has_the_sizes_that_always_suffice() {
         ("MARKS", sitgurp::MOST_MARKS),
         ("NET_SHEET", sitgurp::MOST_NET_SHEET),
         ("TABLE_SHEET", sitgurp::MOST_TABLE_SHEET),
+        ("PICTURE", sitgurp::MOST_PICTURE),
     ] {
         let line = format!("#define SITGURP_MOST_{name} {size}");
         assert!(header.lines().any(|one| one == line), "{line}");

@@ -50,7 +50,7 @@ add-l : tie.Need-add-l Inv-loop μ-loop
 add-l c = omega (arith, within c, start c .good)
 
 slice-read-l : tie.Need-slice-read-l Inv-loop μ-loop
-slice-read-l c = within (at-turn c) .0
+slice-read-l c = omega (arith, within (at-turn c))
 
 cast-l : tie.Need-cast-l Inv-loop μ-loop
 cast-l c = omega (arith, c .slice-known .given (start (at-turn c) .args .left + at-turn c .before .loop .p))
@@ -59,7 +59,7 @@ add-r : tie.Need-add-r Inv-loop μ-loop
 add-r c = omega (arith, within (at-turn c), start (at-turn c) .good)
 
 slice-read-r : tie.Need-slice-read-r Inv-loop μ-loop
-slice-read-r c = within (reads-turn c) .1
+slice-read-r c = omega (arith, within (reads-turn c))
 
 cast-r : tie.Need-cast-r Inv-loop μ-loop
 cast-r c = omega (arith, c .slice-known2 .given (start (reads-turn c) .args .right + reads-turn c .before .loop .p))
@@ -80,7 +80,7 @@ add-wires-3 : tie.Need-add-wires-3 Inv-loop μ-loop
 add-wires-3 c = omega (arith, within (reads-turn (c .before)), start (reads-turn (c .before)) .good)
 
 slice-write-wires : tie.Need-slice-write-wires Inv-loop μ-loop
-slice-write-wires c = within (reads-turn (c .before)) .2
+slice-write-wires c = omega (arith, within (reads-turn (c .before)))
 
 add-p : tie.Need-add-p Inv-loop μ-loop
 add-p c = omega (arith, within (reads-turn (c .before)), start (reads-turn (c .before)) .fits .count .fits)
