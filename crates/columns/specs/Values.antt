@@ -7,7 +7,7 @@ use native.Mathlib.Nat.{zero-add, add-zero, zero-mul, suc-mul, add-assoc, mul-le
 use native.Mathlib.Numerals.{add-one}
 use native.Mathlib.Decide.{ℕ-discrete, decLt}
 use native.Mathlib.Omega.{arith}
-use lib.ListN.{length, getD, take, drop, set, length-set}
+use lib.ListN.{length, getD, drop, set, length-set}
 use lib.Seq.{getD-set-same, getD-set-other, getD-take, getD-drop}
 use lib.Arith.{digits-lt}
 use Rattle.rules.specs.Lists.{range}

@@ -11,7 +11,6 @@ use lib.ListN.{length, getD, drop, replicate, length-append, length-drop, List·
 use lib.Seq.{drop-append-seam}
 use lib.IntN.{ℤ, pos, _+ℤ_}
 use lib.Arith.{digits-lt}
-use lib.Dec.{ltb}
 use Rattle.rules.specs.Lists.{range, concatMap}
 use Rattle.rules.specs.Sheets.{Net, Table}
 use Rattle.rules.specs.Kept.{KeptNet, KeptTable}
@@ -19,10 +18,9 @@ use Rattle.rules.specs.Printed.{printedNet}
 use Rattle.rules.specs.Marks.{marksLength, storedMarks}
 use Rattle.rules.specs.Answers.{Answer, accepted, refused, written}
 use Rattle.rules.specs.Reading.{readNet, tableOfNet}
-use Rattle.rules.specs.Settling.{Made, settledNet, settleCall, madeInto}
+use Rattle.rules.specs.Settling.{settledNet, settleCall}
 use Rattle.rules.specs.TableWriting.{Written}
-use Rattle.rules.specs.Value.{tableOf}
-use Rattle.rules.specs.Glyphs.{across, down, levelAt, levelsRead, valueWith, newCell, glyph, pictureFits, offsetsFit, glyphJudged, glyphInto, glyphCall}
+use Rattle.rules.specs.Glyphs.{across, down, levelAt, levelsRead, valueWith, newCell, glyph, pictureFits, glyphJudged, glyphInto, glyphCall}
 use Rattle.laws.specs.Answers.{accepted-inj, not-refused}
 use Rattle.laws.specs.Assignments.{indexOf, index-below}
 use Rattle.laws.specs.Concat.{concat-same, map-same}

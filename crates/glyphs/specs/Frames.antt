@@ -11,7 +11,7 @@ use lib.ListN.{length, getD, take, drop, length-drop}
 use lib.Seq.{sets, length-sets, length-take-le, getD-take, getD-drop}
 use lib.IntN.{ℤ, pos, negsuc, subℕ}
 use borrow.Author.Tests.{lt-ltb, le-ltb}
-use Rattle.rules.specs.Glyphs.{mostSide, mostOffset, levelAt}
+use Rattle.rules.specs.Glyphs.{levelAt}
 use Rattle.laws.specs.Glyphs.{IsSide}
 use Rattle.laws.specs.Pastes.{sets-before, sets-behind, sets-there}
 use Rattle.laws.specs.Pictures.{level-in, level-across, level-along, level-left, level-above}

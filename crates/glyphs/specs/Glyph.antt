@@ -5,13 +5,13 @@ use mathlib.Core.Path.{_≡_, refl, sym, ap, ap₂, _∙_, subst}
 use mathlib.Core.List.{List, [], _∷_, _++_, map}
 use native.Mathlib.Nat.{zero-add, add-assoc, mul-comm, mul-le-mul, div-add-mod', mod-lt, div-lt-iff-lt-mul}
 use native.Mathlib.Omega.{arith}
-use lib.ListN.{length, getD, take, drop, replicate, length-drop, length-replicate}
+use lib.ListN.{length, getD, drop, replicate, length-drop, length-replicate}
 use lib.Seq.{ext-getD, length-take-le, getD-take, getD-drop}
 use lib.IntN.{ℤ, pos, _+ℤ_}
 use Rattle.rules.specs.Lists.{range, concatMap}
 use Rattle.rules.specs.Answers.{written}
 use Rattle.rules.specs.Sheets.{Gate}
-use Rattle.rules.specs.Glyphs.{mostSide, mostOffset, levelAt, across, down, levelsRead, valueWith}
+use Rattle.rules.specs.Glyphs.{mostSide, levelAt, across, down, levelsRead, valueWith}
 use Rattle.laws.specs.Concat.{concat-length}
 use Rattle.laws.specs.Glyphs.{IsPicture, AreOffsets}
 use Rattle.laws.specs.Pictures.{level-below}

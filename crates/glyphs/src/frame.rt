@@ -1,7 +1,7 @@
 // The framed picture: the old picture with a border of zeros, so that each cell that an offset reaches is there to be read.
 ghost use mathlib.Core.Path.{_≡_};
-ghost use Prim.Native.Nat.{ℕ, _*_, _<_, _≤_};
-ghost use lib.ListN.{length, getD};
+ghost use Prim.Native.Nat.{_*_};
+ghost use lib.ListN.{length};
 ghost use Rattle.laws.specs.Glyphs.{IsSide};
 ghost use Rattle.glyphs.specs.Frames.{Empty, Framed};
 use crate::limits::MOST_OFFSET;

@@ -1,7 +1,7 @@
 // The offsets of the inputs: two numbers for each, across and down.
 ghost use mathlib.Core.Path.{_≡_};
 ghost use Prim.Native.Nat.{ℕ, _≤_, _<_};
-ghost use lib.ListN.{length, getD};
+ghost use lib.ListN.{getD};
 ghost use Rattle.rules.specs.Limits.{mostInputs};
 ghost use Rattle.rules.specs.Glyphs.{offsetsFit};
 ghost use Rattle.laws.specs.Glyphs.{AreOffsets};

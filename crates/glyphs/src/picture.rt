@@ -1,6 +1,5 @@
 // Whether a picture has sides and cells as they must be.
 ghost use mathlib.Core.Path.{_≡_};
-ghost use Prim.Native.Nat.{_≤_};
 ghost use Rattle.rules.specs.Glyphs.{sideFits, pictureFits};
 ghost use Rattle.glyphs.specs.Pictures.{allBelow};
 use crate::limits::MOST_SIDE;

@@ -1,9 +1,8 @@
 // The rows of the new picture, from where the net's values lie, to the output.
 ghost use mathlib.Core.Path.{_≡_};
-ghost use Prim.Native.Nat.{ℕ, _+_, _*_, _<_, _≤_};
+ghost use Prim.Native.Nat.{_*_};
 ghost use mathlib.Core.List.{_++_};
-ghost use lib.ListN.{length, drop};
-ghost use Rattle.laws.specs.Glyphs.{IsSide};
+ghost use lib.ListN.{drop};
 ghost use Rattle.glyphs.specs.Rows.{RowsReady, rowsFrom};
 use crate::limits::SPAN;
 use lines::put::copy;

@@ -1,5 +1,5 @@
 -- `glyphs::offsets::offsets_fit` meets its contract: as many as are due, and each near. Assumes nothing.
-use mathlib.Core.Path.{sym, _∙_}
+use mathlib.Core.Path.{_∙_}
 use borrow.Author.Needs.{needs}
 use borrow.Author.Tests.{eq-eqb, ne-eqb}
 use Rattle.rules.specs.Glyphs.{offsetsFit}

@@ -1,6 +1,4 @@
 -- `glyphs::picture::side_fits` meets its contract. Assumes nothing.
-use mathlib.Core.Path.{_∙_}
-use borrow.Author.Needs.{needs}
 use borrow.Author.Tests.{lt-leb, le-leb}
 use Rattle.rules.specs.Glyphs.{sideFits}
 use Rattle.glyphs.proofs.picture.side_fits.Statement.{statement}

@@ -1,8 +1,6 @@
 -- `glyphs::print::print_glyph` meets its contract: the framed picture, the net's values, the rows. Assumes nothing.
-use Prim.Native.Nat.{_≤_, _<_}
 use native.Mathlib.Omega.{arith}
 use borrow.Author.Needs.{needs}
-use Rattle.rules.specs.Limits.{mostInputs}
 use Rattle.nets.specs.Sound.{sound-size}
 use Rattle.glyphs.specs.Glyph.{mostValues, blank, blank-long, values-ready, rows-ready, rows-are}
 use Rattle.glyphs.proofs.print.print_glyph.Statement.{statement}
