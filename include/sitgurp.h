@@ -22,11 +22,12 @@
 extern "C" {
 #endif
 
-/* Buffers that always suffice: cells, marks, a net sheet, a table sheet. */
+/* Buffers that always suffice: cells, marks, a net sheet, a table sheet, a picture. */
 #define SITGURP_MOST_CELLS 4096
 #define SITGURP_MOST_MARKS 1024
 #define SITGURP_MOST_NET_SHEET 512
 #define SITGURP_MOST_TABLE_SHEET 106627
+#define SITGURP_MOST_PICTURE 4096
 
 /* The parts of a job: its own first lines, and its own marks, one byte a group. */
 #define SITGURP_JOB_LINES 128
@@ -288,6 +289,18 @@ static inline sitgurp_answer sitgurp_job_finish(const sitgurp_job *job, uint8_t 
     return sitgurp_job_finish_parts(job->lines, job->cells, job->passed, cells, cells_length, marks, marks_length, output,
                                     output_length);
 }
+
+/*
+ * Writes the glyph that a net prints from a picture into output, and answers the number of its cells, width times height, which is what it needs.
+ * A picture has one byte a cell, a level below m, row by row, and 1 to 64 cells a side. For each input there are two offsets, across and down,
+ * -2 to 2 each, in the order of the inputs. Each cell of the new picture is the net's value with every input read from the old cell so many cells to
+ * the right and so many below; outside the picture the level is 0.
+ * Refusals: 1 to 4 and 6 to 8 (the net sheet), 24 (a side, the number of cells or a cell's level), 25 (an offset missing, one too many or one too far), 15 (output
+ * too short; value is the length needed). The value of 24 and 25 is 0. A refusal changes no byte.
+ */
+sitgurp_answer sitgurp_glyph(const uint8_t *net_sheet, size_t net_sheet_length, size_t width, size_t height, const uint8_t *picture,
+                             size_t picture_length, const int8_t *offsets, size_t offsets_length, uint8_t *output,
+                             size_t output_length);
 
 #ifdef __cplusplus
 }

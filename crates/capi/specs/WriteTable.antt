@@ -1,4 +1,4 @@
--- What table writing answers as two numbers, and its output.
+-- What a call that writes an output alone answers as two numbers, and its output: table writing, and glyphs.
 -- Assumes nothing.
 use Prim.Native.Nat.{ℕ}
 use mathlib.Core.Path.{_≡_}
@@ -7,7 +7,7 @@ use Rattle.rules.specs.TableWriting.{Written}
 use Rattle.capi.specs.declared.flat.SitgurpAnswer.{SitgurpAnswer}
 use Rattle.capi.specs.Flat.{flatOf}
 
--- what table writing answers, and its output
+-- the answer, and the output
 pub record FlatWritten (written : Written) (r : SitgurpAnswer) (output : List ℕ) : Type 0 where
   pub answer : r ≡ flatOf (written .answer)
   pub output-then : output ≡ written .output

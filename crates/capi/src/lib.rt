@@ -5,6 +5,7 @@ pub mod family_count;
 pub mod family_tree;
 pub mod flat;
 pub mod gate_line;
+pub mod glyph;
 pub mod job_finish;
 pub mod job_mark;
 pub mod job_open;

@@ -19,6 +19,7 @@ pub mod JobNumbers
 pub mod JobMoves
 pub mod Jobs
 pub mod KeepingNumbers
+pub mod GlyphNumbers
 pub mod NeverZero
 pub mod Makes
 pub mod Checks
@@ -48,3 +49,4 @@ pub mod Tidying
 pub mod KeptNets
 pub mod Keeping
 pub mod KeepingLengths
+pub mod Glyphs

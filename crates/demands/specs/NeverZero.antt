@@ -4,6 +4,7 @@ use Prim.Native.Nat.{ℕ}
 use mathlib.Core.Path.{_≡_, refl, sym}
 use mathlib.Core.Bool.{true≢false}
 use mathlib.Core.List.{List, [], _∷_}
+use lib.IntN.{ℤ}
 use Rattle.rules.specs.Lists.{any}
 use Rattle.rules.specs.Answers.{refused, Named, netNamed, tableNamed, neither}
 use Rattle.rules.specs.Multiplicity.{multiplicityCall}
@@ -18,6 +19,7 @@ use Rattle.rules.specs.Lister.{listing}
 use Rattle.rules.specs.Arrivals.{netRefused, arrivalsRefused, arrivalsCall}
 use Rattle.rules.specs.Jobs.{Job, openJob, stepJob, askJob, finishJob}
 use Rattle.rules.specs.Keeping.{turnedAway, keepCall}
+use Rattle.rules.specs.Glyphs.{glyphCall}
 use Rattle.laws.specs.Distinct.{In}
 use Rattle.readback.specs.Numbers.{netNumbers, tableNumbers}
 use Rattle.demands.specs.Numbers.{not-given}
@@ -34,6 +36,7 @@ use Rattle.demands.specs.ListingNumbers.{listing-numbers}
 use Rattle.demands.specs.ArrivalNumbers.{arrivals-numbers}
 use Rattle.demands.specs.JobNumbers.{open-numbers, step-numbers, ask-numbers, finish-numbers, finishNumbers}
 use Rattle.demands.specs.KeepingNumbers.{keep-numbers, keepNumbers}
+use Rattle.demands.specs.GlyphNumbers.{glyph-numbers, glyphNumbers}
 
 -- No call refuses with 0: over C, where 0 says that a call accepted, the two are told apart.
 pub never-0 : (place : ℕ)
@@ -56,6 +59,7 @@ pub never-0 : (place : ℕ)
     × ((job : Job) (g : ℕ) → askJob job g .answer ≡ refused 0 place → ⊥)
     × ((job : Job) (cells marks output : List ℕ) → finishJob job cells marks output .made .answer ≡ refused 0 place → ⊥)
     × ((s r cells output : List ℕ) (named : Named) → keepCall s r cells output .answer ≡ turnedAway named 0 place → ⊥)
+    × ((s : List ℕ) (width height : ℕ) (picture : List ℕ) (offsets : List ℤ) (output : List ℕ) → glyphCall s width height picture offsets output .answer ≡ refused 0 place → ⊥)
 unfolding any
 never-0 place = (
   λ m n cells g. not-given multiplicityNumbers _ (multiplicity-numbers m n cells g) 0 place refl,
@@ -77,6 +81,7 @@ never-0 place = (
   λ job g. not-given (11 ∷ []) _ (ask-numbers job g) 0 place refl,
   λ job cells marks output. not-given finishNumbers _ (finish-numbers job cells marks output) 0 place refl,
   λ s r cells output named e. no-keeping-0 named (keep-numbers s r cells output named 0 place e),
+  λ s width height picture offsets output. not-given glyphNumbers _ (glyph-numbers s width height picture offsets output) 0 place refl,
 )
   where
     no-0 : (named : Named) → In 0 (checkNumbers named) → ⊥

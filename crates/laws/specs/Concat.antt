@@ -1,13 +1,15 @@
 -- Laws of `concatMap` and `map`.
 -- Assumes nothing.
-use Prim.Native.Nat.{ℕ, _*_}
+use Prim.Native.Nat.{ℕ, zero, suc, _+_, _*_, _<_}
 use mathlib.Core.Path.{_≡_, refl, sym, ap, _∙_}
 use mathlib.Core.Logic.{_⊎_, inl, inr}
 use mathlib.Core.List.{List, [], _∷_, _++_, map, append-assoc, List·Memᴰ, List·Memᴰ·head, List·Memᴰ·tail, List·Memᴰ·append-cases, Memᴰ·append-left, Memᴰ·append-right, List·Memᴰ·not-nil}
 use Rattle.rules.specs.Lists.{concatMap}
 pub use mathlib.Core.List.{map-append}
-use native.Mathlib.Nat.{zero-mul, suc-mul, add-comm}
-use lib.ListN.{length, length-append}
+use native.Mathlib.Nat.{zero-mul, suc-mul, add-comm, zero-add}
+use native.Mathlib.Omega.{arith}
+use lib.ListN.{length, getD, length-append, List·getD-append}
+use lib.Seq.{getD-append-add}
 use Rattle.rules.specs.Lists.{concatMap}
 
 pub concat-append : {A B : Type 0} (f : A → List B) (xs ys : List A) → concatMap f (xs ++ ys) ≡ concatMap f xs ++ concatMap f ys
@@ -47,6 +49,16 @@ module _ {A B : Type 0} (f : A → List B) where
   unfolding concatMap
   concat-length k e [] = sym (zero-mul k)
   concat-length k e (x ∷ xs) = rw (length-append, e x, concat-length k e xs, suc-mul, add-comm k (length xs * k))
+
+  -- .. by place: x of what the element at y gives
+  pub concat-at : (k : ℕ) → ((x : A) → length (f x) ≡ k) → (xs : List A) (d : A) (e : B) (y x : ℕ) → y < length xs → x < k
+      → getD (concatMap f xs) (y * k + x) e ≡ getD (f (getD xs y d)) x e
+  unfolding concatMap
+  concat-at k same [] d e y x h l = absurd (omega arith)
+  concat-at k same (z ∷ xs) d e zero x h l = rw (zero-mul, zero-add) (List·getD-append (f z) (concatMap f xs) e x (rw same l))
+  concat-at k same (z ∷ xs) d e (suc y) x h l =
+      let place : suc y * k + x ≡ length (f z) + (y * k + x) = rw (same z, suc-mul) (omega arith) in
+      rw (place, getD-append-add) (concat-at k same xs d e y x (omega arith) l)
 
   -- what an element gives is listed, ..
   pub mem-concat : {x : A} {y : B} {xs : List A} → List·Memᴰ x xs → List·Memᴰ y (f x) → List·Memᴰ y (concatMap f xs)

@@ -40,6 +40,8 @@ pub mod Digits
 pub mod Times
 pub mod Quarters
 pub mod Arrivals
+pub mod Glyphs
+pub mod Pictures
 pub mod ArrivalEnds
 pub mod SettlingTimes
 pub mod StoredMarks

@@ -1,11 +1,11 @@
 -- A part of a list that something was pasted into.
 -- Assumes nothing.
-use Prim.Native.Nat.{ℕ, _+_, _≤_, suc}
-use mathlib.Core.Path.{_≡_, sym, ap, _∙_}
+use Prim.Native.Nat.{ℕ, zero, suc, _+_, _≤_, _<_}
+use mathlib.Core.Path.{_≡_, refl, sym, ap, _∙_}
 use mathlib.Core.List.{List, _++_, append-assoc, [], _∷_}
 use native.Mathlib.Omega.{arith}
-use lib.ListN.{length, take, drop, length-drop, take-append-drop, set}
-use lib.Seq.{paste, length-take-le, take-all, take-at, drop-at, take-append-le, drop-append-le, sets}
+use lib.ListN.{length, getD, take, drop, length-drop, take-append-drop, set, length-set}
+use lib.Seq.{paste, length-take-le, take-all, take-at, drop-at, take-append-le, drop-append-le, sets, getD-set-same, getD-set-other}
 use native.Mathlib.Nat.{add-zero, add-suc, suc-add}
 use lib.ListN
 
@@ -40,3 +40,22 @@ sets-append [] u l at = ap (λ (k : ℕ). sets l k u) (sym (add-zero at))
 sets-append (b ∷ t) u l at =
     sets-append t u (set l at b) (suc at)
     ∙ ap (λ (k : ℕ). sets (sets (set l at b) (suc at) t) k u) (suc-add at (length t) ∙ sym (add-suc at (length t)))
+
+-- what a text that is written to `at` changes, place by place: nothing before it, ..
+module _ {A : Type 0} where
+  pub sets-before : (t l : List A) (at q : ℕ) (d : A) → q < at → getD (sets l at t) q d ≡ getD l q d
+  sets-before [] l at q d h = refl
+  sets-before (b ∷ t) l at q d h = sets-before t (set l at b) (suc at) q d (omega arith) ∙ getD-set-other l at q b d (λ e. omega arith)
+
+  -- .. nothing behind it, ..
+  pub sets-behind : (t l : List A) (at q : ℕ) (d : A) → at + length t ≤ q → getD (sets l at t) q d ≡ getD l q d
+  sets-behind [] l at q d h = refl
+  sets-behind (b ∷ t) l at q d h = sets-behind t (set l at b) (suc at) q d (omega arith) ∙ getD-set-other l at q b d (λ e. omega arith)
+
+  -- .. and there stands the text
+  pub sets-there : (t l : List A) (at k : ℕ) (d : A) → k < length t → at + length t ≤ length l → getD (sets l at t) (at + k) d ≡ getD t k d
+  sets-there [] l at k d h fits = absurd (omega arith)
+  sets-there (b ∷ t) l at zero d h fits =
+      rw add-zero (sets-before t (set l at b) (suc at) at d (omega arith) ∙ getD-set-same l at b d (omega arith))
+  sets-there (b ∷ t) l at (suc k) d h fits =
+      rw (add-suc, ← (suc-add at k)) (sets-there t (set l at b) (suc at) k d (omega arith) (rw length-set (omega arith)))

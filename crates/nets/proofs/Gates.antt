@@ -1,41 +1,24 @@
 -- One turn of `value`: k gates have their values. Assumes nothing.
-use Prim.Native.Nat.{ℕ, zero, suc, _+_, _-_, _*_, _≤_, _<_}
+use Prim.Native.Nat.{ℕ, suc, _+_, _-_, _*_, _≤_, _<_}
 use mathlib.Core.Path.{_≡_, sym, ap, ap₂, _∙_}
 use mathlib.Core.List.{List, [], _∷_, _++_, map}
-use native.Mathlib.Nat.{zero-add, add-zero, add-assoc, mul-pos, le-antisymm}
+use native.Mathlib.Nat.{add-zero, add-assoc, le-antisymm}
 use native.Mathlib.Omega.{arith}
 use native.Mathlib.Numerals.{add-one}
-use lib.ListN.{length, getD, take, drop, set, length-append, take-append-drop, length-take, length-drop, List·getD-append}
+use lib.ListN.{length, getD, take, drop, set, length-append, take-append-drop, length-drop, List·getD-append}
 use lib.Seq.{length-take-le, drop-cons, append-snoc, set-at, getD-take, getD-drop}
 use lib.Arith.{digits-lt}
 use Rattle.rules.specs.Lists.{range}
-use Rattle.rules.specs.Sheets.{Gate}
-use Rattle.rules.specs.Kept.{GateTable, Tables}
+use Rattle.rules.specs.Kept.{Tables}
 use Rattle.rules.specs.Value.{gateValue, withGates}
 use Rattle.laws.specs.Ranges.{map-range-length, map-range-suc}
 use Rattle.nets.specs.declared.forms.Net.{Net}
 use Rattle.nets.specs.Forms.{gateOf, gatesOf}
 use Rattle.nets.specs.Sound.{levels-pos, gates-count}
 use Rattle.nets.specs.References.{refers-back}
+use Rattle.nets.specs.Tables.{tables-front, digits-within}
 use Rattle.nets.specs.Evaluating.{Ready, Valued}
 use Rattle.nets.specs.Values.{with-snoc, with-length, below-all, with-below, AreLevels}
-
--- ---- what holds of a gate list holds of each gate
-
-module _ (f : ℕ → Gate) where
-  table-at : (m from count k : ℕ) → k < count → Tables m (map f (range from count)) → GateTable m (f (from + k) .digits)
-  unfolding range
-  table-at m from zero k h t = absurd (omega arith)
-  table-at m from (suc count) zero h t = rw add-zero (t .0)
-  table-at m from (suc count) (suc k) h t =
-      let e : from + suc k ≡ suc from + k = omega arith in
-      rw e (table-at m (suc from) count k (omega arith) (t .1))
-
-  tables-front : (m from k count : ℕ) → k ≤ count → Tables m (map f (range from count)) → Tables m (map f (range from k))
-  unfolding range
-  tables-front m from zero count h t = tt
-  tables-front m from (suc k) zero h t = absurd (omega arith)
-  tables-front m from (suc k) (suc count) h t = (t .0, tables-front m (suc from) k count (omega arith) (t .1))
 
 -- ---- the turn
 
@@ -87,13 +70,9 @@ module _ (net : Net) (vs : List ℕ) (ready : Ready net vs) where
     pub refers : (getD (net .left) k 0 < net .inputs + k) × (getD (net .right) k 0 < net .inputs + k)
     refers = refers-back net (ready .sound) k turn
 
-    digits-length : length (take (net .levels * net .levels) (drop (k * (net .levels * net .levels)) (net .digits))) ≡ net .levels * net .levels
-    unfolding gateOf
-    digits-length = rw zero-add at (table-at (gateOf net) (net .levels) 0 (net .gates) k turn tables .count)
-
     -- the gate's digits lie within the net's
     pub table-within : k * (net .levels * net .levels) + net .levels * net .levels ≤ length (net .digits)
-    table-within = omega (arith, mul-pos pos pos, simp (length-take, length-drop) at digits-length)
+    table-within = digits-within net (ready .sound) k turn
 
     known-more : known net vs (k + 1) ≡ known net vs k ++ (gateValue (net .levels) (known net vs k) (gateOf net k) ∷ [])
     known-more = rw (add-one, map-range-suc, with-snoc)

@@ -36,10 +36,8 @@ use Rattle.rules.specs.Arrivals as arrivals
 use Rattle.rules.specs.LooseSheet as looseSheet
 use Rattle.rules.specs.Tidying as tidying
 use Rattle.rules.specs.Jobs as jobs
+use Rattle.rules.specs.Glyphs as glyphs
 
 unfoldable pub computing : Unit {0}
-
-
-unfoldable pub computing : Unit {0}
-unfolding lists.computing text.computing limits.computing fields.computing sheets.computing printed.computing value.computing groups.computing differences.computing marks.computing wirings.computing filling.computing settled.computing layers.computing shallow.computing family.computing answers.computing reading.computing bareCells.computing multiplicity.computing marking.computing settling.computing shallowSettling.computing familyCalls.computing shallower.computing checking.computing tableWriting.computing programs.computing lister.computing arrivalSheet.computing arrivals.computing looseSheet.computing tidying.computing jobs.computing keeping.computing
+unfolding lists.computing text.computing limits.computing fields.computing sheets.computing printed.computing value.computing groups.computing differences.computing marks.computing wirings.computing filling.computing settled.computing layers.computing shallow.computing family.computing answers.computing reading.computing bareCells.computing multiplicity.computing marking.computing settling.computing shallowSettling.computing familyCalls.computing shallower.computing checking.computing tableWriting.computing programs.computing lister.computing arrivalSheet.computing arrivals.computing looseSheet.computing tidying.computing jobs.computing keeping.computing glyphs.computing
 computing = tt

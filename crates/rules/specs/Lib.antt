@@ -6,8 +6,8 @@
 -- follows), the starred cases (`Cases`), every refusal by examples (`Refusals`), and what is judged first (`Orders`). Of document 02: shallow
 -- nets (`Layers`, `Shallow`, `ShallowSettling`, `Shallower`, with `ShallowCases`), every wiring of a table (`Family`, `FamilyCalls`, with
 -- `FamilyCases`), the comparison of two assignments (`Differences`, with `DifferenceCases`), arrival times (`ArrivalSheet`, `Arrivals`, with
--- `ArrivalCases`), loose table sheets (`LooseSheet`, `Tidying`, with `LooseCases`), marking as a job (`Jobs`, with `JobCases`), and a wiring kept
--- (`Keeping`, with `KeepingCases`).
+-- `ArrivalCases`), loose table sheets (`LooseSheet`, `Tidying`, with `LooseCases`), marking as a job (`Jobs`, with `JobCases`), a wiring kept
+-- (`Keeping`, with `KeepingCases`) and whole glyphs (`Glyphs`, with `GlyphCases`).
 -- `Evaluation` lets all of it compute.
 -- Assumes nothing.
 pub mod Lists
@@ -47,6 +47,7 @@ pub mod Arrivals
 pub mod LooseSheet
 pub mod Tidying
 pub mod Jobs
+pub mod Glyphs
 pub mod Evaluation
 pub mod Cases
 pub mod ShallowCases
@@ -56,5 +57,6 @@ pub mod ArrivalCases
 pub mod LooseCases
 pub mod JobCases
 pub mod KeepingCases
+pub mod GlyphCases
 pub mod Refusals
 pub mod Orders

@@ -16,6 +16,7 @@ use Rattle.rules.specs.Checking.{turnedDown, checkCall}
 use Rattle.rules.specs.Keeping.{turnedAway, keepCall}
 use Rattle.rules.specs.Arrivals.{netRefused, arrivalsRefused, arrivalsCall}
 use Rattle.rules.specs.Tidying.{tidyCall}
+use Rattle.rules.specs.Glyphs.{glyphCall}
 use Rattle.rules.specs.Evaluation.{computing}
 
 -- ---- a sheet
@@ -171,3 +172,20 @@ tidying-cells-before-output = refl
 pub tidying-output-last : tidyCall (printedTable noTree) (nines 9) [] ≡ record { answer = refused 15 92; cells = noTree .inks ++ (9 ∷ []); output = [] }
 unfolding computing noTree nines
 tidying-output-last = refl
+
+-- ---- glyphs: document 02, K11: "judged in that order after the net sheet and before 15"
+
+-- no net sheet, no picture, no offsets and no output
+pub net-before-picture : (width height : ℕ) → glyphCall [] width height [] [] [] ≡ record { answer = refused 1 0; output = [] }
+unfolding computing
+net-before-picture width height = refl
+
+-- no picture, no offsets and no output
+pub picture-before-offsets : glyphCall (printedNet oneGate) 1 1 [] [] [] ≡ record { answer = refused 24 0; output = [] }
+unfolding computing oneGate
+picture-before-offsets = refl
+
+-- no offsets and no output
+pub offsets-before-output : glyphCall (printedNet oneGate) 1 1 (0 ∷ []) [] [] ≡ record { answer = refused 25 0; output = [] }
+unfolding computing oneGate
+offsets-before-output = refl

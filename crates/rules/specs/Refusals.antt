@@ -1,4 +1,4 @@
--- The examples of docs/REFUSALS.md as one theorem, `refusals-hold`: every refusal, 1 to 23, by calls that give it, with its number, its
+-- The examples of docs/REFUSALS.md as one theorem, `refusals-hold`: every refusal, 1 to 25, by calls that give it, with its number, its
 -- place, and what each buffer lent to the call holds afterwards. They compute, so that a reader who believes nothing sees each number
 -- come out. The document's examples are these and no others (rust/sitgurp/tests/refusals.rs).
 -- Assumes nothing.
@@ -7,6 +7,7 @@ use Prim.Native.String.{String}
 use mathlib.Core.Path.{_≡_, refl}
 use mathlib.Core.List.{List, [], _∷_}
 use lib.ListN.{replicate}
+use lib.IntN.{ℤ}
 use Rattle.rules.specs.Text.{text}
 use Rattle.rules.specs.Sheets.{Net}
 use Rattle.rules.specs.Answers.{accepted, refused, onward, netNamed, tableNamed, neither}
@@ -25,8 +26,10 @@ use Rattle.rules.specs.Arrivals.{arrivalsCall, arrivalsRefused, netRefus
 use Rattle.rules.specs.LooseSheet.{readLoose}
 use Rattle.rules.specs.Tidying.{tidyCall}
 use Rattle.rules.specs.Jobs.{Job, emptyJob, openJob, stepJob, askJob, finishJob, step, afterMoves}
+use Rattle.rules.specs.Glyphs.{glyphCall}
 use Rattle.rules.specs.Evaluation.{computing}
 use Rattle.rules.specs.Cases.{lineEnds, paper, digits, named}
+use Rattle.rules.specs.GlyphCases.{signedFrom, signed}
 
 -- ---- what an example says
 
@@ -41,6 +44,8 @@ pub record NetBack (sheet : List ℕ) (number place : ℕ) : Type 0 where
   pub arriving : (arrival-sheet : List ℕ) (delay : ℕ) → arrivalsCall sheet arrival-sheet delay ≡ netRefused number place
   pub keeping : (table-sheet cells output : List ℕ)
       → keepCall sheet table-sheet cells output ≡ record { answer = turnedAway netNamed number place; cells = cells; output = output }
+  pub printing : (width height : ℕ) (picture : List ℕ) (offsets : List ℤ) (output : List ℕ)
+      → glyphCall sheet width height picture offsets output ≡ record { answer = refused number place; output = output }
 
 -- A table sheet that is turned back: the same, in a check and in keeping behind every accepted net sheet.
 pub record TableBack (sheet : List ℕ) (number place : ℕ) : Type 0 where
@@ -71,7 +76,7 @@ pub record CellsBack (m n : ℕ) (cells : List ℕ) (number place : ℕ) : Type 
 
 -- What is read decides all of these.
 pub net-back : {sheet : List ℕ} {number place : ℕ} → readNet sheet ≡ refused number place → NetBack sheet number place
-unfolding settleCall checkCall writeTableCall listing onward arrivalsCall keepCall
+unfolding settleCall checkCall writeTableCall listing onward arrivalsCall keepCall glyphCall
 net-back e =
     record {
       settling = λ cells marks output. rw (e, settleCall);
@@ -80,6 +85,7 @@ net-back e =
       turn = λ k. rw (e, listing);
       arriving = λ arrival-sheet delay. rw (e, arrivalsCall);
       keeping = λ table-sheet cells output. rw (e, keepCall);
+      printing = λ width height picture offsets output. rw (e, glyphCall);
     }
 
 pub table-back : {sheet : List ℕ} {number place : ℕ} → readTable sheet ≡ refused number place → TableBack sheet number place
@@ -135,6 +141,7 @@ pub data Example : Type 0 where
   ask : (sheet : String) (steps g number place : ℕ) → Example
   finish : (sheet : String) (steps cells marks output number place : ℕ) (cells-then : String) (marks-then : List ℕ) → Example
   keep : (net-sheet table-sheet : String) (cells output number place : ℕ) (cells-then : String) → Example
+  glyph : (sheet picture offsets : String) (width height output number place : ℕ) → Example
 
 -- The common statement: a call's whole result, its answer and every buffer lent to it.
 abbrev pub Comes : Example → Type 0
@@ -209,6 +216,10 @@ Comes (finish sheet steps cells marks output number place cells-then marks-then)
 Comes (keep net-sheet table-sheet cells output number place cells-then) =
     keepCall (paper net-sheet) (paper table-sheet) (nines cells) (nines output)
     ≡ record { answer = turnedAway neither number place; cells = digits (text cells-then); output = nines output }
+-- a glyph: the output as it was
+Comes (glyph sheet picture offsets width height output number place) =
+    glyphCall (paper sheet) width height (digits (text picture)) (signed offsets) (nines output)
+    ≡ record { answer = refused number place; output = nines output }
 
 -- every example of a list
 infixr 5 _and_
@@ -295,6 +306,7 @@ refusals =
     ∷ tree "levels inputs/2 2/a b ink/0 0 0/0 1 0/1 0 0/1 1 1/" 0 4 1 47 15 48 "0001" (0xa8 ∷ [])
     ∷ tidy "levels inputs/2 2/a b ink/1 1 1/1 0 0/0 1 0/0 0 0/" 5 49 15 50 "00019"
     ∷ keep "levels inputs/2 2/a b/left right table/a b 0001/" "levels inputs/2 2/a b ink/0 0 0/0 1 1/1 0 1/1 1 1/" 5 47 15 48 "01119"
+    ∷ glyph "levels inputs/2 2/a b/left right table/a b 0110/" "01 11" "0 0 -1 0" 2 2 3 15 4
     -- 16: no tree, whatever the output; the whole group has mark 1 too, but more members
     ∷ make "levels inputs/2 3/a b c ink/0 0 0 0/0 0 1 0/0 1 0 0/0 1 1 1/1 0 0 0/1 0 1 1/1 1 0 1/1 1 1 1/" 9 3 0 16 7 "000101119" (0x28 ∷ 0x42 ∷ 9 ∷ [])
     ∷ make
@@ -324,10 +336,20 @@ refusals =
     -- 23: three classes of a and b, whatever the output; of a, b and c, at the second gate
     ∷ keep "levels inputs/2 3/a b c/left right table/a b 0001/1 c 0111/" "levels inputs/2 3/a b c ink/0 0 0 0/0 0 1 0/0 1 0 0/0 1 1 1/1 0 0 0/1 0 1 1/1 1 0 1/1 1 1 1/" 9 0 23 1 "000101119"
     ∷ keep "levels inputs/2 4/a b c d/left right table/a b 0110/c 1 0001/2 d 0001/" "levels inputs/2 4/a b c d ink/0 0 0 0 0/0 0 0 1 0/0 0 1 0 0/0 0 1 1 1/0 1 0 0 0/0 1 0 1 1/0 1 1 0 1/0 1 1 1 1/1 0 0 0 0/1 0 0 1 1/1 0 1 0 1/1 0 1 1 1/1 1 0 0 0/1 1 0 1 0/1 1 1 0 0/1 1 1 1 1/" 16 80 23 2 "0001011101110001"
+    -- 24: a side of 0; of 65; the number of cells; a cell's level
+    ∷ glyph "levels inputs/2 2/a b/left right table/a b 0110/" "" "0 0 -1 0" 0 2 4 24 0
+    ∷ glyph "levels inputs/2 2/a b/left right table/a b 0110/" "00000000000000000000000000000000000000000000000000000000000000000" "0 0 -1 0" 65 1 65 24 0
+    ∷ glyph "levels inputs/2 2/a b/left right table/a b 0110/" "01 1" "0 0 -1 0" 2 2 4 24 0
+    ∷ glyph "levels inputs/2 2/a b/left right table/a b 0110/" "01 12" "0 0 -1 0" 2 2 4 24 0
+    -- 25: one missing; one too many; one too far
+    ∷ glyph "levels inputs/2 2/a b/left right table/a b 0110/" "01 11" "0 0 -1" 2 2 4 25 0
+    ∷ glyph "levels inputs/2 2/a b/left right table/a b 0110/" "01 11" "0 0 -1 0 0" 2 2 4 25 0
+    ∷ glyph "levels inputs/2 2/a b/left right table/a b 0110/" "01 11" "0 0 -3 0" 2 2 4 25 0
+    ∷ glyph "levels inputs/2 2/a b/left right table/a b 0110/" "01 11" "0 0 0 3" 2 2 4 25 0
     ∷ []
 
 pub refusals-hold : AllCome refusals
-unfolding computing lineEnds paper digits named nines jobAfter
+unfolding computing lineEnds paper digits named nines jobAfter signedFrom signed
 refusals-hold =
     net-back refl and net-back refl and table-back refl and net-back refl and net-back refl and net-back refl and net-back refl
     and net-back refl and net-back refl and net-back refl and table-back refl and loose-back refl and loose-back refl and loose-back refl
@@ -336,6 +358,7 @@ refusals-hold =
     and net-back refl and net-back refl and net-back refl and net-back refl and cells-back refl and cells-back refl and cells-back refl
     and cells-back refl and refl and cells-back refl and refl and refl and refl and refl and refl and refl and refl and refl and refl
     and refl and refl and refl and refl and refl and refl and refl and refl and refl and refl and refl and refl and refl and refl and refl
-    and refl and refl and arrivals-back refl and arrivals-back refl and arrivals-back refl and arrivals-back refl and arrivals-back refl
-    and arrivals-back refl and loose-back refl and loose-back refl and refl and refl and refl and refl and refl and refl
+    and refl and refl and refl and arrivals-back refl and arrivals-back refl and arrivals-back refl and arrivals-back refl
+    and arrivals-back refl and arrivals-back refl and loose-back refl and loose-back refl and refl and refl and refl and refl and refl
+    and refl and refl and refl and refl and refl and refl and refl and refl and refl
     and none

@@ -9,8 +9,10 @@
 //! | `ratios`       | one ratio for each thing that is timed                        |
 //! | `growth`       | what one more input costs                                     |
 //! | `steps`        | the longest step of a job                                     |
+//! | `glyphs`       | a glyph against plain Rust, gate by gate                      |
 //! | `timing`       | times, and tables of ratios                                   |
 
+mod glyphs;
 mod growth;
 mod kinds;
 mod plain;
@@ -49,6 +51,7 @@ fn main() {
     );
     growth::marking();
     steps::longest();
+    glyphs::by_size(&SIZES);
     by_size(
         "shallow making / making; at 2 11 it is to be 3 at most",
         ratios::shallow_making,

@@ -1,7 +1,7 @@
 //! One call of each kind, by the proved library and by the second implementation, on the same inputs and equal buffers.
 
 use crate::given::{difference, Answer, Given};
-use crate::inputs::{Bare, Inputs};
+use crate::inputs::{Bare, Drawn, Inputs};
 use sitgurp::MOST_NET_SHEET;
 
 #[derive(Clone, Copy, Debug, PartialEq, Eq)]
@@ -24,10 +24,11 @@ pub enum Kind {
     Tidy,
     Job,
     Keep,
+    Glyph,
 }
 
 impl Kind {
-    pub const ALL: [Kind; 18] = [
+    pub const ALL: [Kind; 19] = [
         Kind::Multiplicity,
         Kind::Multiplicities,
         Kind::FewestLevels,
@@ -46,6 +47,7 @@ impl Kind {
         Kind::Tidy,
         Kind::Job,
         Kind::Keep,
+        Kind::Glyph,
     ];
 
     /// The refusals that documents 01 and 02 have for this call; of the two that ask a table sheet's multiplicities, the sheet's. The shallower of
@@ -67,6 +69,7 @@ impl Kind {
             Kind::Tidy => &[1, 2, 3, 4, 5, 6, 13, 15, 20],
             Kind::Job => &[1, 2, 3, 4, 5, 6, 9, 11, 13, 14, 15, 16, 21, 22],
             Kind::Keep => &[1, 2, 3, 4, 5, 6, 7, 8, 12, 13, 15, 23],
+            Kind::Glyph => &[1, 2, 3, 4, 6, 7, 8, 15, 24, 25],
         }
     }
 }
@@ -105,6 +108,7 @@ impl Call {
             Kind::Tidy => tidy(&mut inputs),
             Kind::Job => job(&mut inputs),
             Kind::Keep => keep(&mut inputs),
+            Kind::Glyph => glyph(&mut inputs),
         };
         Call {
             kind,
@@ -553,6 +557,32 @@ fn keep(inputs: &mut Inputs) -> Both {
             let [cells, output] = lent(buffers);
             let answer = reference::keep(&net, &table, cells, output);
             Answer::of_second(answer, |kept| Answer::Kept(kept.length, kept.changed))
+        },
+    )
+}
+
+fn glyph(inputs: &mut Inputs) -> Both {
+    let net = inputs.net_sheet();
+    let Drawn {
+        width,
+        height,
+        picture,
+        offsets,
+    } = inputs.drawn();
+    let buffers = vec![inputs.buffer(picture.len())];
+    let words = in_words(&[&net], &buffers);
+    both(
+        format!("{words}\n{width} by {height}, picture {picture:?}, offsets {offsets:?}"),
+        buffers,
+        |output| {
+            let output = &mut output[0];
+            let answer = sitgurp::glyph(&net, width, height, &picture, &offsets, output);
+            Answer::of_proved(answer, Answer::Value)
+        },
+        |output| {
+            let (width, height, output) = (width as u64, height as u64, &mut output[0]);
+            let answer = reference::glyph(&net, width, height, &picture, &offsets, output);
+            Answer::of_second(answer, Answer::Value)
         },
     )
 }

@@ -12,6 +12,14 @@ pub struct Bare {
     pub group: usize,
 }
 
+/// A picture with offsets, as they may come: mostly good, sometimes with one thing wrong.
+pub struct Drawn {
+    pub width: usize,
+    pub height: usize,
+    pub picture: Vec<u8>,
+    pub offsets: Vec<i8>,
+}
+
 /// Numbers that a caller has no business to send.
 const ODD_NUMBERS: [usize; 9] = [0, 1, 10, 13, 64, 255, 1 << 16, 1 << 32, usize::MAX];
 
@@ -259,6 +267,46 @@ impl Inputs {
             }
         }
         bare
+    }
+
+    /// A picture of up to 64 cells a side, most often a small one, and the offsets of every input.
+    pub fn drawn(&mut self) -> Drawn {
+        let most = *self.generator.rng.pick(&[1, 5, 5, 5, 20, 64]);
+        let (width, height) = (1 + self.below(most), 1 + self.below(most));
+        let picture = (0..width * height).map(|_| self.generator.rng.level(self.m));
+        let picture = picture.collect();
+        let offsets = (0..2 * self.n).map(|_| self.below(5) as i8 - 2).collect();
+        let good = Drawn {
+            width,
+            height,
+            picture,
+            offsets,
+        };
+        match self.below(2) {
+            0 => good,
+            _ => self.drawn_wrong(good),
+        }
+    }
+
+    fn drawn_wrong(&mut self, mut drawn: Drawn) -> Drawn {
+        let odd = *self.generator.rng.pick(&ODD_NUMBERS);
+        match self.below(8) {
+            0 => drawn.width = odd,
+            1 => drawn.height = odd,
+            2 => std::mem::swap(&mut drawn.width, &mut drawn.height),
+            3 => drawn.picture.truncate(self.below(drawn.picture.len())),
+            4 => {
+                let place = self.below(drawn.picture.len());
+                drawn.picture[place] = (self.m + self.below(256 - self.m)) as u8;
+            }
+            5 => drawn.offsets.truncate(self.below(drawn.offsets.len())),
+            6 => drawn.offsets.push(0),
+            _ => {
+                let place = self.below(drawn.offsets.len());
+                drawn.offsets[place] = self.below(256) as u8 as i8;
+            }
+        }
+        drawn
     }
 
     /// A buffer full of random bytes. Its length is any around the need, most often enough.

@@ -5,7 +5,7 @@ use std::collections::BTreeSet;
 use std::fmt;
 
 /// Refusals are numbered from 1; 0 stands for an accepted call.
-const ENDS: usize = 24;
+const ENDS: usize = 26;
 
 #[derive(Clone, Default)]
 struct Row {
@@ -104,6 +104,7 @@ mod tests {
             (Kind::Tidy, 20),
             (Kind::Job, 22),
             (Kind::Keep, 23),
+            (Kind::Glyph, 25),
             (Kind::Multiplicity, 0),
             (Kind::Listing, 8),
         ] {

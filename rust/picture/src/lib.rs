@@ -1,4 +1,4 @@
-//! Draws the tree of a net sheet.
+//! Draws the tree of a net sheet, and a picture of levels.
 //!
 //! | module   | idea                                                      |
 //! |----------|-----------------------------------------------------------|
@@ -6,9 +6,11 @@
 //! | `layout` | where each box and wire of the tree lies                  |
 //! | `svg`    | the tree drawn at those places                            |
 //! | `dot`    | the tree for Graphviz, which finds places of its own      |
+//! | `cells`  | a picture of levels, one square a cell                    |
 //!
 //! Whether a sheet is good is the library's to say: a sheet that it refuses is not drawn.
 
+pub mod cells;
 pub mod dot;
 pub mod layout;
 pub mod svg;

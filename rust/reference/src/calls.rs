@@ -7,6 +7,7 @@
 
 use crate::arrivals::{self, Settling};
 use crate::family::{self, family_net};
+use crate::glyph::{offsets_of, printed, Picture};
 use crate::groups::{self, whole};
 use crate::kept::{changed, refilled};
 use crate::limits::cell_count;
@@ -298,6 +299,28 @@ pub fn tidy(sheet: &[u8], cells: &mut [u8], out: &mut [u8]) -> Result<usize, Ref
     require(refusal::CELLS_SHORT, cells.len(), table.inks.len())?;
     put(cells, &table.inks);
     write_sheet(&print_table_sheet(&header, &table), out)
+}
+
+/// A net's value at every cell of a picture, into the output; answers how many
+/// cells that are. The offsets are across then down for each input. 24 and 25 are
+/// "judged in that order after the net sheet and before 15, place 0".
+/// Refusals: the net's 1 to 8, 24, 25, 15.
+pub fn glyph(
+    net_sheet: &[u8],
+    width: u64,
+    height: u64,
+    picture: &[u8],
+    offsets: &[i8],
+    out: &mut [u8],
+) -> Result<usize, Refusal> {
+    let (_, net) = read_net_sheet(net_sheet)?;
+    let picture = Picture::of(width, height, picture, net.m)
+        .ok_or_else(|| Refusal::new(refusal::PICTURE, 0))?;
+    let offsets = offsets_of(offsets, net.n).ok_or_else(|| Refusal::new(refusal::OFFSETS, 0))?;
+    let new = printed(&net, picture, &offsets);
+    require(refusal::OUTPUT_SHORT, out.len(), new.len())?;
+    put(out, &new);
+    Ok(new.len())
 }
 
 /// "A call that writes a sheet answers its length, and the sheet is that many

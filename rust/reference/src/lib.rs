@@ -20,6 +20,7 @@
 //! | `arrivals` | document 02, "Arrival times known only between bounds"     |
 //! | `job`      | document 02, "Marking that yields to the pen"             |
 //! | `kept`     | document 02, "Keep my wiring"                             |
+//! | `glyph`    | document 02, "Whole glyphs"                               |
 //! | `calls`    | every call with the buffers lent to it                    |
 //! | `lister`   | "Listing"                                                 |
 //! | `programs` | "Two programs"                                            |
@@ -35,6 +36,7 @@ pub mod damage;
 pub mod family;
 pub mod fields;
 pub mod generate;
+pub mod glyph;
 pub mod groups;
 pub mod job;
 pub mod kept;
@@ -52,9 +54,9 @@ pub mod sheet;
 
 pub use arrivals::Settling;
 pub use calls::{
-    arrivals, check, family_count, family_tree, fewest_levels, keep, make, make_shallow, marking,
-    multiplicities, multiplicity, settle, settle_shallow, shallower, tidy, write_table, Kept,
-    Layered, Verdict,
+    arrivals, check, family_count, family_tree, fewest_levels, glyph, keep, make, make_shallow,
+    marking, multiplicities, multiplicity, settle, settle_shallow, shallower, tidy, write_table,
+    Kept, Layered, Verdict,
 };
 pub use job::Job;
 pub use limits::allowed_sizes;

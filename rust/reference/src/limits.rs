@@ -25,6 +25,13 @@ pub const MOST_QUARTERS: u64 = 65_535;
 /// "Two programs read standard input, at most its first 65,536 bytes."
 pub const PROGRAM_BYTES: usize = 65_536;
 
+/// A picture has "1 to 64 cells a side".
+pub const LEAST_SIDE: u64 = 1;
+pub const MOST_SIDE: u64 = 64;
+
+/// "An offset across and down from −2 to 2."
+pub const FARTHEST_OFFSET: i8 = 2;
+
 /// The number of cells, if m, n and that number are within a sheet's bounds.
 /// Any two numbers may come in: the power stops growing at the bound.
 pub fn cell_count(m: u64, n: u64) -> Option<u64> {

@@ -5,7 +5,7 @@
 /// "A call that refuses either of two sheets judges the net first, and names
 /// the sheet it refuses; 12 names neither." Numbers 1 to 8 are about a sheet
 /// and name it, in the calls with one sheet too; 18 and 19 are about an arrival
-/// sheet and name it, 20 is about a table sheet; 9 to 17 and 21 to 23
+/// sheet and name it, 20 is about a table sheet; 9 to 17 and 21 to 25
 /// name neither.
 #[derive(Clone, Copy, Debug, PartialEq, Eq)]
 pub enum Sheet {
@@ -46,6 +46,8 @@ pub const REPEATED_ROW: u8 = 20;
 pub const JOB_DONE: u8 = 21;
 pub const JOB_UNFINISHED: u8 = 22;
 pub const WIRING: u8 = 23;
+pub const PICTURE: u8 = 24;
+pub const OFFSETS: u8 = 25;
 
 impl Refusal {
     /// A refusal that names no sheet (yet).

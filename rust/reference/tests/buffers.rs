@@ -5,8 +5,8 @@ mod common;
 
 use common::*;
 use reference::{
-    check, family_count, family_tree, keep, make, make_shallow, marking, settle, settle_shallow,
-    tidy, write_table, Job, Kept, Refusal, Verdict,
+    check, family_count, family_tree, glyph, keep, make, make_shallow, marking, settle,
+    settle_shallow, tidy, write_table, Job, Kept, Refusal, Verdict,
 };
 
 /// A lent buffer with something in it: no two neighbours are equal, and none is
@@ -407,6 +407,24 @@ fn keep_at_every_length() {
                 let front = if answer.is_ok() { &new[..] } else { &[] };
                 assert_eq!(o, written(out, front));
             }
+        }
+    }
+}
+
+/// The output needs a byte for each cell.
+#[test]
+fn glyph_at_every_length() {
+    let net = net_sheet(3, "a b", "a b 000111222");
+    let picture = [0, 1, 2, 2, 0, 1];
+    for length in lengths(6) {
+        let mut out = lent(length);
+        let answer = glyph(&net, 3, 2, &picture, &[0; 4], &mut out);
+        if length < 6 {
+            assert_eq!(answer, Err(of_neither(15, 6)));
+            assert_eq!(out, lent(length));
+        } else {
+            assert_eq!(answer, Ok(6));
+            assert_eq!(out, written(length, &picture));
         }
     }
 }

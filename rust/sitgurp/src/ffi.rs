@@ -210,6 +210,18 @@ extern "C" {
         arrival_sheet_length: usize,
         delay: u8,
     ) -> ArrivalTimes;
+    pub fn sitgurp_glyph(
+        net_sheet: *const u8,
+        net_sheet_length: usize,
+        width: usize,
+        height: usize,
+        picture: *const u8,
+        picture_length: usize,
+        offsets: *const i8,
+        offsets_length: usize,
+        output: *mut u8,
+        output_length: usize,
+    ) -> Answer;
     pub fn sitgurp_job_open_parts(
         sheet: *const u8,
         sheet_length: usize,

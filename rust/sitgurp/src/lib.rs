@@ -7,6 +7,7 @@
 //! table sheet of one that a spreadsheet exported.
 //! [`Job`] marks a table one group a step, so that its caller can do other things in between.
 //! [`kept`] keeps a net's wiring, and fills its gates anew for another table.
+//! [`glyph`] prints a picture by a net.
 //!
 //! ```
 //! let sheet = b"levels inputs\n2 3\na b c\nleft right table\na b 0110\n1 c 0110\n";
@@ -35,9 +36,11 @@ mod arrivals;
 mod counting;
 mod family;
 mod ffi;
+mod glyph;
 mod job;
 mod keep;
 mod lister;
+mod picture;
 mod refusal;
 mod shallow;
 mod tidying;
@@ -45,9 +48,11 @@ mod tidying;
 pub use arrivals::{arrivals, Settling};
 pub use counting::{fewest_levels, multiplicities};
 pub use family::{family_count, family_tree, Family};
+pub use glyph::{glyph, glyph_of};
 pub use job::{Job, Passing};
 pub use keep::{keep, kept, Kept};
 pub use lister::Lister;
+pub use picture::Picture;
 pub use refusal::{Named, Refusal};
 pub use shallow::{
     made_shallow, make_shallow, settle_shallow, settled_shallow, shallower, Layered,
@@ -62,6 +67,8 @@ pub const MOST_MARKS: usize = (1 << 12) / 4;
 pub const MOST_NET_SHEET: usize = 512;
 /// The output that always suffices for a table sheet: 2 levels with 12 inputs, all names 8 bytes long.
 pub const MOST_TABLE_SHEET: usize = 106_627;
+/// The output that always suffices for a picture.
+pub const MOST_PICTURE: usize = 64 * 64;
 
 /// What checking says of a net and a table under the same header.
 #[derive(Clone, Copy, Debug, PartialEq, Eq)]

@@ -66,6 +66,8 @@ impl Refusal {
             21 => "the job is done",
             22 => "the job is not done",
             23 => "no gate tables give this wiring the table",
+            24 => "a side is not 1 to 64, the cells are not width times height, or a cell's level is not below levels",
+            25 => "there are not two offsets for each input, or one is not from -2 to 2",
             _ => "unknown refusal",
         }
     }

@@ -79,6 +79,7 @@ fn c_type(rust: &str) -> String {
         "*const u8" => "const uint8_t *",
         "*mut u8" => "uint8_t *",
         "*mut usize" => "size_t *",
+        "*const i8" => "const int8_t *",
         "Answer" => "sitgurp_answer",
         "Shallow" => "sitgurp_shallow",
         "Which" => "sitgurp_which",
@@ -165,6 +166,7 @@ fn in_rattle(text: &str) -> Vec<(String, Vec<String>, String)> {
             "&mut usize" => vec!["size_t *"],
             array if array.starts_with("&[u8; ") => vec!["const uint8_t *"],
             array if array.starts_with("&mut [u8; ") => vec!["uint8_t *"],
+            "&[i8]" => vec!["const int8_t *", "size_t"],
             other => panic!("type {other}"),
         });
         let result = rest.split_whitespace().nth(1).expect("a result");
@@ -234,6 +236,7 @@ fn the_header_has_the_sizes_that_always_suffice() {
         ("MARKS", sitgurp::MOST_MARKS),
         ("NET_SHEET", sitgurp::MOST_NET_SHEET),
         ("TABLE_SHEET", sitgurp::MOST_TABLE_SHEET),
+        ("PICTURE", sitgurp::MOST_PICTURE),
     ] {
         let line = format!("#define SITGURP_MOST_{name} {size}");
         assert!(header.lines().any(|one| one == line), "{line}");

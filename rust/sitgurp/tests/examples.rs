@@ -1,5 +1,6 @@
 //! Every table sheet of examples/ gives what stands beside it: its settled net sheet, or its refusal.
 
+use sitgurp::Picture;
 use std::fs;
 use std::path::Path;
 use std::process::Command;
@@ -37,6 +38,23 @@ fn every_example_gives_what_stands_beside_it() {
         count += 1;
     }
     assert!(count >= 4, "only {count} examples");
+}
+
+/// The letter, in text and as a graymap, and what the net of the shades prints from it: the light is that of the cell above, the near cell that to the
+/// left.
+#[test]
+fn the_letter_prints_what_stands_beside_it() {
+    let folder = Path::new(env!("CARGO_MANIFEST_DIR")).join("../../examples");
+    let text = |name: &str| fs::read_to_string(folder.join(name)).expect("an example");
+    let letter = Picture::from_text(&text("letter.txt")).expect("a picture");
+    let net = text("shade.net");
+    let shaded =
+        sitgurp::glyph_of(net.as_bytes(), &letter, &[0, 0, 0, -1, -1, 0]).expect("a glyph");
+    assert_eq!(shaded.to_text(), text("shaded.txt"));
+    for (picture, name) in [(letter, "letter.pgm"), (shaded, "shaded.pgm")] {
+        assert_eq!(picture.to_pgm(4), text(name));
+        assert_eq!(Picture::from_pgm(&text(name)), Some((picture, 4)));
+    }
 }
 
 #[test]

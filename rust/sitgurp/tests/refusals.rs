@@ -94,6 +94,7 @@ fn without_mark(lines: &[&str], end: &str) -> (String, Option<usize>) {
 fn example(kind: &str, body: &str, [number, place]: [usize; 2]) -> Example {
     let words = match kind {
         "net" | "table" | "arrival" | "loose" => &[][..],
+        "glyph" => &["width", "height", "output"],
         "bare" => &["levels", "inputs"],
         "group" => &["levels", "inputs", "group"],
         "marking" => &["levels", "inputs", "marks"],
@@ -157,6 +158,15 @@ fn example(kind: &str, body: &str, [number, place]: [usize; 2]) -> Example {
             }
             let [cells, marks] = then;
             vec![sheet, cells, marks]
+        }
+        "glyph" => {
+            let mut lines = after.lines().map(|line| match line.split_once(' ') {
+                Some(("picture" | "offsets", rest)) => rest.to_string(),
+                _ => String::new(),
+            });
+            let mut next = || lines.next().expect("a line");
+            let (picture, offsets) = (next(), next());
+            vec![sheet, picture, offsets]
         }
         _ => vec![sheet],
     };
@@ -315,12 +325,23 @@ fn holds(example: &Example) {
             assert_eq!(refused(arrivals), due(Named::Net));
             let kept = sitgurp::keep(texts[0], b"", &mut cells, &mut output);
             assert_eq!(refused(kept), due(Named::Net));
+            let glyph = sitgurp::glyph(texts[0], 0, usize::MAX, b"", &[], &mut output);
+            assert_eq!(refused(glyph), due(Named::Net));
         }
         "arrival" => {
             for delay in [0, 255] {
                 let arrivals = sitgurp::arrivals(NET.as_bytes(), texts[0], delay);
                 assert_eq!(refused(arrivals), due(Named::Arrivals));
             }
+        }
+        "glyph" => {
+            output = nines(numbers[2]);
+            let picture = bytes(&digits(&example.texts[1]));
+            let offsets = example.texts[2].split_whitespace();
+            let offsets: Vec<i8> = offsets.map(|o| o.parse().expect("a number")).collect();
+            let (width, height) = (numbers[0], numbers[1]);
+            let glyph = sitgurp::glyph(texts[0], width, height, &picture, &offsets, &mut output);
+            assert_eq!(refused(glyph), due(Named::Neither));
         }
         "table" => {
             let made = sitgurp::make(texts[0], &mut cells, &mut marks, &mut output);
@@ -460,7 +481,7 @@ fn the_document_has_the_listed_examples() {
     }
     assert_eq!(shown.len(), listed.len());
     let numbers: BTreeSet<usize> = listed.iter().map(|e| e.number_and_place().0).collect();
-    assert_eq!(numbers, (1..=23).collect(), "each number has an example");
+    assert_eq!(numbers, (1..=25).collect(), "each number has an example");
 }
 
 #[test]

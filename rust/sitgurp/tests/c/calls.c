@@ -325,6 +325,30 @@ static void arrivals(void) {
     HOLDS(turned_back(sitgurp_arrivals(TEXT(NET), TEXT("name from to\na 4 3\n"), 4), 2, 19, 17));
 }
 
+/* the sum modulo 2 of a cell, the one to its left and the one above it */
+static void glyph(void) {
+    static const uint8_t old[6] = {1, 1, 0, 1, 0, 1};
+    static const uint8_t new[6] = {1, 0, 1, 0, 0, 1};
+    static const uint8_t high[6] = {1, 1, 0, 1, 0, 2};
+    static const uint8_t none[1] = {0};
+    static const int8_t offsets[6] = {0, 0, -1, 0, 0, -1};
+    static const int8_t far[6] = {0, 0, -1, 0, 0, -3};
+    fill();
+    HOLDS(is(sitgurp_glyph(TEXT(BAD_NET), 0, 0, none, 0, far, 5, output, 0), 8, 43));
+    HOLDS(is(sitgurp_glyph(TEXT(NET), 3, 3, old, 6, far, 5, output, 0), 24, 0));
+    HOLDS(is(sitgurp_glyph(TEXT(NET), 0, 2, none, 0, offsets, 6, output, sizeof output), 24, 0));
+    HOLDS(is(sitgurp_glyph(TEXT(NET), 65, 0, none, 0, offsets, 6, output, sizeof output), 24, 0));
+    /* the product of the sides is 6 modulo 2 to the 64 */
+    HOLDS(is(sitgurp_glyph(TEXT(NET), (size_t)-1, (size_t)-6, old, 6, offsets, 6, output, sizeof output), 24, 0));
+    HOLDS(is(sitgurp_glyph(TEXT(NET), 3, 2, high, 6, far, 6, output, 0), 24, 0));
+    HOLDS(is(sitgurp_glyph(TEXT(NET), 3, 2, old, 6, offsets, 5, output, 0), 25, 0));
+    HOLDS(is(sitgurp_glyph(TEXT(NET), 3, 2, old, 6, far, 6, output, 0), 25, 0));
+    HOLDS(is(sitgurp_glyph(TEXT(NET), 3, 2, old, 6, offsets, 6, output, 5), 15, 6));
+    HOLDS(untouched());
+    HOLDS(is(sitgurp_glyph(TEXT(NET), 3, 2, old, 6, offsets, 6, output, sizeof output), 0, 6));
+    HOLDS(holds(output, sizeof output, new, 6));
+}
+
 static void write_table(void) {
     const size_t length = sizeof(TABLE) - 1;
     fill();
@@ -380,6 +404,10 @@ static void largest(void) {
     static uint8_t most_cells[SITGURP_MOST_CELLS];
     static uint8_t most_marks[SITGURP_MOST_MARKS];
     static uint8_t net[SITGURP_MOST_NET_SHEET];
+    static uint8_t old[SITGURP_MOST_PICTURE];
+    static uint8_t new[SITGURP_MOST_PICTURE];
+    /* one input reads the cell two to the right and two below, and the other eleven their own */
+    static const int8_t offsets[24] = {2, 2};
     sitgurp_answer made;
     HOLDS(is(sitgurp_write_table(TEXT(sheet), table, sizeof table), 0, sizeof table));
     made = sitgurp_make(table, sizeof table, most_cells, sizeof most_cells, most_marks, sizeof most_marks, net, sizeof net);
@@ -396,6 +424,10 @@ static void largest(void) {
                                sizeof net);
     HOLDS(made.number == 0 && made.value == sizeof settled - 1);
     HOLDS(says(sitgurp_check(net, made.value, table, sizeof table, most_cells, sizeof most_cells), 0, 0, 0, 0));
+    memset(old, 1, sizeof old);
+    HOLDS(is(sitgurp_glyph(TEXT(sheet), 64, 64, old, sizeof old, offsets, sizeof offsets, new, sizeof new), 0, sizeof new));
+    /* the sum of twelve ones is even, and that of eleven odd: so in the last two columns and the last two rows, whose cell is outside */
+    HOLDS(new[0] == 0 && new[61] == 0 && new[62] == 1 && new[63] == 1 && new[61 * 64] == 0 && new[62 * 64] == 1 && new[64 * 64 - 1] == 1);
 }
 
 int main(void) {
@@ -411,6 +443,7 @@ int main(void) {
     check();
     keep();
     arrivals();
+    glyph();
     write_table();
     tidy();
     gate_line();

@@ -1,0 +1,28 @@
+-- `capi::glyph::sitgurp_glyph` meets its contract: it is the glyph call, its answer as two numbers. Assumes nothing.
+use mathlib.Core.Path.{ap, _∙_}
+use Rattle.rules.specs.TableWriting.{Written}
+use Rattle.capi.specs.Flat.{flatOf}
+use borrow.Author.Needs.{needs}
+use Rattle.capi.proofs.glyph.sitgurp_glyph.Statement.{statement}
+use Rattle.capi.proofs.glyph.sitgurp_glyph.Tie as tie
+
+glyph-requires : tie.Need-glyph-requires
+glyph-requires c κs = search needs
+
+flat-requires : tie.Need-flat-requires
+flat-requires c κs = search needs
+
+same-length : tie.Need-same-length
+same-length c = search needs
+
+returns : tie.Need-returns
+returns c =
+    let did = c .before .before .before .glyph .ensures in
+    record {
+      answer = c .flat .ensures ∙ ap (λ (r : Written). flatOf (r .answer)) did;
+      output-then = ap (λ (r : Written). r .output) did;
+    }
+
+pub sitgurp-glyph-spec : {M : Type 1} → statement M
+sitgurp-glyph-spec =
+    tie.close (tie.spec glyph-requires flat-requires same-length returns)

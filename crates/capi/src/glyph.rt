@@ -1,0 +1,20 @@
+// Glyphs for C.
+ghost use Rattle.rules.specs.Glyphs.{glyphCall};
+ghost use Rattle.capi.specs.WriteTable.{FlatWritten};
+use crate::flat::SitgurpAnswer;
+use crate::flat::flat;
+
+// Writes the glyph that a net sheet prints from a picture. The answer is the number of its cells.
+#[no_mangle]
+pub extern "C" fn sitgurp_glyph(
+    sheet: &[u8],
+    width: usize,
+    height: usize,
+    picture: &[u8],
+    offsets: &[i8],
+    out: &mut [u8],
+) -> SitgurpAnswer
+    ensures { λ r. ⌜ FlatWritten (glyphCall (now (sheet .entry)) width height (now (picture .entry)) (now (offsets .entry)) (now (out .entry))) r (now (out .exit)) ⌝ }
+{
+    flat(glyphs::call::glyph(sheet, width, height, picture, offsets, out))
+}

@@ -1,0 +1,25 @@
+// One gate at many assignments.
+ghost use Rattle.columns.specs.Gates.{GateReady, GateDone};
+
+// For each p below `count`, the digit for the levels at left + p and right + p is put at to + p. The gate's digits begin at `from`.
+pub fn gate_values(
+    m: usize,
+    digits: &[u8],
+    from: usize,
+    left: usize,
+    right: usize,
+    to: usize,
+    count: usize,
+    wires: &mut [u8],
+)
+    requires { ⌜ GateReady m (now digits) from left right to count (now wires) ⌝ }
+    ensures { λ _. ⌜ GateDone m (now (digits .entry)) from left right to count (now (wires .entry)) (now (wires .exit)) ⌝ }
+{
+    let mut p: usize = 0;
+    while p < count {
+        let l = wires[left + p] as usize;
+        let r = wires[right + p] as usize;
+        wires[to + p] = digits[from + l * m + r];
+        p += 1;
+    }
+}

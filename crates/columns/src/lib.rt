@@ -1,0 +1,3 @@
+// The value of a net at many assignments at once: one gate after the other, each at every assignment.
+pub mod gate;
+pub mod values;

@@ -1,0 +1,140 @@
+-- `glyphs::frame::frame` meets its contract. The loop's invariant: the first y rows are in the frame. Assumes nothing.
+use Prim.Native.Nat.{ℕ, _+_, _-_, _*_, _≤_, _<_}
+use mathlib.Core.Path.{_≡_, sym, ap, _∙_, subst}
+use mathlib.Core.List.{List}
+use native.Mathlib.Nat.{zero-mul, suc-mul}
+use native.Mathlib.Numerals.{add-one}
+use native.Mathlib.Omega.{arith}
+use borrow.Author.Needs.{needs}
+use lib.ListN.{length, take, drop}
+use Rattle.glyphs.specs.Frames.{frameSize, Framed, framed-none, part-is, row-there, row-room, framed-put}
+use Rattle.glyphs.proofs.frame.frame.Statement.{statement}
+use Rattle.glyphs.proofs.frame.frame.Tie as tie
+
+abbrev Inv-loop : tie.InvT-loop
+Inv-loop picture width height wires₀ from₀ y₀ wires from y = (y ≤ height) × (from ≡ y * width) × Framed width y picture wires₀ wires
+
+abbrev μ-loop : tie.MeasureT-loop
+μ-loop picture width height wires₀ from₀ y₀ wires from y = height - y
+
+-- the start from the loop's head; a turn's start from the call of `copy`, and that call from the turn's end
+abbrev at-start : tie.At-loop Inv-loop μ-loop → tie.Start Inv-loop μ-loop
+at-start c = c .before .before .before
+
+abbrev at-turn : tie.After-copy Inv-loop μ-loop → tie.In-loop Inv-loop μ-loop
+at-turn c = c .before .before .before
+
+abbrev at-copy : tie.After-slice-known2 Inv-loop μ-loop → tie.After-copy Inv-loop μ-loop
+at-copy c = c .before .before
+
+loop-holds : tie.Need-loop-holds Inv-loop μ-loop
+loop-holds c = (omega arith, sym (zero-mul _), framed-none _ _ _ (c .before .before .pre .3))
+
+-- a turn: row y lies in the picture, and has room in the frame
+module _ (c : tie.In-loop Inv-loop μ-loop) where
+  abbrev start : tie.Start Inv-loop μ-loop
+  start = at-start (c .before)
+
+  abbrev width : ℕ
+  width = start .args .width
+
+  abbrev from : ℕ
+  from = c .before .loop .from
+
+  abbrev picture : List ℕ
+  picture = start .args .picture .now
+
+  few : c .before .loop .y < 64
+  few = omega (arith, start .pre .1 .most, c .loop-test .taken)
+
+  there : from + width ≤ length picture
+  there =
+      omega (arith, row-there width (start .args .height) (start .pre .0) (start .pre .1) picture (start .pre .2) (c .before .loop .y) (c .loop-test .taken), c .before .loop .inv .1)
+
+  -- the row that is copied
+  abbrev row : List ℕ
+  row = take (from + width - from) (drop from picture)
+
+  row-is : row ≡ take width (drop (c .before .loop .y * width) picture)
+  row-is = part-is from width picture ∙ ap (λ (k : ℕ). take width (drop k picture)) (c .before .loop .inv .1)
+
+  room : frameSize ≤ length (c .before .loop .wires)
+  room = omega (arith, start .pre .3 .room, c .before .loop .inv .2 .same)
+
+add-copy : tie.Need-add-copy Inv-loop μ-loop
+add-copy c = omega (arith, there c, start c .good)
+
+sub-copy : tie.Need-sub-copy Inv-loop μ-loop
+sub-copy c = omega arith
+
+part-copy-start : tie.Need-part-copy-start Inv-loop μ-loop
+part-copy-start c = search needs
+
+part-copy-end : tie.Need-part-copy-end Inv-loop μ-loop
+part-copy-end c = there c
+
+add-copy-2 : tie.Need-add-copy-2 Inv-loop μ-loop
+add-copy-2 c = omega (arith, few (c .before .before))
+
+mul-copy : tie.Need-mul-copy Inv-loop μ-loop
+mul-copy c = omega (arith, few (c .before .before))
+
+add-copy-3 : tie.Need-add-copy-3 Inv-loop μ-loop
+add-copy-3 c = omega (arith, few (c .before .before))
+
+copy-requires : tie.Need-copy-requires Inv-loop μ-loop
+copy-requires c κs =
+    let turn = c .before .before in
+    row-room (width turn) (start turn .args .height) (start turn .pre .0) (start turn .pre .1) (picture turn) (start turn .pre .2) (turn .before .loop .y) (turn .loop-test .taken)
+    (row turn) (row-is turn) (start turn .args .wires .now) (turn .before .loop .wires) (room turn)
+
+add-from : tie.Need-add-from Inv-loop μ-loop
+add-from c = omega (arith, there (at-turn (at-copy c)), start (at-turn (at-copy c)) .good)
+
+add-y : tie.Need-add-y Inv-loop μ-loop
+add-y c = omega (arith, few (at-turn (at-copy c)))
+
+loop-less : tie.Need-loop-less Inv-loop μ-loop
+loop-less c = omega (arith, at-turn (at-copy c) .loop-test .taken)
+
+loop-again : tie.Need-loop-again Inv-loop μ-loop
+loop-again c =
+    let turn = at-turn (at-copy c) in
+    let inv = turn .before .loop .inv in
+    let next : (turn .before .loop .y + 1) * width turn ≡ turn .before .loop .y * width turn + width turn = rw (add-one, suc-mul) in (
+      omega (arith, turn .loop-test .taken),
+      omega (arith, inv .1, next),
+      framed-put (width turn) (start turn .args .height) (start turn .pre .0) (start turn .pre .1) (picture turn) (start turn .pre .2) (turn .before .loop .y) (turn .loop-test .taken)
+          (row turn) (row-is turn) (start turn .args .wires .now) (turn .before .loop .wires) (room turn) (inv .2) _ (at-copy c .copy .ensures .text),
+    )
+
+same-length : tie.Need-same-length Inv-loop μ-loop
+same-length c = c .before .loop .inv .2 .same
+
+returns : tie.Need-returns Inv-loop μ-loop
+returns c =
+    let start = at-start (c .before) in
+    let all : c .before .loop .y ≡ start .args .height = omega (arith, c .before .loop .inv .0, c .loop-test .left) in
+    subst (λ (k : ℕ). Framed (start .args .width) k (start .args .picture .now) (start .args .wires .now) (c .before .loop .wires)) all (c .before .loop .inv .2)
+
+pub frame-spec : {M : Type 1} → statement M
+frame-spec =
+    tie.close
+    (tie.spec
+    Inv-loop
+    μ-loop
+    loop-holds
+    add-copy
+    sub-copy
+    part-copy-start
+    part-copy-end
+    add-copy-2
+    mul-copy
+    add-copy-3
+    copy-requires
+    add-from
+    add-y
+    loop-less
+    loop-again
+    same-length
+    returns)

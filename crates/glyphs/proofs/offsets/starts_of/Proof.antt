@@ -1,0 +1,129 @@
+-- `glyphs::offsets::starts_of` meets its contract. The loop's invariant: the first i inputs have their starts. Assumes nothing.
+use Prim.Native.Nat.{_+_, _-_, _*_, _≤_, _<_}
+use mathlib.Core.Path.{_≡_, refl, ap, _∙_}
+use native.Mathlib.Omega.{arith}
+use borrow.Author.Needs.{needs}
+use lib.ListN.{length}
+use Rattle.rules.specs.Limits.{mostInputs}
+use Rattle.rules.specs.Glyphs.{across, down}
+use Rattle.glyphs.specs.Offsets.{element, span, reach, startOf, across-there, down-there, across-near, down-near, StartsAt, starts-more}
+use Rattle.glyphs.proofs.offsets.starts_of.Statement.{statement}
+use Rattle.glyphs.proofs.offsets.starts_of.Tie as tie
+
+abbrev Inv-loop : tie.InvT-loop
+Inv-loop n offsets starts₀ i₀ starts i =
+    (i ≤ n) × StartsAt offsets i starts
+
+abbrev μ-loop : tie.MeasureT-loop
+μ-loop n offsets starts₀ i₀ starts i = n - i
+
+loop-holds : tie.Need-loop-holds Inv-loop μ-loop
+loop-holds c = (omega arith, record { room = refl; each = λ j h. absurd (omega arith) })
+
+-- the start from the loop's head, a turn's start from its reads, and from its two calls
+abbrev at-start : tie.At-loop Inv-loop μ-loop → tie.Start Inv-loop μ-loop
+at-start c = c .before
+
+abbrev at-turn : tie.After-down Inv-loop μ-loop → tie.In-loop Inv-loop μ-loop
+at-turn c = c .before .before
+
+abbrev calls-turn : tie.After-reach-of2 Inv-loop μ-loop → tie.In-loop Inv-loop μ-loop
+calls-turn c = at-turn (c .before .before)
+
+-- a turn's input, and its two offsets
+module _ (c : tie.In-loop Inv-loop μ-loop) where
+  abbrev start : tie.Start Inv-loop μ-loop
+  start = at-start (c .before)
+
+  few : c .before .loop .i < mostInputs
+  few = omega (arith, start .pre .0, c .loop-test .taken)
+
+  there : (2 * c .before .loop .i < length (start .args .offsets .now)) × (2 * c .before .loop .i + 1 < length (start .args .offsets .now))
+  there = (across-there _ _ (start .pre .1) _ (c .loop-test .taken), down-there _ _ (start .pre .1) _ (c .loop-test .taken))
+
+  near : (reach (across (start .args .offsets .now) (c .before .loop .i)) ≤ 4) × (reach (down (start .args .offsets .now) (c .before .loop .i)) ≤ 4)
+  near = (across-near _ _ (start .pre .1) _ (c .loop-test .taken), down-near _ _ (start .pre .1) _ (c .loop-test .taken))
+
+-- what the two calls give
+first : (c : tie.After-reach-of Inv-loop μ-loop) → c .reach-of .result ≡ reach (down (start (at-turn (c .before)) .args .offsets .now) (at-turn (c .before) .before .loop .i))
+unfolding down
+first c = c .reach-of .ensures ∙ ap reach (element _ (c .before .down .given))
+
+second : (c : tie.After-reach-of2 Inv-loop μ-loop) → c .reach-of2 .result ≡ reach (across (start (calls-turn c) .args .offsets .now) (calls-turn c .before .loop .i))
+unfolding across
+second c = c .reach-of2 .ensures ∙ ap reach (element _ (c .before .before .before .across .given))
+
+mul-across : tie.Need-mul-across Inv-loop μ-loop
+mul-across c = omega (arith, few c)
+
+shared-slice-copy-out-across : tie.Need-shared-slice-copy-out-across Inv-loop μ-loop
+shared-slice-copy-out-across c = there c .0
+
+mul-down : tie.Need-mul-down Inv-loop μ-loop
+mul-down c = omega (arith, few (c .before))
+
+add-down : tie.Need-add-down Inv-loop μ-loop
+add-down c = omega (arith, few (c .before))
+
+shared-slice-copy-out-down : tie.Need-shared-slice-copy-out-down Inv-loop μ-loop
+shared-slice-copy-out-down c = there (c .before) .1
+
+reach-of-requires : tie.Need-reach-of-requires Inv-loop μ-loop
+reach-of-requires c κs = search needs
+
+mul-starts : tie.Need-mul-starts Inv-loop μ-loop
+mul-starts c = omega (arith, first c, near (at-turn (c .before)))
+
+reach-of-requires-2 : tie.Need-reach-of-requires-2 Inv-loop μ-loop
+reach-of-requires-2 c κs = search needs
+
+add-starts : tie.Need-add-starts Inv-loop μ-loop
+add-starts c = omega (arith, first (c .before), second c, near (calls-turn c))
+
+mul-starts-2 : tie.Need-mul-starts-2 Inv-loop μ-loop
+mul-starts-2 c = omega (arith, few (calls-turn c))
+
+array-write-starts : tie.Need-array-write-starts Inv-loop μ-loop
+array-write-starts c = omega (arith, few (calls-turn c))
+
+add-i : tie.Need-add-i Inv-loop μ-loop
+add-i c = omega (arith, few (calls-turn c))
+
+loop-less : tie.Need-loop-less Inv-loop μ-loop
+loop-less c = omega (arith, calls-turn c .loop-test .taken)
+
+loop-again : tie.Need-loop-again Inv-loop μ-loop
+loop-again c =
+    let turn = calls-turn c in
+    let inv = turn .before .loop .inv in
+    let value : c .before .reach-of .result * span + c .reach-of2 .result ≡ startOf (start turn .args .offsets .now) (turn .before .loop .i) =
+    omega (arith, first (c .before), second c) in (
+      omega (arith, turn .loop-test .taken),
+      starts-more (start turn .args .offsets .now) (turn .before .loop .i) (turn .before .loop .starts) (inv .1) (omega (arith, few turn)) _ value,
+    )
+
+returns : tie.Need-returns Inv-loop μ-loop
+returns c = λ i h. c .before .loop .inv .1 .each i (omega (arith, c .loop-test .left))
+
+pub starts-of-spec : {M : Type 1} → statement M
+starts-of-spec =
+    tie.close
+    (tie.spec
+    Inv-loop
+    μ-loop
+    loop-holds
+    mul-across
+    shared-slice-copy-out-across
+    mul-down
+    add-down
+    shared-slice-copy-out-down
+    reach-of-requires
+    mul-starts
+    reach-of-requires-2
+    add-starts
+    mul-starts-2
+    array-write-starts
+    add-i
+    loop-less
+    loop-again
+    returns)

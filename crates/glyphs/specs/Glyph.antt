@@ -1,0 +1,162 @@
+-- The new picture from the framed one: each cell is the net's value at the levels that its offsets lead to.
+-- Assumes nothing.
+use Prim.Native.Nat.{ℕ, zero, suc, _+_, _-_, _*_, _/_, _%_, _≤_, _<_}
+use mathlib.Core.Path.{_≡_, refl, sym, ap, ap₂, _∙_, subst}
+use mathlib.Core.List.{List, [], _∷_, _++_, map}
+use native.Mathlib.Nat.{zero-add, add-assoc, mul-comm, mul-le-mul, div-add-mod', mod-lt, div-lt-iff-lt-mul}
+use native.Mathlib.Omega.{arith}
+use lib.ListN.{length, getD, drop, replicate, length-drop, length-replicate}
+use lib.Seq.{ext-getD, length-take-le, getD-take, getD-drop}
+use lib.IntN.{ℤ, pos, _+ℤ_}
+use Rattle.rules.specs.Lists.{range, concatMap}
+use Rattle.rules.specs.Answers.{written}
+use Rattle.rules.specs.Sheets.{Gate}
+use Rattle.rules.specs.Glyphs.{mostSide, levelAt, across, down, levelsRead, valueWith}
+use Rattle.laws.specs.Concat.{concat-length}
+use Rattle.laws.specs.Glyphs.{IsPicture, AreOffsets}
+use Rattle.laws.specs.Pictures.{level-below}
+use Rattle.laws.specs.Ranges.{map-range-length, map-range-at, map-range-same, range-length}
+use Rattle.nets.specs.declared.forms.Net.{Net}
+use Rattle.nets.specs.Forms.{gatesOf}
+use Rattle.nets.specs.Room.{mostGates}
+use Rattle.nets.specs.Sound.{Sound, sound-size, gates-count, levels-pos}
+use Rattle.columns.specs.Values.{levelsIn, ValuesReady, ValuesDone}
+use Rattle.glyphs.specs.Offsets.{span, reach, startOf, moved, across-there, down-there, across-near, down-near}
+use Rattle.glyphs.specs.Frames.{frameSize, Empty, Framed}
+use Rattle.glyphs.specs.Rows.{rowAt, rowsFrom, RowsReady}
+
+-- the new picture of a gate list
+abbrev pub glyphBy : ℕ → ℕ → List Gate → ℕ → ℕ → List ℕ → List ℤ → List ℕ
+glyphBy m n gates width height picture offsets =
+    concatMap (λ y. map (λ x. valueWith m n gates (levelsRead n width height picture offsets x y)) (range 0 width)) (range 0 height)
+
+-- a new cell, for a net by value, and all of them
+abbrev pub cellOf : Net → ℕ → ℕ → List ℕ → List ℤ → ℕ → ℕ → ℕ
+cellOf net width height picture offsets x y =
+    valueWith (net .levels) (net .inputs) (gatesOf net) (levelsRead (net .inputs) width height picture offsets x y)
+
+abbrev pub glyphOf : Net → ℕ → ℕ → List ℕ → List ℤ → List ℕ
+glyphOf net width height picture offsets = glyphBy (net .levels) (net .inputs) (gatesOf net) width height picture offsets
+
+-- what printing asks
+pub record GlyphReady (net : Net) (width height : ℕ) (picture : List ℕ) (offsets : List ℤ) (out : List ℕ) : Type 0 where
+  pub sound : Sound net
+  pub picture-is : IsPicture (net .levels) width height picture
+  pub offsets-are : AreOffsets (net .inputs) offsets
+  pub room : width * height ≤ length out
+
+-- the places of the picture's cells in the frame, from the first to the last
+abbrev pub placesOf : ℕ → ℕ → ℕ
+placesOf width height = (height - 1) * span + width
+
+-- the framed picture, and the values of every gate
+abbrev pub mostValues : ℕ
+mostValues = frameSize + mostGates * ((mostSide - 1) * span + mostSide)
+
+zeros-at : (k q : ℕ) → _≡_ {A = ℕ} (getD (replicate k 0) q 0) 0
+zeros-at zero q = refl
+zeros-at (suc k) zero = refl
+zeros-at (suc k) (suc q) = zeros-at k q
+
+-- so many zeros are a frame with no picture in it yet
+pub blank : (k : ℕ) → frameSize ≤ k → Empty (replicate k 0)
+blank k h = record { room = rw length-replicate h; zeros = zeros-at k }
+
+pub blank-long : (k : ℕ) → length (replicate {A = ℕ} k 0) ≡ k
+blank-long k = length-replicate k 0
+
+concat-range-same : (f h : ℕ → List ℕ) (from count : ℕ) → ((i : ℕ) → from ≤ i → i < from + count → f i ≡ h i) → concatMap f (range from count) ≡ concatMap h (range from count)
+unfolding range concatMap
+concat-range-same f h from zero e = refl
+concat-range-same f h from (suc count) e =
+    ap₂ (λ (a b : List ℕ). a ++ b) (e from (omega arith) (omega arith)) (concat-range-same f h (suc from) count (λ i l u. e i (omega arith) (omega arith)))
+
+module _ (net : Net) (width height : ℕ) (picture : List ℕ) (offsets : List ℤ) (out : List ℕ) (ready : GlyphReady net width height picture offsets out)
+    (starts : List ℕ) (each : (i : ℕ) → i < net .inputs → getD starts i 0 ≡ startOf offsets i)
+    (before wires : List ℕ) (framed : Framed width height picture before wires) (long : length before ≡ mostValues) where
+  -- ---- the levels that are read
+
+  abbrev wide : width ≤ mostSide
+  wide = ready .picture-is .across .most
+
+  abbrev high : height ≤ mostSide
+  high = ready .picture-is .along .most
+
+  read : (x y : ℕ) → x < width → y < height → (i : ℕ) → i < net .inputs
+      → getD wires (getD starts i 0 + (y * span + x)) 0 ≡ levelAt width height picture (pos x +ℤ across offsets i) (pos y +ℤ down offsets i)
+  read x y h k i low =
+      let a = reach (across offsets i) in
+      let d = reach (down offsets i) in
+      let are = ready .offsets-are in
+      let near-a : a ≤ 4 = across-near (net .inputs) offsets are i low in
+      let near-d : d ≤ 4 = down-near (net .inputs) offsets are i low in
+      let place : getD starts i 0 + (y * span + x) ≡ (y + d) * span + (x + a) = omega (arith, each i low) in
+      ap (λ (q : ℕ). getD wires q 0) place
+      ∙ framed .level (x + a) (y + d) (omega (arith, wide)) (omega (arith, high))
+      ∙ ap₂ (levelAt width height picture)
+      (sym (unfold across in moved x (across offsets i) (are .near (2 * i) (across-there (net .inputs) offsets are i low))))
+      (sym (unfold down in moved y (down offsets i) (are .near (2 * i + 1) (down-there (net .inputs) offsets are i low))))
+
+  reads : (x y : ℕ) → x < width → y < height → levelsIn wires starts (net .inputs) (y * span + x) ≡ levelsRead (net .inputs) width height picture offsets x y
+  unfolding levelsRead
+  reads x y h k = map-range-same _ _ 0 (net .inputs) (λ i _ low. read x y h k i (omega arith))
+
+  -- every cell of the frame has a level
+  levels : (q : ℕ) → q < frameSize → getD wires q 0 < net .levels
+  levels q h =
+      let some : 0 < span = omega arith in
+      let row : q / span < span = div-lt-iff-lt-mul some .1 h in
+      let column : q % span < span = mod-lt q some in
+      subst (λ (p : ℕ). getD wires p 0 < net .levels) (div-add-mod' q span)
+      (rw (framed .level (q % span) (q / span) column row) (level-below (net .levels) width height picture (ready .picture-is) (levels-pos net (ready .sound)) _ _))
+
+  pub values-ready : ValuesReady net starts frameSize (placesOf width height) wires
+  values-ready =
+      record {
+        sound = ready .sound;
+        inputs-there = λ i low.
+            omega (arith, each i low, across-near (net .inputs) offsets (ready .offsets-are) i low, down-near (net .inputs) offsets (ready .offsets-are) i low, wide, high, ready .picture-is .along .some);
+        room =
+            let few : net .gates ≤ mostGates = omega (arith, gates-count net (ready .sound), sound-size net (ready .sound) .inputs-most) in
+            let small : placesOf width height ≤ (mostSide - 1) * span + mostSide = omega (arith, wide, high, ready .picture-is .along .some) in
+            let all : net .gates * placesOf width height ≤ mostGates * ((mostSide - 1) * span + mostSide) = mul-le-mul few small in
+            omega (arith, all, long, framed .same);
+        levels = levels;
+      }
+
+  -- ---- the values, row by row
+
+  module _ (after : List ℕ) (start : ℕ) (done : ValuesDone net starts (placesOf width height) wires after start) where
+    pub rows-ready : RowsReady after start width height out
+    rows-ready =
+        record {
+          wide = ready .picture-is .across;
+          high = ready .picture-is .along;
+          there = omega (arith, done .there);
+          room = rw (mul-comm height width) (ready .room);
+        }
+
+    row : (y : ℕ) → y < height → rowAt after start width y ≡ map (λ x. cellOf net width height picture offsets x y) (range 0 width)
+    row y k =
+        ext-getD 0 (rowAt after start width y) (map (λ x. cellOf net width height picture offsets x y) (range 0 width))
+        (row-long ∙ sym (map-range-length (λ x. cellOf net width height picture offsets x y) 0 width))
+        (λ x l. let h : x < width = omega (arith, row-long) in
+        getD-take width (drop (start + y * span) after) x 0 h ∙ getD-drop (start + y * span) after x 0
+        ∙ ap (λ (q : ℕ). getD after q 0) (add-assoc start (y * span) x)
+        ∙ done .values (y * span + x) (omega arith)
+        ∙ ap (valueWith (net .levels) (net .inputs) (gatesOf net)) (reads x y h k)
+        ∙ sym (map-range-at (λ x. cellOf net width height picture offsets x y) 0 width x 0 h ∙ ap (λ (z : ℕ). cellOf net width height picture offsets z y) (zero-add x)))
+      where
+        row-long : length (rowAt after start width y) ≡ width
+        row-long = length-take-le width (drop (start + y * span) after) (rw length-drop (omega (arith, done .there)))
+
+    pub rows-are : (then : List ℕ) → then ≡ rowsFrom after start width height ++ drop (height * width) out → then ≡ written out (glyphOf net width height picture offsets)
+    unfolding written
+    rows-are then e =
+        let rows : rowsFrom after start width height ≡ glyphOf net width height picture offsets =
+        concat-range-same (rowAt after start width) (λ y. map (λ x. cellOf net width height picture offsets x y) (range 0 width)) 0 height (λ y _ k. row y (omega arith)) in
+        let cells : length (glyphOf net width height picture offsets) ≡ height * width =
+        concat-length (λ y. map (λ x. cellOf net width height picture offsets x y) (range 0 width)) width
+        (λ y. map-range-length (λ x. cellOf net width height picture offsets x y) 0 width) (range 0 height)
+        ∙ ap (λ (k : ℕ). k * width) (range-length 0 height) in
+        e ∙ ap₂ (λ (a : List ℕ) (k : ℕ). a ++ drop k out) rows (sym cells)

@@ -1,0 +1,42 @@
+-- The digits of each gate of a net: they are m·m digits below m, and lie within the net's.
+-- Assumes nothing.
+use Prim.Native.Nat.{ℕ, zero, suc, _+_, _*_, _≤_, _<_}
+use mathlib.Core.Path.{_≡_}
+use mathlib.Core.List.{map}
+use native.Mathlib.Nat.{zero-add, add-zero, mul-pos}
+use native.Mathlib.Omega.{arith}
+use lib.ListN.{length, length-take, length-drop}
+use Rattle.rules.specs.Lists.{range}
+use Rattle.rules.specs.Sheets.{Gate}
+use Rattle.rules.specs.Kept.{GateTable, Tables}
+use Rattle.nets.specs.declared.forms.Net.{Net}
+use Rattle.nets.specs.Forms.{gateOf, gatesOf}
+use Rattle.nets.specs.Sound.{Sound, levels-pos}
+
+-- ---- what holds of a gate list holds of each gate
+
+module _ (f : ℕ → Gate) where
+  table-at : (m from count k : ℕ) → k < count → Tables m (map f (range from count)) → GateTable m (f (from + k) .digits)
+  unfolding range
+  table-at m from zero k h t = absurd (omega arith)
+  table-at m from (suc count) zero h t = rw add-zero (t .0)
+  table-at m from (suc count) (suc k) h t =
+      let e : from + suc k ≡ suc from + k = omega arith in
+      rw e (table-at m (suc from) count k (omega arith) (t .1))
+
+  pub tables-front : (m from k count : ℕ) → k ≤ count → Tables m (map f (range from count)) → Tables m (map f (range from k))
+  unfolding range
+  tables-front m from zero count h t = tt
+  tables-front m from (suc k) zero h t = absurd (omega arith)
+  tables-front m from (suc k) (suc count) h t = (t .0, tables-front m (suc from) k count (omega arith) (t .1))
+
+-- ---- the gate with k gates before it
+
+module _ (net : Net) (sound : Sound net) (k : ℕ) (turn : k < net .gates) where
+  pub gate-table : GateTable (net .levels) (gateOf net k .digits)
+  unfolding gatesOf
+  gate-table = rw zero-add at (table-at (gateOf net) (net .levels) 0 (net .gates) k turn (sound .gates .rules .tables))
+
+  pub digits-within : k * (net .levels * net .levels) + net .levels * net .levels ≤ length (net .digits)
+  unfolding gateOf
+  digits-within = omega (arith, mul-pos (levels-pos net sound) (levels-pos net sound), simp (length-take, length-drop) at (gate-table .count))
