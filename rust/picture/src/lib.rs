@@ -2,7 +2,7 @@
 //!
 //! | module   | idea                                                      |
 //! |----------|-----------------------------------------------------------|
-//! | `tree`   | an accepted net sheet, taken apart                        |
+//! | `tree`   | a net's output, and its gates' digits by row and column   |
 //! | `layout` | where each box and wire of the tree lies                  |
 //! | `svg`    | the tree drawn at those places                            |
 //! | `dot`    | the tree for Graphviz, which finds places of its own      |
@@ -14,15 +14,14 @@ pub mod layout;
 pub mod svg;
 pub mod tree;
 
-use sitgurp::Refusal;
-use tree::Tree;
+use sitgurp::{Net, Refusal};
 
 /// The drawing of a net sheet as SVG.
 pub fn svg_of(sheet: &[u8]) -> Result<String, Refusal> {
-    Ok(svg::draw(&Tree::of(sheet)?))
+    Ok(svg::draw(&Net::read(sheet)?))
 }
 
 /// The tree of a net sheet as Graphviz DOT.
 pub fn dot_of(sheet: &[u8]) -> Result<String, Refusal> {
-    Ok(dot::write(&Tree::of(sheet)?))
+    Ok(dot::write(&Net::read(sheet)?))
 }

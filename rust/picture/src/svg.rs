@@ -1,7 +1,8 @@
 //! A tree drawn as SVG, one element a line.
 
 use crate::layout::{Area, Layout, Path, CAPTION, CELL, HEADING, OUTPUT, PADDING, TITLE};
-use crate::tree::Tree;
+use crate::tree::{digit, root};
+use sitgurp::Net;
 
 /// Dark on light, and digits dark enough on the darkest cell.
 const STYLE: &str = "\
@@ -21,22 +22,28 @@ text { font-family: 'DejaVu Sans Mono', Menlo, Consolas, monospace; fill: #1f293
 /// The grey of the highest level's cells; level 0 is white.
 const DARKEST: usize = 172;
 
+/// The grey of a level, which a digit can be read on.
+pub fn shade(level: u8, levels: usize) -> String {
+    let grey = 255 - (255 - DARKEST) * usize::from(level) / (levels - 1);
+    format!("rgb({grey},{grey},{grey})")
+}
+
 /// The distance between two lines under the tree.
 const CAPTION_LINE: i32 = 18;
 
-pub fn draw(tree: &Tree) -> String {
-    let layout = Layout::of(tree);
-    let mut page = Page::open(tree, &layout);
+pub fn draw(net: &Net) -> String {
+    let layout = Layout::of(net);
+    let mut page = Page::open(net, &layout);
     for path in layout.wires.iter().flatten() {
         page.wire(path);
     }
-    for (name, area) in tree.names.iter().zip(&layout.areas.inputs) {
+    for (name, area) in net.names().iter().zip(&layout.areas.inputs) {
         page.input(name, area);
     }
-    for gate in 0..tree.gates.len() {
-        page.gate(tree, gate, &layout.areas.gates[gate]);
+    for gate in 0..net.gates().len() {
+        page.gate(net, gate, &layout.areas.gates[gate]);
     }
-    page.output(&layout.areas.at(tree.root()));
+    page.output(&layout.areas.at(root(net)));
     page.caption(&layout);
     page.close()
 }
@@ -47,9 +54,9 @@ struct Page {
 }
 
 impl Page {
-    fn open(tree: &Tree, layout: &Layout) -> Page {
+    fn open(net: &Net, layout: &Layout) -> Page {
         let Layout { width, height, .. } = layout;
-        let (levels, inputs) = (tree.levels, tree.names.len());
+        let (levels, inputs) = (net.levels(), net.names().len());
         let title = format!("A net of {levels} levels and {inputs} inputs");
         let lines = vec![
             format!(
@@ -102,17 +109,17 @@ impl Page {
         self.text("name", area.x + area.width / 2, area.middle(), name);
     }
 
-    fn gate(&mut self, tree: &Tree, gate: usize, area: &Area) {
+    fn gate(&mut self, net: &Net, gate: usize, area: &Area) {
         self.rect("gate", area, " rx=\"6\"");
         let number = format!("gate {}", gate + 1);
         let middle = area.x + area.width / 2;
         self.text("number", middle, area.y + TITLE / 2, &number);
         let (x, y) = (area.x + PADDING + HEADING, area.y + TITLE + HEADING);
-        self.levels(tree.levels, x, y);
-        for row in 0..tree.levels {
-            for column in 0..tree.levels {
+        self.levels(net.levels(), x, y);
+        for row in 0..net.levels() {
+            for column in 0..net.levels() {
                 let cell = cell_at(x, y, row, column);
-                self.cell(tree.digit(gate, row, column), tree.levels, &cell);
+                self.cell(digit(net, gate, row, column), net.levels(), &cell);
             }
         }
     }
@@ -127,12 +134,11 @@ impl Page {
         }
     }
 
-    fn cell(&mut self, digit: &str, levels: usize, cell: &Area) {
-        let level: usize = digit.parse().expect("a digit");
-        let grey = 255 - (255 - DARKEST) * level / (levels - 1);
-        let fill = format!(" fill=\"rgb({grey},{grey},{grey})\"");
+    fn cell(&mut self, level: u8, levels: usize, cell: &Area) {
+        let fill = format!(" fill=\"{}\"", shade(level, levels));
         self.rect("cell", cell, &fill);
-        self.text("digit", cell.x + CELL / 2, cell.middle(), digit);
+        let digit = level.to_string();
+        self.text("digit", cell.x + CELL / 2, cell.middle(), &digit);
     }
 
     fn output(&mut self, last: &Area) {

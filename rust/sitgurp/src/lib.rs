@@ -1,6 +1,21 @@
 //! Safe Rust over the proved Sitgurp library: tables of shades, and the trees of two-input gates that compute them.
 //!
-//! Every call is the library's; nothing here decides what the library decides. Buffers are lent as in document 01, and
+//! Every call is the library's; nothing here decides what the library decides. [`Table`] and [`Net`] are sheets that the library has accepted, and
+//! most programs need no more than these two:
+//!
+//! ```
+//! use sitgurp::Table;
+//!
+//! fn main() -> Result<(), sitgurp::Refusal> {
+//!     let table = Table::from_rule(3, &["day", "near", "weight"], |levels| *levels.iter().max().unwrap())?;
+//!     let net = table.settled()?;
+//!     assert_eq!(net.value(&[0, 2, 1]), Some(2));
+//!     println!("{net}");
+//!     Ok(())
+//! }
+//! ```
+//!
+//! Below them are the calls on bytes. Buffers are lent as in document 01, and
 //! [`settled`], [`made`] and [`table_of`] lend buffers of the sizes that always suffice. [`settled_shallow`] and [`made_shallow`] give the
 //! tree of fewest layers in place of the settled one, and [`Family`] walks every tree that computes a table. [`multiplicities`] and
 //! [`fewest_levels`] put together what calls of the library answer about a table without a tree. [`arrivals`] says when a net's output settles.
@@ -30,18 +45,25 @@ mod arrivals;
 mod counting;
 mod family;
 mod ffi;
+mod header;
+mod kind;
 mod lister;
+mod net;
 mod refusal;
 mod shallow;
+mod table;
 
 pub use arrivals::{arrivals, Settling};
 pub use counting::{fewest_levels, multiplicities};
 pub use family::{family_count, family_tree, Family};
+pub use kind::Kind;
 pub use lister::Lister;
+pub use net::{Gate, Net, Wire};
 pub use refusal::{Named, Refusal};
 pub use shallow::{
     made_shallow, make_shallow, settle_shallow, settled_shallow, shallower, Layered,
 };
+pub use table::{Row, Shallow, Table, Trees};
 
 /// The most cells that a table has, and so the cells buffer that always suffices.
 pub const MOST_CELLS: usize = 4_096;
