@@ -4,6 +4,7 @@ use crate::commands::{self, Command};
 use crate::help;
 use crate::outcome::Failure;
 use std::ffi::{OsStr, OsString};
+use std::path::Path;
 
 /// An option of a command; `value` is what its value is called, where it takes one.
 pub struct Opt {
@@ -139,8 +140,13 @@ fn named(name: &OsStr) -> Result<&'static Command, Failure> {
         .copied()
         .ok_or_else(|| {
             let name = name.to_string_lossy();
+            // a sheet where a command is due
+            let likely = match Path::new(&*name).is_file() {
+                true => format!("`sitgurp make {name}` makes its tree, and "),
+                false => String::new(),
+            };
             Failure::Usage(help::named(format!(
-                "there is no command `{name}`; `sitgurp --help` lists them"
+                "there is no command `{name}`; {likely}`sitgurp --help` lists the commands"
             )))
         })
 }

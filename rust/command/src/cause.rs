@@ -149,10 +149,7 @@ fn other_sheet(due: Due, sheet: &[u8]) -> Option<String> {
         _ if sheet.starts_with(b"name from to") && due != Due::Arrivals => Due::Arrivals.name(),
         _ => return None,
     };
-    Some(format!(
-        "this is a {name}, and a {} is due here",
-        due.name()
-    ))
+    Some(format!("this is {name}, and {} is due here", due.name()))
 }
 
 /// Rows that are missing, repeated, or in another order.

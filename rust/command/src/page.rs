@@ -15,14 +15,16 @@ body { margin: 0 auto; padding: 1rem; max-width: 60rem; font: 1rem/1.5 system-ui
 h1 { font-size: 1.5rem; margin: 0 0 .25rem; overflow-wrap: anywhere; }
 h2 { font-size: 1.15rem; margin: 1.75rem 0 .5rem; }
 .facts { color: #52606d; margin: 0; }
-.wide { overflow-x: auto; border: 1px solid #cbd2d9; border-radius: .4rem; }
+.wide { overflow-x: auto; background: #fbfcfd; border: 1px solid #cbd2d9; border-radius: .4rem; }
 .wide svg { display: block; }
 .rows { max-height: 24rem; overflow: auto; border: 1px solid #cbd2d9; border-radius: .4rem; width: fit-content; max-width: 100%; }
 table { border-collapse: collapse; font: .9rem/1.4 'DejaVu Sans Mono', Menlo, Consolas, monospace; }
 th, td { padding: .1rem .7rem; text-align: center; border-bottom: 1px solid #e4e7eb; }
 th { position: sticky; top: 0; background: #f5f7fa; }
 pre { font: .9rem/1.4 'DejaVu Sans Mono', Menlo, Consolas, monospace; background: #f5f7fa; padding: .6rem .8rem; overflow-x: auto; border-radius: .4rem; }
-li { font-family: 'DejaVu Sans Mono', Menlo, Consolas, monospace; font-size: .9rem; overflow-wrap: anywhere; }
+code, li { font-family: 'DejaVu Sans Mono', Menlo, Consolas, monospace; font-size: .9rem; overflow-wrap: anywhere; }
+ul { padding-left: 1.2rem; }
+@media print { .rows { max-height: none; overflow: visible; } }
 ";
 
 /// How many lines of a list a page has.
@@ -81,7 +83,7 @@ fn refused(fault: &Fault) -> String {
     let changes = mend(fault.table);
     let mut body = String::from("<h2>It has no tree</h2>\n");
     for paragraph in paragraphs(fault, changes.as_deref(), LINES) {
-        body += &format!("<p>{}</p>\n", text(&paragraph.words));
+        body += &format!("<p>{}</p>\n", with_code(&paragraph.words));
         if !paragraph.lines.is_empty() {
             let items: Vec<String> = paragraph
                 .lines
@@ -132,6 +134,16 @@ fn rows(table: &Table) -> String {
         );
     }
     html + "</table>\n</div>\n"
+}
+
+/// Words in which what stands between backquotes is code.
+fn with_code(words: &str) -> String {
+    let pieces = words.split('`').enumerate();
+    let pieces = pieces.map(|(k, piece)| match k % 2 {
+        0 => text(piece),
+        _ => format!("<code>{}</code>", text(piece)),
+    });
+    pieces.collect()
 }
 
 /// Text as HTML has it.

@@ -15,9 +15,9 @@ pub enum Due {
 impl Due {
     pub fn name(self) -> &'static str {
         match self {
-            Due::Table => "table sheet",
-            Due::Net => "net sheet",
-            Due::Arrivals => "arrival sheet",
+            Due::Table => "a table sheet",
+            Due::Net => "a net sheet",
+            Due::Arrivals => "an arrival sheet",
         }
     }
 }
@@ -143,7 +143,7 @@ pub fn sentence(kind: Kind, front: &Front) -> String {
 fn layout(front: &Front) -> String {
     let line = front.line;
     if front.sheet.is_empty() {
-        return format!("there is nothing to read: a {} is due", front.due.name());
+        return format!("there is nothing to read: {} is due", front.due.name());
     }
     let size_known = front.due == Due::Arrivals || line > 2;
     if size_known && line > front.lines_due() {

@@ -39,13 +39,13 @@ pub fn levels(levels: &[u8]) -> String {
     levels.join(" ")
 }
 
-/// `weight 0, near 2`.
+/// `weight=0 near=2`, as `eval` takes it.
 pub fn assignment<T: AsRef<str>>(names: &[T], levels: &[u8]) -> String {
     let pairs = names.iter().zip(levels);
     let pairs: Vec<String> = pairs
-        .map(|(name, level)| format!("{} {level}", name.as_ref()))
+        .map(|(name, level)| format!("{}={level}", name.as_ref()))
         .collect();
-    pairs.join(", ")
+    pairs.join(" ")
 }
 
 /// Text in lines of no more than so many letters, broken between words.

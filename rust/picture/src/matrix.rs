@@ -18,10 +18,10 @@ const GAP: i32 = 12;
 const LINE: i32 = 16;
 /// At least the width of a letter.
 const LETTER: i32 = 8;
-/// The room for the title, for the classes' numbers, and for the other inputs' names.
+/// The room for the title and for the classes' numbers, and above the first row.
 const TITLE: i32 = 28;
 const CLASS: i32 = 22;
-const NAMES: i32 = 8;
+const ABOVE: i32 = 8;
 
 /// The matrix of a group: bit i of its number is input i.
 pub fn draw(table: &Table, group: usize) -> String {
@@ -78,12 +78,8 @@ impl Places {
             x += GAP;
         }
         let levels = MARGIN + TITLE + CLASS;
-        let names = if partition.others.is_empty() {
-            0
-        } else {
-            LINE + NAMES
-        };
-        let top = levels + LINE * partition.members.len() as i32 + names;
+        let names = if partition.others.is_empty() { 0 } else { LINE };
+        let top = levels + LINE * partition.members.len() as i32 + names + ABOVE;
         Places {
             columns,
             left,

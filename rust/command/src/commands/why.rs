@@ -94,7 +94,7 @@ fn group(fault: &Fault, most: usize) -> Paragraph {
     let m = fault.table.levels();
     let words = format!(
         "No tree of two-input gates computes this table. At fault are {} together (refusal 16, group {}): they could leave on one wire, but the gate that \
-         joins them takes them in two parts, each on a wire of its own, and a wire carries {m} levels. Every way to part them needs more:",
+         joins them takes them in two parts, each on a wire of its own, and a wire carries {m} levels. Every way to part them needs more of one part:",
         list(&names),
         fault.group()
     );
@@ -108,7 +108,7 @@ fn group(fault: &Fault, most: usize) -> Paragraph {
 fn split_line(fault: &Fault, split: &Split) -> String {
     let [left, right] = split.parts.map(|part| fault.names(part).join(" "));
     let [a, b] = split.classes;
-    format!("{left} | {right}: {left} needs {a}, {right} needs {b}")
+    format!("{left} | {right}: {a} and {b} levels")
 }
 
 /// Rows of the part at fault that must be told apart.
