@@ -180,8 +180,16 @@ fn help_and_version() {
         assert!(help.out.contains("-o FILE") && help.out.contains("--json"));
     }
     // a command has two lines
-    assert_eq!(general.out.matches("
-  ").count(), 2 * COMMANDS.len());
+    assert_eq!(
+        general
+            .out
+            .matches(
+                "
+  "
+            )
+            .count(),
+        2 * COMMANDS.len()
+    );
     // called by another name
     let mut command = folder.command();
     let called = command

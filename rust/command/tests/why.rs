@@ -5,19 +5,12 @@ mod common;
 use common::{answers, examples, Folder, SUM_TABLE};
 use sitgurp::Table;
 
-/// Just enough of JSON to look into what `why` gives: the numbers behind a name.
+/// Just enough of JSON to look into what `why` gives: the number behind each use of a name.
 fn numbers_of(json: &str, name: &str) -> Vec<usize> {
-    let mut numbers = Vec::new();
-    for part in json.split(&format!("\"{name}\":")).skip(1) {
-        let end = part.find([']', '}', '{']).unwrap_or(part.len());
-        let digits = part[..end].split(|c: char| !c.is_ascii_digit());
-        numbers.extend(
-            digits
-                .filter(|n| !n.is_empty())
-                .map(|n| n.parse::<usize>().expect("a number")),
-        );
-    }
-    numbers
+    let member = format!("\"{name}\":");
+    let uses = json.split(member.as_str()).skip(1);
+    let numbers = uses.map(|part| part.split([',', '}', ']']).next().expect("a value").parse());
+    numbers.map(|number| number.expect("a number")).collect()
 }
 
 #[test]
