@@ -6,9 +6,9 @@ is_old() {
     [ ! -f "$1" ] || [ -n "$(find "$here/crates" "$here/crates.txt" -newer "$1" -print -quit)" ]
 }
 
-# How many crates of crates.txt the named ones stand on, themselves counted.
+# How many crates of crates.txt a crate stands on, itself counted.
 crates_under() {
-    awk -v names="$*" '
+    awk -v goal="$1" '
         function reach(name,    words, count, k) {
             if (!(name in line) || name in seen) return
             seen[name] = 1
@@ -17,37 +17,37 @@ crates_under() {
             for (k = 2; k <= count; k++) reach(words[k])
         }
         !/^#/ && NF { name = $1; sub(/:$/, "", name); line[name] = $0 }
-        END { count = split(names, goals, " "); for (k = 1; k <= count; k++) reach(goals[k]); print total }
+        END { reach(goal); print total }
     ' "$here/crates.txt"
 }
 
-# Says of each crate that it is proved, and how many there are.
+# Says how many of the crates are proved, and the name of the last. The one that was asked for comes last: it is named when its turn has come.
 proving() {
-    local total=$1 done=0 line name
+    local goal=$1 total=$2 done=0 line name
     while IFS= read -r line; do
         case $line in
+        "rt: $goal proved ("*) ;;
         'rt: '*' proved ('*)
             name=${line#rt: }
             done=$((done + 1))
-            printf 'crate %d of %d: %s\n' "$done" "$total" "${name%% *}" >&2
+            case $line in
+            *'(unchanged'*) ;;
+            *) printf 'crate %d of %d: %s\n' "$done" "$total" "${name%% *}" >&2 ;;
+            esac
+            [ "$done" -ne $((total - 1)) ] || printf 'crate %d of %d: %s\n' "$total" "$total" "$goal" >&2
             ;;
         esac
     done
 }
 
-# Runs rt with these words, over the crates named after `--`.
+# Proves a crate with `rt check` or `rt staticlib`; the third word is what it is called.
 prove() {
-    local words=() log=$here/target/run.log
-    while [ "$1" != -- ]; do
-        words+=("$1")
-        shift
-    done
-    shift
+    local log=$here/target/run.log
     mkdir -p "$here/target"
-    echo 'proving the library: once, some minutes' >&2
-    if ! (cd "$here" && rt "${words[@]}" "$@" 2>&1) | tee "$log" | proving "$(crates_under "$@")"; then
+    echo "proving $3: once, some minutes" >&2
+    if ! (cd "$here" && rt "$1" "$2" 2>&1) | tee "$log" | proving "$2" "$(crates_under "$2")"; then
         tail -n 20 "$log" >&2
-        echo "rt ${words[*]} $* has failed; $log has all that it said" >&2
+        echo "rt $1 $2 has failed; $log has all that it said" >&2
         exit 2
     fi
 }
@@ -55,7 +55,7 @@ prove() {
 # The static library.
 library() {
     if is_old "$here/target/staticlib/libcapi.a"; then
-        prove staticlib -- capi
+        prove staticlib capi 'the library'
     fi
 }
 

@@ -3,6 +3,7 @@
 mod common;
 
 use common::{refuses, Folder, SUM_NET, SUM_TABLE};
+use reference::generate::{Generator, TableKind};
 
 /// What `make` says of a table sheet.
 fn of_table(name: &str, sheet: impl AsRef<[u8]>, words: &str) {
@@ -304,4 +305,29 @@ fn any_bytes() {
             );
         }
     }
+}
+
+/// A damaged sheet is refused with its line and column, or is good after all; whatever it is, it is said in words.
+#[test]
+fn damaged_sheets() {
+    let folder = Folder::new("damaged");
+    let mut generator = Generator::new(2_302);
+    let mut refused = 0;
+    for (m, n) in [(2, 2), (2, 3), (3, 2), (4, 2), (3, 3)] {
+        for _ in 0..24 {
+            let table = generator.table_sheet(m, n, TableKind::OfNet);
+            let net = generator.net_sheet(m, n);
+            folder
+                .put("my.table", generator.damaged(&table))
+                .put("my.net", generator.damaged(&net));
+            for (words, file) in [("why my.table", "my.table:"), ("settle my.net", "my.net:")] {
+                let ended = folder.run(words);
+                let good = ended.status == 0 && ended.err.is_empty();
+                let said = ended.status == 1 && ended.err.starts_with(file);
+                assert!(good || said, "{}", ended.err);
+                refused += usize::from(said);
+            }
+        }
+    }
+    assert!(refused > 120, "{refused}");
 }

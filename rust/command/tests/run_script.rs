@@ -7,8 +7,8 @@ use std::fs;
 use std::os::unix::fs::PermissionsExt;
 use std::process::Command;
 
-const RT: &str = "#!/bin/sh\necho 'rt: rules proved (3 s)'\necho 'fn x: proved'\necho 'rt: laws proved (unchanged since it was last proved)' >&2\n\
-                  mkdir -p target/staticlib && : > target/staticlib/libcapi.a\necho 'rt: capi proved (1 s)'\n";
+const RT: &str = "#!/bin/sh\necho 'rt: rules proved (3 s)'\necho 'fn x: proved'\necho 'rt: laws proved (2 s)' >&2\n\
+                  mkdir -p target/staticlib && : > target/staticlib/libcapi.a\necho 'rt: target/staticlib/libcapi.a has the functions of capi'\n";
 const BAD_RT: &str = "#!/bin/sh\necho 'rt: rules proved (3 s)'\necho 'error: not proved'\nexit 1\n";
 const CARGO: &str = "#!/bin/sh\nmkdir -p target/release\n\
                      printf '#!/bin/sh\\necho \"$SITGURP_AS: $*\"\\n' > target/release/sitgurp\nchmod +x target/release/sitgurp\n";
@@ -36,19 +36,20 @@ fn scripts(name: &str, rt: &str) -> Folder {
     folder
 }
 
+/// `./run` with the folder's own programs.
+fn script(folder: &Folder) -> Command {
+    let path = std::env::var("PATH").expect("a path");
+    let mut command = Command::new("./run");
+    command
+        .current_dir(&folder.0)
+        .env("PATH", format!("{}:{path}", folder.0.join("bin").display()));
+    command
+}
+
 /// Status, standard output and standard error of `./run` with these words.
 fn run(folder: &Folder, words: &[&str]) -> (Option<i32>, String, String) {
-    let path = format!(
-        "{}:{}",
-        folder.0.join("bin").display(),
-        std::env::var("PATH").expect("a path")
-    );
-    let ended = Command::new("./run")
-        .current_dir(&folder.0)
-        .args(words)
-        .env("PATH", path)
-        .output()
-        .expect("the script runs");
+    let ended = script(folder).args(words).output();
+    let ended = ended.expect("the script runs");
     let text = |bytes: &[u8]| String::from_utf8_lossy(bytes).into_owned();
     (
         ended.status.code(),
@@ -72,6 +73,18 @@ fn the_first_run_counts_the_crates() {
         (status, out),
         (Some(0), format!("./run: make {}\n", example.display()))
     );
+    // a table that is given is not passed over
+    folder.put("my.table", "levels inputs\n").put("empty", "");
+    let on = |file: &str| {
+        let input = fs::File::open(folder.0.join(file)).expect("a file");
+        let ended = script(&folder)
+            .stdin(input)
+            .output()
+            .expect("the script runs");
+        String::from_utf8_lossy(&ended.stdout).into_owned()
+    };
+    assert_eq!(on("my.table"), "./run: make -\n");
+    assert!(on("empty").ends_with("/examples/seven.table\n"));
     // what is built is not built again
     let words = ["why", "my table"];
     assert_eq!(
