@@ -13,8 +13,9 @@ fn main() {
     let folder = given.clone().unwrap_or(own);
     for name in ["sitgurp", "capi"] {
         let archive = folder.join(format!("lib{name}.a"));
-        println!("cargo:rerun-if-changed={}", archive.display());
+        // a file that is not there would count as changed in every build
         if archive.exists() {
+            println!("cargo:rerun-if-changed={}", archive.display());
             println!("cargo:rustc-link-search=native={}", folder.display());
             println!("cargo:rustc-link-lib=static={name}");
             return;

@@ -149,7 +149,15 @@ fn other_sheet(due: Due, sheet: &[u8]) -> Option<String> {
         _ if sheet.starts_with(b"name from to") && due != Due::Arrivals => Due::Arrivals.name(),
         _ => return None,
     };
-    Some(format!("this is {name}, and {} is due here", due.name()))
+    let program = words::program();
+    let made = match (due, name == Due::Table.name()) {
+        (Due::Net, true) => format!("; `{program} make` makes the net of a table"),
+        _ => String::new(),
+    };
+    Some(format!(
+        "this is {name}, and {} is due here{made}",
+        due.name()
+    ))
 }
 
 /// Rows that are missing, repeated, or in another order.

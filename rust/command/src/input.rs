@@ -2,6 +2,7 @@
 
 use crate::call::Call;
 use crate::outcome::Failure;
+use crate::words::count;
 use std::ffi::OsStr;
 use std::fs::File;
 use std::io::{self, IsTerminal, Read};
@@ -30,10 +31,8 @@ pub fn of_names<const N: usize>(call: &Call, names: &[&OsStr]) -> Result<[Sheet;
         names.push("-".as_ref());
     }
     let names = <[&OsStr; N]>::try_from(names).map_err(|given| {
-        call.wrong(format!(
-            "it takes {N} sheets, and {} are named",
-            given.len()
-        ))
+        let takes = count(N, "sheet");
+        call.wrong(format!("it takes {takes}, and {} are named", given.len()))
     })?;
     if names.iter().filter(|name| **name == "-").count() > 1 {
         return Err(call.wrong("one sheet at most can be standard input".to_string()));

@@ -172,6 +172,10 @@ fn table_and_eval() {
         "sitgurp eval: `d` is no input of this net; its inputs are a, b and c\n",
     );
     is_wrong(
+        folder.run("eval sum.net 1 0 0"),
+        "sitgurp eval: `1` is no level of an input; write it as NAME=LEVEL\n",
+    );
+    is_wrong(
         folder.run("eval sum.net a=1 a=0"),
         "sitgurp eval: a is given twice\n",
     );

@@ -146,6 +146,12 @@ fn the_rust_crate_takes_a_folder() {
         "cargo:rustc-link-search=native={}\ncargo:rustc-link-lib=static=sitgurp\n",
         lib.display()
     )));
+    // what is watched is there: a file that is not would be built anew every time
+    for line in text(&good.stdout).lines() {
+        if let Some(file) = line.strip_prefix("cargo:rerun-if-changed=") {
+            assert!(Path::new(file).is_file(), "{file}");
+        }
+    }
     let missing = build(Some(Path::new("/none")));
     assert_eq!(missing.status.code(), Some(1));
     assert_eq!(

@@ -258,7 +258,7 @@ fn gates() {
 #[test]
 fn another_sheet() {
     of_table("net_for_table", SUM_NET, "my.table:3:6: line 3 should have the names of the 3 inputs and then `ink`, one space apart (refusal 1)\n    a b c\n         ^\nlikely cause: this is a net sheet, and a table sheet is due here\n");
-    of_net("table_for_net", SUM_TABLE, "my.net:3:6: line 3 should have the names of the 3 inputs, one space apart (refusal 1)\n    a b c ink\n         ^\nlikely cause: this is a table sheet, and a net sheet is due here\n");
+    of_net("table_for_net", SUM_TABLE, "my.net:3:6: line 3 should have the names of the 3 inputs, one space apart (refusal 1)\n    a b c ink\n         ^\nlikely cause: this is a table sheet, and a net sheet is due here; `sitgurp make` makes the net of a table\n");
 }
 
 #[test]

@@ -26,6 +26,12 @@ fn run(call: &Call) -> Result<Answer, Failure> {
     let is_level = |word: &&OsStr| word.to_string_lossy().contains('=');
     let words = call.operands.iter().map(AsRef::as_ref);
     let (levels, names): (Vec<&OsStr>, Vec<&OsStr>) = words.partition(is_level);
+    if names.len() > 1 {
+        let odd = names[1].to_string_lossy();
+        return Err(call.wrong(format!(
+            "`{odd}` is no level of an input; write it as NAME=LEVEL"
+        )));
+    }
     let [sheet] = of_names(call, &names)?;
     let net = refused::net(&sheet)?;
     let assignment = assignment(call, &net, &levels)?;
