@@ -41,29 +41,33 @@
 //! assert_eq!(marks, [0, 2, 2, 0, 2, 0, 0, 1]);
 //! ```
 
+// tables and nets as types
+mod header;
+mod kind;
+mod net;
+mod table;
+
+pub use kind::Kind;
+pub use net::{Gate, Net, Wire};
+pub use table::{Row, Shallow, Table, Trees};
+
+// the calls on bytes
 mod arrivals;
 mod counting;
 mod family;
 mod ffi;
-mod header;
-mod kind;
 mod lister;
-mod net;
 mod refusal;
 mod shallow;
-mod table;
 
 pub use arrivals::{arrivals, Settling};
 pub use counting::{fewest_levels, multiplicities};
 pub use family::{family_count, family_tree, Family};
-pub use kind::Kind;
 pub use lister::Lister;
-pub use net::{Gate, Net, Wire};
 pub use refusal::{Named, Refusal};
 pub use shallow::{
     made_shallow, make_shallow, settle_shallow, settled_shallow, shallower, Layered,
 };
-pub use table::{Row, Shallow, Table, Trees};
 
 /// The most cells that a table has, and so the cells buffer that always suffices.
 pub const MOST_CELLS: usize = 4_096;
