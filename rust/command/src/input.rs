@@ -2,6 +2,7 @@
 
 use crate::call::Call;
 use crate::outcome::Failure;
+use crate::output::to_error;
 use crate::words::count;
 use std::ffi::OsStr;
 use std::fs::File;
@@ -49,7 +50,7 @@ pub fn of_names<const N: usize>(call: &Call, names: &[&OsStr]) -> Result<[Sheet;
 fn read(name: &OsStr) -> Result<Sheet, Failure> {
     if name == "-" {
         if io::stdin().is_terminal() {
-            eprintln!("reading a sheet from the keyboard: its lines, then Ctrl-D");
+            to_error("reading a sheet from the keyboard: its lines, then Ctrl-D\n");
         }
         return whole(STANDARD.to_string(), io::stdin());
     }

@@ -72,15 +72,15 @@ pub fn told(call: &Call, result: Result<Answer, Failure>) -> u8 {
         Err(failure) => return failed(&failure, call.json),
     };
     for note in &answer.notes {
-        eprint!("{note}");
+        output::to_error(note);
     }
     let text = match call.json {
         true => answer.json.to_string().into_bytes(),
         false => answer.text,
     };
     let written = match &call.output {
-        Some(file) => output::to_file(file.as_ref(), &text),
-        None => output::to_standard(&text),
+        Some(file) if file != "-" => output::to_file(file.as_ref(), &text),
+        _ => output::to_standard(&text),
     };
     match written {
         Err(failure) => failed(&failure, false),
@@ -102,12 +102,12 @@ pub fn failed(failure: &Failure, json: bool) -> u8 {
         }
         Failure::Refused(refused) => {
             for one in refused {
-                eprint!("{one}");
+                output::to_error(&one.to_string());
             }
             NO
         }
         Failure::Usage(words) | Failure::File(words) => {
-            eprintln!("{}", words.trim_end());
+            output::to_error(&format!("{}\n", words.trim_end()));
             WRONG
         }
     }

@@ -20,6 +20,11 @@ pub fn to_standard(text: &[u8]) -> Result<(), Failure> {
         .map_err(refused)
 }
 
+/// To standard error. Where that cannot be written either, the status still tells.
+pub fn to_error(text: &str) {
+    io::stderr().write_all(text.as_bytes()).ok();
+}
+
 /// To a file: beside it first, and then put in its place, so that whoever reads it finds the old text or the new one. What is no plain file, such as
 /// a device, is written itself.
 pub fn to_file(file: &Path, text: &[u8]) -> Result<(), Failure> {

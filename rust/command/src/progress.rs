@@ -1,6 +1,7 @@
 //! How far many sheets have come, on a terminal.
 
-use std::io::{self, IsTerminal, Write};
+use crate::output::to_error;
+use std::io::{self, IsTerminal};
 
 const WIDTH: usize = 30;
 
@@ -20,15 +21,15 @@ impl Progress {
 
     pub fn at(&self, done: usize) {
         if self.shown {
-            eprint!("\r{}", bar(done, self.total));
-            io::stderr().flush().ok();
+            to_error(&format!("\r{}", bar(done, self.total)));
         }
     }
 
     /// Takes the bar away.
     pub fn end(&self) {
         if self.shown {
-            eprint!("\r{}\r", " ".repeat(bar(self.total, self.total).len()));
+            let width = bar(self.total, self.total).len();
+            to_error(&format!("\r{}\r", " ".repeat(width)));
         }
     }
 }

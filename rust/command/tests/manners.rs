@@ -162,6 +162,28 @@ fn a_full_disk_and_a_closed_output() {
     }
 }
 
+/// Where nothing can be said either, the status still tells.
+#[test]
+fn a_standard_error_that_cannot_be_written() {
+    let folder = Folder::new("no_error");
+    folder.put("bad.net", "x\n");
+    for (words, status) in [("settle bad.net", 1), ("settle none.net", 2), ("nosuch", 2)] {
+        let full = File::options()
+            .write(true)
+            .open("/dev/full")
+            .expect("a device");
+        let mut command = folder.command();
+        let ended = command.args(words.split(' ')).stderr(full).output();
+        assert_eq!(
+            ended.expect("it runs").status.code(),
+            Some(status),
+            "{words}"
+        );
+    }
+    folder.put("sum.net", SUM_NET);
+    answers(folder.run("settle sum.net -o -"), SUM_SETTLED);
+}
+
 #[test]
 fn help_and_version() {
     let folder = Folder::new("help");
