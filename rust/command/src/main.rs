@@ -8,7 +8,8 @@
 //! | `closed`              | whether standard output was closed before the start                 |
 //! | `outcome`, `json`     | an answer or a failure, its status, and both as JSON                |
 //! | `refused`             | a refusal as it is said: file, line, column, the line with a caret  |
-//! | `sentence`, `cause`   | what is due at the place, and what has likely gone wrong            |
+//! | `sentence`            | what is due at the place                                            |
+//! | `cause`, `repairs`    | what has likely gone wrong, by what mends it                        |
 //! | `excerpt`, `words`    | a line with a caret; lists and numbers in words                     |
 //! | `fault`, `mend`       | why a table has no tree, and a change with which it has one         |
 //! | `sheets`, `page`      | nets and tables as JSON; a table and its tree as HTML                |
@@ -32,6 +33,7 @@ mod output;
 mod page;
 mod progress;
 mod refused;
+mod repairs;
 mod sentence;
 mod sheets;
 mod words;
