@@ -45,7 +45,8 @@ enum sitgurp_refusal {
     SITGURP_REFUSED_NO_TREE = 16,           /* no tree computes the table; the place is a group */
     SITGURP_REFUSED_NO_SUCH_TREE = 17,      /* no tree of this number; the place is the number */
     SITGURP_REFUSED_ARRIVAL_NAME = 18,      /* a name is not the next input's */
-    SITGURP_REFUSED_ARRIVAL_TIME = 19       /* a time, or `to` below `from` */
+    SITGURP_REFUSED_ARRIVAL_TIME = 19,      /* a time, or `to` below `from` */
+    SITGURP_REFUSED_REPEATED_ROW = 20       /* a loosely laid table: an earlier row has the same levels */
 };
 
 /* Buffers that always suffice: cells, marks, a net sheet, a table sheet. */

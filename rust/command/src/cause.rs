@@ -92,7 +92,7 @@ fn content(bytes: &[u8]) -> usize {
 /// A sheet of another kind than the one that is due.
 fn other_sheet(due: Due, sheet: &[u8]) -> Option<String> {
     let name = match due {
-        Due::Table | Due::Arrivals if Net::read(sheet).is_ok() => Due::Net.name(),
+        Due::Table | Due::Loose | Due::Arrivals if Net::read(sheet).is_ok() => Due::Net.name(),
         Due::Net | Due::Arrivals if Table::read(sheet).is_ok() => Due::Table.name(),
         _ if sheet.starts_with(b"name from to") && due != Due::Arrivals => Due::Arrivals.name(),
         _ => return None,
@@ -110,7 +110,7 @@ fn other_sheet(due: Due, sheet: &[u8]) -> Option<String> {
 
 /// Rows that are missing, repeated, or in another order.
 fn of_rows(front: &Front, kind: Kind) -> Option<String> {
-    if kind != Kind::Row {
+    if kind != Kind::Row || front.due == Due::Loose {
         return None;
     }
     let due = front.line - 4;

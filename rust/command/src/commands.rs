@@ -13,6 +13,7 @@ mod same;
 mod settle;
 mod shallower;
 mod table;
+mod tidy;
 pub mod why;
 
 use crate::call::{Call, Opt};
@@ -42,6 +43,7 @@ pub static ALL: &[&Command] = &[
     &make::COMMAND,
     &why::COMMAND,
     &check::COMMAND,
+    &tidy::COMMAND,
     &table::COMMAND,
     &eval::COMMAND,
     &settle::COMMAND,

@@ -13,6 +13,7 @@
 //! | `excerpt`, `words`    | a line with a caret; lists and numbers in words                     |
 //! | `fault`, `mend`       | why a table has no tree, and a change with which it has one         |
 //! | `sheets`, `page`      | nets and tables as JSON; a table and its tree as HTML                |
+//! | `loose`               | what a spreadsheet writes, as a loose sheet                         |
 //! | `batch`, `progress`   | many sheets at once, on all cores                                   |
 //!
 //! Status 0; 1 for a refusal or a 'no'; 2 for a wrong command, or a file that cannot be read or written.
@@ -27,6 +28,7 @@ mod fault;
 mod help;
 mod input;
 mod json;
+mod loose;
 mod mend;
 mod outcome;
 mod output;

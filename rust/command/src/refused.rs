@@ -4,6 +4,7 @@ use crate::cause::causes;
 use crate::excerpt::excerpt;
 use crate::input::Sheet;
 use crate::json::Json;
+use crate::loose::Loose;
 use crate::sentence::{sentence, Due, Front};
 use crate::words;
 use sitgurp::{Kind, Net, Refusal, Table};
@@ -29,8 +30,29 @@ impl Refused {
             sentence: sentence(refusal.kind(), &front),
             excerpt: excerpt(&sheet.bytes, refusal.place),
             causes: causes(due, &sheet.bytes, &refusal, inputs),
-            hint: None,
+            hint: (due == Due::Table).then(|| tidy(sheet)).flatten(),
             refusal,
+        }
+    }
+
+    /// Of a loosely laid table, or of what a spreadsheet wrote and was turned into one: then the place is told where it stands in the file.
+    pub fn of_loose(sheet: &Sheet, loose: Option<&Loose>, refusal: Refusal) -> Refused {
+        let Some(loose) = loose else {
+            return Refused::of_sheet(Due::Loose, sheet, refusal, &[]);
+        };
+        let front = Front::of(Due::Loose, &loose.text, &refusal, &[]);
+        let place = loose.source(refusal.place, sheet.bytes.len());
+        Refused {
+            file: sheet.name.clone(),
+            sentence: sentence(refusal.kind(), &front),
+            excerpt: excerpt(&sheet.bytes, place),
+            causes: causes(Due::Loose, &loose.text, &refusal, &[]),
+            hint: None,
+            refusal: Refusal {
+                place,
+                position: Some(position(&sheet.bytes, place)),
+                ..refusal
+            },
         }
     }
 
@@ -125,10 +147,36 @@ impl fmt::Display for Refused {
     }
 }
 
+/// Line and column of a byte, both from 1.
+fn position(bytes: &[u8], place: usize) -> (usize, usize) {
+    let before = &bytes[..place.min(bytes.len())];
+    let lines: Vec<&[u8]> = before.split(|&byte| byte == b'\n').collect();
+    (lines.len(), lines.last().map_or(0, |line| line.len()) + 1)
+}
+
+/// What to call where the table is only laid loosely, or written by a spreadsheet.
+fn tidy(sheet: &Sheet) -> Option<String> {
+    let parts = |byte: &u8| matches!(byte, b',' | b';' | b'\t' | b'\r' | b'"' | 0xef);
+    let option = if sitgurp::tidied(&sheet.bytes).is_ok() {
+        ""
+    } else if sheet.bytes.iter().any(parts)
+        && sitgurp::tidied(&Loose::of(&sheet.bytes).text).is_ok()
+    {
+        " --csv"
+    } else {
+        return None;
+    };
+    let (program, operand) = (words::program(), words::operand(&sheet.name));
+    Some(format!(
+        "`{program} tidy{option}{operand}` writes it as a table sheet"
+    ))
+}
+
 /// What the library says of a sheet of this kind.
 pub fn judged(due: Due, sheet: &[u8], inputs: &[String]) -> Result<(), Refusal> {
     match due {
         Due::Table => Table::read(sheet).map(drop),
+        Due::Loose => sitgurp::tidied(sheet).map(drop),
         Due::Net => Net::read(sheet).map(drop),
         Due::Arrivals => sitgurp::arrivals(&any_net(inputs), sheet, 0).map(drop),
     }

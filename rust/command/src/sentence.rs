@@ -8,6 +8,8 @@ use sitgurp::{Kind, Refusal};
 #[derive(Clone, Copy, Debug, PartialEq, Eq)]
 pub enum Due {
     Table,
+    /// A table sheet, loosely laid: any spaces between fields, rows in any order.
+    Loose,
     Net,
     Arrivals,
 }
@@ -16,6 +18,7 @@ impl Due {
     pub fn name(self) -> &'static str {
         match self {
             Due::Table => "a table sheet",
+            Due::Loose => "a table",
             Due::Net => "a net sheet",
             Due::Arrivals => "an arrival sheet",
         }
@@ -38,7 +41,8 @@ impl<'a> Front<'a> {
     /// `inputs` are the names that an arrival sheet is for.
     pub fn of(due: Due, sheet: &'a [u8], refusal: &Refusal, inputs: &[String]) -> Front<'a> {
         let place = refusal.place.min(sheet.len());
-        let before: Vec<Vec<String>> = sheet[..place].split(|&b| b == b'\n').map(fields).collect();
+        let lines = sheet[..place].split(|&byte| byte == b'\n');
+        let before: Vec<Vec<String>> = lines.map(|line| fields_in(due, line)).collect();
         let number = |line: usize, field: usize| {
             let line = before.get(line).filter(|_| due != Due::Arrivals);
             let text = line.and_then(|line| line.get(field));
@@ -75,7 +79,7 @@ impl<'a> Front<'a> {
     /// How many lines the sheet should have, once its second line is read.
     fn lines_due(&self) -> usize {
         match self.due {
-            Due::Table => 3 + self.rows(),
+            Due::Table | Due::Loose => 3 + self.rows(),
             Due::Net => 4 + self.inputs - 1,
             Due::Arrivals => 1 + self.inputs,
         }
@@ -107,6 +111,15 @@ impl<'a> Front<'a> {
     }
 }
 
+/// The fields of a line; in a loose sheet any number of spaces parts them.
+fn fields_in(due: Due, line: &[u8]) -> Vec<String> {
+    let mut fields = fields(line);
+    if due == Due::Loose {
+        fields.retain(|field| !field.is_empty());
+    }
+    fields
+}
+
 fn fields(line: &[u8]) -> Vec<String> {
     let fields = line.split(|&byte| byte == b' ');
     fields.map(excerpt::field).collect()
@@ -119,8 +132,15 @@ pub fn sentence(kind: Kind, front: &Front) -> String {
         Kind::Levels => format!("levels should be one digit from 2 to 9, not `{field}`"),
         Kind::Inputs => inputs(front, &field),
         Kind::Name => name(front, &field),
+        Kind::Row if front.due == Due::Loose => {
+            format!(
+                "an input's level should be one digit from 0 to {}, not `{field}`",
+                front.levels - 1
+            )
+        }
         Kind::Row => row(front),
-        Kind::Digits if front.due == Due::Table => {
+        Kind::RepeatedRow => repeated(front),
+        Kind::Digits if front.due != Due::Net => {
             format!(
                 "an ink should be one digit from 0 to {}, not `{field}`",
                 front.levels - 1
@@ -149,7 +169,7 @@ fn layout(front: &Front) -> String {
     if size_known && line > front.lines_due() {
         let rest = front.sheet[front.place..].trim_ascii();
         let all = match front.due {
-            Due::Table => format!("all {} stand above", count(front.rows(), "row")),
+            Due::Table | Due::Loose => format!("all {} stand above", count(front.rows(), "row")),
             Due::Net => format!("all {} stand above", count(front.inputs - 1, "gate")),
             Due::Arrivals => format!("all {} stand above", count(front.inputs, "input")),
         };
@@ -161,8 +181,9 @@ fn layout(front: &Front) -> String {
     if front.at_end() {
         return early_end(front);
     }
-    let names_read = fields_of_line(front).len() - 1;
-    if front.due == Due::Table && line == 3 && names_read == front.inputs {
+    let all_names = fields_of_line(front).len() == front.inputs;
+    let is_table = matches!(front.due, Due::Table | Due::Loose);
+    if is_table && line == 3 && all_names && !front.field().is_empty() {
         return format!(
             "`{}` stands where `ink` is due: line 2 says {}, and their names stand before it",
             front.field(),
@@ -205,6 +226,18 @@ fn early_end(front: &Front) -> String {
                 ),
             }
         }
+        (Due::Loose, 4..) => {
+            let known = rows_above(front);
+            let missing = (0..front.rows()).filter(|row| !known.iter().any(|(one, _)| one == row));
+            let missing: Vec<usize> = missing.collect();
+            let row = words::levels(&front.row(missing.first().copied().unwrap_or(0)));
+            match missing.len() {
+                1 => format!("the sheet ends here, and the row `{row}` is missing"),
+                left => format!(
+                    "the sheet ends here, and {left} rows are missing, `{row}` the first of them"
+                ),
+            }
+        }
         (Due::Net, 5..) => {
             let left = front.lines_due() + 1 - line;
             format!(
@@ -235,13 +268,13 @@ fn line_due(front: &Front) -> String {
         }
         (_, 1) => "line 1 should be `levels inputs`".to_string(),
         (_, 2) => "line 2 should have two numbers, levels and inputs, one space apart".to_string(),
-        (Due::Table, 3) => {
+        (Due::Table | Due::Loose, 3) => {
             format!("line 3 should have the names of the {inputs} inputs and then `ink`, one space apart")
         }
         (Due::Net, 3) => {
             format!("line 3 should have the names of the {inputs} inputs, one space apart")
         }
-        (Due::Table, _) => format!(
+        (Due::Table | Due::Loose, _) => format!(
             "a row should have {} and an ink, one space apart",
             count(inputs, "level")
         ),
@@ -274,22 +307,20 @@ fn inputs(front: &Front, field: &str) -> String {
 /// The fields of the place's line before the place.
 fn fields_of_line(front: &Front) -> Vec<String> {
     let before = &front.sheet[..front.place];
-    fields(
-        before
-            .split(|&byte| byte == b'\n')
-            .next_back()
-            .unwrap_or(&[]),
-    )
+    let line = before.split(|&byte| byte == b'\n').next_back();
+    let mut fields = fields(line.unwrap_or(&[]));
+    fields.retain(|field| !field.is_empty());
+    fields
 }
 
 fn name(front: &Front, field: &str) -> String {
     let earlier = fields_of_line(front);
     if field == "ink" {
         return match front.due {
-            Due::Table => format!(
+            Due::Table | Due::Loose => format!(
                 "`ink` stands where a name is due: line 2 says {}, and {} there",
                 count(front.inputs, "input"),
-                are(earlier.len() - 1, "name")
+                are(earlier.len(), "name")
             ),
             _ => "`ink` is no input's name".to_string(),
         };
@@ -308,6 +339,48 @@ fn name(front: &Front, field: &str) -> String {
 fn row(front: &Front) -> String {
     let due = words::levels(&front.row(front.line - 4));
     format!("this row should begin `{due}`, the next in the count")
+}
+
+/// A row of a loose sheet that stands in an earlier line already.
+fn repeated(front: &Front) -> String {
+    let line = &front.sheet[front.place..];
+    let line = line.split(|&byte| byte == b'\n').next().unwrap_or(&[]);
+    let levels = fields_in(front.due, line);
+    let row = index_of(front, &levels);
+    let earlier = rows_above(front)
+        .into_iter()
+        .find(|(one, _)| Some(*one) == row);
+    let levels: Vec<String> = levels.into_iter().take(front.inputs).collect();
+    match earlier {
+        Some((_, line)) => format!(
+            "the row `{}` stands in line {line} already",
+            levels.join(" ")
+        ),
+        None => format!("the row `{}` stands above already", levels.join(" ")),
+    }
+}
+
+/// The rows of a loose sheet above the place's line, each with its line.
+fn rows_above(front: &Front) -> Vec<(usize, usize)> {
+    let lines = front.sheet[..front.place].split(|&byte| byte == b'\n');
+    let lines = lines
+        .enumerate()
+        .skip(3)
+        .take((front.line - 1).saturating_sub(3));
+    let rows = lines.filter_map(|(k, line)| {
+        let row = index_of(front, &fields_in(front.due, line))?;
+        Some((row, k + 1))
+    });
+    rows.collect()
+}
+
+/// The index of a row by its levels.
+fn index_of(front: &Front, fields: &[String]) -> Option<usize> {
+    let levels = fields.get(..front.inputs)?;
+    levels.iter().try_fold(0, |index, field| {
+        let level: usize = field.parse().ok()?;
+        (level < front.levels).then_some(index * front.levels + level)
+    })
 }
 
 fn gate_table(front: &Front, field: &str) -> String {
@@ -364,7 +437,7 @@ fn time(front: &Front, field: &str) -> String {
         field.parse::<u32>(),
         line.get(1).and_then(|from| from.parse::<u32>().ok()),
     ) {
-        (Ok(to), Some(from)) if line.len() > 2 && to < from => {
+        (Ok(to), Some(from)) if line.len() == 2 && to < from => {
             format!("`to` is {to}, which is before `from`, {from}")
         }
         _ => format!("{rule}, not `{field}`"),

@@ -7,10 +7,11 @@ use std::fs::{self, File};
 use std::os::unix::fs::{symlink, PermissionsExt};
 use std::process::Stdio;
 
-const COMMANDS: [&str; 14] = [
+const COMMANDS: [&str; 15] = [
     "make",
     "why",
     "check",
+    "tidy",
     "table",
     "eval",
     "settle",

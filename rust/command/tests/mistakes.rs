@@ -12,6 +12,17 @@ fn of_table(name: &str, sheet: impl AsRef<[u8]>, words: &str) {
     refuses(folder.run("make my.table"), words);
 }
 
+/// The same, and that tidying mends it: with `--csv`, or as it is.
+fn of_spreadsheet(name: &str, sheet: impl AsRef<[u8]>, words: &str) {
+    let hint = "`sitgurp tidy --csv my.table` writes it as a table sheet\n";
+    of_table(name, sheet, &format!("{words}{hint}"));
+}
+
+fn of_loose(name: &str, sheet: impl AsRef<[u8]>, words: &str) {
+    let hint = "`sitgurp tidy my.table` writes it as a table sheet\n";
+    of_table(name, sheet, &format!("{words}{hint}"));
+}
+
 /// What `settle` says of a net sheet.
 fn of_net(name: &str, sheet: impl AsRef<[u8]>, words: &str) {
     let folder = Folder::new(name);
@@ -29,7 +40,7 @@ const COMMAS: &str =
 
 #[test]
 fn carriage_returns() {
-    of_table(
+    of_spreadsheet(
         "crlf",
         SUM_TABLE.replace('\n', "\r\n"),
         &format!("my.table:1:8: line 1 should be `levels inputs` (refusal 1)\n    levels inputs\\r\n           ^\n{WINDOWS}"),
@@ -43,7 +54,7 @@ fn carriage_returns() {
 
 #[test]
 fn tabs() {
-    of_table(
+    of_spreadsheet(
         "tabs",
         SUM_TABLE.replace(' ', "\t"),
         &format!("{FIRST}    levels\\tinputs\n    ^\nlikely cause: fields are parted by tabs; put one space between two fields\n"),
@@ -53,13 +64,13 @@ fn tabs() {
 #[test]
 fn commas_and_semicolons() {
     for (name, mark) in [("commas", ","), ("semicolons", ";")] {
-        of_table(
+        of_spreadsheet(
             name,
             SUM_TABLE.replace(' ', mark),
             &format!("{FIRST}    levels{mark}inputs\n    ^\n{COMMAS}"),
         );
     }
-    of_table(
+    of_spreadsheet(
         "one_comma",
         SUM_TABLE.replace("0 1 0 1", "0, 1, 0, 1"),
         &format!("my.table:6:1: this row should begin `0 1 0`, the next in the count (refusal 5)\n    0, 1, 0, 1\n    ^\n{COMMAS}"),
@@ -68,7 +79,7 @@ fn commas_and_semicolons() {
 
 #[test]
 fn byte_order_mark() {
-    of_table(
+    of_spreadsheet(
         "mark",
         format!("\u{feff}{SUM_TABLE}"),
         &format!("{FIRST}    \\xef\\xbb\\xbflevels inputs\n    ^\n{MARK}"),
@@ -93,7 +104,7 @@ fn several_at_once() {
         "\u{feff}{}",
         SUM_TABLE.replace(' ', ",").replace('\n', "\r\n")
     );
-    of_table(
+    of_spreadsheet(
         "several",
         sheet,
         &format!("{FIRST}    \\xef\\xbb\\xbflevels,inputs\\r\n    ^\n{MARK}{WINDOWS}{COMMAS}"),
@@ -102,19 +113,19 @@ fn several_at_once() {
 
 #[test]
 fn quotes_and_spaces() {
-    of_table(
+    of_spreadsheet(
         "quotes",
         SUM_TABLE.replace("a b c ink", "\"a\" \"b\" \"c\" \"ink\""),
         "my.table:3:1: `\"a\"` is no name: a name has 1 to 8 lowercase letters and digits, a letter first (refusal 4)\n    \"a\" \"b\" \"c\" \"ink\"\n    ^\n\
          likely cause: fields stand in quotes; leave the quotes out\n",
     );
     let cause = "likely cause: there are spaces too many: one between two fields, none at a line's start or end\n";
-    of_table(
+    of_loose(
         "two_spaces",
         SUM_TABLE.replace("0 1 1 0", "0 1 1  0"),
         &format!("my.table:7:7: a row should have 3 levels and an ink, one space apart (refusal 1)\n    0 1 1  0\n          ^\n{cause}"),
     );
-    of_table(
+    of_loose(
         "space_at_the_end",
         SUM_TABLE.replace("0 1 1 0\n", "0 1 1 0 \n"),
         &format!("my.table:7:8: a row should have 3 levels and an ink, one space apart (refusal 1)\n    0 1 1 0 \n           ^\n{cause}"),
@@ -212,7 +223,7 @@ fn rows_missing_repeated_or_in_another_order() {
         "my.table:6:3: this row should begin `0 1 0`, the next in the count (refusal 5)\n    0 0 1 1\n      ^\n\
          likely cause: the row `0 0 1` stands twice: lines 5 and 6\n",
     );
-    of_table(
+    of_loose(
         "other_order",
         SUM_TABLE.replace("0 0 1 1\n0 1 0 1\n", "0 1 0 1\n0 0 1 1\n"),
         "my.table:5:3: this row should begin `0 0 1`, the next in the count (refusal 5)\n    0 1 0 1\n      ^\n\

@@ -51,6 +51,8 @@ pub enum Kind {
     ArrivalName = 18,
     /// An arrival sheet: a time is malformed or above 65,535, or `to` is below `from`.
     ArrivalTime = 19,
+    /// A loosely laid table: an earlier row has the same levels.
+    RepeatedRow = 20,
     /// A number that this version of the crate has no name for.
     Unknown = 0,
 }
@@ -77,6 +79,7 @@ impl Kind {
         Kind::NoSuchTree,
         Kind::ArrivalName,
         Kind::ArrivalTime,
+        Kind::RepeatedRow,
     ];
 
     /// The kind of a refusal's number.
