@@ -1,6 +1,10 @@
 /*
- * The calls of Sitgurp for C99, in target/staticlib/libcapi.a (`rt staticlib capi`). Each is proved to meet an equation with
- * document 01's definitions for every argument: see crates/capi/src/lib.rt.
+ * The calls of Sitgurp for C99, for Linux on x86-64, in libsitgurp.a (`./install PREFIX`; in the repository it is target/staticlib/libcapi.a, which
+ * `rt staticlib capi` writes). Each is proved to meet an equation with document 01's definitions for every argument: see crates/capi/src/lib.rt.
+ *
+ * Each call depends on its arguments alone and writes to nothing but the buffers lent to it. It keeps nothing from one call to the next, so any
+ * number of threads may call at once, each with buffers of its own; it allocates nothing, opens nothing and waits for nothing.
+ * Stack: 96 KB suffice for every call (measured by painting: `cargo run -p bench --bin stack` in rust/).
  *
  * Bytes are lent as a pointer and a length. A pointer must be good for that many bytes, and must not be null even where the
  * length is 0. Two buffers lent to one call must not overlap, and a buffer must not overlap a sheet.
@@ -21,6 +25,37 @@
 #ifdef __cplusplus
 extern "C" {
 #endif
+
+#define SITGURP_VERSION "0.1.0"
+
+/* What each refusal's number stands for. Later versions may add numbers. */
+enum sitgurp_refusal {
+    SITGURP_REFUSED_LAYOUT = 1,             /* a fixed word, a separator, a missing end, or bytes after the last line */
+    SITGURP_REFUSED_LEVELS = 2,             /* levels */
+    SITGURP_REFUSED_INPUTS = 3,             /* inputs, or too many cells */
+    SITGURP_REFUSED_NAME = 4,               /* a name that is malformed, `ink`, or repeated */
+    SITGURP_REFUSED_ROW = 5,                /* a row's input level is not the next in the count */
+    SITGURP_REFUSED_DIGITS = 6,             /* an ink field, or a gate's table field */
+    SITGURP_REFUSED_UNKNOWN_REFERENCE = 7,  /* a reference to no input and no earlier gate */
+    SITGURP_REFUSED_USED_REFERENCE = 8,     /* a reference used before */
+    SITGURP_REFUSED_BARE_SIZE = 9,          /* bare cells: m, n or the number of cells */
+    SITGURP_REFUSED_BARE_CELL = 10,         /* a bare cell not below m; the place is its index */
+    SITGURP_REFUSED_GROUP = 11,             /* no such group */
+    SITGURP_REFUSED_HEADERS_DIFFER = 12,    /* two sheets differ in m, n or names */
+    SITGURP_REFUSED_CELLS_SHORT = 13,       /* the cells buffer is short; the place is the length needed */
+    SITGURP_REFUSED_MARKS_SHORT = 14,       /* the marks buffer is short; the place is the length needed */
+    SITGURP_REFUSED_OUTPUT_SHORT = 15,      /* the output is short; the place is the length needed */
+    SITGURP_REFUSED_NO_TREE = 16,           /* no tree computes the table; the place is a group */
+    SITGURP_REFUSED_NO_SUCH_TREE = 17,      /* no tree of this number; the place is the number */
+    SITGURP_REFUSED_ARRIVAL_NAME = 18,      /* a name is not the next input's */
+    SITGURP_REFUSED_ARRIVAL_TIME = 19,      /* a time, or `to` below `from` */
+    SITGURP_REFUSED_REPEATED_ROW = 20,      /* a loose sheet's row names the assignment of an earlier row */
+    SITGURP_REFUSED_JOB_DONE = 21,          /* a step of a job that is done */
+    SITGURP_REFUSED_JOB_UNFINISHED = 22,    /* finishing a job that is not done; the place is the groups still to go */
+    SITGURP_REFUSED_WIRING = 23,            /* no gate tables give the wiring the table; the place is a gate's number */
+    SITGURP_REFUSED_PICTURE = 24,           /* a picture's side, the number of its cells, or a cell's level */
+    SITGURP_REFUSED_OFFSETS = 25            /* an offset missing, one too many, or one too far */
+};
 
 /* Buffers that always suffice: cells, marks, a net sheet, a table sheet, a picture. */
 #define SITGURP_MOST_CELLS 4096

@@ -1,6 +1,7 @@
 //! A tree for Graphviz. Names are quoted, since `node` and `graph` are good names of inputs and words of DOT.
 
-use crate::tree::{Tree, Wire};
+use crate::tree::{digit, root};
+use sitgurp::{Net, Wire};
 
 const HEAD: &str = "\
 digraph net {
@@ -11,40 +12,40 @@ digraph net {
 ";
 
 /// A gate's id is its number: no input's name begins with a digit. None is `ink` either.
-pub fn write(tree: &Tree) -> String {
+pub fn write(net: &Net) -> String {
     let mut text = HEAD.to_string();
-    for name in &tree.names {
+    for name in net.names() {
         text += &format!("    \"{name}\" [style=rounded];\n");
     }
-    for gate in 0..tree.gates.len() {
-        text += &gate_lines(tree, gate);
+    for gate in 0..net.gates().len() {
+        text += &gate_lines(net, gate);
     }
     text += "    \"ink\" [shape=plaintext];\n";
-    text += &format!("    \"{}\" -> \"ink\";\n}}\n", id(tree, tree.root()));
+    text += &format!("    \"{}\" -> \"ink\";\n}}\n", id(net, root(net)));
     text
 }
 
 /// A gate with its table, a line for each of left's levels, and its two wires.
-fn gate_lines(tree: &Tree, gate: usize) -> String {
-    let own = id(tree, Wire::Gate(gate));
-    let rows: Vec<String> = (0..tree.levels)
+fn gate_lines(net: &Net, gate: usize) -> String {
+    let own = id(net, Wire::Gate(gate));
+    let rows: Vec<String> = (0..net.levels())
         .map(|row| {
-            (0..tree.levels)
-                .map(|column| tree.digit(gate, row, column))
+            (0..net.levels())
+                .map(|column| digit(net, gate, row, column).to_string())
                 .collect()
         })
         .collect();
-    let left = id(tree, tree.gates[gate].left);
-    let right = id(tree, tree.gates[gate].right);
+    let left = id(net, net.gates()[gate].left);
+    let right = id(net, net.gates()[gate].right);
     format!(
         "    \"{own}\" [label=\"gate {own}\\n{}\"];\n    \"{left}\" -> \"{own}\" [label=\"left\"];\n    \"{right}\" -> \"{own}\" [label=\"right\"];\n",
         rows.join("\\n")
     )
 }
 
-fn id(tree: &Tree, wire: Wire) -> String {
+fn id(net: &Net, wire: Wire) -> String {
     match wire {
-        Wire::Input(input) => tree.names[input].clone(),
+        Wire::Input(input) => net.names()[input].clone(),
         Wire::Gate(gate) => (gate + 1).to_string(),
     }
 }

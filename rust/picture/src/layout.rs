@@ -3,7 +3,8 @@
 //! A subtree has a band of the page's height to itself: left's band lies above right's. So no box lies on another, and a
 //! wire that runs to the right inside its own band meets nothing before it turns in the gap before its gate.
 
-use crate::tree::{Gate, Tree, Wire};
+use crate::tree::root;
+use sitgurp::{Gate, Net, Wire};
 
 /// A digit's cell in a gate's grid.
 pub const CELL: i32 = 20;
@@ -105,16 +106,16 @@ struct Reach {
 }
 
 impl Layout {
-    pub fn of(tree: &Tree) -> Layout {
-        let reaches = reaches(tree);
-        let root = reaches.at(tree.root());
-        let areas = areas(tree, &middles(tree, &reaches));
-        let wires = tree.gates.iter().zip(&areas.gates);
+    pub fn of(net: &Net) -> Layout {
+        let reaches = reaches(net);
+        let band = reaches.at(root(net));
+        let areas = areas(net, &middles(net, &reaches));
+        let wires = net.gates().iter().zip(&areas.gates);
         let wires = wires.map(|(gate, &own)| paths(gate, own, &areas)).collect();
-        let right = areas.at(tree.root()).right() + OUTPUT + MARGIN;
+        let right = areas.at(root(net)).right() + OUTPUT + MARGIN;
         Layout {
             width: right.max(LEAST_WIDTH),
-            height: MARGIN + root.above + root.below + CAPTION + MARGIN,
+            height: MARGIN + band.above + band.below + CAPTION + MARGIN,
             areas,
             wires,
         }
@@ -122,29 +123,29 @@ impl Layout {
 }
 
 /// The width and height of every gate of the tree.
-fn gate_size(tree: &Tree) -> (i32, i32) {
-    let grid = HEADING + CELL * tree.levels as i32;
+fn gate_size(net: &Net) -> (i32, i32) {
+    let grid = HEADING + CELL * net.levels() as i32;
     (PADDING + grid + PADDING, TITLE + grid + PADDING)
 }
 
 /// The width of every input's box: the longest name decides.
-fn input_width(tree: &Tree) -> i32 {
-    let letters = tree.names.iter().map(String::len).max().unwrap_or(0);
+fn input_width(net: &Net) -> i32 {
+    let letters = net.names().iter().map(String::len).max().unwrap_or(0);
     LETTER * letters as i32 + 2 * INSET
 }
 
 /// A gate's wires come from earlier gates, so each gate's reach follows from those before it.
-fn reaches(tree: &Tree) -> Each<Reach> {
+fn reaches(net: &Net) -> Each<Reach> {
     let input = Reach {
         above: INPUT_HEIGHT / 2,
         below: INPUT_HEIGHT / 2,
     };
-    let own = gate_size(tree).1 / 2;
+    let own = gate_size(net).1 / 2;
     let mut reaches = Each {
-        inputs: vec![input; tree.names.len()],
+        inputs: vec![input; net.names().len()],
         gates: Vec::new(),
     };
-    for gate in &tree.gates {
+    for gate in net.gates() {
         let (left, right) = (reaches.at(gate.left), reaches.at(gate.right));
         let half = half_apart(left, right);
         reaches.gates.push(Reach {
@@ -161,13 +162,13 @@ fn half_apart(left: Reach, right: Reach) -> i32 {
 }
 
 /// The middle of every box, from the output gate back to the inputs.
-fn middles(tree: &Tree, reaches: &Each<Reach>) -> Each<i32> {
+fn middles(net: &Net, reaches: &Each<Reach>) -> Each<i32> {
     let mut middles = Each {
-        inputs: vec![0; tree.names.len()],
-        gates: vec![0; tree.gates.len()],
+        inputs: vec![0; net.names().len()],
+        gates: vec![0; net.gates().len()],
     };
-    middles.set(tree.root(), MARGIN + reaches.at(tree.root()).above);
-    for (own, gate) in tree.gates.iter().enumerate().rev() {
+    middles.set(root(net), MARGIN + reaches.at(root(net)).above);
+    for (own, gate) in net.gates().iter().enumerate().rev() {
         let half = half_apart(reaches.at(gate.left), reaches.at(gate.right));
         let middle = middles.gates[own];
         middles.set(gate.left, middle - half);
@@ -177,21 +178,21 @@ fn middles(tree: &Tree, reaches: &Each<Reach>) -> Each<i32> {
 }
 
 /// A gate stands in the column after the later one of its left's and its right's.
-fn columns(tree: &Tree) -> Vec<i32> {
+fn columns(net: &Net) -> Vec<i32> {
     let mut columns = Each {
-        inputs: vec![-1; tree.names.len()],
+        inputs: vec![-1; net.names().len()],
         gates: Vec::new(),
     };
-    for gate in &tree.gates {
+    for gate in net.gates() {
         let before = columns.at(gate.left).max(columns.at(gate.right));
         columns.gates.push(before + 1);
     }
     columns.gates
 }
 
-fn areas(tree: &Tree, middles: &Each<i32>) -> Each<Area> {
-    let inputs_width = input_width(tree);
-    let (width, height) = gate_size(tree);
+fn areas(net: &Net, middles: &Each<i32>) -> Each<Area> {
+    let inputs_width = input_width(net);
+    let (width, height) = gate_size(net);
     let first = MARGIN + inputs_width + COLUMN_GAP;
     let around = |middle: &i32, x, width, height| Area {
         x,
@@ -200,7 +201,7 @@ fn areas(tree: &Tree, middles: &Each<i32>) -> Each<Area> {
         height,
     };
     let inputs = middles.inputs.iter();
-    let gates = middles.gates.iter().zip(columns(tree));
+    let gates = middles.gates.iter().zip(columns(net));
     Each {
         inputs: inputs
             .map(|middle| around(middle, MARGIN, inputs_width, INPUT_HEIGHT))

@@ -1,30 +1,23 @@
-//! Draws the tree of a net sheet, and a picture of levels.
+//! Draws nets and tables.
 //!
-//! | module   | idea                                                      |
-//! |----------|-----------------------------------------------------------|
-//! | `tree`   | an accepted net sheet, taken apart                        |
-//! | `layout` | where each box and wire of the tree lies                  |
-//! | `svg`    | the tree drawn at those places                            |
-//! | `dot`    | the tree for Graphviz, which finds places of its own      |
-//! | `cells`  | a picture of levels, one square a cell                    |
+//! | module      | idea                                                              |
+//! |-------------|-------------------------------------------------------------------|
+//! | `tree`      | a net's output, and its gates' digits by row and column           |
+//! | `layout`    | where each box and wire of a net lies                             |
+//! | `elements`  | a drawing as SVG, and the shade of a level                        |
+//! | `svg`       | the net drawn at its places                                       |
+//! | `dot`       | the net for Graphviz, which finds places of its own               |
+//! | `partition` | a table's partition matrix over a group of inputs, and its classes |
+//! | `matrix`    | that matrix drawn                                                 |
+//! | `cells`     | a picture of levels, one square a cell                            |
 //!
 //! Whether a sheet is good is the library's to say: a sheet that it refuses is not drawn.
 
 pub mod cells;
 pub mod dot;
+pub mod elements;
 pub mod layout;
+pub mod matrix;
+pub mod partition;
 pub mod svg;
 pub mod tree;
-
-use sitgurp::Refusal;
-use tree::Tree;
-
-/// The drawing of a net sheet as SVG.
-pub fn svg_of(sheet: &[u8]) -> Result<String, Refusal> {
-    Ok(svg::draw(&Tree::of(sheet)?))
-}
-
-/// The tree of a net sheet as Graphviz DOT.
-pub fn dot_of(sheet: &[u8]) -> Result<String, Refusal> {
-    Ok(dot::write(&Tree::of(sheet)?))
-}

@@ -1,159 +1,86 @@
-//! A tree drawn as SVG, one element a line.
+//! A net drawn as SVG.
 
+use crate::elements::Elements;
 use crate::layout::{Area, Layout, Path, CAPTION, CELL, HEADING, OUTPUT, PADDING, TITLE};
-use crate::tree::Tree;
-
-/// Dark on light, and digits dark enough on the darkest cell.
-const STYLE: &str = "\
-text { font-family: 'DejaVu Sans Mono', Menlo, Consolas, monospace; fill: #1f2933; text-anchor: middle; }
-.page { fill: #fbfcfd; }
-.input { fill: #e6f2ee; stroke: #2f7a63; stroke-width: 1.5; }
-.gate { fill: #ffffff; stroke: #3e4c59; stroke-width: 1.5; }
-.cell { stroke: #9aa5b1; stroke-width: 0.5; }
-.wire { fill: none; stroke: #3e4c59; stroke-width: 1.5; }
-.name, .output { font-size: 14px; }
-.number { font-size: 12px; font-weight: bold; }
-.digit { font-size: 13px; }
-.level { font-size: 10px; fill: #616e7c; }
-.caption { font-size: 12px; fill: #52606d; text-anchor: start; }
-";
-
-/// The grey of the highest level's cells; level 0 is white.
-const DARKEST: usize = 172;
+use crate::tree::{digit, root};
+use sitgurp::Net;
 
 /// The distance between two lines under the tree.
 const CAPTION_LINE: i32 = 18;
 
-pub fn draw(tree: &Tree) -> String {
-    let layout = Layout::of(tree);
-    let mut page = Page::open(tree, &layout);
+pub fn draw(net: &Net) -> String {
+    let layout = Layout::of(net);
+    let (levels, inputs) = (net.levels(), net.names().len());
+    let title = format!("A net of {levels} levels and {inputs} inputs");
+    let mut page = Elements::open(layout.width, layout.height, &title, "");
     for path in layout.wires.iter().flatten() {
-        page.wire(path);
+        wire(&mut page, path);
     }
-    for (name, area) in tree.names.iter().zip(&layout.areas.inputs) {
-        page.input(name, area);
+    for (name, area) in net.names().iter().zip(&layout.areas.inputs) {
+        input(&mut page, name, area);
     }
-    for gate in 0..tree.gates.len() {
-        page.gate(tree, gate, &layout.areas.gates[gate]);
+    for number in 0..net.gates().len() {
+        gate(&mut page, net, number, &layout.areas.gates[number]);
     }
-    page.output(&layout.areas.at(tree.root()));
-    page.caption(&layout);
+    output(&mut page, &layout.areas.at(root(net)));
+    caption(&mut page, &layout);
     page.close()
 }
 
-/// The drawing so far.
-struct Page {
-    lines: Vec<String>,
+fn wire(page: &mut Elements, path: &Path) {
+    let Path { from, turn, to } = path;
+    let (x, y) = from;
+    let (end, level) = to;
+    page.wire(&format!("M {x} {y} H {turn} V {level} H {end}"));
 }
 
-impl Page {
-    fn open(tree: &Tree, layout: &Layout) -> Page {
-        let Layout { width, height, .. } = layout;
-        let (levels, inputs) = (tree.levels, tree.names.len());
-        let title = format!("A net of {levels} levels and {inputs} inputs");
-        let lines = vec![
-            format!(
-                "<svg xmlns=\"http://www.w3.org/2000/svg\" role=\"img\" width=\"{width}\" height=\"{height}\" viewBox=\"0 0 {width} {height}\">"
-            ),
-            format!("<title>{title}</title>"),
-            format!("<style>\n{STYLE}</style>"),
-            format!(
-                "<rect class=\"page\" x=\"0\" y=\"0\" width=\"{width}\" height=\"{height}\"/>"
-            ),
-        ];
-        Page { lines }
-    }
+fn input(page: &mut Elements, name: &str, area: &Area) {
+    page.rect("input", area, " rx=\"14\"");
+    page.text("name", area.x + area.width / 2, area.middle(), name);
+}
 
-    fn close(mut self) -> String {
-        self.lines.push("</svg>\n".to_string());
-        self.lines.join("\n")
-    }
-
-    fn rect(&mut self, class: &str, area: &Area, more: &str) {
-        let Area {
-            x,
-            y,
-            width,
-            height,
-        } = area;
-        self.lines.push(format!(
-            "<rect class=\"{class}\" x=\"{x}\" y=\"{y}\" width=\"{width}\" height=\"{height}\"{more}/>"
-        ));
-    }
-
-    /// Text around a middle height; the shift is that of a digit's half height.
-    fn text(&mut self, class: &str, x: i32, y: i32, text: &str) {
-        self.lines.push(format!(
-            "<text class=\"{class}\" x=\"{x}\" y=\"{y}\" dy=\"0.35em\">{text}</text>"
-        ));
-    }
-
-    fn wire(&mut self, path: &Path) {
-        let Path { from, turn, to } = path;
-        let (x, y) = from;
-        let (end, level) = to;
-        self.lines.push(format!(
-            "<path class=\"wire\" d=\"M {x} {y} H {turn} V {level} H {end}\"/>"
-        ));
-    }
-
-    fn input(&mut self, name: &str, area: &Area) {
-        self.rect("input", area, " rx=\"14\"");
-        self.text("name", area.x + area.width / 2, area.middle(), name);
-    }
-
-    fn gate(&mut self, tree: &Tree, gate: usize, area: &Area) {
-        self.rect("gate", area, " rx=\"6\"");
-        let number = format!("gate {}", gate + 1);
-        let middle = area.x + area.width / 2;
-        self.text("number", middle, area.y + TITLE / 2, &number);
-        let (x, y) = (area.x + PADDING + HEADING, area.y + TITLE + HEADING);
-        self.levels(tree.levels, x, y);
-        for row in 0..tree.levels {
-            for column in 0..tree.levels {
-                let cell = cell_at(x, y, row, column);
-                self.cell(tree.digit(gate, row, column), tree.levels, &cell);
-            }
+fn gate(page: &mut Elements, net: &Net, gate: usize, area: &Area) {
+    page.rect("gate", area, " rx=\"6\"");
+    let number = format!("gate {}", gate + 1);
+    let middle = area.x + area.width / 2;
+    page.text("number", middle, area.y + TITLE / 2, &number);
+    let (x, y) = (area.x + PADDING + HEADING, area.y + TITLE + HEADING);
+    levels(page, net.levels(), x, y);
+    for row in 0..net.levels() {
+        for column in 0..net.levels() {
+            let cell = cell_at(x, y, row, column);
+            page.cell(digit(net, gate, row, column), net.levels(), &cell);
         }
     }
+}
 
-    /// Left's levels down the grid, right's across it.
-    fn levels(&mut self, levels: usize, x: i32, y: i32) {
-        for level in 0..levels {
-            let along = CELL * level as i32 + CELL / 2;
-            let text = level.to_string();
-            self.text("level", x - HEADING / 2, y + along, &text);
-            self.text("level", x + along, y - HEADING / 2, &text);
-        }
+/// Left's levels down the grid, right's across it.
+fn levels(page: &mut Elements, levels: usize, x: i32, y: i32) {
+    for level in 0..levels {
+        let along = CELL * level as i32 + CELL / 2;
+        let text = level.to_string();
+        page.text("level", x - HEADING / 2, y + along, &text);
+        page.text("level", x + along, y - HEADING / 2, &text);
     }
+}
 
-    fn cell(&mut self, digit: &str, levels: usize, cell: &Area) {
-        let level: usize = digit.parse().expect("a digit");
-        let grey = 255 - (255 - DARKEST) * level / (levels - 1);
-        let fill = format!(" fill=\"rgb({grey},{grey},{grey})\"");
-        self.rect("cell", cell, &fill);
-        self.text("digit", cell.x + CELL / 2, cell.middle(), digit);
-    }
+fn output(page: &mut Elements, last: &Area) {
+    let (x, y) = (last.right(), last.middle());
+    let end = x + OUTPUT / 2;
+    page.wire(&format!("M {x} {y} H {end}"));
+    page.text("output", x + OUTPUT * 3 / 4, y, "ink");
+}
 
-    fn output(&mut self, last: &Area) {
-        let (x, y) = (last.right(), last.middle());
-        let end = x + OUTPUT / 2;
-        self.lines
-            .push(format!("<path class=\"wire\" d=\"M {x} {y} H {end}\"/>"));
-        self.text("output", x + OUTPUT * 3 / 4, y, "ink");
-    }
-
-    fn caption(&mut self, layout: &Layout) {
-        let x = layout.areas.inputs[0].x;
-        let lowest = layout.height - CAPTION / 2;
-        let lines = [
-            "upper wire: left, picks the row",
-            "lower wire: right, picks the column",
-        ];
-        for (k, line) in lines.iter().enumerate() {
-            let up = CAPTION_LINE * (lines.len() - 1 - k) as i32;
-            self.text("caption", x, lowest - up, line);
-        }
+fn caption(page: &mut Elements, layout: &Layout) {
+    let x = layout.areas.inputs[0].x;
+    let lowest = layout.height - CAPTION / 2;
+    let lines = [
+        "upper wire: left, picks the row",
+        "lower wire: right, picks the column",
+    ];
+    for (k, line) in lines.iter().enumerate() {
+        let up = CAPTION_LINE * (lines.len() - 1 - k) as i32;
+        page.text("caption", x, lowest - up, line);
     }
 }
 

@@ -37,7 +37,7 @@ fn due(sheet: &str) -> Vec<String> {
 #[test]
 fn every_statement_that_is_due_and_no_other() {
     for sheet in net_sheets() {
-        let dot = picture::dot_of(&sheet).expect("a good sheet");
+        let dot = picture::dot::write(&sitgurp::Net::read(&sheet).expect("a good sheet"));
         let statements: Vec<&str> = dot
             .lines()
             .map(str::trim)

@@ -75,7 +75,9 @@ fn of_class<'a>(drawn: &'a Drawn, class: &'a str) -> impl Iterator<Item = &'a Re
 #[test]
 fn every_input_once_and_every_gate_with_its_wires_and_digits() {
     for sheet in net_sheets() {
-        let drawn = Drawn::read(&picture::svg_of(&sheet).expect("a good sheet"));
+        let drawn = Drawn::read(&picture::svg::draw(
+            &sitgurp::Net::read(&sheet).expect("a good sheet"),
+        ));
         let (mut names, mut gates) = due(&sheet);
         let mut leaves: Vec<String> = of_class(&drawn, "input")
             .map(|rect| called(&drawn, rect))
@@ -95,7 +97,9 @@ fn every_input_once_and_every_gate_with_its_wires_and_digits() {
 #[test]
 fn the_wire_that_ends_at_no_gate_is_the_output_of_the_last() {
     for sheet in net_sheets() {
-        let drawn = Drawn::read(&picture::svg_of(&sheet).expect("a good sheet"));
+        let drawn = Drawn::read(&picture::svg::draw(
+            &sitgurp::Net::read(&sheet).expect("a good sheet"),
+        ));
         let ends_at_a_gate = |wire: &Vec<(i32, i32)>| {
             let (x, _) = wire[wire.len() - 1];
             of_class(&drawn, "gate").any(|gate| gate.x == x)
@@ -121,7 +125,9 @@ fn the_wire_that_ends_at_no_gate_is_the_output_of_the_last() {
 #[test]
 fn levels_stand_beside_each_grid_and_higher_digits_are_darker() {
     for sheet in net_sheets() {
-        let drawn = Drawn::read(&picture::svg_of(&sheet).expect("a good sheet"));
+        let drawn = Drawn::read(&picture::svg::draw(
+            &sitgurp::Net::read(&sheet).expect("a good sheet"),
+        ));
         let m = read_net_sheet(&sheet).expect("a good sheet").0.m;
         for gate in of_class(&drawn, "gate") {
             let levels: Vec<String> = (0..m).map(|level| level.to_string()).collect();

@@ -12,7 +12,8 @@ const LETTER: f64 = 0.63;
 type Segment = ((i32, i32), (i32, i32));
 
 fn drawings() -> Vec<Drawn> {
-    let svg = |sheet: Vec<u8>| picture::svg_of(&sheet).expect("a good sheet");
+    let svg =
+        |sheet: Vec<u8>| picture::svg::draw(&sitgurp::Net::read(&sheet).expect("a good sheet"));
     net_sheets()
         .into_iter()
         .map(|sheet| Drawn::read(&svg(sheet)))
@@ -136,7 +137,7 @@ fn taken(svg: &str, text: &common::Text) -> Rect {
 #[test]
 fn no_text_lies_on_another_and_names_and_numbers_stay_in_their_boxes() {
     for sheet in net_sheets() {
-        let svg = picture::svg_of(&sheet).expect("a good sheet");
+        let svg = picture::svg::draw(&sitgurp::Net::read(&sheet).expect("a good sheet"));
         let drawn = Drawn::read(&svg);
         let texts: Vec<Rect> = drawn.texts.iter().map(|text| taken(&svg, text)).collect();
         for (k, a) in texts.iter().enumerate() {

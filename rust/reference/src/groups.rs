@@ -4,7 +4,7 @@
 //! inks at that assignment over all assignments of the other inputs. Two
 //! assignments are alike exactly when their columns are equal.
 
-use crate::net::{count_up, Table};
+use crate::net::Table;
 use std::collections::HashMap;
 
 /// The classes of a group's assignments.
@@ -38,34 +38,32 @@ pub fn whole(n: usize) -> usize {
     (1 << n) - 1
 }
 
-/// The inks over all assignments of `others`, the rest of the levels held.
-/// Expects the others at 0 and leaves them there.
-fn column(table: &Table, levels: &mut [u8], others: &[usize]) -> Vec<u8> {
-    let mut inks = Vec::new();
-    loop {
-        inks.push(table.ink(levels));
-        if !count_up(levels, others, table.m) {
-            return inks;
-        }
+/// The index of each assignment of the listed inputs, as they are counted, the
+/// first-listed slowest, with all other inputs at 0. An input's level counts as
+/// often as the inputs after it in line 3 have assignments, so the index of a
+/// whole assignment is that of a group's part and that of the others' together.
+fn indices(table: &Table, listed: &[usize]) -> Vec<usize> {
+    let mut all = vec![0];
+    for &input in listed {
+        let weight = table.m.pow((table.n - 1 - input) as u32);
+        let with = |&index: &usize| (0..table.m).map(move |level| index + level * weight);
+        all = all.iter().flat_map(with).collect();
     }
+    all
 }
 
 /// The classes of a group.
 pub fn classes(table: &Table, group: usize) -> Classes {
-    let members = members(group, table.n);
-    let others = others(group, table.n);
-    let mut levels = vec![0; table.n];
+    let others = indices(table, &others(group, table.n));
     let mut seen: HashMap<Vec<u8>, usize> = HashMap::new();
     let mut of = Vec::new();
-    loop {
-        let column = column(table, &mut levels, &others);
+    for own in indices(table, &members(group, table.n)) {
+        let column = others.iter().map(|other| table.inks[own + other]);
         let next = seen.len();
-        of.push(*seen.entry(column).or_insert(next));
-        if !count_up(&mut levels, &members, table.m) {
-            let count = seen.len();
-            return Classes { count, of };
-        }
+        of.push(*seen.entry(column.collect()).or_insert(next));
     }
+    let count = seen.len();
+    Classes { count, of }
 }
 
 /// "The group's multiplicity is the number of classes", "the true number of

@@ -1,45 +1,36 @@
-//! The tree of a designer's table: `cargo run -p sitgurp --example designer -- ../examples/seven.table`.
+//! The tree of a rule, from Rust: `cargo run -p sitgurp --example designer`, or with a table sheet's name the tree of that table.
 //!
-//! Prints the settled net sheet and then its gate lines one by one, or says in words why there is none; of a table without a tree also
-//! how many levels would do.
+//! A refusal ends the program in words, since its Debug is its Display.
 
-use std::process::ExitCode;
+use sitgurp::{Table, Verdict, Wire};
+use std::error::Error;
 
-fn main() -> ExitCode {
-    let Some(path) = std::env::args().nth(1) else {
-        eprintln!("usage: designer TABLE-SHEET");
-        return ExitCode::from(2);
+fn main() -> Result<(), Box<dyn Error>> {
+    let table = match std::env::args().nth(1) {
+        // a sheet is bytes: whether they make sense is the library's to judge
+        Some(path) => Table::read(&std::fs::read(path)?)?,
+        // the heavier of two strokes, one shade lighter where the backlight is strong
+        None => Table::from_rule(4, &["weight", "light", "near"], |levels| {
+            let shade = levels[0].max(levels[2]);
+            shade.saturating_sub(u8::from(levels[1] >= 2))
+        })?,
     };
-    // a sheet is bytes: whether they make sense is the library's to judge
-    let sheet = match std::fs::read(&path) {
-        Ok(sheet) => sheet,
-        Err(error) => {
-            eprintln!("{path}: {error}");
-            return ExitCode::from(2);
-        }
+    let net = table.settled()?;
+    print!("{net}");
+    assert_eq!(net.check(&table)?, Verdict::Agree);
+
+    let name = |wire| match wire {
+        Wire::Input(input) => net.names()[input].clone(),
+        Wire::Gate(gate) => format!("gate {}", gate + 1),
     };
-    match show(&sheet) {
-        Ok(()) => ExitCode::SUCCESS,
-        Err(refusal) => {
-            // number, place, line and column are also there as fields of the refusal
-            eprintln!("{path}: {refusal}");
-            // an accepted sheet has an answer; of any other the refusal has been said
-            if let Ok(levels) = sitgurp::fewest_levels(&sheet) {
-                eprintln!("with {levels} levels on the wires between gates there would be a tree");
-            }
-            ExitCode::FAILURE
-        }
+    for (k, gate) in net.gates().iter().enumerate() {
+        let (left, right) = (name(gate.left), name(gate.right));
+        println!("gate {} joins {left} and {right}", k + 1);
     }
-}
-
-fn show(table_sheet: &[u8]) -> Result<(), sitgurp::Refusal> {
-    // `made` lends buffers that always suffice; `make` takes the caller's own, and also gives the cells and the marks
-    let net_sheet = sitgurp::made(table_sheet)?;
-    print!("{}", String::from_utf8_lossy(&net_sheet));
-
-    // the lister hands out parts of the sheet itself, so nothing is copied
-    for (k, line) in sitgurp::Lister::start(&net_sheet)?.enumerate() {
-        println!("gate {}: {}", k + 1, String::from_utf8_lossy(line));
-    }
+    println!(
+        "{} layers, {} trees in all",
+        net.layers(),
+        table.family().size()
+    );
     Ok(())
 }

@@ -39,6 +39,11 @@ fn decimal(field: &[u8]) -> usize {
     digits.fold(0, |value, digit| value * 10 + digit)
 }
 
+/// The inks of a table sheet, in the order of its rows. Refusals are the sheet's, 1 to 6.
+pub(crate) fn inks_of(sheet: &[u8]) -> Result<Vec<u8>, Refusal> {
+    bare(sheet).map(|bare| bare.cells)
+}
+
 /// Every group's number of classes, of a table sheet: entry g is the [`multiplicity`] of group g. The empty group has none (the call
 /// refuses it with 11), and entry 0 is 0.
 ///

@@ -1,6 +1,21 @@
 //! Safe Rust over the proved Sitgurp library: tables of shades, and the trees of two-input gates that compute them.
 //!
-//! Every call is the library's; nothing here decides what the library decides. Buffers are lent as in document 01, and
+//! Every call is the library's; nothing here decides what the library decides. [`Table`] and [`Net`] are sheets that the library has accepted, and
+//! most programs need no more than these two:
+//!
+//! ```
+//! use sitgurp::Table;
+//!
+//! fn main() -> Result<(), sitgurp::Refusal> {
+//!     let table = Table::from_rule(3, &["day", "near", "weight"], |levels| *levels.iter().max().unwrap())?;
+//!     let net = table.settled()?;
+//!     assert_eq!(net.value(&[0, 2, 1]), Some(2));
+//!     println!("{net}");
+//!     Ok(())
+//! }
+//! ```
+//!
+//! Below them are the calls on bytes. Buffers are lent as in document 01, and
 //! [`settled`], [`made`] and [`table_of`] lend buffers of the sizes that always suffice. [`settled_shallow`] and [`made_shallow`] give the
 //! tree of fewest layers in place of the settled one, and [`Family`] walks every tree that computes a table. [`multiplicities`] and
 //! [`fewest_levels`] put together what calls of the library answer about a table without a tree. [`arrivals`] says when a net's output settles. [`tidied`] makes a
@@ -32,6 +47,17 @@
 //! assert_eq!(of_each_group, [0, 2, 2, 0, 2, 0, 0, 1]);
 //! ```
 
+// tables and nets as types
+mod header;
+mod kind;
+mod net;
+mod table;
+
+pub use kind::Kind;
+pub use net::{Gate, Net, Wire};
+pub use table::{Row, Shallow, Table, Trees};
+
+// the calls on bytes
 mod arrivals;
 mod counting;
 mod family;

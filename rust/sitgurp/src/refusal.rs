@@ -1,5 +1,6 @@
 //! A refusal: document 01's number and place, and what they say in words.
 
+use crate::Kind;
 use std::fmt;
 
 /// The sheet that a refusal names.
@@ -12,7 +13,14 @@ pub enum Named {
 }
 
 /// Why a call was turned back, and where.
-#[derive(Clone, Debug, PartialEq, Eq)]
+///
+/// What `Display` says is what `Debug` says, so that `fn main() -> Result<(), Refusal>` ends in words:
+///
+/// ```
+/// let refusal = sitgurp::made(b"levels inputs\n2 1\n").unwrap_err();
+/// assert_eq!(format!("{refusal:?}"), refusal.to_string());
+/// ```
+#[derive(Clone, PartialEq, Eq)]
 pub struct Refusal {
     pub number: usize,
     pub place: usize,
@@ -38,6 +46,11 @@ impl Refusal {
             position,
             inputs,
         }
+    }
+
+    /// What it is about.
+    pub fn kind(&self) -> Kind {
+        Kind::of(self.number)
     }
 
     /// What is wrong, in words.
@@ -117,6 +130,12 @@ impl fmt::Display for Refusal {
             (23, _) => write!(f, " at gate {})", self.place),
             _ => write!(f, ")"),
         }
+    }
+}
+
+impl fmt::Debug for Refusal {
+    fn fmt(&self, f: &mut fmt::Formatter<'_>) -> fmt::Result {
+        fmt::Display::fmt(self, f)
     }
 }
 

@@ -1,0 +1,249 @@
+//! The words behind the command's name, taken apart.
+
+use crate::commands::{self, Command};
+use crate::help;
+use crate::outcome::Failure;
+use std::ffi::{OsStr, OsString};
+use std::path::Path;
+
+/// An option of a command; `value` is what its value is called, where it takes one.
+pub struct Opt {
+    pub name: &'static str,
+    pub value: Option<&'static str>,
+    /// The ending of the files that are written with it for `-d FOLDER`, where it is not the command's.
+    pub ending: Option<&'static str>,
+}
+
+impl Opt {
+    pub const fn flag(name: &'static str) -> Opt {
+        Opt {
+            name,
+            value: None,
+            ending: None,
+        }
+    }
+
+    pub const fn value(name: &'static str, value: &'static str) -> Opt {
+        Opt {
+            name,
+            value: Some(value),
+            ending: None,
+        }
+    }
+}
+
+/// A command that was asked for, with its operands and options.
+pub struct Call {
+    pub command: &'static Command,
+    pub operands: Vec<OsString>,
+    pub json: bool,
+    /// `-o FILE`.
+    pub output: Option<OsString>,
+    /// `-d FOLDER`.
+    pub folder: Option<OsString>,
+    given: Vec<(&'static str, OsString)>,
+}
+
+/// What was asked for: a text, such as help, or a command.
+pub enum Asked {
+    Text(String),
+    Call(Call),
+}
+
+impl Call {
+    /// Whether an option was given.
+    pub fn has(&self, option: &str) -> bool {
+        self.given.iter().any(|(name, _)| *name == option)
+    }
+
+    /// An option's value.
+    pub fn value(&self, option: &str) -> Option<String> {
+        let given = self.given.iter().find(|(name, _)| *name == option);
+        given.map(|(_, value)| value.to_string_lossy().into_owned())
+    }
+
+    /// An option's value as a number from 0 to `most`.
+    pub fn number(&self, option: &str, most: u64) -> Result<Option<u64>, Failure> {
+        let Some(value) = self.value(option) else {
+            return Ok(None);
+        };
+        match value.parse() {
+            Ok(number) if number <= most => Ok(Some(number)),
+            _ if most == u64::MAX => Err(self.wrong(format!(
+                "{option} takes a whole number from 0, not `{value}`"
+            ))),
+            _ => Err(self.wrong(format!(
+                "{option} takes a whole number from 0 to {most}, not `{value}`"
+            ))),
+        }
+    }
+
+    /// The ending of the files that are written for `-d FOLDER`.
+    pub fn ending(&self) -> Option<&'static str> {
+        let given = self
+            .command
+            .options
+            .iter()
+            .filter(|option| self.has(option.name));
+        given
+            .filter_map(|option| option.ending)
+            .next()
+            .or(self.command.ending)
+    }
+
+    /// The same call for one sheet of many.
+    pub fn of_sheet(&self, sheet: &OsStr) -> Call {
+        Call {
+            command: self.command,
+            operands: vec![sheet.to_owned()],
+            json: self.json,
+            output: None,
+            folder: None,
+            given: self.given.clone(),
+        }
+    }
+
+    /// A usage fault of this command.
+    pub fn wrong(&self, words: String) -> Failure {
+        wrong(self.command, words)
+    }
+}
+
+fn wrong(command: &Command, words: String) -> Failure {
+    let name = command.name;
+    let usage = command.usage;
+    Failure::Usage(help::named(format!(
+        "sitgurp {name}: {words}\nusage: sitgurp {name} {usage}\n`sitgurp {name} --help` says more."
+    )))
+}
+
+/// What the words after `sitgurp` ask for.
+pub fn asked(words: &[OsString]) -> Result<Asked, Failure> {
+    let Some((first, rest)) = words.split_first() else {
+        return Err(Failure::Usage(help::general()));
+    };
+    match first.to_str() {
+        Some("--help" | "-h") => Ok(Asked::Text(help::general())),
+        Some("--version" | "-V") => Ok(Asked::Text(help::version())),
+        Some("help") => match rest {
+            [] => Ok(Asked::Text(help::general())),
+            [name, ..] => named(name).map(|command| Asked::Text(help::of(command))),
+        },
+        _ => parsed(named(first)?, rest),
+    }
+}
+
+fn named(name: &OsStr) -> Result<&'static Command, Failure> {
+    commands::ALL
+        .iter()
+        .find(|command| name == command.name)
+        .copied()
+        .ok_or_else(|| {
+            let name = name.to_string_lossy();
+            // a sheet where a command is due
+            let likely = match Path::new(&*name).is_file() {
+                true => format!("`sitgurp make {name}` makes its tree, and "),
+                false => String::new(),
+            };
+            Failure::Usage(help::named(format!(
+                "there is no command `{name}`; {likely}`sitgurp --help` lists the commands"
+            )))
+        })
+}
+
+fn parsed(command: &'static Command, words: &[OsString]) -> Result<Asked, Failure> {
+    let mut call = Call {
+        command,
+        operands: Vec::new(),
+        json: false,
+        output: None,
+        folder: None,
+        given: Vec::new(),
+    };
+    let mut words = words.iter();
+    let mut options_end = false;
+    while let Some(word) = words.next() {
+        let text = word.to_str().unwrap_or("");
+        match text {
+            _ if options_end || !text.starts_with('-') || text == "-" => {
+                call.operands.push(word.clone())
+            }
+            "--" => options_end = true,
+            "--help" | "-h" => return Ok(Asked::Text(help::of(command))),
+            "--json" => call.json = true,
+            "-o" => taken(command, "-o", "FILE", &mut call.output, words.next())?,
+            "-d" if command.ending.is_some() => {
+                taken(command, "-d", "FOLDER", &mut call.folder, words.next())?
+            }
+            _ => {
+                let given = option(command, text, || words.next().cloned())?;
+                if call.has(given.0) {
+                    return Err(wrong(command, format!("{} is given twice", given.0)));
+                }
+                call.given.push(given);
+            }
+        }
+    }
+    fits(&call)?;
+    Ok(Asked::Call(call))
+}
+
+/// The value of `-o` or `-d`, which is given once.
+fn taken(
+    command: &Command,
+    option: &str,
+    what: &str,
+    place: &mut Option<OsString>,
+    value: Option<&OsString>,
+) -> Result<(), Failure> {
+    let value = value.ok_or_else(|| wrong(command, format!("{option} needs a {what}")))?;
+    match place.replace(value.clone()) {
+        None => Ok(()),
+        Some(_) => Err(wrong(command, format!("{option} is given twice"))),
+    }
+}
+
+/// An option of the command's own, with its value where it takes one: `--number 3` or `--number=3`.
+fn option(
+    command: &Command,
+    text: &str,
+    next: impl FnOnce() -> Option<OsString>,
+) -> Result<(&'static str, OsString), Failure> {
+    let (name, after) = match text.split_once('=') {
+        Some((name, value)) => (name, Some(OsString::from(value))),
+        None => (text, None),
+    };
+    let known = command.options.iter().find(|known| known.name == name);
+    let known = known.ok_or_else(|| wrong(command, format!("there is no option `{name}` here")))?;
+    match known.value {
+        None if after.is_some() => Err(wrong(command, format!("{name} takes no value"))),
+        None => Ok((known.name, OsString::new())),
+        Some(what) => {
+            let value = after.or_else(next);
+            let value = value.ok_or_else(|| wrong(command, format!("{name} needs a {what}")))?;
+            Ok((known.name, value))
+        }
+    }
+}
+
+/// Whether there are as many operands as the command takes.
+fn fits(call: &Call) -> Result<(), Failure> {
+    let Command { sheets, more, .. } = call.command;
+    let count = call.operands.len();
+    if call.folder.is_some() {
+        return match (count, &call.output) {
+            (_, Some(_)) => Err(call.wrong("-o and -d do not go together".to_string())),
+            (0, _) => Err(call.wrong("-d needs the sheets to be named".to_string())),
+            _ => Ok(()),
+        };
+    }
+    if count > *sheets && !more {
+        let extra = call.operands[*sheets].to_string_lossy();
+        let many = match (call.command.ending, sheets) {
+            (Some(_), 1) => "; for several sheets add -d FOLDER",
+            _ => "",
+        };
+        return Err(call.wrong(format!("`{extra}` is one operand too many{many}")));
+    }
+    Ok(())
+}

@@ -1,0 +1,61 @@
+//! The commands: a file for each, and a line in the list.
+
+mod arrivals;
+mod check;
+mod count;
+mod draw;
+mod eval;
+mod gates;
+mod make;
+mod matrix;
+mod page;
+mod same;
+mod settle;
+mod shallower;
+mod table;
+mod tidy;
+pub mod why;
+
+use crate::call::{Call, Opt};
+use crate::outcome::{Answer, Failure};
+
+/// A command, as it is listed, called and run.
+pub struct Command {
+    pub name: &'static str,
+    /// What stands behind the name.
+    pub usage: &'static str,
+    /// What it does, in a line.
+    pub summary: &'static str,
+    /// What `--help` says besides.
+    pub help: &'static str,
+    /// How many sheets it takes.
+    pub sheets: usize,
+    /// Whether it takes other operands behind its sheets.
+    pub more: bool,
+    pub options: &'static [Opt],
+    /// The ending of the files that it writes for `-d FOLDER`; none where it takes no `-d`.
+    pub ending: Option<&'static str>,
+    pub run: fn(&Call) -> Result<Answer, Failure>,
+}
+
+/// All of them, in the order of the list that `--help` prints.
+pub static ALL: &[&Command] = &[
+    &make::COMMAND,
+    &why::COMMAND,
+    &check::COMMAND,
+    &tidy::COMMAND,
+    &table::COMMAND,
+    &eval::COMMAND,
+    &settle::COMMAND,
+    &same::COMMAND,
+    &gates::COMMAND,
+    &count::COMMAND,
+    &shallower::COMMAND,
+    &arrivals::COMMAND,
+    &draw::COMMAND,
+    &matrix::COMMAND,
+    &page::COMMAND,
+];
+
+/// `--shallow`, of making and settling.
+const SHALLOW: Opt = Opt::flag("--shallow");

@@ -1,0 +1,59 @@
+//! `same`: whether two nets compute the same table.
+
+use super::Command;
+use crate::call::Call;
+use crate::input::sheets;
+use crate::json::Json;
+use crate::outcome::{Answer, Failure};
+use crate::refused::{self, Refused};
+use crate::sheets::at;
+use crate::words::assignment;
+use sitgurp::Verdict;
+
+pub static COMMAND: Command = Command {
+    name: "same",
+    usage: "NET [NET]",
+    summary: "whether two nets compute the same table",
+    help: "\
+Two nets of the same levels, inputs and names are the same where they settle to the same sheet, whatever their wiring. Where
+they are not, the first row at which they differ is told, and the status is 1.
+",
+    sheets: 2,
+    more: false,
+    options: &[],
+    ending: None,
+    run,
+};
+
+fn run(call: &Call) -> Result<Answer, Failure> {
+    let [first_sheet, second_sheet] = sheets(call)?;
+    let first = refused::net(&first_sheet)?;
+    let second = refused::net(&second_sheet)?;
+    let table = second.table();
+    let verdict = first.check(&table).map_err(|refusal| {
+        let differ = refused::headers(&first.table(), &table);
+        Refused::of_headers(&first_sheet, &second_sheet, refusal, differ)
+    })?;
+    let same = first.settled() == second.settled();
+    let Verdict::Differ(index) = verdict else {
+        let json = Json::object([("same", Json::Bool(same))]);
+        return Ok(Answer::new(
+            "same: the two nets compute the same table\n",
+            json,
+        ));
+    };
+    let row = table.row(index).expect("an index of the table");
+    let value = first.value(&row.levels).expect("an assignment of the net");
+    let words = format!(
+        "not the same: at {} the first net gives {value} and the second {}\n",
+        assignment(table.names(), &row.levels),
+        row.ink
+    );
+    let json = Json::object([
+        ("same", Json::Bool(same)),
+        ("at", at(table.names(), &row)),
+        ("first", Json::Number(value.into())),
+        ("second", Json::Number(row.ink.into())),
+    ]);
+    Ok(Answer::new(words, json).no())
+}

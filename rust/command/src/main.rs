@@ -1,0 +1,58 @@
+//! The command `sitgurp`: tables of shades and trees of gates, for people. Whatever the library decides is asked of the library; here it is put in words.
+//!
+//! | module                | idea                                                               |
+//! |-----------------------|--------------------------------------------------------------------|
+//! | `commands`            | one file for each command, and the list of them                    |
+//! | `call`, `help`        | the words behind a command's name, and what `--help` says           |
+//! | `input`, `output`     | sheets read; results written whole or not at all                    |
+//! | `closed`              | whether standard output was closed before the start                 |
+//! | `outcome`, `json`     | an answer or a failure, its status, and both as JSON                |
+//! | `refused`             | a refusal as it is said: file, line, column, the line with a caret  |
+//! | `sentence`            | what is due at the place                                            |
+//! | `cause`, `repairs`    | what has likely gone wrong, by what mends it                        |
+//! | `excerpt`, `words`    | a line with a caret; lists and numbers in words                     |
+//! | `fault`, `mend`       | why a table has no tree, and a change with which it has one         |
+//! | `sheets`, `page`      | nets and tables as JSON; a table and its tree as HTML                |
+//! | `loose`               | what a spreadsheet writes, as a loose sheet                         |
+//! | `batch`, `progress`   | many sheets at once, on all cores                                   |
+//!
+//! Status 0; 1 for a refusal or a 'no'; 2 for a wrong command, or a file that cannot be read or written.
+
+mod batch;
+mod call;
+mod cause;
+mod closed;
+mod commands;
+mod excerpt;
+mod fault;
+mod help;
+mod input;
+mod json;
+mod loose;
+mod mend;
+mod outcome;
+mod output;
+mod page;
+mod progress;
+mod refused;
+mod repairs;
+mod sentence;
+mod sheets;
+mod words;
+
+use call::Asked;
+use std::ffi::OsString;
+use std::process::ExitCode;
+
+fn main() -> ExitCode {
+    let arguments: Vec<OsString> = std::env::args_os().skip(1).collect();
+    let status = match call::asked(&arguments) {
+        Ok(Asked::Text(text)) => outcome::said(text),
+        Ok(Asked::Call(call)) => match call.folder {
+            Some(_) => batch::run(&call),
+            None => outcome::told(&call, (call.command.run)(&call)),
+        },
+        Err(failure) => outcome::failed(&failure, false),
+    };
+    ExitCode::from(status)
+}

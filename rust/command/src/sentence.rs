@@ -1,0 +1,445 @@
+//! What is due at the place of a refusal, said so that one sees what to change. The library has judged: all before the place is as it should be.
+
+use crate::excerpt;
+use crate::words::{self, count, thousands};
+use sitgurp::{Kind, Refusal};
+
+/// Which sheet was due.
+#[derive(Clone, Copy, Debug, PartialEq, Eq)]
+pub enum Due {
+    Table,
+    /// A table sheet, loosely laid: any spaces between fields, rows in any order.
+    Loose,
+    Net,
+    Arrivals,
+}
+
+impl Due {
+    pub fn name(self) -> &'static str {
+        match self {
+            Due::Table => "a table sheet",
+            Due::Loose => "a table",
+            Due::Net => "a net sheet",
+            Due::Arrivals => "an arrival sheet",
+        }
+    }
+}
+
+/// A refused sheet up to its place: its lines so far, and what was read in them.
+pub struct Front<'a> {
+    pub due: Due,
+    pub sheet: &'a [u8],
+    pub place: usize,
+    /// The line of the place, from 1.
+    pub line: usize,
+    pub levels: usize,
+    pub inputs: usize,
+    pub names: Vec<String>,
+}
+
+impl<'a> Front<'a> {
+    /// `inputs` are the names that an arrival sheet is for.
+    pub fn of(due: Due, sheet: &'a [u8], refusal: &Refusal, inputs: &[String]) -> Front<'a> {
+        let place = refusal.place.min(sheet.len());
+        let lines = sheet[..place].split(|&byte| byte == b'\n');
+        let before: Vec<Vec<String>> = lines.map(|line| fields_in(due, line)).collect();
+        let number = |line: usize, field: usize| {
+            let line = before.get(line).filter(|_| due != Due::Arrivals);
+            let text = line.and_then(|line| line.get(field));
+            text.and_then(|text| text.parse().ok()).unwrap_or(0)
+        };
+        let (levels, count) = (number(1, 0), number(1, 1));
+        let names = match due {
+            Due::Arrivals => inputs.to_vec(),
+            _ => before.get(2).cloned().unwrap_or_default(),
+        };
+        Front {
+            due,
+            sheet,
+            place,
+            line: before.len(),
+            levels,
+            inputs: if due == Due::Arrivals {
+                inputs.len()
+            } else {
+                count
+            },
+            names: names.into_iter().take(count.max(inputs.len())).collect(),
+        }
+    }
+
+    /// The field that begins at the place.
+    pub fn field(&self) -> String {
+        let is_end = |&byte: &u8| byte == b' ' || byte == b'\n';
+        let rest = &self.sheet[self.place..];
+        let length = rest.iter().position(is_end).unwrap_or(rest.len());
+        excerpt::field(&rest[..length])
+    }
+
+    /// How many lines the sheet should have, once its second line is read.
+    fn lines_due(&self) -> usize {
+        match self.due {
+            Due::Table | Due::Loose => 3 + self.rows(),
+            Due::Net => 4 + self.inputs - 1,
+            Due::Arrivals => 1 + self.inputs,
+        }
+    }
+
+    /// How many rows a table sheet should have.
+    pub fn rows(&self) -> usize {
+        self.levels
+            .checked_pow(self.inputs as u32)
+            .unwrap_or(usize::MAX)
+    }
+
+    /// The levels of a row of a table sheet, from 0.
+    pub fn row(&self, mut index: usize) -> Vec<u8> {
+        let mut levels = vec![0; self.inputs];
+        for level in levels.iter_mut().rev() {
+            *level = (index % self.levels) as u8;
+            index /= self.levels;
+        }
+        levels
+    }
+
+    fn at_line_start(&self) -> bool {
+        self.place == 0 || self.sheet[self.place - 1] == b'\n'
+    }
+
+    fn at_end(&self) -> bool {
+        self.place == self.sheet.len()
+    }
+}
+
+/// The fields of a line; in a loose sheet any number of spaces parts them.
+fn fields_in(due: Due, line: &[u8]) -> Vec<String> {
+    let mut fields = fields(line);
+    if due == Due::Loose {
+        fields.retain(|field| !field.is_empty());
+    }
+    fields
+}
+
+fn fields(line: &[u8]) -> Vec<String> {
+    let fields = line.split(|&byte| byte == b' ');
+    fields.map(excerpt::field).collect()
+}
+
+/// The sentence of a refusal that has a place in a sheet.
+pub fn sentence(kind: Kind, front: &Front) -> String {
+    let field = front.field();
+    match kind {
+        Kind::Levels => format!("levels should be one digit from 2 to 9, not `{field}`"),
+        Kind::Inputs => inputs(front, &field),
+        Kind::Name => name(front, &field),
+        Kind::Row if front.due == Due::Loose => {
+            format!(
+                "an input's level should be one digit from 0 to {}, not `{field}`",
+                front.levels - 1
+            )
+        }
+        Kind::Row => row(front),
+        Kind::RepeatedRow => repeated(front),
+        Kind::Digits if front.due != Due::Net => {
+            format!(
+                "an ink should be one digit from 0 to {}, not `{field}`",
+                front.levels - 1
+            )
+        }
+        Kind::Digits => gate_table(front, &field),
+        Kind::UnknownReference => unknown(front, &field),
+        Kind::UsedReference => used(front, &field),
+        Kind::ArrivalName => {
+            let due = front.line.checked_sub(2).and_then(|k| front.names.get(k));
+            let due = due.map_or("another input", String::as_str);
+            format!("this line is for the input `{due}`, not `{field}`: one line an input, in the net's order")
+        }
+        Kind::ArrivalTime => time(front, &field),
+        _ => layout(front),
+    }
+}
+
+/// A fixed word, a separator, or the sheet's end.
+fn layout(front: &Front) -> String {
+    let line = front.line;
+    if front.sheet.is_empty() {
+        return format!("there is nothing to read: {} is due", front.due.name());
+    }
+    let size_known = front.due == Due::Arrivals || line > 2;
+    if size_known && line > front.lines_due() {
+        let rest = front.sheet[front.place..].trim_ascii();
+        let all = match front.due {
+            Due::Table | Due::Loose => format!("all {} stand above", count(front.rows(), "row")),
+            Due::Net => format!("all {} stand above", count(front.inputs - 1, "gate")),
+            Due::Arrivals => format!("all {} stand above", count(front.inputs, "input")),
+        };
+        return match rest.is_empty() {
+            true => format!("the sheet should end before this line, which is blank: {all}"),
+            false => format!("the sheet should end before this line: {all}"),
+        };
+    }
+    if front.at_end() {
+        return early_end(front);
+    }
+    let all_names = fields_of_line(front).len() == front.inputs;
+    let is_table = matches!(front.due, Due::Table | Due::Loose);
+    if is_table && line == 3 && all_names && !front.field().is_empty() {
+        return format!(
+            "`{}` stands where `ink` is due: line 2 says {}, and their names stand before it",
+            front.field(),
+            count(front.inputs, "input")
+        );
+    }
+    if front.at_line_start() && front.sheet[front.place] == b'\n' {
+        return format!("line {line} is blank: {}", line_due(front));
+    }
+    line_due(front)
+}
+
+/// The sheet ends before it should.
+fn early_end(front: &Front) -> String {
+    let line = front.line;
+    if !front.at_line_start() {
+        return match front.sheet.last() {
+            Some(b' ') => format!(
+                "the sheet ends in the middle of line {line}: {}",
+                line_due(front)
+            ),
+            _ => format!(
+                "line {line} has no line feed at its end, or the sheet is cut: {}",
+                line_due(front)
+            ),
+        };
+    }
+    match (front.due, line) {
+        (Due::Table, 4..) => {
+            let first = line - 4;
+            let left = front.rows() - first;
+            let row = words::levels(&front.row(first));
+            match left {
+                1 => {
+                    format!("the sheet ends here, and the last row is missing: `{row}` and its ink")
+                }
+                _ => format!(
+                    "the sheet ends here, and {} are missing: from `{row}` on",
+                    count(left, "row")
+                ),
+            }
+        }
+        (Due::Loose, 4..) => {
+            let known = rows_above(front);
+            let missing = (0..front.rows()).filter(|row| !known.iter().any(|(one, _)| one == row));
+            let missing: Vec<usize> = missing.collect();
+            let row = words::levels(&front.row(missing.first().copied().unwrap_or(0)));
+            match missing.len() {
+                1 => format!("the sheet ends here, and the row `{row}` is missing"),
+                left => format!(
+                    "the sheet ends here, and {left} rows are missing, `{row}` the first of them"
+                ),
+            }
+        }
+        (Due::Net, 5..) => {
+            let left = front.lines_due() + 1 - line;
+            format!(
+                "the sheet ends here, and {} missing",
+                are(left, "gate line")
+            )
+        }
+        (Due::Arrivals, 2..) => {
+            let left = front.lines_due() + 1 - line;
+            format!("the sheet ends here, and {} missing", are(left, "line"))
+        }
+        _ => format!("the sheet ends here: {}", line_due(front)),
+    }
+}
+
+fn are(number: usize, one: &str) -> String {
+    let verb = if number == 1 { "is" } else { "are" };
+    format!("{} {verb}", count(number, one))
+}
+
+/// What the line of the place should be.
+fn line_due(front: &Front) -> String {
+    let inputs = front.inputs;
+    match (front.due, front.line) {
+        (Due::Arrivals, 1) => "line 1 should be `name from to`".to_string(),
+        (Due::Arrivals, _) => {
+            "a line should have an input's name and two times, one space apart".to_string()
+        }
+        (_, 1) => "line 1 should be `levels inputs`".to_string(),
+        (_, 2) => "line 2 should have two numbers, levels and inputs, one space apart".to_string(),
+        (Due::Table | Due::Loose, 3) => {
+            format!("line 3 should have the names of the {inputs} inputs and then `ink`, one space apart")
+        }
+        (Due::Net, 3) => {
+            format!("line 3 should have the names of the {inputs} inputs, one space apart")
+        }
+        (Due::Table | Due::Loose, _) => format!(
+            "a row should have {} and an ink, one space apart",
+            count(inputs, "level")
+        ),
+        (Due::Net, 4) => "line 4 should be `left right table`".to_string(),
+        (Due::Net, _) => {
+            "a gate line should have left, right and table, one space apart".to_string()
+        }
+    }
+}
+
+fn inputs(front: &Front, field: &str) -> String {
+    let plain = "inputs should be a number from 2 to 12";
+    match field.parse::<u32>() {
+        Ok(inputs @ 2..=12) if *field == inputs.to_string() => {
+            let levels: usize = fields_of_line(front)[0].parse().unwrap_or(0);
+            let fit = (2..=12)
+                .rev()
+                .find(|&fewer| levels.pow(fewer) <= sitgurp::MOST_CELLS);
+            format!(
+                "{levels} levels with {inputs} inputs are {} cells, and {} is the most: {} inputs fit",
+                thousands(levels.pow(inputs)),
+                thousands(sitgurp::MOST_CELLS),
+                fit.unwrap_or(2)
+            )
+        }
+        _ => format!("{plain}, not `{field}`"),
+    }
+}
+
+/// The fields of the place's line before the place.
+fn fields_of_line(front: &Front) -> Vec<String> {
+    let before = &front.sheet[..front.place];
+    let line = before.split(|&byte| byte == b'\n').next_back();
+    let mut fields = fields(line.unwrap_or(&[]));
+    fields.retain(|field| !field.is_empty());
+    fields
+}
+
+fn name(front: &Front, field: &str) -> String {
+    let earlier = fields_of_line(front);
+    if field == "ink" {
+        return match front.due {
+            Due::Table | Due::Loose => format!(
+                "`ink` stands where a name is due: line 2 says {}, and {} there",
+                count(front.inputs, "input"),
+                are(earlier.len(), "name")
+            ),
+            _ => "`ink` is no input's name".to_string(),
+        };
+    }
+    if earlier.iter().any(|other| other == field) {
+        return format!("the name `{field}` stands twice");
+    }
+    let rule = "a name has 1 to 8 lowercase letters and digits, a letter first";
+    match field.len() > 8 && field.bytes().all(|byte| byte.is_ascii_alphanumeric()) {
+        true => format!("the name `{field}` is too long: {rule}"),
+        false => format!("`{field}` is no name: {rule}"),
+    }
+}
+
+/// A row that is not the next in the count.
+fn row(front: &Front) -> String {
+    let due = words::levels(&front.row(front.line - 4));
+    format!("this row should begin `{due}`, the next in the count")
+}
+
+/// A row of a loose sheet that stands in an earlier line already.
+fn repeated(front: &Front) -> String {
+    let line = &front.sheet[front.place..];
+    let line = line.split(|&byte| byte == b'\n').next().unwrap_or(&[]);
+    let levels = fields_in(front.due, line);
+    let row = index_of(front, &levels);
+    let earlier = rows_above(front)
+        .into_iter()
+        .find(|(one, _)| Some(*one) == row);
+    let levels: Vec<String> = levels.into_iter().take(front.inputs).collect();
+    match earlier {
+        Some((_, line)) => format!(
+            "the row `{}` stands in line {line} already",
+            levels.join(" ")
+        ),
+        None => format!("the row `{}` stands above already", levels.join(" ")),
+    }
+}
+
+/// The rows of a loose sheet above the place's line, each with its line.
+fn rows_above(front: &Front) -> Vec<(usize, usize)> {
+    let lines = front.sheet[..front.place].split(|&byte| byte == b'\n');
+    let lines = lines
+        .enumerate()
+        .skip(3)
+        .take((front.line - 1).saturating_sub(3));
+    let rows = lines.filter_map(|(k, line)| {
+        let row = index_of(front, &fields_in(front.due, line))?;
+        Some((row, k + 1))
+    });
+    rows.collect()
+}
+
+/// The index of a row by its levels.
+fn index_of(front: &Front, fields: &[String]) -> Option<usize> {
+    let levels = fields.get(..front.inputs)?;
+    levels.iter().try_fold(0, |index, field| {
+        let level: usize = field.parse().ok()?;
+        (level < front.levels).then_some(index * front.levels + level)
+    })
+}
+
+fn gate_table(front: &Front, field: &str) -> String {
+    let (m, due) = (front.levels, front.levels * front.levels);
+    let rule = format!("a gate's table should be {due} digits from 0 to {}", m - 1);
+    match field.bytes().all(|byte| byte.is_ascii_digit()) {
+        true if field.len() != due => format!("{rule}, and this has {}", field.len()),
+        true => {
+            let wrong = field.bytes().find(|byte| usize::from(byte - b'0') >= m);
+            format!(
+                "{rule}, and this has a {}",
+                char::from(wrong.unwrap_or(b'?'))
+            )
+        }
+        false => format!("{rule}, not `{field}`"),
+    }
+}
+
+fn unknown(front: &Front, field: &str) -> String {
+    let earlier = front.line - 5;
+    let gates = match earlier {
+        0 => "there is no gate before the first".to_string(),
+        1 => "the only earlier gate is 1".to_string(),
+        last => format!("the earlier gates are 1 to {last}"),
+    };
+    format!(
+        "`{field}` is no input and no earlier gate: the inputs are {}, and {gates}",
+        words::list(&front.names)
+    )
+}
+
+fn used(front: &Front, field: &str) -> String {
+    let lines = front.sheet[..front.place].split(|&byte| byte == b'\n');
+    let lines: Vec<Vec<String>> = lines.map(fields).collect();
+    let earlier = lines.iter().enumerate().skip(4);
+    let mut uses = earlier.filter(|(_, line)| line.iter().take(2).any(|one| one == field));
+    let place = match uses.next() {
+        Some((k, _)) if k + 1 == front.line => "in this line".to_string(),
+        Some((k, _)) => format!("in line {}", k + 1),
+        None => "before".to_string(),
+    };
+    let what = if field.starts_with(|c: char| c.is_ascii_digit()) {
+        "gate "
+    } else {
+        ""
+    };
+    format!("{what}`{field}` is used already, {place}: each input and each gate is used once")
+}
+
+fn time(front: &Front, field: &str) -> String {
+    let rule = "a time should be a whole number of quarter microseconds from 0 to 65535";
+    let line = fields_of_line(front);
+    match (
+        field.parse::<u32>(),
+        line.get(1).and_then(|from| from.parse::<u32>().ok()),
+    ) {
+        (Ok(to), Some(from)) if line.len() == 2 && to < from => {
+            format!("`to` is {to}, which is before `from`, {from}")
+        }
+        _ => format!("{rule}, not `{field}`"),
+    }
+}

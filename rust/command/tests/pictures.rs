@@ -1,0 +1,156 @@
+//! `draw`, `matrix` and `page`: the structure of what is written, and the committed pictures.
+
+mod common;
+
+use common::{answers, examples, is_wrong, repository, SUM_TABLE};
+
+#[test]
+fn draw() {
+    let folder = examples("draw");
+    for name in ["figure1", "seven"] {
+        let picture = repository().join(format!("docs/pictures/{name}.svg"));
+        let picture = std::fs::read_to_string(picture).expect("a committed picture");
+        answers(folder.run(&format!("draw {name}.net")), &picture);
+    }
+    let dot = folder.run("draw --dot seven.net").out;
+    assert!(dot.starts_with("digraph net {\n"));
+    let json = folder.run("draw seven.net --json").out;
+    assert!(json.starts_with("{\"svg\":\"<svg xmlns="));
+}
+
+/// The text of each element of a class, in order.
+fn texts<'a>(svg: &'a str, class: &str) -> Vec<&'a str> {
+    let start = format!("<text class=\"{class}\" ");
+    svg.lines()
+        .filter(|line| line.starts_with(&start))
+        .map(|line| line.split(['>', '<']).nth(2).expect("a text"))
+        .collect()
+}
+
+fn count(svg: &str, element: &str) -> usize {
+    svg.lines().filter(|line| line.starts_with(element)).count()
+}
+
+#[test]
+fn matrix() {
+    let folder = examples("matrix");
+    let svg = folder.run("matrix majority.table --group b,c").out;
+    assert_eq!(
+        texts(&svg, "caption"),
+        ["b, c: 3 classes; a wire carries 2 levels"]
+    );
+    // the classes, the columns gathered by them, the inks, and the other input's levels
+    assert_eq!(texts(&svg, "number"), ["1", "2", "3"]);
+    assert_eq!(count(&svg, "<rect class=\"class\""), 3);
+    assert_eq!(
+        texts(&svg, "level"),
+        ["0", "0", "0", "1", "1", "0", "1", "1"]
+    );
+    assert_eq!(
+        texts(&svg, "digit"),
+        ["0", "0", "0", "1", "0", "1", "1", "1"]
+    );
+    assert_eq!(texts(&svg, "head"), ["b", "c", "a", "0", "1"]);
+    assert_eq!(count(&svg, "<rect class=\"cell\""), 8);
+    // the names' order in the option does not matter
+    assert_eq!(folder.run("matrix --group c,b majority.table").out, svg);
+    // no other inputs: one row
+    let whole = folder.run("matrix majority.table --group a,b,c").out;
+    assert_eq!(
+        texts(&whole, "caption"),
+        ["a, b, c: 2 classes; a wire carries 2 levels"]
+    );
+    assert_eq!(texts(&whole, "head"), ["a", "b", "c"]);
+    let json = folder
+        .run("matrix shade.table --group weight,near --json")
+        .out;
+    assert!(json.starts_with("{\"classes\":4,\"svg\":\"<svg "), "{json}");
+    is_wrong(
+        folder.run("matrix majority.table"),
+        "sitgurp matrix: --group is needed: names of inputs with commas between\n",
+    );
+    is_wrong(
+        folder.run("matrix majority.table --group a,x"),
+        "sitgurp matrix: `x` is no input of this table; its inputs are a, b and c\n",
+    );
+    is_wrong(
+        folder.run("matrix majority.table --group a,a"),
+        "sitgurp matrix: a is in the group twice\n",
+    );
+}
+
+/// Every element that is opened is closed in order, and nothing is fetched or run.
+fn stands_by_itself(html: &str) {
+    let mut open: Vec<&str> = Vec::new();
+    // what stands in a style is no element
+    let pieces = html
+        .split("<style>")
+        .map(|piece| piece.split("</style>").last().unwrap_or(""));
+    let plain: String = pieces.collect::<Vec<&str>>().concat();
+    for tag in plain.split('<').skip(1) {
+        let (tag, _) = tag.split_once('>').expect("a tag's end");
+        let name = tag
+            .trim_start_matches('/')
+            .split([' ', '/'])
+            .next()
+            .unwrap_or("");
+        match tag {
+            _ if tag.starts_with('!') || tag.ends_with('/') || name == "meta" => {}
+            _ if tag.starts_with('/') => assert_eq!(open.pop(), Some(name)),
+            _ => open.push(name),
+        }
+    }
+    assert_eq!(open, Vec::<&str>::new());
+    let without_namespace = html.replace("http://www.w3.org/2000/svg", "");
+    for word in [
+        "<script", "http:", "https:", "src=", "href=", "url(", "@import", "onload",
+    ] {
+        assert!(!without_namespace.contains(word), "{word}");
+    }
+    assert!(
+        html.contains("<meta name=\"viewport\" content=\"width=device-width, initial-scale=1\">")
+    );
+}
+
+#[test]
+fn a_page_of_a_tree() {
+    let folder = examples("page");
+    let page = folder.run("page shade.table").out;
+    stands_by_itself(&page);
+    assert!(page.contains("<h1>shade.table</h1>\n<p class=\"facts\">4 levels, 3 inputs: weight, light, near; 64 rows</p>"));
+    assert!(page.contains("<p>2 gates, 2 layers. It is the only tree of this table.</p>"));
+    assert!(page.contains(folder.run("draw shade.net").out.trim_end()));
+    assert!(page.contains(&folder.get("shade.net")));
+    assert_eq!(page.matches("<tr>").count(), 1 + 64);
+    assert_eq!(page.matches("<td style=\"background:rgb(").count(), 64);
+    folder.put("a&b.table", SUM_TABLE);
+    let page = folder.run("page a&b.table").out;
+    stands_by_itself(&page);
+    assert!(page.contains("<h1>a&amp;b.table</h1>"));
+    assert!(page.contains("<p>2 gates, 2 layers. It is one of 3 trees of this table.</p>"));
+}
+
+#[test]
+fn a_page_of_a_table_without_a_tree() {
+    let folder = examples("page_refused");
+    let page = folder.run("page majority.table").out;
+    stands_by_itself(&page);
+    for line in folder
+        .run("why majority.table")
+        .out
+        .lines()
+        .filter_map(|line| line.strip_prefix("    "))
+    {
+        assert!(page.contains(&format!("<li>{line}</li>\n")), "{line}");
+    }
+    for group in ["b,c", "a,b,c"] {
+        let matrix = folder
+            .run(&format!("matrix majority.table --group {group}"))
+            .out;
+        assert!(page.contains(matrix.trim_end()), "{group}");
+    }
+    // an unreadable table has no page
+    folder.put("bad.table", "x\n");
+    let refused = folder.run("page bad.table");
+    assert_eq!((refused.status, refused.out.as_str()), (1, ""));
+}
