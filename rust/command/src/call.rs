@@ -12,6 +12,8 @@ pub struct Opt {
     pub value: Option<&'static str>,
     /// The ending of the files that are written with it for `-d FOLDER`, where it is not the command's.
     pub ending: Option<&'static str>,
+    /// Whether it may be given more than once.
+    pub many: bool,
 }
 
 impl Opt {
@@ -20,14 +22,14 @@ impl Opt {
             name,
             value: None,
             ending: None,
+            many: false,
         }
     }
 
     pub const fn value(name: &'static str, value: &'static str) -> Opt {
         Opt {
-            name,
             value: Some(value),
-            ending: None,
+            ..Opt::flag(name)
         }
     }
 }
@@ -41,6 +43,8 @@ pub struct Call {
     pub output: Option<OsString>,
     /// `-d FOLDER`.
     pub folder: Option<OsString>,
+    /// Whether it is a sheet of many, whose progress is shown for all.
+    pub of_many: bool,
     given: Vec<(&'static str, OsString)>,
 }
 
@@ -60,6 +64,14 @@ impl Call {
     pub fn value(&self, option: &str) -> Option<String> {
         let given = self.given.iter().find(|(name, _)| *name == option);
         given.map(|(_, value)| value.to_string_lossy().into_owned())
+    }
+
+    /// The values of an option that may be given more than once.
+    pub fn values(&self, option: &str) -> Vec<String> {
+        let given = self.given.iter().filter(|(name, _)| *name == option);
+        given
+            .map(|(_, value)| value.to_string_lossy().into_owned())
+            .collect()
     }
 
     /// An option's value as a number from 0 to `most`.
@@ -99,6 +111,7 @@ impl Call {
             json: self.json,
             output: None,
             folder: None,
+            of_many: true,
             given: self.given.clone(),
         }
     }
@@ -158,6 +171,7 @@ fn parsed(command: &'static Command, words: &[OsString]) -> Result<Asked, Failur
         json: false,
         output: None,
         folder: None,
+        of_many: false,
         given: Vec::new(),
     };
     let mut words = words.iter();
@@ -176,11 +190,11 @@ fn parsed(command: &'static Command, words: &[OsString]) -> Result<Asked, Failur
                 taken(command, "-d", "FOLDER", &mut call.folder, words.next())?
             }
             _ => {
-                let given = option(command, text, || words.next().cloned())?;
-                if call.has(given.0) {
-                    return Err(wrong(command, format!("{} is given twice", given.0)));
+                let (known, value) = option(command, text, || words.next().cloned())?;
+                if call.has(known.name) && !known.many {
+                    return Err(wrong(command, format!("{} is given twice", known.name)));
                 }
-                call.given.push(given);
+                call.given.push((known.name, value));
             }
         }
     }
@@ -205,10 +219,10 @@ fn taken(
 
 /// An option of the command's own, with its value where it takes one: `--number 3` or `--number=3`.
 fn option(
-    command: &Command,
+    command: &'static Command,
     text: &str,
     next: impl FnOnce() -> Option<OsString>,
-) -> Result<(&'static str, OsString), Failure> {
+) -> Result<(&'static Opt, OsString), Failure> {
     let (name, after) = match text.split_once('=') {
         Some((name, value)) => (name, Some(OsString::from(value))),
         None => (text, None),
@@ -217,11 +231,11 @@ fn option(
     let known = known.ok_or_else(|| wrong(command, format!("there is no option `{name}` here")))?;
     match known.value {
         None if after.is_some() => Err(wrong(command, format!("{name} takes no value"))),
-        None => Ok((known.name, OsString::new())),
+        None => Ok((known, OsString::new())),
         Some(what) => {
             let value = after.or_else(next);
             let value = value.ok_or_else(|| wrong(command, format!("{name} needs a {what}")))?;
-            Ok((known.name, value))
+            Ok((known, value))
         }
     }
 }

@@ -6,6 +6,8 @@ mod count;
 mod draw;
 mod eval;
 mod gates;
+mod glyph;
+mod keep;
 mod make;
 mod matrix;
 mod page;
@@ -48,6 +50,7 @@ pub static ALL: &[&Command] = &[
     &eval::COMMAND,
     &settle::COMMAND,
     &same::COMMAND,
+    &keep::COMMAND,
     &gates::COMMAND,
     &count::COMMAND,
     &shallower::COMMAND,
@@ -55,6 +58,7 @@ pub static ALL: &[&Command] = &[
     &draw::COMMAND,
     &matrix::COMMAND,
     &page::COMMAND,
+    &glyph::COMMAND,
 ];
 
 /// `--shallow`, of making and settling.

@@ -14,13 +14,15 @@
 //! | `fault`, `mend`       | why a table has no tree, and a change with which it has one         |
 //! | `sheets`, `page`      | nets and tables as JSON; a table and its tree as HTML                |
 //! | `loose`               | what a spreadsheet writes, as a loose sheet                         |
-//! | `batch`, `progress`   | many sheets at once, on all cores                                   |
+//! | `cells`               | pictures of levels, as text and as graymaps                         |
+//! | `batch`, `progress`   | many sheets at once, on all cores; how far it has come              |
 //!
 //! Status 0; 1 for a refusal or a 'no'; 2 for a wrong command, or a file that cannot be read or written.
 
 mod batch;
 mod call;
 mod cause;
+mod cells;
 mod closed;
 mod commands;
 mod excerpt;

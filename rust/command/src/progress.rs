@@ -1,4 +1,4 @@
-//! How far many sheets have come, on a terminal.
+//! How far many sheets, or a large table, have come, on a terminal.
 
 use crate::output::to_error;
 use std::io::{self, IsTerminal};
@@ -17,6 +17,10 @@ impl Progress {
             total,
             shown: io::stderr().is_terminal(),
         }
+    }
+
+    pub fn is_shown(&self) -> bool {
+        self.shown
     }
 
     pub fn at(&self, done: usize) {

@@ -68,6 +68,47 @@ impl Refused {
         }
     }
 
+    /// Of a place in a file that is told by its line and column.
+    pub fn at(file: &Sheet, place: usize, refusal: Refusal, sentence: String) -> Refused {
+        Refused {
+            file: file.name.clone(),
+            sentence,
+            excerpt: excerpt(&file.bytes, place),
+            causes: Vec::new(),
+            hint: None,
+            refusal: Refusal {
+                position: Some(position(&file.bytes, place)),
+                ..refusal
+            },
+        }
+    }
+
+    /// Of a file as a whole.
+    pub fn of_file(file: &Sheet, refusal: Refusal, sentence: String) -> Refused {
+        Refused {
+            file: file.name.clone(),
+            sentence,
+            excerpt: String::new(),
+            causes: Vec::new(),
+            hint: None,
+            refusal,
+        }
+    }
+
+    /// With a likely cause.
+    pub fn caused(mut self, words: String) -> Refused {
+        self.causes.push(words);
+        self
+    }
+
+    /// With what to do next.
+    pub fn hinted(self, words: String) -> Refused {
+        Refused {
+            hint: Some(words),
+            ..self
+        }
+    }
+
     /// Of an accepted table that has no tree, or none of this number.
     pub fn of_table(sheet: &Sheet, table: &Table, refusal: Refusal) -> Refused {
         let none = "no tree of two-input gates computes this table";

@@ -7,7 +7,7 @@ use std::fs::{self, File};
 use std::os::unix::fs::{symlink, PermissionsExt};
 use std::process::Stdio;
 
-const COMMANDS: [&str; 15] = [
+const COMMANDS: [&str; 17] = [
     "make",
     "why",
     "check",
@@ -16,6 +16,7 @@ const COMMANDS: [&str; 15] = [
     "eval",
     "settle",
     "same",
+    "keep",
     "gates",
     "count",
     "shallower",
@@ -23,6 +24,7 @@ const COMMANDS: [&str; 15] = [
     "draw",
     "matrix",
     "page",
+    "glyph",
 ];
 
 #[test]
