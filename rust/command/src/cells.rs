@@ -121,7 +121,7 @@ fn cell(most: usize, found: &str) -> String {
     format!("a cell should be a digit from 0 to {most}, or `.` for 0, not `{found}`")
 }
 
-/// What is said of a file that cannot be given to the library as a picture.
+/// Of a file that cannot be given to the library as a picture: rows or grays that are not width times height levels, which is 24.
 fn fault(file: &Sheet, place: usize, words: String) -> Refused {
     let refusal = Refusal {
         number: Kind::Picture.number(),
@@ -180,6 +180,7 @@ fn other_file(file: &Sheet, byte: u8) -> Option<String> {
         b' ' | b',' | b';' | b'\t' => {
             Some("cells stand side by side, with nothing between them".to_string())
         }
+        0xef => Some("the file begins with a byte order mark; save it without one".to_string()),
         0x80.. => Some(
             "this is no text; a picture is text or a portable graymap (PGM) in plain text"
                 .to_string(),
@@ -208,7 +209,10 @@ fn graymap_fault(file: &Sheet, levels: usize) -> Refused {
         *number = match text.parse() {
             Ok(number) => number,
             Err(_) => {
-                let words = format!("{name} should be a whole number, not `{text}`");
+                let words = match text.is_empty() {
+                    true => format!("{name} is missing"),
+                    false => format!("{name} should be a whole number, not `{text}`"),
+                };
                 return fault(file, place, words);
             }
         };

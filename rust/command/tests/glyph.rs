@@ -111,6 +111,11 @@ fn pictures_that_are_refused() {
         "standard input:1:65: the picture is 70 cells wide, and a side has 1 to 64 (refusal 24)\n";
     assert!(wide.err.starts_with(said), "{}", wide.err);
     refused(
+        "mark.txt",
+        "\u{feff}01\n",
+        "1:1: a cell should be a digit from 0 to 1, or `.` for 0, not `\\xef` (refusal 24)\n    \\xef\\xbb\\xbf01\n    ^\nlikely cause: the file begins with a byte order mark; save it without one\n",
+    );
+    refused(
         "net.txt",
         NET,
         "1:1: a cell should be a digit from 0 to 1, or `.` for 0, not `l` (refusal 24)\n    levels inputs\n    ^\nlikely cause: this is a net sheet, and a picture is due here\n",
@@ -151,6 +156,10 @@ fn graymaps_that_are_refused() {
     refused(
         "P2\nwide 1\n1\n1 0\n",
         "2:1: the width should be a whole number, not `wide` (refusal 24)\n    wide 1\n    ^\n",
+    );
+    refused(
+        "P2\n2",
+        "2:2: the height is missing (refusal 24)\n    2\n     ^\n",
     );
     refused(
         "P2\n65 1\n1\n",

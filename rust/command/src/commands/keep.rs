@@ -15,7 +15,8 @@ pub static COMMAND: Command = Command {
     summary: "a net's wiring with its gates filled anew for a table",
     help: "\
 Writes the net sheet with the gate tables that give it the table; which gate joins what, on which side and in which line stays as it is.
-The gates whose tables are new are told on standard error. A table that this wiring computes with no gate tables is refused.
+The gates whose tables are new are told on standard error. Where no gate tables give this wiring the table, it is refused, and the gate at
+fault is told.
 ",
     sheets: 2,
     more: false,
