@@ -4,7 +4,8 @@
  *
  * Each call depends on its arguments alone and writes to nothing but the buffers lent to it. It keeps nothing from one call to the next, so any
  * number of threads may call at once, each with buffers of its own; it allocates nothing, opens nothing and waits for nothing.
- * Stack: 96 KB suffice for every call (measured by painting: `cargo run -p bench --bin stack` in rust/).
+ * Stack: 96 KB suffice for every call. The most is 79,112 bytes (sitgurp_family_tree at m 2, n 12), as
+ * `(cd rust && cargo run --offline --release -q -p bench --bin stack)` measures it, by painting, at the largest n of each m.
  *
  * Bytes are lent as a pointer and a length. A pointer must be good for that many bytes, and must not be null even where the
  * length is 0. Two buffers lent to one call must not overlap, and a buffer must not overlap a sheet.
@@ -12,9 +13,6 @@
  * A sheet is any bytes. Levels are written m and inputs n below. A refusal of a sheet (1 to 8, 18 to 20) has a place in it, a byte from 0;
  * docs/REFUSALS.md says what each number means. Refusals are listed in the order in which they are judged. Where a buffer is
  * longer than needed, its further bytes are kept.
- *
- * No call takes memory of its own but the stack: 74,840 bytes at most (sitgurp_family_tree at m 2, n 12), as
- * `(cd rust && cargo run --offline --release -q -p bench --bin stack)` measures it, by painting, at the largest n of each m.
  */
 #ifndef SITGURP_H
 #define SITGURP_H

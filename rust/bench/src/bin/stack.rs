@@ -105,7 +105,7 @@ impl Lent {
 
 type Call = fn(&mut Lent);
 
-const CALLS: [(&str, Call); 17] = [
+const CALLS: [(&str, Call); 20] = [
     ("sitgurp_multiplicity", multiplicity),
     ("sitgurp_marking", marking),
     ("sitgurp_settle", |lent| {
@@ -127,6 +127,9 @@ const CALLS: [(&str, Call); 17] = [
     ("sitgurp_arrivals", arrivals),
     ("sitgurp_write_table", write_table),
     ("sitgurp_gate_line", gate_line),
+    ("sitgurp_tidy", tidy),
+    ("sitgurp_keep", keep),
+    ("sitgurp_glyph", glyph),
     ("sitgurp_job_open_parts", job_open),
     ("sitgurp_job_step_parts", job_step),
     ("sitgurp_job_mark_parts", job_mark),
@@ -234,6 +237,57 @@ fn write_table(lent: &mut Lent) {
 fn gate_line(lent: &mut Lent) {
     let net = &lent.net;
     black_box(unsafe { ffi::sitgurp_gate_line(net.as_ptr(), net.len(), lent.n - 2) });
+}
+
+/// A strict table sheet is a loose one too.
+fn tidy(lent: &mut Lent) {
+    let (table, cells, output) = (&lent.table, &mut lent.cells, &mut lent.output);
+    black_box(unsafe {
+        ffi::sitgurp_tidy(
+            table.as_ptr(),
+            table.len(),
+            cells.as_mut_ptr(),
+            cells.len(),
+            output.as_mut_ptr(),
+            output.len(),
+        )
+    });
+}
+
+fn keep(lent: &mut Lent) {
+    let (net, table) = (&lent.net, &lent.table);
+    black_box(unsafe {
+        ffi::sitgurp_keep(
+            net.as_ptr(),
+            net.len(),
+            table.as_ptr(),
+            table.len(),
+            lent.cells.as_mut_ptr(),
+            lent.cells.len(),
+            lent.output.as_mut_ptr(),
+            lent.output.len(),
+        )
+    });
+}
+
+/// The largest picture, every input at its own cell.
+fn glyph(lent: &mut Lent) {
+    let (net, picture) = (&lent.net, vec![0; 64 * 64]);
+    let offsets = vec![0; 2 * lent.n];
+    black_box(unsafe {
+        ffi::sitgurp_glyph(
+            net.as_ptr(),
+            net.len(),
+            64,
+            64,
+            picture.as_ptr(),
+            picture.len(),
+            offsets.as_ptr(),
+            offsets.len(),
+            lent.output.as_mut_ptr(),
+            lent.output.len(),
+        )
+    });
 }
 
 fn job_open(lent: &mut Lent) {
