@@ -8,6 +8,7 @@ use native.Mathlib.Omega.{arith}
 use lib.ListN.{length, take, drop, set, length-set, take-append-drop}
 use lib.Seq.{drop-set-lt, length-take-le}
 use Rattle.rules.specs.Sheets.{Table}
+use Rattle.rules.specs.Groups.{wholeGroup}
 use Rattle.rules.specs.Marks.{markOf}
 use Rattle.rules.specs.Answers.{inkIn, written}
 use Rattle.rules.specs.Jobs as rules
@@ -92,6 +93,11 @@ module _ (lines cells marks : List ℕ) (passed : ℕ) where
 -- a part from 0 on
 pub part-length : (k : ℕ) (l : List ℕ) → k ≤ length l → length (take (k - 0) l) ≡ k
 part-length k l h = ap (λ (j : ℕ). length (take j l)) (sub-zero k) ∙ length-take-le k l h
+
+-- the whole group, by the number past it
+pub whole-group : (n past : ℕ) → past ≡ 2 ^ n → (g : ℕ) → past - 1 ≡ g → wholeGroup n ≡ g
+unfolding wholeGroup
+whole-group n past e g is = ap (λ (k : ℕ). k - 1) (sym e) ∙ is
 
 -- a job with no table
 pub next-none : (lines cells marks : List ℕ) (passed : ℕ) → tableFrom lines cells ≡ noTable → NextMark (jobIn lines cells marks passed) Done

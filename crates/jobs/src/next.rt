@@ -12,6 +12,7 @@ use crate::job::Job;
 use fields::header::header_lines;
 use fields::runs::SPACE;
 use fields::steps::Step;
+use marking::whole;
 use marks::group;
 use nets::forms::Header;
 use radix::limits;
@@ -22,13 +23,17 @@ pub enum Next {
     Mark(u8),
 }
 
-// The mark of group g, from those of the groups below it. The work arrays stand here.
+// The mark of group g, from those of the groups below it. The work arrays stand here. The whole group's classes are its inks, so that its step
+// is not longer than the others.
 fn mark_one(m: usize, n: usize, inks: &[u8], g: usize, marks: &[u8]) -> u8
-    requires { ⌜ (sizeFits m n ≡ true) × (m ^ n ≤ length (now inks)) × (g < 2 ^ n) × (g ≤ length (now marks)) ⌝ }
+    requires { ⌜ (sizeFits m n ≡ true) × (m ^ n ≤ length (now inks)) × (g < 2 ^ n) × (2 ^ n ≤ length (now marks)) ⌝ }
     ensures { λ r. ⌜ r ≡ markOf m n (inkIn (now (inks .entry))) (now (marks .entry)) g ⌝ }
 {
     let mut xs = [0u16; limits::MOST_CELLS];
     let mut ys = [0u16; limits::MOST_CELLS];
+    if powers::power(2, n) - 1 == g {
+        return whole::mark_whole(m, n, inks, &mut xs, &mut ys, marks);
+    }
     group::mark_group(m, n, inks, g, &mut xs, &mut ys, marks)
 }
 

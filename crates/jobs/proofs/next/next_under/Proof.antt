@@ -76,7 +76,7 @@ mark-one-requires c κs =
       start .pre .0 .held .fits,
       omega (arith, cells .power2 .ensures, part-length (cells .power2 .result) (start .args .cells .now) (omega (arith, cells .power2 .ensures, size start .cells-most, start .pre .1))),
       omega (arith, power .power .ensures, cells .before .if1 .left),
-      omega (arith, long, cells .before .if1 .left),
+      omega (arith, long, power .power .ensures),
     )
 
 returns-2 : tie.Need-returns-2
