@@ -1,7 +1,7 @@
 -- Document 01 ("Shade nets: tables, groups and settled trees") as definitions that compute, in the document's own order.
 -- Each definition's comment quotes the sentence that it states, or says what the definition is for. `Lists`, `Text` and
 -- `Fields` are the means; the rest follows the document's sections: Sheets (`Limits`, `Sheets`, `Printed`, `Kept`),
--- `Value`, `Groups`, `Marks`, the settled net (`Wirings`, `Filling`, `Settled`; `SettledLaws` hold its choices to the document's words), then
+-- `Value`, `Groups`, `Marks`, the settled net (`Wirings`, `Filling`, `Leaves` as document 02 has them, `Settled`; `SettledLaws` hold its choices to the document's words), then
 -- the calls with what they turn back (`Answers`, `Reading` and `BareCells` are what they share; a file for each call or pair of calls
 -- follows), the starred cases (`Cases`), every refusal by examples (`Refusals`), and what is judged first (`Orders`). Of document 02: shallow
 -- nets (`Layers`, `Shallow`, `ShallowSettling`, `Shallower`, with `ShallowCases`), every wiring of a table (`Family`, `FamilyCalls`, with
@@ -23,6 +23,7 @@ pub mod Differences
 pub mod Marks
 pub mod Wirings
 pub mod Filling
+pub mod Leaves
 pub mod Settled
 pub mod SettledLaws
 pub mod Layers

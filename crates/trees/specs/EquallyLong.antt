@@ -5,11 +5,10 @@ use mathlib.Core.Path.{_≡_, sym, ap, _∙_, subst⁻¹}
 use mathlib.Core.List.{List, [], _∷_, map}
 use native.Mathlib.Omega.{arith}
 use lib.ListN.{length, length-append, length-map}
-use Rattle.rules.specs.Lists.{range, concatMap}
+use Rattle.rules.specs.Lists.{range, concatMap, total}
 use Rattle.rules.specs.Sheets.{Header, Gate, Net, referenceText, usedBy}
 use Rattle.rules.specs.Printed.{line, firstLines, printedGate, printedNet}
 use Rattle.rules.specs.Kept.{GateTable, Tables, IsNet, KeptNet}
-use Rattle.rules.specs.Family.{total}
 use Rattle.trees.specs.UsedOnce.{used-sum}
 
 module _ (m : ℕ) (names : List (List ℕ)) where

@@ -11,13 +11,12 @@ use native.Mathlib.Decide.{ℕ-discrete}
 use lib.ListN.{length}
 use lib.Dec.{eqb}
 use borrow.Author.Tests.{eqb-true, eqb-false}
-use Rattle.rules.specs.Lists.{range, any}
+use Rattle.rules.specs.Lists.{range, any, total}
 use Rattle.rules.specs.Sheets.{Gate, usedBy}
 use Rattle.rules.specs.Kept.{Distinct, IsNet}
 use Rattle.laws.specs.Tests.{any-cons, by-test}
 use Rattle.laws.specs.Ranges.{map-range-suc}
 use Rattle.laws.specs.Distinct.{In, NotIn, not-in-cons, all-stand}
-use Rattle.rules.specs.Family.{total}
 use Rattle.trees.specs.NetTree.{past-unused, used-length}
 
 -- ---- a list without one number
