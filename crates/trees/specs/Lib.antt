@@ -26,6 +26,7 @@ pub mod Fillings
 pub mod GateLinks
 pub mod MarkRule
 pub mod MarkTwo
+pub mod Mattering
 pub mod SettledRules
 pub mod NoTree
 pub mod Existence
