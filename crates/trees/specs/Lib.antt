@@ -27,6 +27,7 @@ pub mod GateLinks
 pub mod MarkRule
 pub mod MarkTwo
 pub mod Mattering
+pub mod LeafGroup
 pub mod SettledRules
 pub mod NoTree
 pub mod Existence
