@@ -15,14 +15,17 @@ use borrow.Author.Tests.{eqb-true, eqb-false, ne-eqb}
 use Rattle.rules.specs.Lists.{range, any, those, total}
 use Rattle.rules.specs.Sheets.{Gate, usedBy}
 use Rattle.rules.specs.Groups.{member, size}
+use Rattle.rules.specs.Wirings.{gatesIn}
 use Rattle.rules.specs.Kept.{Distinct, IsNet}
 use Rattle.rules.specs.Arrivals.{usedInputs}
 use Rattle.laws.specs.Tests.{any-cons, by-test}
-use Rattle.laws.specs.Ranges.{range-length, range-append, range-suc, range-mem}
+use Rattle.laws.specs.Ranges.{range-length, range-append, range-suc, mem-range, range-mem}
+use Rattle.laws.specs.Finds.{those-mem}
 use Rattle.laws.specs.Totals.{total-parts, those-cons, those-append}
-use Rattle.laws.specs.Listed.{those-listed}
+use Rattle.laws.specs.Listed.{mem-those, those-pass, those-listed}
 use Rattle.laws.specs.Distinct.{In, NotIn, not-in-cons}
-use Rattle.trees.specs.NetTree.{netGroup, UsesJust, net-uses, past-unused, used-length}
+use Rattle.trees.specs.Wirings.{gates-in-size}
+use Rattle.trees.specs.NetTree.{net-tree, netWiring, netGroup, UsesJust, net-uses, past-unused, used-length}
 
 -- ---- a list without one number
 
@@ -145,7 +148,20 @@ module _ (f : ℕ → ℕ) where
           let place : n + (i - n) ≡ i = omega arith in
           rw place at (net .used (i - n) (omega arith))
 
--- ---- how many inputs a net uses
+-- ---- the inputs that a net uses
+
+module _ (n : ℕ) (gates : List Gate) (i : ℕ) where
+  -- those that are listed are used, ..
+  pub listed-used : List·Memᴰ i (usedInputs n gates) → (i < n) × (any (eqb i) (usedBy gates) ≡ true)
+  unfolding usedInputs
+  listed-used is =
+      let test : ℕ → Bool = λ j. any (eqb j) (usedBy gates) in
+      (omega (arith, range-mem 0 n i (those-mem test (range 0 n) i is) .1), those-pass test i (range 0 n) is)
+
+  -- .. and those that are used are listed
+  pub used-listed : i < n → any (eqb i) (usedBy gates) ≡ true → List·Memᴰ i (usedInputs n gates)
+  unfolding usedInputs
+  used-listed h used = mem-those (λ j. any (eqb j) (usedBy gates)) i (range 0 n) (mem-range 0 n i (omega arith) (omega arith)) used
 
 -- each number counts one
 sum-ones : (xs : List ℕ) → total (map (λ _. 1) xs) ≡ length xs
@@ -174,6 +190,11 @@ net-size m n gates net =
     ap length (those-listed (λ i. member i (netGroup m n gates net)) (λ i. any (eqb i) (usedBy gates)) (range 0 n)
     (λ i listed. sym (net-uses m n gates net i (omega (arith, range-mem 0 n i listed .1)))))
     ∙ used-inputs-length m n gates net
+
+-- and its tree has all its gates
+pub net-gates : (m n : ℕ) (gates : List Gate) (net : IsNet m n gates) → gatesIn (netWiring m n gates net) ≡ length gates
+net-gates m n gates net =
+    omega (arith, gates-in-size n (netWiring m n gates net) (net-tree m n gates net .once), net-size m n gates net)
 
 -- two nets with the same leaves use the same inputs
 pub same-inputs : (n : ℕ) (gates others : List Gate) (g : ℕ) → UsesJust n gates g → UsesJust n others g → usedInputs n gates ≡ usedInputs n others
