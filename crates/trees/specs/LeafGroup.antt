@@ -1,7 +1,7 @@
 -- The leaves of a table (document 02, K12) as a group: "A settled tree now has just the inputs that matter as leaves; if fewer than two do, the
 -- first-listed others make up two." They are distinct inputs, so the sum of their powers is the group of just them.
 -- Assumes nothing.
-use Prim.Native.Nat.{ℕ, zero, suc, _+_, _-_, _^_, _≤_, _<_, max}
+use Prim.Native.Nat.{ℕ, zero, suc, _+_, _-_, _^_, _<_, max}
 use mathlib.Core.Path.{_≡_, refl, sym, _∙_, ap, subst}
 use mathlib.Core.Logic.{⊎-elim}
 use mathlib.Core.Bool.{Bool, true, false, not, _&&_, true≢false}

@@ -28,6 +28,8 @@ pub mod MarkRule
 pub mod MarkTwo
 pub mod Mattering
 pub mod LeafGroup
+pub mod Depths
+pub mod CutWirings
 pub mod SettledRules
 pub mod NoTree
 pub mod Existence
