@@ -23,7 +23,8 @@ use Rattle.trees.specs.MarkRule.{marked}
 use Rattle.trees.specs.Existence.{tree-few, filled-computes}
 use Rattle.trees.specs.TreeExistence.{WholeTree}
 use Rattle.trees.specs.Uniqueness.{table-length, table-at, table-is, net-inks, net-two}
-use Rattle.trees.specs.Layers.{depth, net-layers, filled-layers}
+use Rattle.trees.specs.Depths.{depth}
+use Rattle.trees.specs.Layers.{net-layers, filled-layers}
 use Rattle.trees.specs.FewestLayers.{fewest}
 use Rattle.trees.specs.Shallow.{depth-at-least, shallow-wiring-of, shallow-depth}
 

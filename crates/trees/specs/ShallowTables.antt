@@ -20,7 +20,7 @@ use Rattle.trees.specs.TreeExistence.{WholeTree}
 use Rattle.trees.specs.Uniqueness.{table-is, table-at}
 use Rattle.trees.specs.NetTables.{levels-pos, inputs-several, kept-table, net-whole-two}
 use Rattle.trees.specs.EquallyLong.{equally-long}
-use Rattle.trees.specs.Layers.{depth}
+use Rattle.trees.specs.Depths.{depth}
 use Rattle.trees.specs.ShallowNet.{shallow-net, shallowest-net, shallowest-tree}
 
 module _ (t : Table) (kept : KeptTable t) (two : WholeTwo t) where
