@@ -3,7 +3,6 @@
 -- Assumes nothing.
 use Prim.Native.Nat.{ℕ, suc, _^_, _≤_, _<_}
 use mathlib.Core.Path.{_≡_, sym, ap, _∙_}
-use mathlib.Core.Bool.{true≢false}
 use mathlib.Core.List.{List}
 use mathlib.Core.Logic.{by-cases}
 use native.Mathlib.Omega.{arith}
@@ -18,7 +17,6 @@ use Rattle.rules.specs.Wirings.{Wiring, groupOf, gatesIn}
 use Rattle.rules.specs.Leaves.{matters, mattering, leavesOf}
 use Rattle.rules.specs.Settled.{settledGates}
 use Rattle.rules.specs.Kept.{IsNet}
-use Rattle.laws.specs.Tests.{not-true-false}
 use Rattle.trees.specs.Trees.{Tree, wiringIn, treeValue, EachOnce, EachGate, Computes}
 use Rattle.trees.specs.Members.{member-inside}
 use Rattle.trees.specs.Classes.{Few}
