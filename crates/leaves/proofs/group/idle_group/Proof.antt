@@ -1,12 +1,12 @@
--- `leaves::choice::idle_group` meets its contract. The loop's invariant: the inputs passed that do not matter are gathered. Assumes nothing.
+-- `leaves::group::idle_group` meets its contract. The loop's invariant: the inputs passed that do not matter are gathered. Assumes nothing.
 use Prim.Native.Nat.{_-_}
 use mathlib.Core.Path.{sym, _∙_}
 use native.Mathlib.Omega.{arith}
 use Rattle.rules.specs.Answers.{inkIn}
 use Rattle.laws.specs.Sizes.{sized}
 use Rattle.leaves.specs.Chosen.{power-small, IdleGathered, idle-start, idle-with, idle-without, idle-full, idle-end}
-use Rattle.leaves.proofs.choice.idle_group.Statement.{statement}
-use Rattle.leaves.proofs.choice.idle_group.Tie as tie
+use Rattle.leaves.proofs.group.idle_group.Statement.{statement}
+use Rattle.leaves.proofs.group.idle_group.Tie as tie
 
 abbrev Inv-loop : tie.InvT-loop
 Inv-loop m n cells count group₀ left₀ i₀ group left i = IdleGathered m n (inkIn cells) count group left i

@@ -1,4 +1,4 @@
--- `leaves::choice::leaves` meets its contract: the inputs that matter, with as many others as make up two. Assumes nothing.
+-- `leaves::group::leaves` meets its contract: the inputs that matter, with as many others as make up two. Assumes nothing.
 use borrow.Author.Needs.{needs}
 use native.Mathlib.Omega.{arith}
 use lib.Pow.{pow-mono}
@@ -6,8 +6,8 @@ use Rattle.rules.specs.Limits.{mostInputs}
 use Rattle.rules.specs.Answers.{inkIn}
 use Rattle.laws.specs.Sizes.{sized}
 use Rattle.leaves.specs.Chosen.{leaves-enough, leaves-joined}
-use Rattle.leaves.proofs.choice.leaves.Statement.{statement}
-use Rattle.leaves.proofs.choice.leaves.Tie as tie
+use Rattle.leaves.proofs.group.leaves.Statement.{statement}
+use Rattle.leaves.proofs.group.leaves.Tie as tie
 
 mattering-requires : tie.Need-mattering-requires
 mattering-requires c κs = search needs

@@ -1,12 +1,12 @@
--- `leaves::choice::mattering` meets its contract. The loop's invariant: the inputs passed that matter are gathered. Assumes nothing.
+-- `leaves::group::mattering` meets its contract. The loop's invariant: the inputs passed that matter are gathered. Assumes nothing.
 use Prim.Native.Nat.{_-_}
 use mathlib.Core.Path.{sym, _∙_}
 use native.Mathlib.Omega.{arith}
 use Rattle.rules.specs.Answers.{inkIn}
 use Rattle.laws.specs.Sizes.{sized}
 use Rattle.leaves.specs.Chosen.{power-small, Gathered, gathered-start, gathered-with, gathered-without, gathered-end}
-use Rattle.leaves.proofs.choice.mattering.Statement.{statement}
-use Rattle.leaves.proofs.choice.mattering.Tie as tie
+use Rattle.leaves.proofs.group.mattering.Statement.{statement}
+use Rattle.leaves.proofs.group.mattering.Tie as tie
 
 abbrev Inv-loop : tie.InvT-loop
 Inv-loop m n cells group₀ count₀ i₀ group count i = Gathered m n (inkIn cells) group count i
