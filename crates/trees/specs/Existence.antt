@@ -9,11 +9,11 @@ use mathlib.Core.Bool.{true, true≢false}
 use mathlib.Core.List.{List}
 use native.Mathlib.Omega.{arith}
 use Rattle.rules.specs.Sheets.{Gate}
-use Rattle.rules.specs.Groups.{member, part, size, wholeGroup}
+use Rattle.rules.specs.Groups.{part, size, wholeGroup}
 use Rattle.rules.specs.Marks.{markIn, marksOf}
 use Rattle.rules.specs.Wirings.{Wiring, input, gate, groupOf, gatesIn, linksOf}
 use Rattle.rules.specs.Filling.{filled}
-use Rattle.rules.specs.Leaves.{matters, leavesOf}
+use Rattle.rules.specs.Leaves.{leavesOf}
 use Rattle.rules.specs.Settled.{settledWiring, settledGates}
 use Rattle.rules.specs.Kept.{IsNet}
 use Rattle.laws.specs.Tests.{not-false-true}
