@@ -33,7 +33,7 @@ module _ (m n : ℕ) (f : ℕ → ℕ) (gates : List Gate) where
 
   -- .. one that does not matter, ..
   pub idle-kept : (i : ℕ) → matters m n f i ≡ false → isLeftOut m n f gates i ≡ false
-  idle-kept i e = rw e (and-false _)
+  idle-kept i e = rw e (and-false (not (any (eqb i) (usedBy gates))))
 
   -- .. and one that matters and is not used
   pub left-out : (i : ℕ) → any (eqb i) (usedBy gates) ≡ false → matters m n f i ≡ true → isLeftOut m n f gates i ≡ true
