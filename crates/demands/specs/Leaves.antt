@@ -6,7 +6,7 @@
 use Prim.Native.Nat.{ℕ, suc, _≤_, _<_, max}
 use mathlib.Core.Path.{_≡_, sym, ap, _∙_, subst}
 use mathlib.Core.Logic.{by-cases}
-use mathlib.Core.Bool.{true}
+use mathlib.Core.Bool.{true, false}
 use mathlib.Core.List.{List}
 use native.Mathlib.Nat.{lt-of-not-le}
 use native.Mathlib.Decide.{decLe}
@@ -32,7 +32,7 @@ use Rattle.readback.specs.ReadBack.{net-accepted, net-read-back, table-accepted
 use Rattle.trees.specs.Trees.{Tree, wiringIn, Computes}
 use Rattle.trees.specs.NetTree.{UsesJust, net-group, net-uses}
 use Rattle.trees.specs.UsedOnce.{net-size}
-use Rattle.trees.specs.LeafGroup.{leaves-below, leaves-matter, leaves-size}
+use Rattle.trees.specs.LeafGroup.{leaves-below, leaves-matter}
 use Rattle.trees.specs.Existence.{settled-leaves, net-holds}
 use Rattle.trees.specs.FewestGates.{net-gates-least, tree-gates-least}
 use Rattle.trees.specs.ShallowNet.{shallow-leaves}
@@ -42,6 +42,7 @@ use Rattle.trees.specs.NetTables.{levels-pos, inputs-several, kept-table}
 use Rattle.demands.specs.Settles.{sheetIn, sheetOf}
 use Rattle.demands.specs.Makes.{leavesOfTable, made-kept, sheet-gates, into-accepted}
 use Rattle.demands.specs.TreeClause.{TreeFor, TreeAgrees, agrees-all}
+use Rattle.demands.specs.LeafInputs.{leaf-count, leaf-first}
 use Rattle.demands.specs.ShallowRefusals.{plain-into}
 use Rattle.demands.specs.ShallowSettles.{shallowSheetOf}
 use Rattle.demands.specs.JobMoves.{stepsIn}
@@ -58,6 +59,9 @@ pub record OnLeaves (t : Table) (net : Net) : Type 0 where
   -- so an input is used exactly when it matters, where two or more do
   pub each-matters : 1 < length (mattering (t .header .levels) (t .header .inputs) (inkIn (t .inks))) → (i : ℕ) → i < t .header .inputs
       → any (eqb i) (usedBy (net .gates)) ≡ matters (t .header .levels) (t .header .inputs) (inkIn (t .inks)) i
+  -- "the first-listed others": one that does not matter is used only where all inputs before it are
+  pub first-listed : (i j : ℕ) → i < j → j < t .header .inputs → matters (t .header .levels) (t .header .inputs) (inkIn (t .inks)) j ≡ false
+      → any (eqb j) (usedBy (net .gates)) ≡ true → any (eqb i) (usedBy (net .gates)) ≡ true
   -- no gate more than the leaves need: one fewer than leaves, of which there are as many as inputs that matter, and two at least
   pub gates : suc (length (net .gates)) ≡ max 2 (length (mattering (t .header .levels) (t .header .inputs) (inkIn (t .inks))))
   -- and no net that computes the table, whatever its leaves, its wiring and its tables, has fewer gates: no gate list, ..
@@ -94,7 +98,8 @@ module _ (t : Table) (kept : KeptTable t) where
       record {
         leaves = uses;
         each-matters = λ enough i i<. uses i i< ∙ leaves-matter m n pos f enough i i<;
-        gates = count ∙ leaves-size m n pos f several;
+        first-listed = λ i j less j< idle is. uses i (omega arith) ∙ leaf-first t kept i j less j< idle (sym (uses j j<) ∙ is);
+        gates = count ∙ leaf-count t kept;
         fewest = least;
         fewest-sheets = λ r other reads table. let (is-net, has) = sheet-gates t r other reads table in least (other .gates) is-net has;
         fewest-trees = λ tree tree-is agrees. omega (arith, tree-gates-least m n pos several f tree tree-is (agrees-all t (kept .header) tree tree-is .1 agrees));

@@ -51,4 +51,5 @@ pub mod KeptNets
 pub mod Keeping
 pub mod KeepingLengths
 pub mod Glyphs
+pub mod LeafInputs
 pub mod Leaves
