@@ -9,10 +9,10 @@ use mathlib.Core.List.{List, [], _∷_, map, List·Memᴰ, List·Memᴰ·head, L
 use native.Mathlib.Nat.{mul-le-mul, suc-mul, mod-lt, div-add-mod', le-refl}
 use native.Mathlib.Omega.{arith}
 use native.Mathlib.Decide.{decLt, ℕ-discrete}
-use Rattle.rules.specs.Lists.{range, those}
+use Rattle.rules.specs.Lists.{range, those, total}
 use Rattle.rules.specs.Groups.{size}
 use Rattle.rules.specs.Wirings.{Wiring, input, gate, groupOf}
-use Rattle.rules.specs.Family.{total, splitsOf, Numbered, numberedAt}
+use Rattle.rules.specs.Family.{splitsOf, Numbered, numberedAt}
 use Rattle.laws.specs.Ranges.{range-mem}
 use Rattle.laws.specs.Finds.{those-mem}
 use Rattle.laws.specs.Totals.{those-cons, numbered-here, numbered-later}

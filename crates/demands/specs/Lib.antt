@@ -25,6 +25,7 @@ pub mod Makes
 pub mod Checks
 pub mod Assignments
 pub mod TreeClause
+pub mod LeafTrees
 pub mod ShallowMakes
 pub mod ShallowSettles
 pub mod ShallowerSheets
@@ -50,3 +51,5 @@ pub mod KeptNets
 pub mod Keeping
 pub mod KeepingLengths
 pub mod Glyphs
+pub mod LeafInputs
+pub mod Leaves

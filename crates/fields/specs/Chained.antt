@@ -1,7 +1,7 @@
 -- One reader after another, by the steps of the code.
 -- Assumes nothing.
 use Prim.Native.Nat.{ℕ, _≤_, _<_}
-use mathlib.Core.Path.{_≡_, refl}
+use mathlib.Core.Path.{_≡_, refl, _∙_}
 use mathlib.Core.List.{List}
 use native.Mathlib.Omega.{arith}
 use lib.ListN.{length, drop, drop-of-length-le}
@@ -48,14 +48,26 @@ module _ {A B : Type 0} (f : ℕ → A) (one : Reader A) (rest : A → Reader B)
   answers-on value next o e onward = record { answer = rw (← reads, e) (onward .answer); held = onward .held }
 
 -- nothing stands after the last line
+module _ {B : Type 0} (rest : Unit {0} → Reader B) (s : List ℕ) (at : ℕ) (b : B) (Held : Type 0) where
+  pub answers-more : at < length s → Answers s at (closed >>= rest) b Held (Refused 1 at)
+  unfolding then answered closed
+  answers-more h = record { answer = rw (drop-cons s at 0) refl; held = never 1 at }
+
+  pub answers-ended : length s ≤ at → (o : Outcome) → Answers s at (rest tt) b Held o → Answers s at (closed >>= rest) b Held o
+  unfolding then closed
+  answers-ended h o after = record { answer = after .answer ∙ rw (drop-of-length-le s h); held = after .held }
+
+-- .. and no more is judged there
 module _ {B : Type 0} (s : List ℕ) (at : ℕ) (b : B) (Held : Type 0) where
   pub answers-over : at < length s → Answers s at (closed >>= λ _. give b) b Held (Refused 1 at)
-  unfolding then answered closed
-  answers-over h = record { answer = rw (drop-cons s at 0) refl; held = never 1 at }
+  answers-over = answers-more (λ _. give b) s at b Held
+
+  pub answers-given : Held → Answers s at (give b) b Held Accepted
+  unfolding answered
+  answers-given held = record { answer = refl; held = λ _. held }
 
   pub answers-closed : length s ≤ at → Held → Answers s at (closed >>= λ _. give b) b Held Accepted
-  unfolding then answered closed
-  answers-closed h held = record { answer = rw (drop-of-length-le s h) refl; held = λ _. held }
+  answers-closed h held = answers-ended (λ _. give b) s at b Held h Accepted (answers-given held)
 
 -- ---- readers and steps
 

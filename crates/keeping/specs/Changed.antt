@@ -8,9 +8,8 @@ use native.Mathlib.Nat.{add-zero, zero-add}
 use native.Mathlib.Numerals.{add-one}
 use native.Mathlib.Omega.{arith}
 use lib.ListN.{length, getD, take, drop}
-use Rattle.rules.specs.Lists.{range, those, same}
+use Rattle.rules.specs.Lists.{range, those, same, total}
 use Rattle.rules.specs.Sheets.{Gate}
-use Rattle.rules.specs.Family.{total}
 use Rattle.rules.specs.Keeping.{linkOf, gateLinks, tableAt, tableDiffers, changedGates}
 use Rattle.laws.specs.Places.{map-at}
 use Rattle.laws.specs.Ranges.{range-suc, range-shift, map-range-at}

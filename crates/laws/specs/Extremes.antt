@@ -48,6 +48,11 @@ most-more f h [] less = omega arith
 most-more f h (x ∷ xs) less =
     omega (arith, less x (List·Memᴰ·head refl), most-more f h xs (λ y is. less y (List·Memᴰ·tail is)))
 
+-- of the same numbers
+pub most-same : {A : Type 0} (f h : A → ℕ) (xs : List A) → ((x : A) → List·Memᴰ x xs → f x ≡ h x) → most (map f xs) ≡ most (map h xs)
+most-same f h xs same =
+    omega (arith, most-more f h xs (λ x is. omega (arith, same x is)), most-more h f xs (λ x is. omega (arith, same x is)))
+
 -- of numbers each times k
 pub most-times : {A : Type 0} (f : A → ℕ) (k : ℕ) (xs : List A) → most (map (λ x. f x * k) xs) ≡ most (map f xs) * k
 unfolding most

@@ -11,7 +11,7 @@ use Rattle.rules.specs.Printed.{printedNet}
 use Rattle.rules.specs.Answers.{accepted, refused, written, netNamed, tableNamed, neither}
 use Rattle.rules.specs.Reading.{readNet, readTable}
 use Rattle.rules.specs.Checking.{sameHeader}
-use Rattle.rules.specs.Keeping.{keptNet, roomyBefore, changedGates, rewritten, turnedAway, keptInto, keepCall}
+use Rattle.rules.specs.Keeping.{keptNet, roomyBefore, leavesOut, changedGates, rewritten, turnedAway, keptInto, keepCall}
 
 module _ (s r cells output : List ℕ) where
   pub keep-net-refused : (number place : ℕ) → readNet s ≡ refused number place
@@ -41,24 +41,30 @@ module _ (net : Net) (t : Table) (cells output : List ℕ) where
     keep-13 h = rw (same, lt-ltb _ _ h, keptInto)
 
     module _ (long : length (t .inks) ≤ length cells) where
-      pub keep-23 : roomyBefore net t < length (net .gates)
-          → keptInto net t cells output ≡ record { answer = turnedAway neither 23 (suc (roomyBefore net t)); cells = written cells (t .inks); output = output }
+      pub keep-23-0 : leavesOut net t ≡ true
+          → keptInto net t cells output ≡ record { answer = turnedAway neither 23 0; cells = written cells (t .inks); output = output }
       unfolding keptInto
-      keep-23 h = rw (same, le-ltb _ _ long, lt-ltb _ _ h, keptInto)
+      keep-23-0 e = rw (same, le-ltb _ _ long, e, keptInto)
 
-      module _ (roomy : length (net .gates) ≤ roomyBefore net t) where
-        pub keep-15 : length output < length (printedNet (keptNet net t))
-            → keptInto net t cells output
-            ≡ record { answer = turnedAway neither 15 (length (printedNet (keptNet net t))); cells = written cells (t .inks); output = output }
+      module _ (takes : leavesOut net t ≡ false) where
+        pub keep-23 : roomyBefore net t < length (net .gates)
+            → keptInto net t cells output ≡ record { answer = turnedAway neither 23 (suc (roomyBefore net t)); cells = written cells (t .inks); output = output }
         unfolding keptInto
-        keep-15 h = rw (same, le-ltb _ _ long, le-ltb _ _ roomy, lt-ltb _ _ h, keptInto)
+        keep-23 h = rw (same, le-ltb _ _ long, takes, lt-ltb _ _ h, keptInto)
 
-        pub keep-written : length (printedNet (keptNet net t)) ≤ length output
-            → keptInto net t cells output
-            ≡ record {
-              answer = rewritten (length (printedNet (keptNet net t))) (changedGates (net .gates) (keptNet net t .gates));
-              cells = written cells (t .inks);
-              output = written output (printedNet (keptNet net t));
-            }
-        unfolding keptInto
-        keep-written h = rw (same, le-ltb _ _ long, le-ltb _ _ roomy, le-ltb _ _ h, keptInto)
+        module _ (roomy : length (net .gates) ≤ roomyBefore net t) where
+          pub keep-15 : length output < length (printedNet (keptNet net t))
+              → keptInto net t cells output
+              ≡ record { answer = turnedAway neither 15 (length (printedNet (keptNet net t))); cells = written cells (t .inks); output = output }
+          unfolding keptInto
+          keep-15 h = rw (same, le-ltb _ _ long, takes, le-ltb _ _ roomy, lt-ltb _ _ h, keptInto)
+
+          pub keep-written : length (printedNet (keptNet net t)) ≤ length output
+              → keptInto net t cells output
+              ≡ record {
+                answer = rewritten (length (printedNet (keptNet net t))) (changedGates (net .gates) (keptNet net t .gates));
+                cells = written cells (t .inks);
+                output = written output (printedNet (keptNet net t));
+              }
+          unfolding keptInto
+          keep-written h = rw (same, le-ltb _ _ long, takes, le-ltb _ _ roomy, le-ltb _ _ h, keptInto)

@@ -45,3 +45,4 @@ pub mod Pictures
 pub mod ArrivalEnds
 pub mod SettlingTimes
 pub mod StoredMarks
+pub mod UsedGates

@@ -6,8 +6,7 @@ use mathlib.Core.Bool.{Bool, true, false, cond}
 use mathlib.Core.List.{List, [], _∷_, _++_, map, List·Memᴰ, List·Memᴰ·head, Memᴰ·append-left, Memᴰ·append-right}
 use native.Mathlib.Omega.{arith}
 use native.Mathlib.Decide.{ℕ-discrete}
-use Rattle.rules.specs.Lists.{range, those}
-use Rattle.rules.specs.Family.{total}
+use Rattle.rules.specs.Lists.{range, those, total}
 use Rattle.laws.specs.Ranges.{range-suc}
 use Rattle.laws.specs.Totals.{total-parts, those-cons, those-append}
 

@@ -10,9 +10,9 @@ use native.Mathlib.Nat.{zero-add, add-zero, suc-add}
 use native.Mathlib.Omega.{arith}
 use lib.Dec.{eqb, ltb}
 use borrow.Author.Tests.{eqb-true, eqb-false, eq-eqb, ne-eqb, ltb-true, ltb-false, lt-ltb}
-use Rattle.rules.specs.Lists.{range, any, those, firstPlace}
+use Rattle.rules.specs.Lists.{range, any, those, firstPlace, total}
 use Rattle.rules.specs.Kept.{Distinct}
-use Rattle.rules.specs.Family.{total, Numbered, numberedAt}
+use Rattle.rules.specs.Family.{Numbered, numberedAt}
 use Rattle.laws.specs.Tests.{any-cons, none-mem}
 use Rattle.laws.specs.Ranges.{range-mem}
 use Rattle.laws.specs.Finds.{those-mem}

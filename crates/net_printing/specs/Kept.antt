@@ -1,9 +1,9 @@
 -- A net that keeps the rules of document 01 has what printing asks.
 -- Assumes nothing.
-use Prim.Native.Nat.{ℕ, zero, suc, _-_, _*_, _/_, _%_, _<_}
+use Prim.Native.Nat.{ℕ, zero, suc, _-_, _*_, _/_, _%_, _≤_, _<_}
 use mathlib.Core.Path.{_≡_, sym, ap, subst, _∙_}
 use mathlib.Core.List.{List, [], _∷_}
-use native.Mathlib.Nat.{zero-add, mul-zero, mod-lt, div-add-mod', div-lt-iff-lt-mul}
+use native.Mathlib.Nat.{le-trans, mul-le-mul-right, zero-add, mul-zero, mod-lt, div-add-mod', div-lt-iff-lt-mul}
 use native.Mathlib.Omega.{arith}
 use lib.ListN.{length, getD, drop}
 use lib.Seq.{getD-take, getD-drop}
@@ -53,12 +53,12 @@ module _ (net : Net) (tables : Tables (net .levels) (gatesOf net)) where
 pub gates-inside : (s : List ℕ) (h : Header) (net : Net) → net .levels ≡ h .levels → KeptNet (netIn s h net) → GatesInside net
 unfolding headerOf
 gates-inside s h net e kept =
-    let count : suc (net .gates) ≡ h .inputs = ap suc (sym (gates-length net)) ∙ kept .gates .count in
+    let size = h .levels * h .levels in
+    let count : net .gates ≤ h .inputs - 1 = omega (arith, gates-length net, kept .gates .count) in
     let few = levels-fit (h .levels) .0 (kept .header .levels) .1 in
     let tables = subst (λ (m : ℕ). Tables m (gatesOf net)) (sym e) (kept .gates .rules .tables) in
-    let gates : h .inputs - 1 ≡ net .gates = omega arith in
     record {
       count = omega (arith, inputs-fit (h .inputs) .0 (kept .header .inputs) .1);
-      room = rw e (rw gates at (digits-room (h .levels) (h .inputs) (kept-fits (headerOf s h) (kept .header))));
+      room = rw e (le-trans (mul-le-mul-right size count) (digits-room (h .levels) (h .inputs) (kept-fits (headerOf s h) (kept .header))));
       digits = λ k l. omega (arith, few, e, digit-below net tables k l);
     }

@@ -2,27 +2,28 @@
 -- Assumes nothing.
 use Prim.Native.Nat.{ℕ, _+_, _-_, _≤_, _<_}
 use mathlib.Core.Path.{_≡_, refl, sym, ap, _∙_}
-use mathlib.Core.Bool.{true, false, not}
+use mathlib.Core.Bool.{Bool, true, false, not}
 use mathlib.Core.Option.{Option, none, some}
 use mathlib.Core.List.{List, [], _∷_, map}
-use native.Mathlib.Nat.{zero-add}
+use native.Mathlib.Nat.{zero-add, sub-zero}
 use native.Mathlib.Omega.{arith}
 use borrow.Author.Tests.{lt-ltb, le-ltb, eq-eqb, ne-eqb}
-use lib.ListN.{length, drop, getD, length-map}
+use lib.ListN.{length, drop, getD}
 use lib.Dec.{eqb}
-use Rattle.rules.specs.Lists.{range, any, same}
+use Rattle.rules.specs.Lists.{range, all, any, same}
 use Rattle.rules.specs.Text.{decimal}
 use Rattle.rules.specs.Fields.{Judged, good, bad, judged, field, run}
 use Rattle.laws.specs.Finds.{found-is, first-in-range}
-use Rattle.laws.specs.Ranges.{range-length, range-next, range-none, map-range-at}
+use Rattle.laws.specs.Ranges.{range-next, range-none, map-range-at}
 use Rattle.fields.specs.Steps.{stepAs, itself, optionOf}
 use Rattle.fields.specs.Taken.{field-on, judged-good}
 use Rattle.fields.specs.declared.steps.Step.{Step}
 use Rattle.fields.specs.declared.steps.Step.the-variants.{On}
 use Rattle.fields.specs.declared.steps.Found.{Found}
 use Rattle.fields.specs.declared.steps.Found.the-variants.{At, Nowhere}
-use Rattle.rules.specs.Sheets.{referenceText, referenceOf, referenceField, usedBy}
-use Rattle.nets.specs.Forms.{nameIn, gateOf, namesIn, names-count, headerOf}
+use Rattle.rules.specs.Sheets.{referenceText, referenceOf, referenceField, usedBy, earlierUsed}
+use Rattle.nets.specs.Forms.{nameIn, gateOf, gatesOf, namesIn, names-count, headerOf}
+use Rattle.nets.specs.Sound.{gates-length}
 use Rattle.nets.specs.declared.forms.Header.{Header}
 use Rattle.nets.specs.declared.forms.Net.{Net}
 
@@ -72,6 +73,31 @@ module _ (net : Net) (r k : ℕ) where
   pub used-none : net .gates ≤ k → any (eqb r) (usedBy (map (gateOf net) (range k (net .gates - k)))) ≡ false
   unfolding any usedBy
   used-none h = rw (range-none k (net .gates) h)
+
+-- ---- earlier gates
+
+-- are the gates from k on used, the last set aside?
+unfoldable pub usedOn : Net → ℕ → Bool
+usedOn net k = all (λ j. any (eqb (net .inputs + j)) (usedBy (gatesOf net))) (range k (net .gates - 1 - k))
+
+-- all of them are asked
+pub used-from-first : (net : Net) → earlierUsed (net .inputs) (gatesOf net) ≡ usedOn net 0
+unfolding earlierUsed usedOn
+used-from-first net = rw (gates-length net, sub-zero)
+
+module _ (net : Net) (k : ℕ) where
+  module _ (more : k < net .gates - 1) where
+    pub unused-here : any (eqb (net .inputs + k)) (usedBy (gatesOf net)) ≡ false → usedOn net k ≡ false
+    unfolding usedOn all
+    unused-here e = rw (range-next k (net .gates - 1) more, e, all)
+
+    pub used-here : any (eqb (net .inputs + k)) (usedBy (gatesOf net)) ≡ true → usedOn net k ≡ usedOn net (k + 1)
+    unfolding usedOn all
+    used-here e = rw (range-next k (net .gates - 1) more, e, all)
+
+  pub used-all : net .gates - 1 ≤ k → usedOn net k ≡ true
+  unfolding usedOn all
+  used-all end = rw (range-none k (net .gates - 1) end)
 
 -- ---- a reference, judged
 

@@ -94,7 +94,7 @@ pub fn gate_line(s: &[u8], at: usize, header: Header, net: Net) -> GatesRead
     }
 }
 
-// The gate lines of a sheet with this header.
+// The gate lines of a sheet with this header: up to all, or to the sheet's end after one.
 pub fn gate_lines(s: &[u8], at: usize, header: Header) -> GatesRead
     requires { ⌜ HeaderHeld (now s) header ⌝ }
     ensures { λ r. ⌜ GatesAll (now (s .entry)) at header r ⌝ }
@@ -112,6 +112,9 @@ pub fn gate_lines(s: &[u8], at: usize, header: Header) -> GatesRead
                 place: _,
             } => return read,
             Step::On { value: _, next } => {
+                if s.len() <= next {
+                    return read;
+                }
                 net = read.net;
                 place = next;
                 k += 1;

@@ -6,6 +6,7 @@ ghost use Rattle.fields.specs.Header.{HeaderHeld};
 ghost use Rattle.fields.specs.Steps.{stepAs, nothing};
 ghost use Rattle.net_reading.specs.Answers.{NetReads, NetRest, headingLine, fromHeading, fromGates};
 use crate::gates::gate_lines;
+use crate::references::earlier_used;
 use answers::outcome::Outcome;
 use fields::header::header_lines;
 use fields::runs::NEWLINE;
@@ -53,6 +54,16 @@ pub fn from_gates(s: &[u8], at: usize, header: Header) -> NetRead
                 return NetRead {
                     outcome: Outcome::Refused {
                         number: 1,
+                        place: next,
+                    },
+                    header,
+                    net,
+                };
+            }
+            if !earlier_used(net) {
+                return NetRead {
+                    outcome: Outcome::Refused {
+                        number: 26,
                         place: next,
                     },
                     header,

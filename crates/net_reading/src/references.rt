@@ -6,7 +6,8 @@ ghost use lib.Dec.{eqb};
 ghost use mathlib.Core.List.{_∷_};
 ghost use Rattle.rules.specs.Lists.{any, same};
 ghost use Rattle.rules.specs.Fields.{field};
-ghost use Rattle.rules.specs.Sheets.{referenceText, referenceOf, referenceField, usedBy};
+ghost use Rattle.rules.specs.Limits.{mostInputs};
+ghost use Rattle.rules.specs.Sheets.{referenceText, referenceOf, referenceField, usedBy, earlierUsed};
 ghost use Rattle.rules.specs.Text.{spaceByte};
 ghost use Rattle.nets.specs.Forms.{gatesOf, namesIn};
 ghost use Rattle.nets.specs.Room.{mostGates};
@@ -69,6 +70,23 @@ pub fn is_used(net: Net, r: usize) -> bool
         k += 1;
     }
     false
+}
+
+// Is every gate but the last used?
+pub fn earlier_used(net: Net) -> bool
+    requires { ⌜ (net .gates ≤ mostGates) × (net .inputs ≤ mostInputs) ⌝ }
+    ensures { λ yes. ⌜ yes ≡ earlierUsed (net .inputs) (gatesOf net) ⌝ }
+{
+    let inputs = net.inputs;
+    let gates = net.gates;
+    let mut k: usize = 0;
+    while k + 1 < gates {
+        if !is_used(net, inputs + k) {
+            return false;
+        }
+        k += 1;
+    }
+    true
 }
 
 // A reference after the gates of `net`; `taken` counts as used too.

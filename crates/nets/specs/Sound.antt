@@ -1,7 +1,7 @@
 -- What reading and settling show of a net.
 -- Assumes nothing.
-use Prim.Native.Nat.{suc, _+_, _≤_, _<_}
-use mathlib.Core.Path.{_≡_, sym, ap, _∙_}
+use Prim.Native.Nat.{_+_, _≤_, _<_}
+use mathlib.Core.Path.{_≡_}
 use mathlib.Core.Bool.{true}
 use native.Mathlib.Omega.{arith}
 use lib.ListN.{length}
@@ -29,12 +29,12 @@ module _ (net : Net) (sound : Sound net) where
   pub levels-pos : 0 < net .levels
   levels-pos = omega (arith, sound-size .levels-least)
 
-  -- "Then n − 1 gate lines"
-  pub gates-count : suc (net .gates) ≡ net .inputs
-  gates-count = ap suc (sym (gates-length net)) ∙ sound .gates .count
-
+  -- "A net sheet may have from 1 to n − 1 gate lines" (document 02, K12)
   pub gates-pos : 0 < net .gates
-  gates-pos = omega (arith, gates-count, sound-size .inputs-least)
+  gates-pos = omega (arith, gates-length net, sound .gates .some)
+
+  pub gates-count : net .gates < net .inputs
+  gates-count = omega (arith, gates-length net, sound .gates .count)
 
   -- all inputs and gates have room
   pub wires-room : net .inputs + net .gates ≤ mostWires

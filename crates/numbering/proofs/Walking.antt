@@ -12,7 +12,8 @@ use Rattle.rules.specs.Limits.{mostInputs}
 use Rattle.rules.specs.Groups.{size}
 use Rattle.rules.specs.Marks.{markIn}
 use Rattle.rules.specs.Wirings.{firstInput}
-use Rattle.rules.specs.Family.{total, splitsOf, numberedAt}
+use Rattle.rules.specs.Lists.{total}
+use Rattle.rules.specs.Family.{splitsOf, numberedAt}
 use Rattle.trees.specs.FamilyCounts.{counted, splitCounted, count-several}
 use Rattle.radix.specs.Parts.{Part, Next, next-part}
 use Rattle.marks.specs.FirstParts.{part-at}

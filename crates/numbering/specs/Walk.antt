@@ -9,9 +9,9 @@ use native.Mathlib.Nat.{zero-add, sub-zero}
 use native.Mathlib.Omega.{arith}
 use lib.Bits.{and-self}
 use lib.Pow.{pow-pos}
-use Rattle.rules.specs.Lists.{range, those}
+use Rattle.rules.specs.Lists.{range, those, total}
 use Rattle.rules.specs.Wirings.{firstInput}
-use Rattle.rules.specs.Family.{total, splitsOf, Numbered, numberedAt}
+use Rattle.rules.specs.Family.{splitsOf, Numbered, numberedAt}
 use Rattle.laws.specs.Ranges.{range-next, range-none}
 use Rattle.laws.specs.Totals.{those-cons, those-past, numbered-here, numbered-later}
 use Rattle.trees.specs.MarkTwo.{isA}

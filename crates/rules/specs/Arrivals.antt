@@ -6,8 +6,8 @@ use mathlib.Core.List.{List, [], _∷_, map}
 use lib.ListN.{length, getD}
 use lib.Dec.{eqb}
 use lib.Ieee.{Float, binary64, round}
-use Rattle.rules.specs.Lists.{range}
-use Rattle.rules.specs.Sheets.{Gate, Net}
+use Rattle.rules.specs.Lists.{range, any, those}
+use Rattle.rules.specs.Sheets.{Gate, Net, usedBy}
 use Rattle.rules.specs.Layers.{withWays, most}
 use Rattle.rules.specs.Answers.{accepted, refused}
 use Rattle.rules.specs.Reading.{readNet}
@@ -27,10 +27,14 @@ waysFrom n gates i = getD (withWays (startsAt n i) gates) (n + length gates - 1)
 unfoldable pub gatesOnWay : ℕ → List Gate → ℕ → ℕ
 gatesOnWay n gates i = most (waysFrom n gates i)
 
+-- the inputs that some gate refers to
+unfoldable pub usedInputs : ℕ → List Gate → List ℕ
+usedInputs n gates = those (λ i. any (eqb i) (usedBy gates)) (range 0 n)
+
 -- "Every gate takes one common delay". "The settling time of given arrivals is the largest, over the inputs, of arrival plus delay times gates on
--- the way."
+-- the way." "Arrival times count used inputs only." (document 02, K12)
 unfoldable pub settlingTime : ℕ → List Gate → ℕ → List ℕ → ℕ
-settlingTime n gates delay arrivals = most (map (λ i. getD arrivals i 0 + delay * gatesOnWay n gates i) (range 0 n))
+settlingTime n gates delay arrivals = most (map (λ i. getD arrivals i 0 + delay * gatesOnWay n gates i) (usedInputs n gates))
 
 -- "the earliest and latest settling of the output": with every input at its earliest, and with every input at its latest
 unfoldable pub earliestSettling : Net → List Arrival → ℕ → ℕ
@@ -76,5 +80,5 @@ arrivalsCall net-sheet arrival-sheet delay =
 
 -- all of this file computes
 unfoldable pub computing : Unit {0}
-unfolding startsAt waysFrom gatesOnWay settlingTime earliestSettling latestSettling quarter endsOf arrivalsCall
+unfolding startsAt waysFrom gatesOnWay usedInputs settlingTime earliestSettling latestSettling quarter endsOf arrivalsCall
 computing = tt

@@ -141,13 +141,13 @@ abbrev pub AllHold : List Case → Type 0
 AllHold [] = Unit {0}
 AllHold (c ∷ cases) = Holds c × AllHold cases
 
--- Cases 1 to 8, in the document's order.
+-- Cases 1 to 8, in the document's order. "Case 4 becomes `a b 0000`." (document 02, K12)
 abbrev pub starred : List Case
 starred =
     settles "levels inputs/2 2/a b/left right table/a b 0001/" "levels inputs/2 2/a b/left right table/a b 0001/"
     ∷ settles "levels inputs/2 3/a b c/left right table/a b 0110/1 c 0110/" "levels inputs/2 3/a b c/left right table/b c 0110/a 1 0110/"
     ∷ settles "levels inputs/2 3/a b c/left right table/b c 1001/a 1 1001/" "levels inputs/2 3/a b c/left right table/b c 0110/a 1 0110/"
-    ∷ makes zeroTable "levels inputs/2 3/a b c/left right table/b c 0000/a 1 0000/"
+    ∷ makes zeroTable "levels inputs/2 3/a b c/left right table/a b 0000/"
     ∷ marks majority (0 ∷ 2 ∷ 2 ∷ 0 ∷ 2 ∷ 0 ∷ 0 ∷ 1 ∷ []) (0x28 ∷ 0x42 ∷ [])
     ∷ makes majority "number place/16 7/"
     ∷ makes twoNotZero "levels inputs/3 3/a b c/left right table/b c 011122122/a 1 001011011/"

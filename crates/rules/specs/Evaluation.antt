@@ -13,6 +13,7 @@ use Rattle.rules.specs.Differences as differences
 use Rattle.rules.specs.Marks as marks
 use Rattle.rules.specs.Wirings as wirings
 use Rattle.rules.specs.Filling as filling
+use Rattle.rules.specs.Leaves as leaves
 use Rattle.rules.specs.Settled as settled
 use Rattle.rules.specs.Layers as layers
 use Rattle.rules.specs.Shallow as shallow
@@ -39,5 +40,5 @@ use Rattle.rules.specs.Jobs as jobs
 use Rattle.rules.specs.Glyphs as glyphs
 
 unfoldable pub computing : Unit {0}
-unfolding lists.computing text.computing limits.computing fields.computing sheets.computing printed.computing value.computing groups.computing differences.computing marks.computing wirings.computing filling.computing settled.computing layers.computing shallow.computing family.computing answers.computing reading.computing bareCells.computing multiplicity.computing marking.computing settling.computing shallowSettling.computing familyCalls.computing shallower.computing checking.computing tableWriting.computing programs.computing lister.computing arrivalSheet.computing arrivals.computing looseSheet.computing tidying.computing jobs.computing keeping.computing glyphs.computing
+unfolding lists.computing text.computing limits.computing fields.computing sheets.computing printed.computing value.computing groups.computing differences.computing marks.computing wirings.computing filling.computing leaves.computing settled.computing layers.computing shallow.computing family.computing answers.computing reading.computing bareCells.computing multiplicity.computing marking.computing settling.computing shallowSettling.computing familyCalls.computing shallower.computing checking.computing tableWriting.computing programs.computing lister.computing arrivalSheet.computing arrivals.computing looseSheet.computing tidying.computing jobs.computing keeping.computing glyphs.computing
 computing = tt

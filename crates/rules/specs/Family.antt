@@ -7,19 +7,15 @@ use mathlib.Core.Bool.{true, false, _&&_}
 use mathlib.Core.List.{List, [], _∷_, _++_, map}
 use lib.ListN.{getD}
 use lib.Dec.{eqb, ltb}
-use Rattle.rules.specs.Lists.{range, any, those}
+use Rattle.rules.specs.Lists.{range, any, those, total}
 use Rattle.rules.specs.Sheets.{Gate}
-use Rattle.rules.specs.Groups.{member, size, wholeGroup}
+use Rattle.rules.specs.Groups.{member, size}
 use Rattle.rules.specs.Marks.{markIn, partsAt}
 use Rattle.rules.specs.Wirings.{Wiring, input, gate, firstInput, linksOf}
 use Rattle.rules.specs.Filling.{inputGroups, filled}
+use Rattle.rules.specs.Leaves.{leavesOf}
 
 -- ---- the count
-
--- the sum of some numbers
-unfoldable pub total : List ℕ → ℕ
-total [] = 0
-total (x ∷ xs) = x + total xs
 
 -- The splits of a group into two of mark 2, each by its part A, by rising number of A. "A split is counted once, with the first-listed
 -- input on the left."
@@ -52,9 +48,9 @@ countsBelow n marks (suc end) = let counts = countsBelow n marks end in counts +
 unfoldable pub countsOf : ℕ → List ℕ → List ℕ
 countsOf n marks = countsBelow n marks (2 ^ n)
 
--- "the count of the trees"
-unfoldable pub treeCount : ℕ → List ℕ → ℕ
-treeCount n marks = countIn (countsOf n marks) (wholeGroup n)
+-- "the count of the trees" on these leaves: "a family numbers the wirings on just these" (document 02, K12)
+unfoldable pub treeCount : ℕ → List ℕ → ℕ → ℕ
+treeCount n marks leaves = countIn (countsOf n marks) leaves
 
 -- ---- the tree of a number
 
@@ -85,7 +81,7 @@ familyWiring n marks counts (suc fuel) g r =
 
 -- The net of number r, from the marks. "Gate tables follow the settled net's rule."
 unfoldable pub familyGates : ℕ → ℕ → (ℕ → ℕ) → List ℕ → ℕ → List Gate
-familyGates m n f marks r = filled m n f (linksOf n 0 (familyWiring n marks (countsOf n marks) n (wholeGroup n) r))
+familyGates m n f marks r = filled m n f (linksOf n 0 (familyWiring n marks (countsOf n marks) n (leavesOf m n f) r))
 
 -- ---- one wiring
 
@@ -108,5 +104,5 @@ SameWiring n gates others = (g : ℕ) → any (eqb g) (gateGroups n gates) ≡ a
 
 -- all of this file computes
 unfoldable pub computing : Unit {0}
-unfolding total splitsOf splitCount countOf countsBelow countsOf treeCount numberedAt familyWiring familyGates groupsFrom gateGroups
+unfolding splitsOf splitCount countOf countsBelow countsOf treeCount numberedAt familyWiring familyGates groupsFrom gateGroups
 computing = tt

@@ -9,6 +9,7 @@ use lib.Dec.{ltb}
 use Rattle.rules.specs.Sheets.{Net, Table}
 use Rattle.rules.specs.Printed.{printedNet}
 use Rattle.rules.specs.Marks.{marksOf, storedMarks}
+use Rattle.rules.specs.Leaves.{leavesOf}
 use Rattle.rules.specs.Family.{treeCount, familyGates}
 use Rattle.rules.specs.Answers.{Answer, accepted, inkIn, refused, written}
 use Rattle.rules.specs.Reading.{readTable}
@@ -18,7 +19,11 @@ use Rattle.rules.specs.Settling.{Made, roomFor, writtenSheet}
 
 -- how many trees a table has
 unfoldable pub countOfTable : Table → ℕ
-countOfTable t = let n = t .header .inputs in treeCount n (marksOf (t .header .levels) n (inkIn (t .inks)))
+countOfTable t =
+    let m = t .header .levels in
+    let n = t .header .inputs in
+    let f = inkIn (t .inks) in
+    treeCount n (marksOf m n f) (leavesOf m n f)
 
 -- the net of a number, under the table's header
 unfoldable pub familyNet : ℕ → Table → Net

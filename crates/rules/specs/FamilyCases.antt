@@ -1,7 +1,7 @@
 -- Families by examples: how many trees, in which order, which nets are one wiring, and the two calls. Sheets are written as in `Cases`, with `/` for the
 -- line feed.
 -- Assumes nothing.
-use Prim.Native.Nat.{ℕ}
+use Prim.Native.Nat.{ℕ, _+_, _%_}
 use Prim.Native.String.{String}
 use mathlib.Core.Path.{_≡_, refl}
 use mathlib.Core.Bool.{cond, not, _&&_, _||_}
@@ -11,26 +11,42 @@ use lib.Dec.{eqb}
 use Rattle.rules.specs.Lists.{range}
 use Rattle.rules.specs.Sheets.{Gate, Table}
 use Rattle.rules.specs.Printed.{printedTable}
-use Rattle.rules.specs.Groups.{wholeGroup}
 use Rattle.rules.specs.Marks.{inside}
 use Rattle.rules.specs.Wirings.{Wiring, input, gate}
 use Rattle.rules.specs.Family.{treeCount, countsOf, familyWiring, gateGroups}
-use Rattle.rules.specs.Answers.{accepted}
+use Rattle.rules.specs.Leaves.{leavesOf}
+use Rattle.rules.specs.Answers.{accepted, inkIn}
 use Rattle.rules.specs.FamilyCalls.{countOfTable, familyCountCall, familyTreeCall}
 use Rattle.rules.specs.Cases.{named, byRule, abc, oneIf, zeroTable, majority, marksOfTable, lineEnds, paper}
 use Rattle.rules.specs.Evaluation.{computing}
 
+-- 1 where an odd number of a b c are 1: each input matters, and every group has mark 2
+unfoldable pub oddTable : Table
+oddTable = abc 2 (λ a b c. (a + b + c) % 2)
+
 -- the wiring of a number
 unfoldable pub wiringOfTable : Table → ℕ → Wiring
-wiringOfTable t r = let n = t .header .inputs in let marks = marksOfTable t in familyWiring n marks (countsOf n marks) n (wholeGroup n) r
+wiringOfTable t r =
+    let m = t .header .levels in
+    let n = t .header .inputs in
+    let marks = marksOfTable t in
+    familyWiring n marks (countsOf n marks) n (leavesOf m n (inkIn (t .inks))) r
 
--- all ink 0 over a b c: "The order is by A's number", which is 1, 3, 5
-pub three-trees : (countOfTable zeroTable ≡ 3)
-    × (wiringOfTable zeroTable 0 ≡ gate (input 0) (gate (input 1) (input 2)))
-    × (wiringOfTable zeroTable 1 ≡ gate (gate (input 0) (input 1)) (input 2))
-    × (wiringOfTable zeroTable 2 ≡ gate (gate (input 0) (input 2)) (input 1))
-unfolding computing wiringOfTable marksOfTable zeroTable abc byRule named
+-- of the odd ones over a b c: "The order is by A's number", which is 1, 3, 5
+pub three-trees : (countOfTable oddTable ≡ 3)
+    × (wiringOfTable oddTable 0 ≡ gate (input 0) (gate (input 1) (input 2)))
+    × (wiringOfTable oddTable 1 ≡ gate (gate (input 0) (input 1)) (input 2))
+    × (wiringOfTable oddTable 2 ≡ gate (gate (input 0) (input 2)) (input 1))
+unfolding computing wiringOfTable marksOfTable oddTable abc byRule named
 three-trees = (refl, refl, refl, refl)
+
+-- "a family numbers the wirings on just these" leaves (document 02, K12): all ink 0 has one, `a b`; b and c alone matter in the other
+pub one-tree : (countOfTable zeroTable ≡ 1)
+    × (wiringOfTable zeroTable 0 ≡ gate (input 0) (input 1))
+    × (countOfTable (abc 2 (λ a b c. (b + c) % 2)) ≡ 1)
+    × (wiringOfTable (abc 2 (λ a b c. (b + c) % 2)) 0 ≡ gate (input 1) (input 2))
+unfolding computing wiringOfTable marksOfTable zeroTable abc byRule named
+one-tree = (refl, refl, refl, refl)
 
 -- "A table with no tree gets count 0, never 16."
 pub no-trees : countOfTable majority ≡ 0
@@ -38,7 +54,7 @@ unfolding computing majority abc byRule named oneIf
 no-trees = refl
 
 -- four inputs, every group of mark 2: 15 trees
-pub fifteen-trees : treeCount 4 (0 ∷ replicate 15 2) ≡ 15
+pub fifteen-trees : treeCount 4 (0 ∷ replicate 15 2) 15 ≡ 15
 unfolding computing
 fifteen-trees = refl
 
@@ -47,7 +63,7 @@ unfoldable pub halves : List ℕ
 halves = map (λ g. cond (not (eqb g 0) && (inside 6 g 7 || inside 6 g 56 || eqb g 63)) 2 0) (range 0 64)
 
 -- "then A's tree, then B's": B's goes on first
-pub by-halves : (treeCount 6 halves ≡ 9)
+pub by-halves : (treeCount 6 halves 63 ≡ 9)
     × (familyWiring 6 halves (countsOf 6 halves) 6 63 1 ≡ gate (gate (input 0) (gate (input 1) (input 2))) (gate (gate (input 3) (input 4)) (input 5)))
     × (familyWiring 6 halves (countsOf 6 halves) 6 63 3 ≡ gate (gate (gate (input 0) (input 1)) (input 2)) (gate (input 3) (gate (input 4) (input 5))))
 unfolding computing halves
@@ -76,20 +92,20 @@ pub none-counted : familyCountCall (printedTable majority) (nines 9) (nines 4)
 unfolding computing nines majority abc byRule named oneIf
 none-counted = refl
 
-pub three-counted : familyCountCall (printedTable zeroTable) (nines 8) (nines 2)
-    ≡ record { answer = accepted 3; cells = replicate 8 0; marks = 0xa8 ∷ 0xaa ∷ [] }
-unfolding computing nines zeroTable abc byRule named
+pub three-counted : familyCountCall (printedTable oddTable) (nines 8) (nines 2)
+    ≡ record { answer = accepted 3; cells = 0 ∷ 1 ∷ 1 ∷ 0 ∷ 1 ∷ 0 ∷ 0 ∷ 1 ∷ []; marks = 0xa8 ∷ 0xaa ∷ [] }
+unfolding computing nines oddTable abc byRule named
 three-counted = refl
 
--- the sheet of a number, of all ink 0 over a b c
+-- the sheet of a number, of the odd ones over a b c
 abbrev Writes : ℕ → String → Type 0
 Writes number sheet =
-    let made = familyTreeCall (printedTable zeroTable) number (nines 8) (nines 2) (nines 64) in
+    let made = familyTreeCall (printedTable oddTable) number (nines 8) (nines 2) (nines 64) in
     (made .answer ≡ accepted 59) × (take 59 (made .output) ≡ paper sheet)
 
--- "writes the tree of that number, from 0"; "number 0 is the settled net" (starred case 4)
-pub three-written : Writes 0 "levels inputs/2 3/a b c/left right table/b c 0000/a 1 0000/"
-    × Writes 1 "levels inputs/2 3/a b c/left right table/a b 0000/1 c 0000/"
-    × Writes 2 "levels inputs/2 3/a b c/left right table/a c 0000/1 b 0000/"
-unfolding computing nines zeroTable abc byRule named paper lineEnds
+-- "writes the tree of that number, from 0"; "number 0 is the settled net" (starred case 2)
+pub three-written : Writes 0 "levels inputs/2 3/a b c/left right table/b c 0110/a 1 0110/"
+    × Writes 1 "levels inputs/2 3/a b c/left right table/a b 0110/1 c 0110/"
+    × Writes 2 "levels inputs/2 3/a b c/left right table/a c 0110/1 b 0110/"
+unfolding computing nines oddTable abc byRule named paper lineEnds
 three-written = ((refl, refl), (refl, refl), (refl, refl))

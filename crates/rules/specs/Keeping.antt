@@ -2,17 +2,18 @@
 -- Fill the gates anew by the settled net's class rule over the given wiring, and write the sheet."
 -- Assumes nothing.
 use Prim.Native.Nat.{ℕ, suc, _-_, _^_}
-use mathlib.Core.Bool.{Bool, true, false, not}
+use mathlib.Core.Bool.{Bool, true, false, not, _&&_}
 use mathlib.Core.List.{List, [], map}
 use lib.ListN.{length, getD}
-use lib.Dec.{ltb}
-use Rattle.rules.specs.Lists.{range, firstPlace, those, same}
-use Rattle.rules.specs.Sheets.{Gate, Net, Table}
+use lib.Dec.{eqb, ltb}
+use Rattle.rules.specs.Lists.{range, firstPlace, those, same, total, any}
+use Rattle.rules.specs.Sheets.{Gate, Net, Table, usedBy}
 use Rattle.rules.specs.Printed.{printedNet}
 use Rattle.rules.specs.Groups.{multiplicity}
 use Rattle.rules.specs.Wirings.{Link}
 use Rattle.rules.specs.Filling.{filled}
-use Rattle.rules.specs.Family.{total, gateGroups}
+use Rattle.rules.specs.Leaves.{matters}
+use Rattle.rules.specs.Family.{gateGroups}
 use Rattle.rules.specs.Answers.{Named, accepted, inkIn, neither, netNamed, refused, tableNamed, written}
 use Rattle.rules.specs.Reading.{readNet, readTable}
 use Rattle.rules.specs.Checking.{sameHeader}
@@ -44,6 +45,13 @@ roomyGates m n f gates = firstPlace (λ g. ltb m (multiplicity m n f g)) (gateGr
 unfoldable pub roomyBefore : Net → Table → ℕ
 roomyBefore net t = roomyGates (net .header .levels) (net .header .inputs) (inkIn (t .inks)) (net .gates)
 
+-- "A kept wiring that leaves out an input that matters" (document 02, K12)
+unfoldable pub leavesOut : Net → Table → Bool
+leavesOut net t =
+    let m = net .header .levels in
+    let n = net .header .inputs in
+    any (λ i. not (any (eqb i) (usedBy (net .gates))) && matters m n (inkIn (t .inks)) i) (range 0 n)
+
 -- ---- the gates that changed
 
 -- the table of gate k, numbered from 1
@@ -71,7 +79,8 @@ pub record KeptWiring : Type 0 where
   pub cells : List ℕ
   pub output : List ℕ
 
--- What is judged once both sheets are read, in this order: 12, 13, 23, 15. 12: the sheets differ in m, n or names. 13: cells buffer short. "23, place the
+-- What is judged once both sheets are read, in this order: 12, 13, 23 at 0, 23 at a gate, 15. "A kept wiring that leaves out an input that matters is refused with 23
+-- at place 0, before its gates are judged." (document 02, K12) 12: the sheets differ in m, n or names. 13: cells buffer short. "23, place the
 -- number of the first gate whose group has more than m classes, judged after 12 and 13 and before 15; it names neither sheet and leaves the cells written."
 -- 15: output short, with the cells written.
 unfoldable pub keptInto : Net → Table → List ℕ → List ℕ → KeptWiring
@@ -83,11 +92,14 @@ keptInto net t cells output =
       | false ↦ record { answer = turnedAway neither 12 0; cells = cells; output = output }
       | true ↦ elim (ltb (length cells) (length (t .inks))) [
         | true ↦ record { answer = turnedAway neither 13 (length (t .inks)); cells = cells; output = output }
-        | false ↦ elim (ltb (roomyBefore net t) (length (net .gates))) [
-          | true ↦ record { answer = turnedAway neither 23 (suc (roomyBefore net t)); cells = cells-then; output = output }
-          | false ↦ elim (ltb (length output) (length sheet)) [
-            | true ↦ record { answer = turnedAway neither 15 (length sheet); cells = cells-then; output = output }
-            | false ↦ record { answer = rewritten (length sheet) (changedGates (net .gates) (kept .gates)); cells = cells-then; output = written output sheet }
+        | false ↦ elim (leavesOut net t) [
+          | true ↦ record { answer = turnedAway neither 23 0; cells = cells-then; output = output }
+          | false ↦ elim (ltb (roomyBefore net t) (length (net .gates))) [
+            | true ↦ record { answer = turnedAway neither 23 (suc (roomyBefore net t)); cells = cells-then; output = output }
+            | false ↦ elim (ltb (length output) (length sheet)) [
+              | true ↦ record { answer = turnedAway neither 15 (length sheet); cells = cells-then; output = output }
+              | false ↦ record { answer = rewritten (length sheet) (changedGates (net .gates) (kept .gates)); cells = cells-then; output = written output sheet }
+            ]
           ]
         ]
       ]
@@ -106,5 +118,5 @@ keepCall net-sheet table-sheet cells output =
 
 -- all of this file computes
 unfoldable pub computing : Unit {0}
-unfolding keptGates keptNet roomyGates roomyBefore tableDiffers changedGates keptInto keepCall
+unfolding keptGates keptNet roomyGates roomyBefore leavesOut tableDiffers changedGates keptInto keepCall
 computing = tt

@@ -54,10 +54,12 @@ pub record GateRules (m n : ℕ) (gates : List Gate) : Type 0 where
 abbrev pub EarlierUsed : ℕ → List Gate → Type 0
 EarlierUsed n gates = (k : ℕ) → suc k < length gates → any (eqb (n + k)) (usedBy gates) ≡ true
 
--- "Then n − 1 gate lines": a net of m levels and n inputs
+-- "A net sheet may have from 1 to n − 1 gate lines .. inputs may stay unused, earlier gates may not." (document 02, K12): a net of m levels and n inputs
 pub record IsNet (m n : ℕ) (gates : List Gate) : Type 0 where
-  pub count : suc (length gates) ≡ n
+  pub some : 0 < length gates
+  pub count : length gates < n
   pub rules : GateRules m n gates
+  pub used : EarlierUsed n gates
 
 -- a net sheet keeps every rule
 pub record KeptNet (net : Net) : Type 0 where

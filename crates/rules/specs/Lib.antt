@@ -1,13 +1,14 @@
 -- Document 01 ("Shade nets: tables, groups and settled trees") as definitions that compute, in the document's own order.
 -- Each definition's comment quotes the sentence that it states, or says what the definition is for. `Lists`, `Text` and
 -- `Fields` are the means; the rest follows the document's sections: Sheets (`Limits`, `Sheets`, `Printed`, `Kept`),
--- `Value`, `Groups`, `Marks`, the settled net (`Wirings`, `Filling`, `Settled`; `SettledLaws` hold its choices to the document's words), then
+-- `Value`, `Groups`, `Marks`, the settled net (`Wirings`, `Filling`, `Leaves` as document 02 has them, `Settled`; `SettledLaws` hold its choices to the document's words), then
 -- the calls with what they turn back (`Answers`, `Reading` and `BareCells` are what they share; a file for each call or pair of calls
 -- follows), the starred cases (`Cases`), every refusal by examples (`Refusals`), and what is judged first (`Orders`). Of document 02: shallow
 -- nets (`Layers`, `Shallow`, `ShallowSettling`, `Shallower`, with `ShallowCases`), every wiring of a table (`Family`, `FamilyCalls`, with
 -- `FamilyCases`), the comparison of two assignments (`Differences`, with `DifferenceCases`), arrival times (`ArrivalSheet`, `Arrivals`, with
 -- `ArrivalCases`), loose table sheets (`LooseSheet`, `Tidying`, with `LooseCases`), marking as a job (`Jobs`, with `JobCases`), a wiring kept
--- (`Keeping`, with `KeepingCases`) and whole glyphs (`Glyphs`, with `GlyphCases`).
+-- (`Keeping`, with `KeepingCases`) whole glyphs (`Glyphs`, with
+-- `GlyphCases`), and inputs that never matter (`Leaves`, with `LeafCases`).
 -- `Evaluation` lets all of it compute.
 -- Assumes nothing.
 pub mod Lists
@@ -23,6 +24,7 @@ pub mod Differences
 pub mod Marks
 pub mod Wirings
 pub mod Filling
+pub mod Leaves
 pub mod Settled
 pub mod SettledLaws
 pub mod Layers
@@ -58,5 +60,6 @@ pub mod LooseCases
 pub mod JobCases
 pub mod KeepingCases
 pub mod GlyphCases
+pub mod LeafCases
 pub mod Refusals
 pub mod Orders

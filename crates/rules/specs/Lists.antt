@@ -1,7 +1,7 @@
 -- A few functions on lists that the definitions share. Nothing here is of document 01.
 -- A test's arm waits for the test (`elim`), so that a long list is left at the first element that decides.
 -- Assumes nothing.
-use Prim.Native.Nat.{ℕ, zero, suc}
+use Prim.Native.Nat.{ℕ, zero, suc, _+_}
 use mathlib.Core.Bool.{Bool, true, false}
 use mathlib.Core.Option.{Option, none, some}
 use mathlib.Core.List.{List, [], _∷_, _++_}
@@ -49,7 +49,12 @@ unfoldable pub find : {A : Type 0} → (A → Bool) → List A → Option A
 find test [] = none
 find test (x ∷ xs) = elim (test x) [ true ↦ some x | false ↦ find test xs ]
 
+-- the sum of some numbers
+unfoldable pub total : List ℕ → ℕ
+total [] = 0
+total (x ∷ xs) = x + total xs
+
 -- all of this file computes
 unfoldable pub computing : Unit {0}
-unfolding range all any firstPlace those concatMap same find
+unfolding range all any firstPlace those concatMap same find total
 computing = tt

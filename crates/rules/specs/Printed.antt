@@ -21,7 +21,7 @@ firstLines h third =
 unfoldable pub printedGate : List (List ℕ) → Gate → List ℕ
 printedGate names g = line (referenceText names (g .left) ∷ referenceText names (g .right) ∷ map digitByte (g .digits) ∷ [])
 
--- "Line 3 has the n input names. Line 4 is `left right table`. Then n − 1 gate lines"
+-- "Line 3 has the n input names. Line 4 is `left right table`." Then the gate lines
 unfoldable pub printedNet : Net → List ℕ
 printedNet net =
     firstLines (net .header) (net .header .names)

@@ -6,10 +6,11 @@ use mathlib.Core.Bool.{_&&_}
 use mathlib.Core.List.{List}
 use Rattle.rules.specs.Lists.{range, firstPlace}
 use Rattle.rules.specs.Sheets.{Gate}
-use Rattle.rules.specs.Groups.{member, wholeGroup}
+use Rattle.rules.specs.Groups.{member}
 use Rattle.rules.specs.Marks.{partsAt}
 use Rattle.rules.specs.Wirings.{Wiring, firstInput, wiringBy, linksOf}
 use Rattle.rules.specs.Filling.{filled}
+use Rattle.rules.specs.Leaves.{leavesOf}
 
 -- "A group of mark 2 with several members is parted as (A, B), both of mark 2, A holding its first-listed input, A of lowest
 -- number." A's number; g itself where there is no such A.
@@ -20,9 +21,9 @@ splitOf n marks g = 1 + firstPlace (λ a. partsAt n marks g a && member (firstIn
 unfoldable pub settledWiring : ℕ → List ℕ → ℕ → Wiring
 settledWiring n marks leaves = wiringBy n (splitOf n marks) n leaves
 
--- the settled net of a table, from its marks
+-- The settled net of a table, from its marks. "A settled tree now has just the inputs that matter as leaves" (document 02, K12)
 unfoldable pub settledGates : ℕ → ℕ → (ℕ → ℕ) → List ℕ → List Gate
-settledGates m n f marks = filled m n f (linksOf n 0 (settledWiring n marks (wholeGroup n)))
+settledGates m n f marks = filled m n f (linksOf n 0 (settledWiring n marks (leavesOf m n f)))
 
 -- all of this file computes
 unfoldable pub computing : Unit {0}

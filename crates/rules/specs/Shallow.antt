@@ -7,10 +7,11 @@ use lib.ListN.{getD}
 use lib.Dec.{eqb}
 use Rattle.rules.specs.Lists.{range, those, firstPlace}
 use Rattle.rules.specs.Sheets.{Gate}
-use Rattle.rules.specs.Groups.{member, wholeGroup}
+use Rattle.rules.specs.Groups.{member}
 use Rattle.rules.specs.Marks.{partsAt}
 use Rattle.rules.specs.Wirings.{Wiring, firstInput, wiringBy, linksOf}
 use Rattle.rules.specs.Filling.{filled}
+use Rattle.rules.specs.Leaves.{leavesOf}
 
 -- ---- the fewest layers of a group
 
@@ -50,9 +51,9 @@ shallowSplit n marks fewest g =
 unfoldable pub shallowWiring : ℕ → List ℕ → ℕ → Wiring
 shallowWiring n marks leaves = let fewest = fewestLayers n marks in wiringBy n (shallowSplit n marks fewest) n leaves
 
--- the shallow net of a table, from its marks
+-- The shallow net of a table, from its marks. "The families, shallow trees and the finishing of jobs use the same leaves" (document 02, K12)
 unfoldable pub shallowGates : ℕ → ℕ → (ℕ → ℕ) → List ℕ → List Gate
-shallowGates m n f marks = filled m n f (linksOf n 0 (shallowWiring n marks (wholeGroup n)))
+shallowGates m n f marks = filled m n f (linksOf n 0 (shallowWiring n marks (leavesOf m n f)))
 
 -- all of this file computes
 unfoldable pub computing : Unit {0}

@@ -9,7 +9,7 @@ use lib.Dec.{eqb, leb, ltb}
 use Rattle.rules.specs.Lists.{range, all, any, find, same}
 use Rattle.rules.specs.Text.{space, newline, text, digitByte, isDigit, decimal}
 use Rattle.rules.specs.Limits.{levelsFit, cellsFit, fewestInputs, mostInputs, mostNameBytes}
-use Rattle.rules.specs.Fields.{Reader, _>>=_, give, bad, Judge, judged, strict, Layout, field, fieldIn, theWord, closed}
+use Rattle.rules.specs.Fields.{read, turnedBack, Reader, _>>=_, give, bad, Judge, judged, strict, Layout, field, fieldIn, theWord, closed}
 
 -- ---- the two header lines and the names
 
@@ -113,18 +113,31 @@ gateLine m names earlier = do
   digits ← field (digitsField m) newline
   give (record { left = left; right = right; digits = digits })
 
--- "Then n − 1 gate lines, numbered from 1."
+-- "inputs may stay unused, earlier gates may not" (document 02, K12)
+unfoldable pub earlierUsed : ℕ → List Gate → Bool
+earlierUsed n gates = all (λ k. any (eqb (n + k)) (usedBy gates)) (range 0 (length gates - 1))
+
+-- "26, an earlier gate is never used, place the sheet's length, judged last in the net sheet" (document 02, K12): nothing is left to read here
+unfoldable pub allUsed : ℕ → List Gate → Reader (Unit {0})
+allUsed n gates s at = elim (earlierUsed n gates) [ true ↦ read tt s at | false ↦ turnedBack 26 at ]
+
+-- the sheet's end here, or more of it
+unfoldable pub orEnd : {A : Type 0} → A → Reader A → Reader A
+orEnd a more [] at = read a [] at
+orEnd a more (b ∷ s) at = more (b ∷ s) at
+
+-- "A net sheet may have from 1 to n − 1 gate lines, and the sheet's end closes it" (document 02, K12). They are "numbered from 1"; up to `count` more, one at least
 unfoldable pub gateLines : ℕ → List (List ℕ) → ℕ → List Gate → Reader (List Gate)
 gateLines m names zero earlier = give earlier
 gateLines m names (suc count) earlier =
-    gateLine m names earlier >>= λ g. gateLines m names count (earlier ++ (g ∷ []))
+    gateLine m names earlier >>= λ g. orEnd (earlier ++ (g ∷ [])) (gateLines m names count (earlier ++ (g ∷ [])))
 
 -- what a net sheet is read as
 pub record Net : Type 0 where
   pub header : Header
   pub gates : List Gate
 
--- "Line 3 has the n input names. Line 4 is `left right table`. Then n − 1 gate lines". Nothing stands after the last line.
+-- "Line 3 has the n input names. Line 4 is `left right table`." Then the gate lines. Nothing stands after the last line.
 unfoldable pub netSheet : Reader Net
 netSheet = do
   h ← headerLines newline
@@ -133,6 +146,7 @@ netSheet = do
   _ ← field (theWord "table") newline
   gates ← gateLines (h .levels) (h .names) (h .inputs - 1) []
   _ ← closed
+  _ ← allUsed (h .inputs) gates
   give (record { header = h; gates = gates })
 
 -- ---- table sheet
@@ -183,5 +197,5 @@ tableSheet = do
 
 -- all of this file computes
 unfoldable pub computing : Unit {0}
-unfolding levelsField inputsOf inputsField isLetter letterFirst isName nameField nameFieldsIn headerLinesIn referenceText referenceOf referenceField digitsField usedBy gateLine gateLines netSheet level levelsAt levelField inkField levelFields rowLines tableSheet
+unfolding levelsField inputsOf inputsField isLetter letterFirst isName nameField nameFieldsIn headerLinesIn referenceText referenceOf referenceField digitsField usedBy gateLine orEnd gateLines earlierUsed allUsed netSheet level levelsAt levelField inkField levelFields rowLines tableSheet
 computing = tt

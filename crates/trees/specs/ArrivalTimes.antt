@@ -1,4 +1,4 @@
--- When the output of a net settles: every input has just one way to it, and the settling time is, gate by gate, that of the later of the two that a gate joins
+-- When the output of a net settles: every used input has just one way to it and no other input has any, and the settling time is, gate by gate, that of the later of the two that a gate joins
 -- and one delay more.
 -- Assumes nothing.
 use Prim.Native.Nat.{ℕ, suc, _+_, _-_, _*_, _≤_, _<_, max}
@@ -11,26 +11,28 @@ use native.Mathlib.Omega.{arith, max-cases}
 use lib.ListN.{length, getD, length-append, length-map}
 use lib.Dec.{eqb}
 use borrow.Author.Tests.{eq-eqb, eqb-true}
-use Rattle.rules.specs.Lists.{range}
-use Rattle.rules.specs.Sheets.{Gate}
+use Rattle.rules.specs.Lists.{range, any}
+use Rattle.rules.specs.Sheets.{Gate, usedBy}
 use Rattle.rules.specs.Groups.{member}
 use Rattle.rules.specs.Kept.{RefersBack, IsNet}
 use Rattle.rules.specs.Wirings.{Wiring, input, gate, groupOf}
 use Rattle.rules.specs.Layers.{most, layers}
-use Rattle.rules.specs.Arrivals.{startsAt, waysFrom, gatesOnWay, settlingTime}
+use Rattle.rules.specs.Arrivals.{startsAt, waysFrom, gatesOnWay, usedInputs, settlingTime}
 use Rattle.laws.specs.Concat.{map-append}
 use Rattle.laws.specs.Extremes.{most-bounds, most-listed}
-use Rattle.laws.specs.Places.{length-snoc, map-at}
-use Rattle.laws.specs.Ranges.{mem-range, range-mem, map-range-length, by-places}
+use Rattle.laws.specs.Places.{length-snoc, map-at, mem-place}
+use Rattle.laws.specs.Ranges.{by-places}
 use Rattle.laws.specs.Same.{eqb-comm}
-use Rattle.laws.specs.Tests.{oneIf, one-if-or}
+use Rattle.laws.specs.Tests.{oneIf, one-if-or, not-false-true}
 use Rattle.laws.specs.Times.{gateTime, withTimes}
 use Rattle.trees.specs.Trees.{Tree, leaf, wiringIn, EachOnce}
-use Rattle.trees.specs.Members.{member-single, member-join, member-whole}
+use Rattle.trees.specs.Members.{member-single, member-join}
 use Rattle.trees.specs.Wirings.{group-below}
 use Rattle.trees.specs.Forest.{joined, withTrees, inputTrees, trees-length, inputs-length}
-use Rattle.trees.specs.NetTree.{net-tree, net-whole}
-use Rattle.trees.specs.Layers.{gates-ways, depth, net-layers}
+use Rattle.trees.specs.NetTree.{net-tree, netWiring, net-uses}
+use Rattle.trees.specs.UsedOnce.{listed-used, used-listed, used-inputs-length}
+use Rattle.trees.specs.Depths.{depth}
+use Rattle.trees.specs.Layers.{gates-ways, net-layers}
 
 -- the largest of one number
 most-one : (k : ℕ) → most (k ∷ []) ≡ k
@@ -63,6 +65,13 @@ ways-count n i h (gate a b) (apart, once-a, once-b) =
     ∙ ap₂ _+_ (ways-count n i h a once-a) (ways-count n i h b once-b)
     ∙ sym (ap oneIf (member-join i n (groupOf a) (groupOf b) (group-below n a once-a) (group-below n b once-b) apart h)
     ∙ one-if-or (member i (groupOf a)) (member i (groupOf b)) (apart i h))
+
+-- so an input that has a way is a member
+leaf-from : (n i k : ℕ) → i < n → (w : Wiring) → EachOnce n w → List·Memᴰ k (waysInFrom i w) → member i (groupOf w) ≡ true
+leaf-from n i k h w once is =
+    not-false-true _ λ out.
+    let (j, j<, at) = mem-place k (waysInFrom i w) is in
+    omega (arith, ways-count n i h w once ∙ ap oneIf out)
 
 module _ (delay : ℕ) (arrival : ℕ → ℕ) where
   -- no way takes longer than the root does, ..
@@ -134,9 +143,9 @@ module _ (delay : ℕ) (arrival : ℕ → ℕ) where
   unfolding inputTrees timeIn
   inputs-times n = map-map timeTo leaf (range 0 n)
 
-module _ (m n : ℕ) (gates : List Gate) (several : 1 < n) (net : IsNet m n gates) where
+module _ (m n : ℕ) (gates : List Gate) (net : IsNet m n gates) where
   abbrev tree : Wiring
-  tree = wiringIn (net-tree m n gates several net .tree)
+  tree = netWiring m n gates net
 
   last< : n + length gates - 1 < length (withTrees (inputTrees n) gates)
   last< = omega (arith, trees-length (inputTrees n) gates, inputs-length n)
@@ -147,23 +156,33 @@ module _ (m n : ℕ) (gates : List Gate) (several : 1 < n) (net : IsNet m n gate
   ways-from i =
       rw (← (map-map ways leaf (range 0 n)), gates-ways ways (λ digits a b. refl) gates (inputTrees n) (rw inputs-length (net .rules .back)))
       (map-at ways (withTrees (inputTrees n) gates) (n + length gates - 1) (leaf 0) [] last<
-      ∙ ap ways (sym (net-tree m n gates several net .last)))
+      ∙ ap ways (sym (net-tree m n gates net .last)))
     where
       ways : Tree → List ℕ
       ways t = waysInFrom i (wiringIn t)
 
-  -- "gates on the way": every input has just one
-  pub one-way : (i : ℕ) → i < n → waysFrom n gates i ≡ gatesOnWay n gates i ∷ []
-  unfolding gatesOnWay
-  one-way i h = single (waysFrom n gates i) (ap length (ways-from i) ∙ ways-count n i h tree (net-tree m n gates several net .once) ∙ ap oneIf is-member)
-    where
-      is-member : member i (groupOf tree) ≡ true
-      is-member = ap (member i) (net-whole m n gates several net) ∙ member-whole i n h
+  -- as many as it has places among the leaves
+  ways-many : (i : ℕ) → i < n → length (waysFrom n gates i) ≡ oneIf (any (eqb i) (usedBy gates))
+  ways-many i h =
+      ap length (ways-from i) ∙ ways-count n i h tree (net-tree m n gates net .once) ∙ ap oneIf (sym (net-uses m n gates net i h))
 
+  -- "gates on the way": every used input has just one way, ..
+  pub one-way : (i : ℕ) → i < n → any (eqb i) (usedBy gates) ≡ true → waysFrom n gates i ≡ gatesOnWay n gates i ∷ []
+  unfolding gatesOnWay
+  one-way i h used = single (waysFrom n gates i) (ways-many i h ∙ ap oneIf used)
+    where
       single : (ks : List ℕ) → length ks ≡ 1 → ks ≡ most ks ∷ []
       single [] e = absurd (omega arith)
       single (k ∷ []) e = ap {B = List ℕ} (λ j. j ∷ []) (sym (most-one k))
       single (k ∷ l ∷ ks) e = absurd (omega arith)
+
+  -- .. and no other input has any
+  pub no-way : (i : ℕ) → i < n → any (eqb i) (usedBy gates) ≡ false → waysFrom n gates i ≡ []
+  no-way i h free = none (waysFrom n gates i) (ways-many i h ∙ ap oneIf free)
+    where
+      none : (ks : List ℕ) → length ks ≡ 0 → ks ≡ []
+      none [] e = refl
+      none (k ∷ ks) e = absurd (omega arith)
 
   module _ (delay : ℕ) (arrivals : List ℕ) where
     abbrev arrival : ℕ → ℕ
@@ -173,33 +192,37 @@ module _ (m n : ℕ) (gates : List Gate) (several : 1 < n) (net : IsNet m n gate
     abbrev through : ℕ → ℕ
     through i = arrival i + delay * gatesOnWay n gates i
 
-    way-in-tree : (i : ℕ) → i < n → List·Memᴰ (gatesOnWay n gates i) (waysInFrom i tree)
-    way-in-tree i h = rw (← ways-from i, one-way i h) (List·Memᴰ·head refl)
+    way-in-tree : (i : ℕ) → i < n → any (eqb i) (usedBy gates) ≡ true → List·Memᴰ (gatesOnWay n gates i) (waysInFrom i tree)
+    way-in-tree i h used = rw (← ways-from i, one-way i h used) (List·Memᴰ·head refl)
 
-    only-way : (i k : ℕ) → i < n → List·Memᴰ k (waysInFrom i tree) → k ≡ gatesOnWay n gates i
-    only-way i k h is = List·Memᴰ·eq-of-singleton (rw (← ways-from i, one-way i h) at is)
+    only-way : (i k : ℕ) → i < n → any (eqb i) (usedBy gates) ≡ true → List·Memᴰ k (waysInFrom i tree) → k ≡ gatesOnWay n gates i
+    only-way i k h used is = List·Memᴰ·eq-of-singleton (rw (← ways-from i, one-way i h used) at is)
 
     -- the settling time is that of the net's tree, ..
     pub settling-tree : settlingTime n gates delay arrivals ≡ timeIn delay arrival tree
     unfolding settlingTime
     settling-tree = le-antisymm most-within reached
       where
-        most-within : most (map through (range 0 n)) ≤ timeIn delay arrival tree
+        most-within : most (map through (usedInputs n gates)) ≤ timeIn delay arrival tree
         most-within =
-            let (i, listed, is) = Memᴰ·of-map through (range 0 n) (most-listed (map through (range 0 n)) (rw map-range-length (omega arith))) in
-            rw (← is) (way-within delay arrival i (gatesOnWay n gates i) tree (way-in-tree i (omega (arith, range-mem 0 n i listed .1))))
+            let (i, listed, is) = Memᴰ·of-map through (usedInputs n gates) (most-listed (map through (usedInputs n gates)) (rw (length-map, used-inputs-length m n gates net) (omega arith))) in
+            let (i<, used) = listed-used n gates i listed in
+            rw (← is) (way-within delay arrival i (gatesOnWay n gates i) tree (way-in-tree i i< used))
 
-        reached : timeIn delay arrival tree ≤ most (map through (range 0 n))
+        reached : timeIn delay arrival tree ≤ most (map through (usedInputs n gates))
         reached =
-            let slow = slowest delay arrival n tree (net-tree m n gates several net .once) in
-            rw (slow .takes, only-way (slow .from) (slow .gates) (slow .below) (slow .way))
-            (most-bounds (through (slow .from)) (map through (range 0 n)) (Memᴰ·map through (mem-range 0 n (slow .from) (omega arith) (omega (arith, slow .below)))))
+            let slow = slowest delay arrival n tree (net-tree m n gates net .once) in
+            let used : any (eqb (slow .from)) (usedBy gates) ≡ true =
+            net-uses m n gates net (slow .from) (slow .below)
+            ∙ leaf-from n (slow .from) (slow .gates) (slow .below) tree (net-tree m n gates net .once) (slow .way) in
+            rw (slow .takes, only-way (slow .from) (slow .gates) (slow .below) used (slow .way))
+            (most-bounds (through (slow .from)) (map through (usedInputs n gates)) (Memᴰ·map through (used-listed n gates (slow .from) (slow .below) used)))
 
     -- .. and that of the last gate
     pub settling-last : length arrivals ≡ n → settlingTime n gates delay arrivals ≡ getD (withTimes delay arrivals gates) (n + length gates - 1) 0
     settling-last count =
         settling-tree
-        ∙ ap (timeTo delay arrival) (net-tree m n gates several net .last)
+        ∙ ap (timeTo delay arrival) (net-tree m n gates net .last)
         ∙ sym (map-at (timeTo delay arrival) (withTrees (inputTrees n) gates) (n + length gates - 1) (leaf 0) 0 last<)
         ∙ ap (λ (times : List ℕ). getD times (n + length gates - 1) 0)
         (sym (gates-times delay arrival gates (inputTrees n) (rw inputs-length (net .rules .back)))
@@ -208,7 +231,7 @@ module _ (m n : ℕ) (gates : List Gate) (several : 1 < n) (net : IsNet m n gate
   -- with every arrival at 0 and a delay of 1 it is the layers
   pub settling-layers : (arrivals : List ℕ) → ((i : ℕ) → getD arrivals i 0 ≡ 0) → settlingTime n gates 1 arrivals ≡ layers n gates
   unfolding timeIn depth
-  settling-layers arrivals none = settling-tree 1 arrivals ∙ as-depth tree ∙ sym (net-layers m n gates several net)
+  settling-layers arrivals none = settling-tree 1 arrivals ∙ as-depth tree ∙ sym (net-layers m n gates net)
     where
       as-depth : (w : Wiring) → timeIn 1 (λ i. getD arrivals i 0) w ≡ depth w
       as-depth (input i) = none i

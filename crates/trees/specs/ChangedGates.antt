@@ -12,10 +12,9 @@ use native.Mathlib.Omega.{arith}
 use lib.ListN.{length}
 use lib.Pow.{pow-pos, pow-mono}
 use borrow.Author.Tests.{not-true}
-use Rattle.rules.specs.Lists.{range, those, same}
+use Rattle.rules.specs.Lists.{range, those, same, total}
 use Rattle.rules.specs.Sheets.{Gate}
 use Rattle.rules.specs.Groups.{member}
-use Rattle.rules.specs.Family.{total}
 use Rattle.rules.specs.Keeping.{tableAt, tableDiffers, changedGates}
 use Rattle.laws.specs.Ranges.{range-shift}
 use Rattle.laws.specs.Same.{same-refl, same-true}

@@ -1,16 +1,16 @@
--- All net sheets of one header are equally long: each has the same references and as many digits.
+-- All net sheets of one header that use the same inputs are equally long: each has the same references and as many digits.
 -- Assumes nothing.
-use Prim.Native.Nat.{ℕ, _+_, _*_}
-use mathlib.Core.Path.{_≡_, sym, ap, _∙_, subst⁻¹}
+use Prim.Native.Nat.{ℕ, _+_, _-_, _*_}
+use mathlib.Core.Path.{_≡_, sym, ap, ap₂, _∙_, subst⁻¹}
 use mathlib.Core.List.{List, [], _∷_, map}
 use native.Mathlib.Omega.{arith}
 use lib.ListN.{length, length-append, length-map}
-use Rattle.rules.specs.Lists.{range, concatMap}
+use Rattle.rules.specs.Lists.{range, concatMap, total}
 use Rattle.rules.specs.Sheets.{Header, Gate, Net, referenceText, usedBy}
-use Rattle.rules.specs.Printed.{line, firstLines, printedGate, printedNet}
+use Rattle.rules.specs.Printed.{line, printedGate, printedNet}
 use Rattle.rules.specs.Kept.{GateTable, Tables, IsNet, KeptNet}
-use Rattle.rules.specs.Family.{total}
-use Rattle.trees.specs.UsedOnce.{used-sum}
+use Rattle.rules.specs.Arrivals.{usedInputs}
+use Rattle.trees.specs.UsedOnce.{used-sum, used-inputs-length}
 
 module _ (m : ℕ) (names : List (List ℕ)) where
   -- how many bytes a reference has
@@ -29,26 +29,29 @@ module _ (m : ℕ) (names : List (List ℕ)) where
   gates-length [] t = omega arith
   gates-length (g ∷ gates) t = rw length-append (omega (arith, gate-length g (t .0), gates-length gates (t .1)))
 
-  -- two nets of n inputs have the same references
-  same-gates-length : (n : ℕ) (g h : List Gate) → IsNet m n g → IsNet m n h
+  -- two nets that use the same inputs have the same references
+  same-gates-length : (n : ℕ) (g h : List Gate) → IsNet m n g → IsNet m n h → usedInputs n g ≡ usedInputs n h
       → length (concatMap (printedGate names) g) ≡ length (concatMap (printedGate names) h)
-  same-gates-length n g h net-g net-h =
-      let count : length g ≡ length h = omega (arith, net-g .count, net-h .count) in
+  same-gates-length n g h net-g net-h same =
+      let count : length g ≡ length h = omega (arith, used-inputs-length m n g net-g, used-inputs-length m n h net-h, ap length same) in
       gates-length g (net-g .rules .tables)
       ∙ ap (λ (s : ℕ). s + length g * (m * m + 3)) (used-sum referenceLength m n g net-g)
-      ∙ ap (λ (k : ℕ). total (map referenceLength (range 0 (k + k))) + k * (m * m + 3)) count
+      ∙ ap₂ (λ (k : ℕ) (used : List ℕ). total (map referenceLength used) + total (map referenceLength (range n (k - 1))) + k * (m * m + 3)) count same
       ∙ ap (λ (s : ℕ). s + length h * (m * m + 3)) (sym (used-sum referenceLength m n h net-h))
       ∙ sym (gates-length h (net-h .rules .tables))
 
 -- under one header
 under-header : (h : Header) (g g' : List Gate) → IsNet (h .levels) (h .inputs) g → IsNet (h .levels) (h .inputs) g'
+    → usedInputs (h .inputs) g ≡ usedInputs (h .inputs) g'
     → length (printedNet (record { header = h; gates = g })) ≡ length (printedNet (record { header = h; gates = g' }))
 unfolding printedNet
-under-header h g g' net net' = simp (length-append, same-gates-length (h .levels) (h .names) (h .inputs) g g' net net')
+under-header h g g' net net' used = simp (length-append, same-gates-length (h .levels) (h .names) (h .inputs) g g' net net' used)
 
--- the sheets of two nets with the same levels, inputs and names, whatever their wiring and gate tables
-pub equally-long : (net other : Net) → KeptNet net → KeptNet other → net .header ≡ other .header → length (printedNet net) ≡ length (printedNet other)
-equally-long net other kept kept' same =
+-- the sheets of two nets with the same levels, inputs and names that use the same inputs, whatever their wiring and gate tables
+pub equally-long : (net other : Net) → KeptNet net → KeptNet other → net .header ≡ other .header
+    → usedInputs (net .header .inputs) (net .gates) ≡ usedInputs (net .header .inputs) (other .gates)
+    → length (printedNet net) ≡ length (printedNet other)
+equally-long net other kept kept' same used =
     under-header (net .header) (net .gates) (other .gates) (kept .gates)
-    (subst⁻¹ (λ (h : Header). IsNet (h .levels) (h .inputs) (other .gates)) same (kept' .gates))
+    (subst⁻¹ (λ (h : Header). IsNet (h .levels) (h .inputs) (other .gates)) same (kept' .gates)) used
     ∙ ap (λ (h : Header). length (printedNet (record { header = h; gates = other .gates }))) same

@@ -1,81 +1,153 @@
--- "A tree exists exactly when the whole group has mark 2." A tree is any net with the same m and n, whatever its wiring and its
--- gates' digits; and where the whole group has mark 2, the settled net is one.
+-- "A tree exists exactly when the whole group has mark 2." A tree is any net with the same m and n, whatever its leaves, its wiring and its
+-- gates' digits. A net that has the table has every input that matters among its leaves; and where the whole group has mark 2, the settled net, which
+-- stands on the table's leaves, has the table.
 -- Assumes nothing.
 use Prim.Native.Nat.{ℕ, _^_, _<_}
-use mathlib.Core.Path.{_≡_, sym, ap, _∙_, subst}
+use mathlib.Core.Path.{_≡_, sym, ap, _∙_}
 use mathlib.Core.Logic.{_↔_}
-use mathlib.Core.Bool.{true}
+use mathlib.Core.Bool.{true, true≢false}
 use mathlib.Core.List.{List}
 use native.Mathlib.Omega.{arith}
 use Rattle.rules.specs.Sheets.{Gate}
 use Rattle.rules.specs.Groups.{part, size, wholeGroup}
 use Rattle.rules.specs.Marks.{markIn, marksOf}
-use Rattle.rules.specs.Wirings.{Wiring, input, gate, groupOf, linksOf}
+use Rattle.rules.specs.Wirings.{Wiring, input, gate, groupOf, gatesIn, linksOf}
 use Rattle.rules.specs.Filling.{filled}
+use Rattle.rules.specs.Leaves.{leavesOf}
 use Rattle.rules.specs.Settled.{settledWiring, settledGates}
 use Rattle.rules.specs.Kept.{IsNet}
+use Rattle.laws.specs.Tests.{not-false-true}
 use Rattle.trees.specs.Trees.{Tree, wiringIn, treeValue, mix, Tells, EachOnce, EachGate, WiringOf, Filled, Computes}
-use Rattle.trees.specs.Members.{whole-below, size-single, size-whole}
-use Rattle.trees.specs.Levels.{mix-below, part-mix}
-use Rattle.trees.specs.NetTree.{TreeOf, net-tree, net-whole}
+use Rattle.trees.specs.Levels.{mix-below, part-mix, part-ext}
+use Rattle.trees.specs.NetTree.{net-tree, netWiring, netGroup, net-group-below, UsesJust}
 use Rattle.trees.specs.Classes.{Few}
-use Rattle.trees.specs.Wirings.{tree-part, necessity, fill-filled, fill-computes}
-use Rattle.trees.specs.Fillings.{filled-net, filled-value}
+use Rattle.trees.specs.Wirings.{group-below, group-some, gates-in-size, tree-part, necessity, fill-filled, fill-computes}
+use Rattle.trees.specs.Fillings.{filled-net, filled-uses, filled-value}
 use Rattle.trees.specs.MarkRule.{marked}
 use Rattle.trees.specs.MarkTwo.{wiring-mark, settled-wiring-of}
+use Rattle.trees.specs.Mattering.{Holding, matters-differ}
+use Rattle.trees.specs.LeafGroup.{leaves-below, leaves-hold, leaves-several}
+use Rattle.trees.specs.CutWirings.{holding-marked, leaves-marked}
 
 -- some net of m levels and n inputs has the table
 abbrev pub TreeExists : ℕ → ℕ → (ℕ → ℕ) → Type 0
 TreeExists m n f = (gates : List Gate) × IsNet m n gates × Computes m n gates f
 
+-- a wiring of a group with two or more members has a gate
+pub several-gates : (n g : ℕ) (w : Wiring) → WiringOf n g w → 1 < size n g → 0 < gatesIn w
+several-gates n g w of several = omega (arith, gates-in-size n w (of .0), ap (size n) (of .1))
+
+module _ (m n : ℕ) (pos : 0 < m) (f : ℕ → ℕ) where
+  -- ---- what a tree with the table must have
+
+  -- a tree that has the table
+  module _ (t : Tree) (once : EachOnce n (wiringIn t)) (has : (p : ℕ) → p < m ^ n → treeValue m n t p ≡ f p) where
+    abbrev own : ℕ
+    own = groupOf (wiringIn t)
+
+    -- its value tells the ink over its own leaves
+    tells-own : Tells m n f own (treeValue m n t)
+    tells-own p q e y = sym (ink p) ∙ e ∙ ink q
+      where
+        own< : own < 2 ^ n
+        own< = group-below n (wiringIn t) once
+
+        ink : (p : ℕ) → treeValue m n t p ≡ f (mix m n own p y)
+        ink p =
+            sym (tree-part m n pos f t once (mix m n own p y) p (part-mix m n pos own p y own<))
+            ∙ has (mix m n own p y) (mix-below m n pos own p y own<)
+
+    -- so each gate's group has at most m classes, ..
+    pub tree-few : Filled m t → EachGate (Few m n f) (wiringIn t)
+    tree-few filled = necessity m n pos f t once filled tells-own
+
+    -- .. and every input that matters is one of its leaves: an input that is none changes no value
+    pub computes-holds : Holding m n pos f own
+    computes-holds i i< is =
+        not-false-true _ λ out.
+        let two = matters-differ m n pos f i i< is in
+        let same : part m n own (two .one) ≡ part m n own (two .other) =
+        part-ext m n pos own (two .one) (two .other) (λ j j< within. two .elsewhere j j< (λ e. true≢false (sym (rw e at within) ∙ out))) in
+        two .inks (sym (has _ (two .one-below)) ∙ tree-part m n pos f t once _ _ same ∙ has _ (two .other-below))
+
+  -- the same of a net
+  module _ (gates : List Gate) (net : IsNet m n gates) (has : Computes m n gates f) where
+    has-tree : (p : ℕ) → p < m ^ n → treeValue m n (net-tree m n gates net .tree) p ≡ f p
+    has-tree p h = sym (net-tree m n gates net .same p) ∙ has p h
+
+    pub net-few : EachGate (Few m n f) (netWiring m n gates net)
+    net-few = let t = net-tree m n gates net in tree-few (t .tree) (t .once) has-tree (t .filled)
+
+    pub net-holds : Holding m n pos f (netGroup m n gates net)
+    net-holds = let t = net-tree m n gates net in computes-holds (t .tree) (t .once) has-tree
+
+    -- its leaves have mark 2, and so have all inputs together
+    pub net-marks : marked m n pos f (wholeGroup n) ≡ 2
+    net-marks =
+        holding-marked m n pos f (netGroup m n gates net) (group-some (netWiring m n gates net)) (net-group-below m n gates net) net-holds .0
+        (wiring-mark m n pos f (netWiring m n gates net) (net-tree m n gates net .once) net-few)
+
+  -- ---- what suffices
+
+  -- a wiring of a group with two or more members that has every input that matters, with few classes at each gate: its filling is a net, ..
+  module _ (g : ℕ) (several : 1 < size n g) (w : Wiring) (of : WiringOf n g w) where
+    pub filled-computes : Holding m n pos f g → EachGate (Few m n f) w → ((p : ℕ) → p < m ^ n → f p < m)
+        → IsNet m n (filled m n f (linksOf n 0 w)) × Computes m n (filled m n f (linksOf n 0 w)) f
+    unfolding gatesIn
+    filled-computes holds few inks = go w of few (several-gates n g w of several)
+      where
+        go : (w : Wiring) → WiringOf n g w → EachGate (Few m n f) w → 0 < gatesIn w
+            → IsNet m n (filled m n f (linksOf n 0 w)) × Computes m n (filled m n f (linksOf n 0 w)) f
+        go (input i) of few some = absurd (omega arith)
+        go (gate a b) of few some = (
+          filled-net m n f (gate a b) (of .0) some (fill-filled m n pos f (gate a b) (of .0) few inks true),
+          λ p h. filled-value m n f a b (of .0) p ∙ fill-computes m n pos f a b (of .0) (rw (of .1) holds) few p h,
+        )
+
+    -- .. and uses just the group's inputs
+    pub filled-leaves : UsesJust n (filled m n f (linksOf n 0 w)) g
+    filled-leaves = rw (of .1) at (filled-uses m n f w (of .0) (several-gates n g w of several))
+
+-- ---- the settled net
+
+-- a net on just the table's leaves has the table
+abbrev pub LeafTree : ℕ → ℕ → (ℕ → ℕ) → Type 0
+LeafTree m n f = (gates : List Gate) × IsNet m n gates × Computes m n gates f × UsesJust n gates (leavesOf m n f)
+
 module _ (m n : ℕ) (pos : 0 < m) (several : 1 < n) (f : ℕ → ℕ) where
-  -- the value of a tree over all inputs that has the table tells the ink
-  tells-whole : (t : Tree) → EachOnce n (wiringIn t) → groupOf (wiringIn t) ≡ wholeGroup n
-      → ((p : ℕ) → p < m ^ n → treeValue m n t p ≡ f p) → Tells m n f (wholeGroup n) (treeValue m n t)
-  tells-whole t once whole has p q e y = sym (ink p) ∙ e ∙ ink q
-    where
-      same-part : (p : ℕ) → part m n (groupOf (wiringIn t)) (mix m n (wholeGroup n) p y) ≡ part m n (groupOf (wiringIn t)) p
-      same-part p = rw whole (part-mix m n pos (wholeGroup n) p y (whole-below n))
+  -- the leaves' settled wiring, where the whole group has mark 2
+  settled-of : marked m n pos f (wholeGroup n) ≡ 2 →
+      let w = settledWiring n (marksOf m n f) (leavesOf m n f) in
+      WiringOf n (leavesOf m n f) w × EachGate (Few m n f) w
+  settled-of two = settled-wiring-of m n pos f (leavesOf m n f) (leaves-below m n pos f) (leaves-marked m n pos f several .1 two)
 
-      ink : (p : ℕ) → treeValue m n t p ≡ f (mix m n (wholeGroup n) p y)
-      ink p =
-          sym (tree-part m n pos f t once (mix m n (wholeGroup n) p y) p (same-part p))
-          ∙ has (mix m n (wholeGroup n) p y) (mix-below m n pos (wholeGroup n) p y (whole-below n))
-
-  -- a tree over all inputs that has the table: each gate's group has at most m classes
-  pub tree-few : (t : Tree) → EachOnce n (wiringIn t) → groupOf (wiringIn t) ≡ wholeGroup n → Filled m t
-      → ((p : ℕ) → p < m ^ n → treeValue m n t p ≡ f p) → EachGate (Few m n f) (wiringIn t)
-  tree-few t once whole filled has =
-      necessity m n pos f t once filled
-      (subst (λ (g : ℕ). Tells m n f g (treeValue m n t)) (sym whole) (tells-whole t once whole has))
-
-  -- a net with the table gives the whole group mark 2
-  pub net-marks : (gates : List Gate) → IsNet m n gates → Computes m n gates f → marked m n pos f (wholeGroup n) ≡ 2
-  net-marks gates net has =
-      let t : TreeOf m n gates = net-tree m n gates several net in
-      let whole : groupOf (wiringIn (t .tree)) ≡ wholeGroup n = net-whole m n gates several net in
-      subst (λ (g : ℕ). marked m n pos f g ≡ 2) whole
-      (wiring-mark m n pos f (wiringIn (t .tree)) (t .once)
-      (tree-few (t .tree) (t .once) whole (t .filled) (λ p h. sym (t .same p) ∙ has p h)))
-
-  -- a wiring of all inputs with few classes at each gate: its filling is a net, and has the table
-  pub filled-computes : (w : Wiring) → WiringOf n (wholeGroup n) w → EachGate (Few m n f) w → ((p : ℕ) → p < m ^ n → f p < m)
-      → IsNet m n (filled m n f (linksOf n 0 w)) × Computes m n (filled m n f (linksOf n 0 w)) f
-  unfolding groupOf
-  filled-computes (input i) of few inks = absurd (omega (arith, size-single i n (of .0), size-whole n, ap (size n) (of .1)))
-  filled-computes (gate a b) of few inks = (
-    filled-net m n f (gate a b) (of .0) (of .1) (fill-filled m n pos f (gate a b) (of .0) few inks true),
-    λ p h. filled-value m n f a b (of .0) p ∙ fill-computes m n pos f a b (of .0) (of .1) few p h,
-  )
-
-  -- Mark 2 at the whole group: the settled net is a net, and has the table.
+  -- Mark 2 at the whole group: the settled net is a net, and has the table, ..
   pub settled-net : ((p : ℕ) → p < m ^ n → f p < m) → marked m n pos f (wholeGroup n) ≡ 2
       → IsNet m n (settledGates m n f (marksOf m n f)) × Computes m n (settledGates m n f (marksOf m n f)) f
   unfolding settledGates
   settled-net inks two =
-      let w = settled-wiring-of m n pos f (wholeGroup n) (whole-below n) two in
-      filled-computes (settledWiring n (marksOf m n f) (wholeGroup n)) (w .0) (w .1) inks
+      let w = settled-of two in
+      filled-computes m n pos f (leavesOf m n f) (leaves-several m n pos f several) (settledWiring n (marksOf m n f) (leavesOf m n f)) (w .0)
+      (leaves-hold m n pos f) (w .1) inks
 
-  -- "A tree exists exactly when the whole group has mark 2."
+  -- .. and "has just the inputs that matter as leaves", made up to two
+  pub settled-leaves : marked m n pos f (wholeGroup n) ≡ 2 → UsesJust n (settledGates m n f (marksOf m n f)) (leavesOf m n f)
+  unfolding settledGates
+  settled-leaves two =
+      filled-leaves m n pos f (leavesOf m n f) (leaves-several m n pos f several) (settledWiring n (marksOf m n f) (leavesOf m n f)) (settled-of two .0)
+
+  -- "A tree exists exactly when the whole group has mark 2.", ..
   pub tree-exists : ((p : ℕ) → p < m ^ n → f p < m) → TreeExists m n f ↔ (markIn (marksOf m n f) (wholeGroup n) ≡ 2)
-  tree-exists inks = (λ t. net-marks (t .0) (t .1) (t .2), λ two. (settledGates m n f (marksOf m n f), settled-net inks two .0, settled-net inks two .1))
+  tree-exists inks = (
+    λ t. net-marks m n pos f (t .0) (t .1) (t .2),
+    λ two. (settledGates m n f (marksOf m n f), settled-net inks two .0, settled-net inks two .1),
+  )
+
+  -- .. and exactly when one stands on just the leaves (document 02, K12)
+  pub leaf-tree-exists : ((p : ℕ) → p < m ^ n → f p < m) → TreeExists m n f ↔ LeafTree m n f
+  leaf-tree-exists inks = (
+    λ t.
+        let two = tree-exists inks .0 t in
+        (settledGates m n f (marksOf m n f), settled-net inks two .0, settled-net inks two .1, settled-leaves two),
+    λ t. (t .0, t .1, t .2),
+  )

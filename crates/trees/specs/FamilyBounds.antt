@@ -12,13 +12,13 @@ use native.Mathlib.Decide.{ℕ-discrete, decLt}
 use lib.ListN.{length, List·getD-eq-default}
 use lib.Dec.{leb, ltb}
 use borrow.Author.Tests.{leb-true, ltb-true}
-use Rattle.rules.specs.Lists.{range, all, those}
+use Rattle.rules.specs.Lists.{range, all, those, total}
 use Rattle.rules.specs.Limits.{mostInputs}
 use Rattle.rules.specs.Groups.{member, size}
 use Rattle.rules.specs.Marks.{inside}
 use Rattle.rules.specs.Wirings.{firstInput}
 use Rattle.rules.specs.SettledLaws.{MayBeA}
-use Rattle.rules.specs.Family.{total, splitsOf, splitCount, countsOf}
+use Rattle.rules.specs.Family.{splitsOf, splitCount, countsOf}
 use Rattle.laws.specs.Tests.{oneIf, all-cons, all-mem}
 use Rattle.laws.specs.Ranges.{range-shift, mem-range}
 use Rattle.laws.specs.Sums.{sumTo, sum-same, sum-both, sum-pairs, sum-more, total-sum}

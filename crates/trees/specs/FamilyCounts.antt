@@ -12,12 +12,12 @@ use lib.ListN.{length, length-append, List·getD-append}
 use lib.Seq.{getD-at}
 use lib.Dec.{eqb}
 use borrow.Author.Tests.{ne-eqb}
-use Rattle.rules.specs.Lists.{range, those}
+use Rattle.rules.specs.Lists.{range, those, total}
 use Rattle.rules.specs.Groups.{member, size}
 use Rattle.rules.specs.Marks.{markIn, partsAt}
 use Rattle.rules.specs.Wirings.{firstInput}
 use Rattle.rules.specs.SettledLaws.{MayBeA}
-use Rattle.rules.specs.Family.{total, splitsOf, countIn, splitCount, countOf, countsBelow, countsOf}
+use Rattle.rules.specs.Family.{splitsOf, countIn, splitCount, countOf, countsBelow, countsOf}
 use Rattle.laws.specs.Ranges.{range-append, mem-range, range-mem}
 use Rattle.laws.specs.Finds.{those-mem}
 use Rattle.laws.specs.Totals.{total-parts, total-most, total-same, those-append}

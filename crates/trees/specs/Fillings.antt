@@ -13,7 +13,6 @@ use lib.Dec.{eqb}
 use borrow.Author.Tests.{ne-eqb}
 use Rattle.rules.specs.Sheets.{Gate}
 use Rattle.rules.specs.Value.{value}
-use Rattle.rules.specs.Groups.{wholeGroup}
 use Rattle.rules.specs.Wirings.{Wiring, input, gate, groupOf, Link, gatesIn, referenceTo, linksOf}
 use Rattle.rules.specs.Filling.{gateDigits, inputGroups, filledFrom, filled}
 use Rattle.rules.specs.Kept.{IsNet}
@@ -21,9 +20,10 @@ use Rattle.laws.specs.Places.{length-snoc}
 use Rattle.laws.specs.Ranges.{map-range-length, map-range-at}
 use Rattle.trees.specs.Trees.{EachOnce, EachGate, Filled, treeValue, fill}
 use Rattle.trees.specs.Classes.{Few}
+use Rattle.trees.specs.NetTree.{UsesJust}
 use Rattle.trees.specs.DigitRule.{Parts}
 use Rattle.trees.specs.Wirings.{gate-parts}
-use Rattle.trees.specs.GateLists.{gateList, reference-below, gate-list-net, gate-list-value}
+use Rattle.trees.specs.GateLists.{gateList, reference-below, gate-list-net, gate-list-uses, gate-list-value}
 
 -- ---- the groups of the references
 
@@ -186,8 +186,12 @@ module _ (m n : ℕ) (f : ℕ → ℕ) where
       ∙ append-nil (gateList m n f true 0 w)
 
   -- they keep the rules of a net, and have the tree's value
-  pub filled-net : (w : Wiring) → EachOnce n w → groupOf w ≡ wholeGroup n → Filled m (fill m n f true w) → IsNet m n (filled m n f (linksOf n 0 w))
-  filled-net w once whole tables = rw (filled-list w once) (gate-list-net m n f w once whole tables)
+  pub filled-net : (w : Wiring) → EachOnce n w → 0 < gatesIn w → Filled m (fill m n f true w) → IsNet m n (filled m n f (linksOf n 0 w))
+  filled-net w once some tables = rw (filled-list w once) (gate-list-net m n f w once some tables)
+
+  -- they use just the wiring's leaves
+  pub filled-uses : (w : Wiring) → EachOnce n w → 0 < gatesIn w → UsesJust n (filled m n f (linksOf n 0 w)) (groupOf w)
+  filled-uses w once some = rw (filled-list w once) (gate-list-uses m n f w once some)
 
   pub filled-value : (a b : Wiring) → EachOnce n (gate a b) → (p : ℕ)
       → value m n (filled m n f (linksOf n 0 (gate a b))) p ≡ treeValue m n (fill m n f true (gate a b)) p

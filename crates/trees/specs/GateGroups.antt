@@ -25,10 +25,12 @@ use Rattle.laws.specs.Distinct.{NotIn, not-in-two}
 use Rattle.laws.specs.Totals.{any-mem}
 use Rattle.trees.specs.Trees.{Tree, leaf, wiringIn, EachOnce}
 use Rattle.trees.specs.Forest.{treeAt, joined, withTrees, inputTrees, trees-length, inputs-length, input-at}
-use Rattle.trees.specs.NetTree.{net-tree, net-whole, net-uses-gates, net-uses-inputs}
+use Rattle.trees.specs.Homes.{grown-inputs, grown-gates}
+use Rattle.trees.specs.NetTree.{net-tree, netWiring, netGroup}
+use Rattle.trees.specs.UsedOnce.{net-gates}
 use Rattle.trees.specs.Fillings.{linkGroup, withGroups, groups-append, ownLink, Grouped, inputs-grouped, grouped-after, groupsAfter, left-group, right-group}
 use Rattle.trees.specs.GateLinks.{treeGroup, groupsIn, group-at, groups-joined, inputs-in}
-use Rattle.trees.specs.NormalWirings.{groupsJoined, Joins, SameGates, joins-left, joins-right, joins-own, joins-cases, joins-none, Turned, turned-same, same-turned}
+use Rattle.trees.specs.NormalWirings.{groupsJoined, Joins, SameGates, joins-left, joins-right, joins-own, joins-cases, joins-none, joined-leaves, Turned, turned-same, same-turned}
 
 -- ---- a wiring's links, filled
 
@@ -183,43 +185,44 @@ housed-gates (g ∷ gates) used forest done housed back =
     rw (groups-joined forest g l< r<, joined-group forest g l< r<)
     (rw (append-assoc used (g .left ∷ g .right ∷ []) (usedBy gates), append-assoc done (own ∷ []) (groupsFrom (groupsIn (forest ++ (joined forest g ∷ []))) gates)) at rest)
 
-module _ (m n : ℕ) (gates : List Gate) (several : 1 < n) (net : IsNet m n gates) where
-  -- the tree that the net is
-  abbrev netWiring : Wiring
-  netWiring = wiringIn (net-tree m n gates several net .tree)
-
+module _ (m n : ℕ) (gates : List Gate) (net : IsNet m n gates) where
   abbrev forest : List Tree
   forest = withTrees (inputTrees n) gates
 
   forest-length : length forest ≡ n + length gates
   forest-length = trees-length (inputTrees n) gates ∙ rw inputs-length
 
+  back : RefersBack (length (inputTrees n)) gates
+  back = rw inputs-length (net .rules .back)
+
   housed : Housed (usedBy gates) forest (gateGroups n gates)
   unfolding gateGroups
   housed =
       subst (λ (groups : List ℕ). Housed (usedBy gates) forest (groupsFrom groups gates)) (inputs-in n)
-      (housed-gates gates [] (inputTrees n) [] (housed-inputs n) (rw inputs-length (net .rules .back)))
+      (housed-gates gates [] (inputTrees n) [] (housed-inputs n) back)
 
-  -- only the last gate is not used
-  last-home : (r : ℕ) → r < length forest → NotIn r (usedBy gates) → r ≡ n + length gates - 1
-  last-home r r< free = go (decLt r n) (decLt r (n + length gates - 1))
+  -- of the references with a gate in their tree only the last is not used
+  last-home : (r h : ℕ) → r < length forest → NotIn r (usedBy gates) → Joins h (wiringIn (treeAt forest r)) → r ≡ n + length gates - 1
+  last-home r h r< free is = go (decLt r n) (decLt r (n + length gates - 1))
     where
       go : Dec (r < n) → Dec (r < n + length gates - 1) → r ≡ n + length gates - 1
-      go (yes low) _ = absurd (true≢false (sym (net-uses-inputs m n gates several net r low) ∙ free))
+      go (yes low) _ =
+          let grown = grown-gates m n gates [] (inputTrees n) (grown-inputs m n) back (net .rules .once) (net .rules .tables) in
+          absurd (joins-none h r (rw (grown .inputs r low) at is))
       go (no high) (yes early) =
           let place : n + (r - n) ≡ r = omega arith in
-          absurd (true≢false (sym (rw place at (net-uses-gates m n gates net (r - n) (omega arith))) ∙ free))
+          absurd (true≢false (sym (rw place at (net .used (r - n) (omega arith))) ∙ free))
       go (no high) (no late) = omega (arith, forest-length)
 
   -- The groups of a net's gates are those that the gates of its tree join.
-  pub net-joins : (h : ℕ) → List·Memᴰ h (gateGroups n gates) ↔ Joins h netWiring
+  pub net-joins : (h : ℕ) → List·Memᴰ h (gateGroups n gates) ↔ Joins h (netWiring m n gates net)
   net-joins h =
       let last : ℕ = n + length gates - 1 in
-      let tree = net-tree m n gates several net .last in (
+      let tree = net-tree m n gates net .last in (
         λ is.
             let at = housed .home h is in
-            rw tree (rw (last-home (at .0) (at .1) (at .2)) at (at .3)),
-        λ is. housed .listed last h (omega (arith, forest-length, net .count)) (rw tree at is),
+            rw tree (rw (last-home (at .0) h (at .1) (at .2) (at .3)) at (at .3)),
+        λ is. housed .listed last h (omega (arith, forest-length, net .some)) (rw tree at is),
       )
 
 -- ---- one wiring
@@ -236,28 +239,33 @@ same-numbers xs ys = (
       (λ e. mem-any (eqb h) (same h .1 (any-mem h ys e)) (eq-eqb h h refl)),
 )
 
-module _ (m n : ℕ) (several : 1 < n) (gates others : List Gate) (net : IsNet m n gates) (net′ : IsNet m n others) where
+module _ (m n : ℕ) (gates others : List Gate) (net : IsNet m n gates) (net′ : IsNet m n others) where
   abbrev first : Wiring
-  first = netWiring m n gates several net
+  first = netWiring m n gates net
 
   abbrev second : Wiring
-  second = netWiring m n others several net′
+  second = netWiring m n others net′
 
   -- two nets are one wiring exactly when their trees join the same groups, ..
   pub same-gates : SameWiring n gates others ↔ SameGates first second
   same-gates =
       let numbers = same-numbers (gateGroups n gates) (gateGroups n others) in
-      let joins = net-joins m n gates several net in
-      let joins′ = net-joins m n others several net′ in (
+      let joins = net-joins m n gates net in
+      let joins′ = net-joins m n others net′ in (
         λ same h. let both = numbers .0 same h in
             (λ is. joins′ h .0 (both .0 (joins h .1 is)), λ is. joins h .0 (both .1 (joins′ h .1 is))),
         λ same. numbers .1 (λ h. (λ is. joins′ h .1 (same h .0 (joins h .0 is)), λ is. joins h .1 (same h .1 (joins′ h .0 is)))),
       )
 
+  -- .. and then they have the same leaves, ..
+  pub same-leaves : SameWiring n gates others → netGroup m n gates net ≡ netGroup m n others net′
+  same-leaves same =
+      joined-leaves n first second (net-tree m n gates net .once) (net-tree m n others net′ .once)
+      (omega (arith, net-gates m n gates net, net .some)) (omega (arith, net-gates m n others net′, net′ .some)) (same-gates .0 same)
+
   -- .. and that is when the trees "differ only in which side is left".
   pub same-wiring : SameWiring n gates others ↔ Turned first second
   same-wiring = (
-    λ same. same-turned n first second (net-tree m n gates several net .once) (net-tree m n others several net′ .once)
-        (net-whole m n gates several net ∙ sym (net-whole m n others several net′)) (same-gates .0 same),
+    λ same. same-turned n first second (net-tree m n gates net .once) (net-tree m n others net′ .once) (same-leaves same) (same-gates .0 same),
     λ turned. same-gates .1 (turned-same turned),
   )

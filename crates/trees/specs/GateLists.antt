@@ -3,17 +3,17 @@
 -- Assumes nothing.
 use Prim.Native.Nat.{ℕ, _+_, _<_}
 use native.Mathlib.Omega.{arith}
-use mathlib.Core.Path.{_≡_, refl, ap, ap₂, _∙_, subst⁻¹}
+use mathlib.Core.Path.{_≡_, refl, ap, ap₂, _∙_, subst, subst⁻¹}
 use mathlib.Core.Bool.{Bool, true, false}
 use mathlib.Core.List.{List, [], _∷_, _++_}
 use Rattle.rules.specs.Sheets.{Gate}
 use Rattle.rules.specs.Value.{value}
-use Rattle.rules.specs.Groups.{wholeGroup}
 use Rattle.rules.specs.Wirings.{Wiring, input, gate, groupOf, gatesIn, referenceTo}
 use Rattle.rules.specs.Filling.{gateDigits}
 use Rattle.rules.specs.Kept.{IsNet}
-use Rattle.trees.specs.Trees.{Tree, wiringIn, EachOnce, Filled, treeValue, fill}
-use Rattle.trees.specs.TreeLists.{treeGates, tree-net, tree-net-value}
+use Rattle.trees.specs.Trees.{wiringIn, EachOnce, Filled, treeValue, fill}
+use Rattle.trees.specs.NetTree.{UsesJust}
+use Rattle.trees.specs.TreeLists.{treeGates, lines-use, tree-net, tree-net-value}
 
 -- the lines of a wiring after `before` others, with the class rule's digits
 unfoldable pub gateList : ℕ → ℕ → (ℕ → ℕ) → Bool → ℕ → Wiring → List Gate
@@ -52,11 +52,17 @@ module _ (m n : ℕ) (f : ℕ → ℕ) where
   fill-once : (last : Bool) (w : Wiring) → EachOnce n w → EachOnce n (wiringIn (fill m n f last w))
   fill-once last w once = subst⁻¹ (EachOnce n) (fill-wiring last w) once
 
-  pub gate-list-net : (w : Wiring) → EachOnce n w → groupOf w ≡ wholeGroup n → Filled m (fill m n f true w)
-      → IsNet m n (gateList m n f true 0 w)
-  gate-list-net w once whole filled =
+  pub gate-list-net : (w : Wiring) → EachOnce n w → 0 < gatesIn w → Filled m (fill m n f true w) → IsNet m n (gateList m n f true 0 w)
+  gate-list-net w once some filled =
       subst⁻¹ (IsNet m n) (list-lines true 0 w)
-      (tree-net n m (fill m n f true w) (fill-once true w once) (ap groupOf (fill-wiring true w) ∙ whole) filled)
+      (tree-net n m (fill m n f true w) (fill-once true w once) (rw (fill-wiring true w) some) filled)
+
+  -- it uses just the leaves
+  pub gate-list-uses : (w : Wiring) → EachOnce n w → 0 < gatesIn w → UsesJust n (gateList m n f true 0 w) (groupOf w)
+  gate-list-uses w once some =
+      subst⁻¹ (λ (gates : List Gate). UsesJust n gates (groupOf w)) (list-lines true 0 w)
+      (subst (λ (v : Wiring). UsesJust n (treeGates n 0 (fill m n f true w)) (groupOf v)) (fill-wiring true w)
+      (lines-use n (fill m n f true w) (fill-once true w once) (rw (fill-wiring true w) some)))
 
   pub gate-list-value : (a b : Wiring) → EachOnce n (gate a b) → (p : ℕ)
       → value m n (gateList m n f true 0 (gate a b)) p ≡ treeValue m n (fill m n f true (gate a b)) p

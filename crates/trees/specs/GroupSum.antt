@@ -5,9 +5,8 @@ use mathlib.Core.Path.{_≡_, refl}
 use mathlib.Core.Bool.{Bool, true, false, cond}
 use mathlib.Core.List.{List, [], _∷_, map}
 use native.Mathlib.Omega.{arith}
-use Rattle.rules.specs.Lists.{range, those}
+use Rattle.rules.specs.Lists.{range, those, total}
 use Rattle.rules.specs.Groups.{member}
-use Rattle.rules.specs.Family.{total}
 use Rattle.laws.specs.Ranges.{range-shift}
 use Rattle.trees.specs.Members.{low-bit, member-suc}
 

@@ -7,6 +7,8 @@ use native.Mathlib.Nat.{add-zero}
 use native.Mathlib.Omega.{arith}
 use lib.ListN.{length, getD, length-map, List·getD-append}
 use lib.Seq.{getD-append-add, getD-append-seam}
+use lib.Dec.{eqb}
+use Rattle.rules.specs.Lists.{any}
 use Rattle.rules.specs.Sheets.{Gate, usedBy}
 use Rattle.rules.specs.Wirings.{Link}
 use Rattle.rules.specs.Filling.{inputGroups, filledFrom, filled}
@@ -42,16 +44,27 @@ unfolding usedBy
 used-links [] = refl
 used-links (g ∷ gates) = ap (λ (used : List ℕ). g .left ∷ g .right ∷ used) (used-links gates)
 
+-- gates with one wiring use the same references, ..
+pub same-used : (gates others : List Gate) → gateLinks others ≡ gateLinks gates → usedBy others ≡ usedBy gates
+same-used gates others same = used-links others ∙ ap usedLinks same ∙ sym (used-links gates)
+
+-- .. and are as many
+same-length : (gates others : List Gate) → gateLinks others ≡ gateLinks gates → length others ≡ length gates
+same-length gates others same = sym (length-map others linkOf) ∙ ap length same ∙ length-map gates linkOf
+
 -- gates with a net's wiring, whatever their tables, are a net
 pub same-net : (m n : ℕ) (gates others : List Gate) → gateLinks others ≡ gateLinks gates → IsNet m n gates → Tables m others → IsNet m n others
 same-net m n gates others same net tables =
+    let count = same-length gates others same in
     record {
-      count = ap suc (sym (length-map others linkOf) ∙ ap length same ∙ length-map gates linkOf) ∙ net .count;
+      some = omega (arith, net .some);
+      count = omega (arith, net .count);
       rules = record {
         back = links-back n others (subst⁻¹ (LinksBack n) same (back-links n gates (net .rules .back)));
-        once = subst⁻¹ Distinct (used-links others ∙ ap usedLinks same ∙ sym (used-links gates)) (net .rules .once);
+        once = subst⁻¹ Distinct (same-used gates others same) (net .rules .once);
         tables = tables;
       };
+      used = λ k h. ap (any (eqb (n + k))) (same-used gates others same) ∙ net .used k (omega arith);
     }
 
 -- ---- the groups of the gates

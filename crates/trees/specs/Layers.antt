@@ -1,6 +1,6 @@
 -- "The layers of a net are the most gates on a way from an input to the output.": they are the depth of the tree that the net is.
 -- Assumes nothing.
-use Prim.Native.Nat.{ℕ, suc, _+_, _-_, _<_, _≤_, max}
+use Prim.Native.Nat.{ℕ, suc, _+_, _-_, _<_, _≤_}
 use native.Mathlib.Nat.{add-zero}
 use native.Mathlib.Omega.{arith}
 use mathlib.Core.Path.{_≡_, refl, sym, ap, _∙_}
@@ -18,17 +18,13 @@ use Rattle.laws.specs.Places.{length-snoc, map-at}
 use Rattle.laws.specs.Extremes.{most-bounds, most-listed, most-append, most-suc}
 use Rattle.trees.specs.Trees.{Tree, leaf, node, wiringIn, EachOnce, fill}
 use Rattle.trees.specs.Forest.{treeAt, joined, withTrees, inputTrees, trees-length, inputs-length}
-use Rattle.trees.specs.NetTree.{net-tree}
+use Rattle.trees.specs.Depths.{depth}
+use Rattle.trees.specs.NetTree.{net-tree, netWiring}
 use Rattle.trees.specs.TreeLists.{treeGates, lines-length, lines-back}
 use Rattle.trees.specs.GateLists.{fill-wiring}
 use Rattle.trees.specs.LinesTree.{lines-tree, filled-lines}
 
--- ---- the depth of a wiring
-
--- the most gates on a way from a leaf to the root
-unfoldable pub depth : Wiring → ℕ
-depth (input i) = 0
-depth (gate a b) = 1 + max (depth a) (depth b)
+-- ---- the ways in a wiring
 
 -- the ways from a leaf to the root, each by the number of gates on it
 unfoldable pub waysIn : Wiring → List ℕ
@@ -110,11 +106,9 @@ module _ (n : ℕ) (gates : List Gate) (some : 0 < length gates) (back : RefersB
   longest-way = most-listed (waysOf n gates) (rw last-ways (some-way (wiringIn lastTree)))
 
 -- the layers of a net are the depth of its tree
-pub net-layers : (m n : ℕ) (gates : List Gate) (several : 1 < n) (net : IsNet m n gates)
-    → layers n gates ≡ depth (wiringIn (net-tree m n gates several net .tree))
-net-layers m n gates several net =
-    last-layers n gates (omega (arith, net .count)) (net .rules .back)
-    ∙ ap (λ (t : Tree). depth (wiringIn t)) (sym (net-tree m n gates several net .last))
+pub net-layers : (m n : ℕ) (gates : List Gate) (net : IsNet m n gates) → layers n gates ≡ depth (netWiring m n gates net)
+net-layers m n gates net =
+    last-layers n gates (net .some) (net .rules .back) ∙ ap (λ (t : Tree). depth (wiringIn t)) (sym (net-tree m n gates net .last))
 
 -- of a tree's own lines
 pub lines-layers : (n : ℕ) (digits : List ℕ) (a b : Tree) → EachOnce n (wiringIn (node digits a b))

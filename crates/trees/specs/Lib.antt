@@ -6,6 +6,7 @@ pub mod GroupSum
 pub mod Levels
 pub mod Points
 pub mod Alike
+pub mod Neighbours
 pub mod Differences
 pub mod Firsts
 pub mod Classes
@@ -26,10 +27,15 @@ pub mod Fillings
 pub mod GateLinks
 pub mod MarkRule
 pub mod MarkTwo
+pub mod Mattering
+pub mod LeafGroup
+pub mod Depths
+pub mod CutWirings
 pub mod SettledRules
 pub mod NoTree
 pub mod Existence
 pub mod TreeExistence
+pub mod FewestGates
 pub mod Uniqueness
 pub mod DistinctInks
 pub mod NetTables

@@ -1,11 +1,11 @@
 -- A net is a tree: a gate list in which each reference is an input or an earlier gate, none is used twice and every gate but
--- the last is used. "The 2n − 2 references then use every input and every gate but the last once".
+-- the last is used. Its leaves are the inputs that the gates use.
 -- Assumes nothing.
-use Prim.Native.Nat.{ℕ, suc, _+_, _-_, _≤_, _<_}
+use Prim.Native.Nat.{ℕ, suc, _+_, _-_, _^_, _≤_, _<_}
 use native.Mathlib.Omega.{arith}
 use native.Mathlib.Decide.{decLt}
 use mathlib.Core.Path.{_≡_, refl, sym, _∙_}
-use mathlib.Core.Bool.{true, false≢true}
+use mathlib.Core.Bool.{false≢true}
 use mathlib.Core.List.{List, [], _∷_}
 use lib.ListN.{length}
 use lib.Dec.{eqb}
@@ -13,13 +13,13 @@ use borrow.Author.Tests.{eqb-true, eq-eqb, ne-eqb}
 use Rattle.rules.specs.Lists.{any}
 use Rattle.rules.specs.Sheets.{Gate, usedBy}
 use Rattle.rules.specs.Value.{value}
-use Rattle.rules.specs.Groups.{member, wholeGroup}
-use Rattle.rules.specs.Wirings.{groupOf}
+use Rattle.rules.specs.Groups.{member}
+use Rattle.rules.specs.Wirings.{Wiring, groupOf}
 use Rattle.rules.specs.Kept.{RefersBack, GateRules, EarlierUsed, IsNet}
 use Rattle.laws.specs.Tests.{not-false-true}
-use Rattle.laws.specs.Distinct.{In, NotIn, not-in-cons, all-stand}
+use Rattle.laws.specs.Distinct.{NotIn, not-in-cons}
 use Rattle.trees.specs.Trees.{Tree, wiringIn, treeValue, EachOnce, Filled}
-use Rattle.trees.specs.Members.{member-ext, member-single, member-whole, whole-below}
+use Rattle.trees.specs.Members.{member-ext, member-single}
 use Rattle.trees.specs.Wirings.{group-below}
 use Rattle.trees.specs.Forest.{treeAt, withTrees, inputTrees, trees-length, inputs-length, last-value}
 use Rattle.trees.specs.Homes.{Home, Grown, groupAt, grown-inputs, grown-gates}
@@ -123,28 +123,33 @@ net-is-tree m n gates some rules used =
 
 -- ---- a net
 
--- every reference below the last gate's is used
-net-uses : (m n : ℕ) (gates : List Gate) → IsNet m n gates → (r : ℕ) → suc r < n + length gates → In r (usedBy gates)
-net-uses m n gates net r h =
-    all-stand (length gates + length gates) (usedBy gates) (net .rules .once)
-    (λ z k. past-unused n gates (net .rules .back) z (omega (arith, net .count)))
-    (omega (arith, used-length gates)) r (omega (arith, net .count))
+-- a net has two inputs or more
+pub net-several : (m n : ℕ) (gates : List Gate) → IsNet m n gates → 1 < n
+net-several m n gates net = omega (arith, net .some, net .count)
 
--- "The 2n − 2 references then use every input and every gate but the last once"
-pub net-uses-gates : (m n : ℕ) (gates : List Gate) → IsNet m n gates → EarlierUsed n gates
-net-uses-gates m n gates net k h = net-uses m n gates net (n + k) (omega arith)
+pub net-tree : (m n : ℕ) (gates : List Gate) → IsNet m n gates → TreeOf m n gates
+net-tree m n gates net = net-is-tree m n gates (net .some) (net .rules) (net .used)
 
--- where there are two inputs or more: with one there is no gate to use it
-pub net-uses-inputs : (m n : ℕ) (gates : List Gate) → 1 < n → IsNet m n gates → (i : ℕ) → i < n → any (eqb i) (usedBy gates) ≡ true
-net-uses-inputs m n gates h net i i< = net-uses m n gates net i (omega (arith, net .count))
+-- the wiring that a net is
+abbrev pub netWiring : (m n : ℕ) (gates : List Gate) → IsNet m n gates → Wiring
+netWiring m n gates net = wiringIn (net-tree m n gates net .tree)
 
-pub net-tree : (m n : ℕ) (gates : List Gate) → 1 < n → IsNet m n gates → TreeOf m n gates
-net-tree m n gates h net = net-is-tree m n gates (omega (arith, net .count)) (net .rules) (net-uses-gates m n gates net)
+-- its leaves, as a group
+abbrev pub netGroup : (m n : ℕ) (gates : List Gate) → IsNet m n gates → ℕ
+netGroup m n gates net = groupOf (netWiring m n gates net)
 
--- its leaves are all inputs
-pub net-whole : (m n : ℕ) (gates : List Gate) (h : 1 < n) (net : IsNet m n gates)
-    → groupOf (wiringIn (net-tree m n gates h net .tree)) ≡ wholeGroup n
-net-whole m n gates h net =
-    let t = net-tree m n gates h net in
-    member-ext n (groupOf (wiringIn (t .tree))) (wholeGroup n) (group-below n (wiringIn (t .tree)) (t .once)) (whole-below n)
-    (λ i i<. t .leaves i i< ∙ net-uses-inputs m n gates h net i i< ∙ sym (member-whole i n i<))
+pub net-group-below : (m n : ℕ) (gates : List Gate) (net : IsNet m n gates) → netGroup m n gates net < 2 ^ n
+net-group-below m n gates net = group-below n (netWiring m n gates net) (net-tree m n gates net .once)
+
+-- the gates use the members of group g and no other input
+abbrev pub UsesJust : ℕ → List Gate → ℕ → Type 0
+UsesJust n gates g = (i : ℕ) → i < n → any (eqb i) (usedBy gates) ≡ member i g
+
+-- "inputs may stay unused": the leaves are just the inputs that the gates use, ..
+pub net-uses : (m n : ℕ) (gates : List Gate) (net : IsNet m n gates) → UsesJust n gates (netGroup m n gates net)
+net-uses m n gates net i i< = sym (net-tree m n gates net .leaves i i<)
+
+-- .. and no other group is
+pub net-group : (m n : ℕ) (gates : List Gate) (net : IsNet m n gates) (g : ℕ) → g < 2 ^ n → UsesJust n gates g → netGroup m n gates net ≡ g
+net-group m n gates net g g< uses =
+    member-ext n (netGroup m n gates net) g (net-group-below m n gates net) g< (λ i i<. sym (net-uses m n gates net i i<) ∙ uses i i<)

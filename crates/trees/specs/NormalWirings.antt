@@ -11,7 +11,7 @@ use native.Mathlib.Omega.{arith}
 use borrow.Author.Tests.{eqb-true}
 use Rattle.rules.specs.Groups.{member}
 use Rattle.rules.specs.Marks.{inside}
-use Rattle.rules.specs.Wirings.{Wiring, input, gate, groupOf, firstInput}
+use Rattle.rules.specs.Wirings.{Wiring, input, gate, groupOf, gatesIn, firstInput}
 use Rattle.trees.specs.Trees.{EachOnce, EachGate}
 use Rattle.trees.specs.Members.{member-single, member-join, inside-member, member-inside, inside-le, inside-join, first-member}
 use Rattle.trees.specs.Joins.{apart-sym}
@@ -105,6 +105,19 @@ module _ (n : ℕ) where
       go (inl l) of-a of-b = let is = of-a l in (is .0, is .1, inside-trans n h (groupOf a) (groupOf (gate a b)) (is .2) (left-inside a b once))
       go (inr (inl r)) of-a of-b = let is = of-b r in (is .0, is .1, inside-trans n h (groupOf b) (groupOf (gate a b)) (is .2) (right-inside a b once))
       go (inr (inr own)) of-a of-b = rw own (group-below n (gate a b) once, group-some (gate a b), inside-own (groupOf (gate a b)))
+
+  -- a wiring with a gate joins its own leaves, ..
+  own-joined : (w : Wiring) → 0 < gatesIn w → Joins (groupOf w) w
+  unfolding gatesIn
+  own-joined (input i) some = absurd (omega arith)
+  own-joined (gate a b) some = joins-own _ a b refl
+
+  -- .. so two such wirings that join the same groups have the same leaves
+  pub joined-leaves : (w v : Wiring) → EachOnce n w → EachOnce n v → 0 < gatesIn w → 0 < gatesIn v → SameGates w v → groupOf w ≡ groupOf v
+  joined-leaves w v once once′ some some′ gates =
+      let there = joins-inside (groupOf w) v once′ (gates (groupOf w) .0 (own-joined w some)) in
+      let back = joins-inside (groupOf v) w once (gates (groupOf v) .1 (own-joined v some′)) in
+      omega (arith, inside-le n (groupOf w) (groupOf v) (there .0) (back .0) (there .2), inside-le n (groupOf v) (groupOf w) (back .0) (there .0) (back .2))
 
   -- ---- normal wirings
 

@@ -1,30 +1,55 @@
 -- A tree is a net: its gates written out ("A's, then B's, then the group's own") with its own digits, whatever they are, keep every
 -- rule of a net sheet and have the tree's value. `NetTree` has the other way: a net is a tree.
 -- Assumes nothing.
-use Prim.Native.Nat.{ℕ, _+_, _-_, _*_, _≤_, _<_}
+use Prim.Native.Nat.{ℕ, suc, _+_, _-_, _*_, _≤_, _<_}
 use native.Mathlib.Nat.{add-zero, zero-add, add-assoc}
 use native.Mathlib.Decide.{decLt}
 use native.Mathlib.Omega.{arith}
 use mathlib.Core.Path.{_≡_, refl, sym, ap, _∙_}
 use mathlib.Core.Logic.{by-cases}
-use mathlib.Core.List.{List, [], _∷_, _++_}
+use mathlib.Core.Bool.{Bool, true, false}
+use mathlib.Core.List.{List, [], _∷_, _++_, List·Memᴰ}
 use lib.ListN.{length, getD, length-append}
 use lib.Dec.{eqb}
-use Rattle.rules.specs.Lists.{range, those}
+use borrow.Author.Tests.{eq-eqb}
+use Rattle.rules.specs.Lists.{range, any, those}
 use Rattle.rules.specs.Sheets.{Gate, usedBy, level, levelsAt}
 use Rattle.rules.specs.Value.{value, gateValue, withGates}
-use Rattle.rules.specs.Groups.{member, size, wholeGroup}
+use Rattle.rules.specs.Groups.{member}
 use Rattle.rules.specs.Wirings.{groupOf, gatesIn, referenceTo}
-use Rattle.rules.specs.Kept.{RefersBack, Tables, IsNet}
+use Rattle.rules.specs.Kept.{RefersBack, Tables, EarlierUsed, IsNet}
 use Rattle.laws.specs.Levels.{levels-length}
-use Rattle.laws.specs.Tests.{oneIf, one-if-le, one-if-or}
-use Rattle.laws.specs.Ranges.{range-append, map-range-at}
-use Rattle.laws.specs.Counts.{count-cons, count-append, times, not-one, times-range}
+use Rattle.laws.specs.Tests.{oneIf, one-if-le, one-if-or, mem-any}
+use Rattle.laws.specs.Ranges.{range-append, mem-range, map-range-at}
+use Rattle.laws.specs.Places.{mem-getD, mem-place}
+use Rattle.laws.specs.Finds.{those-mem}
+use Rattle.laws.specs.Listed.{mem-those, those-pass}
+use Rattle.laws.specs.Counts.{count-cons, count-append, count-none, times, not-one, times-range}
 use Rattle.laws.specs.Distinct.{times-distinct}
 use Rattle.trees.specs.Trees.{Tree, leaf, node, wiringIn, EachOnce, Filled, treeValue}
-use Rattle.trees.specs.Members.{member-single, member-join, size-whole}
+use Rattle.trees.specs.Members.{member-single, member-join, size-le}
 use Rattle.trees.specs.Wirings.{group-below, gates-in-size}
+use Rattle.trees.specs.NetTree.{UsesJust}
 use Rattle.trees.specs.JoinedLists.{used-append, refers-append, tables-append, with-gates-append, with-gates-length, with-gates-earlier, with-gates-last}
+
+-- ---- a number in a list
+
+-- what stands there is counted, ..
+times-listed : (r : ℕ) (xs : List ℕ) → List·Memᴰ r xs → 0 < times r xs
+times-listed r xs is =
+    let (j, j<, at) = mem-place r (those (eqb r) xs) (mem-those (eqb r) r xs is (eq-eqb r r refl)) in
+    omega arith
+
+-- .. what is counted stands there, ..
+some-listed : (r : ℕ) (xs : List ℕ) → 0 < times r xs → any (eqb r) xs ≡ true
+some-listed r xs h =
+    let is = mem-getD (those (eqb r) xs) 0 0 h in
+    mem-any (eqb r) (those-mem (eqb r) xs _ is) (those-pass (eqb r) _ xs is)
+
+-- .. and it stands there as it is counted
+stands : (r : ℕ) (xs : List ℕ) (t : Bool) → times r xs ≡ oneIf t → any (eqb r) xs ≡ t
+stands r xs true e = some-listed r xs (omega arith)
+stands r xs false e = count-none (eqb r) xs e
 
 -- how many gates a tree has
 abbrev gatesOf : Tree → ℕ
@@ -127,6 +152,30 @@ module _ (n : ℕ) where
       (λ h. omega (arith, uses-input r before t once h, one-if-le (member r (groupOf (wiringIn t)))))
       (λ h. omega (arith, uses-of-gate r before t once (omega arith), times-range r (n + before) (gatesOf t)))
 
+  -- ---- which are used
+
+  -- the reference to a tree with a gate is to the last of its lines
+  last-line : (t : Tree) → 0 < gatesOf t → suc (refTo n 0 t) ≡ n + gatesOf t
+  unfolding referenceTo gatesIn
+  last-line (leaf i) some = absurd (omega arith)
+  last-line (node digits a b) some = omega arith
+
+  -- so its lines use just its leaves, ..
+  pub lines-use : (t : Tree) → EachOnce n (wiringIn t) → 0 < gatesOf t → UsesJust n (treeGates n 0 t) (groupOf (wiringIn t))
+  unfolding uses
+  lines-use t once some r h =
+      let own = not-one r (refTo n 0 t) (λ e. omega (arith, last-line t some)) in
+      stands r (usedBy (treeGates n 0 t)) (member r (groupOf (wiringIn t))) (omega (arith, uses-input r 0 t once h))
+
+  -- .. and every line but the last
+  lines-used : (t : Tree) → EachOnce n (wiringIn t) → EarlierUsed n (treeGates n 0 t)
+  unfolding uses
+  lines-used t once k h =
+      let count = lines-length 0 t in
+      let own = not-one (n + k) (refTo n 0 t) (λ e. omega (arith, last-line t (omega arith))) in
+      let one = times-listed (n + k) (range (n + 0) (gatesOf t)) (mem-range (n + 0) (gatesOf t) (n + k) (omega arith) (omega arith)) in
+      some-listed (n + k) (usedBy (treeGates n 0 t)) (omega (arith, uses-of-gate (n + k) 0 t once (omega arith)))
+
   module _ (m : ℕ) where
     -- ---- the rules of a net sheet
 
@@ -139,14 +188,17 @@ module _ (n : ℕ) where
         let below-own = tables-append m (treeGates n before a) (treeGates n mid b) (lines-tables before a (filled .1)) (lines-tables mid b (filled .2)) in
         tables-append m (below before a b) (ownLine n before digits a b ∷ []) below-own (filled .0, tt)
 
-    pub tree-net : (t : Tree) → EachOnce n (wiringIn t) → groupOf (wiringIn t) ≡ wholeGroup n → Filled m t → IsNet m n (treeGates n 0 t)
-    tree-net t once whole filled = record {
-      count = omega (arith, lines-length 0 t, gates-in-size n (wiringIn t) once, size-whole n, ap (size n) whole);
+    -- a tree with a gate
+    pub tree-net : (t : Tree) → EachOnce n (wiringIn t) → 0 < gatesOf t → Filled m t → IsNet m n (treeGates n 0 t)
+    tree-net t once some filled = record {
+      some = omega (arith, lines-length 0 t);
+      count = omega (arith, lines-length 0 t, gates-in-size n (wiringIn t) once, size-le n (groupOf (wiringIn t)));
       rules = record {
         back = rw add-zero at (lines-back 0 t once);
         once = times-distinct (usedBy (treeGates n 0 t)) (λ r. used-at-most-once r 0 t once);
         tables = lines-tables 0 t filled;
       };
+      used = lines-used t once;
     }
 
     -- ---- the value

@@ -1,24 +1,31 @@
--- "The 2n − 2 references then use every input and every gate but the last once": so what is summed over the references that a net uses is the
--- same for all nets of n inputs.
+-- "No input or gate is referred to twice.": what is summed over the references that a net uses is the sum over its used inputs and over every gate but the
+-- last. So a net has one gate fewer than it uses inputs.
 -- Assumes nothing.
-use Prim.Native.Nat.{ℕ, zero, suc, _+_, _≤_}
+use Prim.Native.Nat.{ℕ, zero, suc, _+_, _-_, _≤_, _<_}
 use mathlib.Core.Path.{_≡_, refl, sym, ap, _∙_}
 use mathlib.Core.Logic.{by-cases}
-use mathlib.Core.Bool.{Bool, true, false, true≢false, _||_}
-use mathlib.Core.List.{List, [], _∷_, _++_, map}
+use mathlib.Core.Bool.{Bool, true, false, cond, true≢false, _||_}
+use mathlib.Core.List.{List, [], _∷_, map, List·Memᴰ, List·Memᴰ·head, List·Memᴰ·tail}
+use native.Mathlib.Nat.{zero-add, add-zero}
 use native.Mathlib.Omega.{arith}
 use native.Mathlib.Decide.{ℕ-discrete}
 use lib.ListN.{length}
 use lib.Dec.{eqb}
-use borrow.Author.Tests.{eqb-true, eqb-false}
-use Rattle.rules.specs.Lists.{range, any}
+use borrow.Author.Tests.{eqb-true, eqb-false, ne-eqb}
+use Rattle.rules.specs.Lists.{range, any, those, total}
 use Rattle.rules.specs.Sheets.{Gate, usedBy}
+use Rattle.rules.specs.Groups.{member, size}
+use Rattle.rules.specs.Wirings.{gatesIn}
 use Rattle.rules.specs.Kept.{Distinct, IsNet}
+use Rattle.rules.specs.Arrivals.{usedInputs}
 use Rattle.laws.specs.Tests.{any-cons, by-test}
-use Rattle.laws.specs.Ranges.{map-range-suc}
-use Rattle.laws.specs.Distinct.{In, NotIn, not-in-cons, all-stand}
-use Rattle.rules.specs.Family.{total}
-use Rattle.trees.specs.NetTree.{past-unused, used-length}
+use Rattle.laws.specs.Ranges.{range-length, range-append, range-suc, mem-range, range-mem}
+use Rattle.laws.specs.Finds.{those-mem}
+use Rattle.laws.specs.Totals.{total-parts, those-cons, those-append}
+use Rattle.laws.specs.Listed.{mem-those, those-pass, those-listed}
+use Rattle.laws.specs.Distinct.{In, NotIn, not-in-cons}
+use Rattle.trees.specs.Wirings.{gates-in-size}
+use Rattle.trees.specs.NetTree.{net-tree, netWiring, netGroup, UsesJust, net-uses, past-unused, used-length}
 
 -- ---- a list without one number
 
@@ -26,14 +33,6 @@ use Rattle.trees.specs.NetTree.{past-unused, used-length}
 but : ℕ → List ℕ → List ℕ
 but r [] = []
 but r (x ∷ xs) = elim (eqb r x) [ true ↦ xs | false ↦ x ∷ but r xs ]
-
--- at most one number less
-but-length : (r : ℕ) (xs : List ℕ) → length xs ≤ suc (length (but r xs))
-unfolding but
-but-length r [] = omega arith
-but-length r (x ∷ xs) =
-    let later = but-length r xs in
-    by-test (λ (left : List ℕ). suc (length xs) ≤ suc (length left)) (eqb r x) xs (x ∷ but r xs) (omega arith) (omega arith)
 
 -- what does not stand in the list does not stand in what is left
 but-not : (r z : ℕ) (xs : List ℕ) → NotIn z xs → NotIn z (but r xs)
@@ -60,12 +59,24 @@ but-distinct r [] d = tt
 but-distinct r (x ∷ xs) d =
     by-test Distinct (eqb r x) xs (x ∷ but r xs) (d .1) (but-not r x xs (d .0), but-distinct r xs (d .1))
 
+-- and every other number stands in it as before
+but-same : (r z : ℕ) (xs : List ℕ) → (z ≡ r → ⊥) → any (eqb z) (but r xs) ≡ any (eqb z) xs
+unfolding but
+but-same r z [] ne = refl
+but-same r z (x ∷ xs) ne = go (eqb r x) refl (but-same r z xs ne)
+  where
+    go : (t : Bool) → eqb r x ≡ t → any (eqb z) (but r xs) ≡ any (eqb z) xs
+        → any (eqb z) (elim t as (λ _. List ℕ) [ true ↦ xs | false ↦ x ∷ but r xs ]) ≡ any (eqb z) (x ∷ xs)
+    go true e later = sym (any-cons (eqb z) x xs ∙ rw (← (eqb-true r x e), ne-eqb z r ne))
+    go false e later = any-cons (eqb z) x (but r xs) ∙ ap (λ (t : Bool). eqb z x || t) later ∙ sym (any-cons (eqb z) x xs)
+
 -- ---- sums
 
-sum-snoc : (xs : List ℕ) (x : ℕ) → total (xs ++ (x ∷ [])) ≡ total xs + x
-unfolding total
-sum-snoc [] x = omega arith
-sum-snoc (y ∷ xs) x = omega (arith, sum-snoc xs x)
+-- of a list that passes a test all are left
+those-every : (test : ℕ → Bool) (xs : List ℕ) → ((x : ℕ) → List·Memᴰ x xs → test x ≡ true) → those test xs ≡ xs
+unfolding those
+those-every test [] each = refl
+those-every test (x ∷ xs) each = those-cons test x xs ∙ rw (each x (List·Memᴰ·head refl), those-every test xs (λ y is. each y (List·Memᴰ·tail is)))
 
 module _ (f : ℕ → ℕ) where
   -- the sum over a list is that over what is left, and one value
@@ -79,23 +90,115 @@ module _ (f : ℕ → ℕ) where
       go true e is later = rw (eqb-true r x e) (omega arith)
       go false e is later = omega (arith, later is)
 
-  -- over k numbers below k of which none stands twice it is that over all the numbers below k
-  sum-all : (k : ℕ) (xs : List ℕ) → Distinct xs → ((z : ℕ) → k ≤ z → NotIn z xs) → k ≤ length xs → total (map f xs) ≡ total (map f (range 0 k))
-  unfolding total range
-  sum-all zero [] d small enough = refl
-  sum-all zero (x ∷ xs) d small enough = absurd (not-in-cons x x xs .0 (small x (omega arith)) .0 refl)
-  sum-all (suc k) xs d small enough =
-      sum-but k xs (all-stand (suc k) xs d small enough k (omega arith))
-      ∙ ap (λ (s : ℕ). s + f k) (sum-all k (but k xs) (but-distinct k xs d) smaller (omega (arith, but-length k xs)))
-      ∙ sym (ap total (map-range-suc f k) ∙ sum-snoc (map f (range 0 k)) (f k))
+  -- one number more that may pass a test
+  sum-last : (test : ℕ → Bool) (k : ℕ) → total (map f (those test (range 0 (suc k)))) ≡ total (map f (those test (range 0 k))) + cond (test k) (f k) 0
+  unfolding total those
+  sum-last test k =
+      ap (λ (xs : List ℕ). total (map f (those test xs))) (range-suc 0 k)
+      ∙ ap (λ (xs : List ℕ). total (map f xs)) (those-append test (range 0 k) ((0 + k) ∷ []))
+      ∙ total-parts f (those test (range 0 k)) (those test ((0 + k) ∷ []))
+      ∙ rw (zero-add k) (go (test k))
     where
-      smaller : (z : ℕ) → k ≤ z → NotIn z (but k xs)
-      smaller z h =
-          by-cases (ℕ-discrete z k) (λ e. rw e (but-gone k xs d)) (λ ne. but-not k z xs (small z (omega arith)))
+      go : (t : Bool) → total (map f (those test (range 0 k))) + total (map f (elim t as (λ _. List ℕ) [ true ↦ k ∷ [] | false ↦ [] ]))
+          ≡ total (map f (those test (range 0 k))) + cond t (f k) 0
+      go true = omega arith
+      go false = omega arith
 
-  -- over the references that a net uses
-  pub used-sum : (m n : ℕ) (gates : List Gate) → IsNet m n gates → total (map f (usedBy gates)) ≡ total (map f (range 0 (length gates + length gates)))
+  -- over numbers below k of which none stands twice it is that over the numbers below k that stand there, in their order
+  sum-those : (k : ℕ) (xs : List ℕ) → Distinct xs → ((z : ℕ) → k ≤ z → NotIn z xs)
+      → total (map f xs) ≡ total (map f (those (λ i. any (eqb i) xs) (range 0 k)))
+  unfolding total range those
+  sum-those zero [] d small = refl
+  sum-those zero (x ∷ xs) d small = absurd (not-in-cons x x xs .0 (small x (omega arith)) .0 refl)
+  sum-those (suc k) xs d small =
+      go (any (eqb k) xs) refl
+      (sum-those k (but k xs) (but-distinct k xs d) (λ z h. by-cases (ℕ-discrete z k) (λ e. rw e (but-gone k xs d)) (λ ne. but-not k z xs (small z (omega arith)))))
+      (λ free. sum-those k xs d (λ z h. by-cases (ℕ-discrete z k) (λ e. rw e free) (λ ne. small z (omega arith))))
+    where
+      test : ℕ → Bool
+      test i = any (eqb i) xs
+
+      go : (t : Bool) → any (eqb k) xs ≡ t
+          → total (map f (but k xs)) ≡ total (map f (those (λ i. any (eqb i) (but k xs)) (range 0 k)))
+          → (NotIn k xs → total (map f xs) ≡ total (map f (those test (range 0 k))))
+          → total (map f xs) ≡ total (map f (those test (range 0 (suc k))))
+      go true is left all =
+          let same = those-listed (λ i. any (eqb i) (but k xs)) test (range 0 k)
+          (λ i listed. but-same k i xs (λ e. omega (arith, range-mem 0 k i listed .1))) in
+          sum-but k xs is
+          ∙ ap (λ (s : ℕ). s + f k) (left ∙ ap (λ (ys : List ℕ). total (map f ys)) same)
+          ∙ sym (sum-last test k ∙ rw is)
+      go false free left all = all free ∙ sym (sum-last test k ∙ rw (free, add-zero))
+
+  -- over the references that a net uses: its used inputs, and every gate but the last
+  pub used-sum : (m n : ℕ) (gates : List Gate) → IsNet m n gates
+      → total (map f (usedBy gates)) ≡ total (map f (usedInputs n gates)) + total (map f (range n (length gates - 1)))
+  unfolding usedInputs
   used-sum m n gates net =
-      sum-all (length gates + length gates) (usedBy gates) (net .rules .once)
-      (λ z h. past-unused n gates (net .rules .back) z (omega (arith, net .count)))
-      (omega (arith, used-length gates))
+      let test : ℕ → Bool = λ i. any (eqb i) (usedBy gates) in
+      let all : those test (range (0 + n) (length gates - 1)) ≡ range n (length gates - 1) =
+      rw (zero-add n) (those-every test (range n (length gates - 1)) (λ i listed. gate-used i (range-mem n (length gates - 1) i listed))) in
+      sum-those (n + (length gates - 1)) (usedBy gates) (net .rules .once) (λ z h. past-unused n gates (net .rules .back) z (omega (arith, net .some)))
+      ∙ ap (λ (xs : List ℕ). total (map f xs)) (ap (those test) (range-append 0 n (length gates - 1)) ∙ those-append test (range 0 n) (range (0 + n) (length gates - 1)))
+      ∙ total-parts f (those test (range 0 n)) (those test (range (0 + n) (length gates - 1)))
+      ∙ ap (λ (xs : List ℕ). total (map f (those test (range 0 n))) + total (map f xs)) all
+    where
+      gate-used : (i : ℕ) → (n ≤ i) × (i < n + (length gates - 1)) → any (eqb i) (usedBy gates) ≡ true
+      gate-used i between =
+          let place : n + (i - n) ≡ i = omega arith in
+          rw place at (net .used (i - n) (omega arith))
+
+-- ---- the inputs that a net uses
+
+module _ (n : ℕ) (gates : List Gate) (i : ℕ) where
+  -- those that are listed are used, ..
+  pub listed-used : List·Memᴰ i (usedInputs n gates) → (i < n) × (any (eqb i) (usedBy gates) ≡ true)
+  unfolding usedInputs
+  listed-used is =
+      let test : ℕ → Bool = λ j. any (eqb j) (usedBy gates) in
+      (omega (arith, range-mem 0 n i (those-mem test (range 0 n) i is) .1), those-pass test i (range 0 n) is)
+
+  -- .. and those that are used are listed
+  pub used-listed : i < n → any (eqb i) (usedBy gates) ≡ true → List·Memᴰ i (usedInputs n gates)
+  unfolding usedInputs
+  used-listed h used = mem-those (λ j. any (eqb j) (usedBy gates)) i (range 0 n) (mem-range 0 n i (omega arith) (omega arith)) used
+
+-- each number counts one
+sum-ones : (xs : List ℕ) → total (map (λ _. 1) xs) ≡ length xs
+unfolding total
+sum-ones [] = refl
+sum-ones (x ∷ xs) = omega (arith, sum-ones xs)
+
+-- one more than it has gates
+pub used-inputs-length : (m n : ℕ) (gates : List Gate) → IsNet m n gates → length (usedInputs n gates) ≡ suc (length gates)
+used-inputs-length m n gates net =
+    omega (
+      arith,
+      net .some,
+      used-sum (λ _. 1) m n gates net,
+      sum-ones (usedBy gates),
+      sum-ones (usedInputs n gates),
+      sum-ones (range n (length gates - 1)),
+      range-length n (length gates - 1),
+      used-length gates,
+    )
+
+-- so many members has the group of a net's leaves
+pub net-size : (m n : ℕ) (gates : List Gate) (net : IsNet m n gates) → size n (netGroup m n gates net) ≡ suc (length gates)
+unfolding size usedInputs
+net-size m n gates net =
+    ap length (those-listed (λ i. member i (netGroup m n gates net)) (λ i. any (eqb i) (usedBy gates)) (range 0 n)
+    (λ i listed. sym (net-uses m n gates net i (omega (arith, range-mem 0 n i listed .1)))))
+    ∙ used-inputs-length m n gates net
+
+-- and its tree has all its gates
+pub net-gates : (m n : ℕ) (gates : List Gate) (net : IsNet m n gates) → gatesIn (netWiring m n gates net) ≡ length gates
+net-gates m n gates net =
+    omega (arith, gates-in-size n (netWiring m n gates net) (net-tree m n gates net .once), net-size m n gates net)
+
+-- two nets with the same leaves use the same inputs
+pub same-inputs : (n : ℕ) (gates others : List Gate) (g : ℕ) → UsesJust n gates g → UsesJust n others g → usedInputs n gates ≡ usedInputs n others
+unfolding usedInputs
+same-inputs n gates others g uses uses′ =
+    those-listed (λ i. any (eqb i) (usedBy gates)) (λ i. any (eqb i) (usedBy others)) (range 0 n)
+    (λ i listed. let i< : i < n = omega (arith, range-mem 0 n i listed .1) in uses i i< ∙ sym (uses′ i i<))

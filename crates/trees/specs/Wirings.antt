@@ -2,20 +2,21 @@
 -- and then the class rule's filling does.
 -- Assumes nothing.
 use Prim.Native.Nat.{ℕ, suc, _+_, _*_, _^_, _<_}
-use mathlib.Core.Path.{_≡_, sym, _∙_, ap, ap₂}
+use mathlib.Core.Path.{_≡_, sym, _∙_, ap₂}
 use mathlib.Core.Bool.{Bool, true, false}
 use mathlib.Core.List.{List}
 use native.Mathlib.Omega.{arith}
 use lib.Arith.{digits-lt}
 use lib.Pow.{pow-pos}
 use lib.ListN.{getD}
-use Rattle.rules.specs.Groups.{size, part, wholeGroup}
+use Rattle.rules.specs.Groups.{size, part}
 use Rattle.rules.specs.Wirings.{Wiring, input, gate, groupOf, gatesIn}
 use Rattle.rules.specs.Filling.{carried, given}
 use Rattle.trees.specs.Trees.{Tree, leaf, node, wiringIn, treeValue, EachOnce, EachGate, Filled, Tells, fill}
 use Rattle.trees.specs.Members.{single-below, join-below, size-single, size-join}
-use Rattle.trees.specs.Levels.{level-below, part-whole}
+use Rattle.trees.specs.Levels.{level-below}
 use Rattle.trees.specs.Classes.{Few, few-classes}
+use Rattle.trees.specs.Mattering.{Holding, holding-part}
 use Rattle.trees.specs.Joins.{part-left, part-right, tells-left, tells-right}
 use Rattle.trees.specs.Carried.{single-level, single-few, carried-several, carried-input}
 use Rattle.trees.specs.DigitRule.{Parts, join-several, gate-digit, gate-table}
@@ -168,9 +169,9 @@ module _ (m n : ℕ) (pos : 0 < m) (f : ℕ → ℕ) where
     fill-filled b (once .2) (few .2) inks false,
   )
 
-  -- a wiring of all inputs: the class rule's filling has the table
-  pub fill-computes : (a b : Wiring) → EachOnce n (gate a b) → groupOf (gate a b) ≡ wholeGroup n → EachGate (Few m n f) (gate a b)
+  -- a wiring of a group that has every input that matters: the class rule's filling has the table
+  pub fill-computes : (a b : Wiring) → EachOnce n (gate a b) → Holding m n pos f (groupOf (gate a b)) → EachGate (Few m n f) (gate a b)
       → (p : ℕ) → p < m ^ n → treeValue m n (fill m n f true (gate a b)) p ≡ f p
   unfolding given
-  fill-computes a b once whole few p h =
-      gate-sufficiency a b once few true p ∙ ap (λ g. f (part m n g p)) whole ∙ ap f (part-whole m n pos p h)
+  fill-computes a b once holds few p h =
+      gate-sufficiency a b once few true p ∙ holding-part m n pos f (groupOf (gate a b)) p (group-below n (gate a b) once) holds h

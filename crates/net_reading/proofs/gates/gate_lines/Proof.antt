@@ -5,7 +5,7 @@ use Prim.Native.Nat.{_-_}
 use mathlib.Core.Path.{sym, subst}
 use native.Mathlib.Omega.{arith}
 use Rattle.laws.specs.Sizes.{sized}
-use Rattle.net_reading.specs.GateLines.{Building, build-start, build-done, build-room, build-back, build-next}
+use Rattle.net_reading.specs.GateLines.{Building, build-start, build-done, build-room, build-back, build-end, build-next}
 use Rattle.net_reading.proofs.gates.gate_lines.Statement.{statement}
 use Rattle.net_reading.proofs.gates.gate_lines.Tie as tie
 
@@ -15,9 +15,9 @@ Inv-loop s at header inputs net₀ place₀ k₀ net place k = Building s at hea
 abbrev μ-loop : tie.MeasureT-loop
 μ-loop s at header inputs net₀ place₀ k₀ net place k = inputs - k
 
--- the line's read, from the turn's end
-abbrev at-line : tie.After-net Inv-loop μ-loop → tie.After-gate-line Inv-loop μ-loop
-at-line c = c .before .before .before .before
+-- the line's read, from where its step is known
+abbrev at-line : tie.After-known-told Inv-loop μ-loop → tie.After-gate-line Inv-loop μ-loop
+at-line c = c .before .before .before
 
 no-gates-requires : tie.Need-no-gates-requires Inv-loop μ-loop
 no-gates-requires c κs = tt
@@ -40,17 +40,26 @@ returns c = build-back _ _ _ _ _ _ (c .before .before .before .before .loop .inv
 enum-known-step : tie.Need-enum-known-step Inv-loop μ-loop
 enum-known-step c = search needs
 
+returns-2 : tie.Need-returns-2 Inv-loop μ-loop
+returns-2 c =
+    let line = at-line (c .before) in
+    build-end _ _ _ _ _ _ (line .before .before .loop .inv) (line .before .loop-test .taken) _ (line .gate-line .ensures) _ _ (c .before .before .step .given .1) (c .if1 .taken)
+
 add-k : tie.Need-add-k Inv-loop μ-loop
 add-k c = omega arith
 
 loop-less : tie.Need-loop-less Inv-loop μ-loop
-loop-less c = omega (arith, at-line c .before .loop-test .taken)
+loop-less c = omega (arith, at-line (c .before .before) .before .loop-test .taken)
 
 loop-again : tie.Need-loop-again Inv-loop μ-loop
-loop-again c = build-next _ _ _ _ _ _ (at-line c .before .before .loop .inv) (at-line c .before .loop-test .taken) _ (at-line c .gate-line .ensures) _ _ (c .before .before .step .given .1)
+loop-again c =
+    let line = at-line (c .before .before) in
+    build-next _ _ _ _ _ _ (line .before .before .loop .inv) (line .before .loop-test .taken) _ (line .gate-line .ensures) _ _ (c .before .before .before .step .given .1) (c .before .if1 .left)
 
-returns-2 : tie.Need-returns-2 Inv-loop μ-loop
-returns-2 c = build-done _ _ _ _ _ _ (c .before .loop .inv) (c .loop-test .left)
+returns-3 : tie.Need-returns-3 Inv-loop μ-loop
+returns-3 c =
+    let size = sized _ _ (c .before .before .before .before .pre .fits) in
+    build-done _ _ _ _ _ _ (c .before .loop .inv) (size .inputs-least) (c .loop-test .left)
 
 pub gate-lines-spec : {M : Type 1} → statement M
 gate-lines-spec =
@@ -64,7 +73,8 @@ gate-lines-spec =
     enum-told
     returns
     enum-known-step
+    returns-2
     add-k
     loop-less
     loop-again
-    returns-2)
+    returns-3)

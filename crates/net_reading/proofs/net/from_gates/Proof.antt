@@ -1,7 +1,9 @@
--- `net_reading::net::from_gates` meets its contract: the gate lines, with nothing after them.
+-- `net_reading::net::from_gates` meets its contract: the gate lines, with nothing after them, and every earlier gate used.
 -- Assumes nothing.
 use borrow.Author.Needs.{needs}
-use Rattle.net_reading.specs.Answers.{gates-back, gates-over, gates-closed}
+use mathlib.Core.Path.{sym, _∙_}
+use borrow.Author.Tests.{not-true, not-false}
+use Rattle.net_reading.specs.Answers.{gates-back, gates-over, gates-room, gates-unused, gates-closed}
 use Rattle.net_reading.proofs.net.from_gates.Statement.{statement}
 use Rattle.net_reading.proofs.net.from_gates.Tie as tie
 
@@ -9,8 +11,8 @@ use Rattle.net_reading.proofs.net.from_gates.Tie as tie
 abbrev at-start : tie.After-gate-lines → tie.Start
 at-start c = c .before .before
 
-abbrev at-gates : tie.After-step2 → tie.After-gate-lines
-at-gates c = c .before .before .before
+abbrev at-gates : tie.After-known-told2 → tie.After-gate-lines
+at-gates c = c .before .before .before .before
 
 gate-lines-requires : tie.Need-gate-lines-requires
 gate-lines-requires c κs = search needs
@@ -22,15 +24,33 @@ enum-known-step-2 : tie.Need-enum-known-step-2
 enum-known-step-2 c = search needs
 
 returns : tie.Need-returns
-returns c = gates-over _ _ _ (at-start (at-gates (c .before .before)) .pre) _ (at-gates (c .before .before) .gate-lines .ensures) _ _ (c .before .before .step2 .given .1) (c .if1 .taken)
+returns c =
+    let read = at-gates (c .before) in
+    gates-over _ _ _ (at-start read .pre) _ (read .gate-lines .ensures) _ _ (c .before .before .step2 .given .1) (c .if1 .taken)
+
+earlier-used-requires : tie.Need-earlier-used-requires
+earlier-used-requires c κs =
+    let read = at-gates (c .before) in
+    gates-room _ _ _ (at-start read .pre) _ (read .gate-lines .ensures) _ _ (c .before .before .step2 .given .1)
 
 returns-2 : tie.Need-returns-2
-returns-2 c = gates-back _ _ _ (at-start (c .before .before .before .before) .pre) _ (c .before .before .before .before .gate-lines .ensures) _ _ (c .before .step .given .1)
+returns-2 c =
+    let ended = c .before .before in
+    let read = at-gates (ended .before) in
+    gates-unused _ _ _ (at-start read .pre) _ (read .gate-lines .ensures) _ _ (ended .before .before .step2 .given .1) (ended .if1 .left)
+    (sym (c .before .earlier-used .ensures) ∙ not-true _ (c .if2 .taken))
 
 returns-3 : tie.Need-returns-3
-returns-3 c = gates-closed _ _ _ (at-start (at-gates (c .before .before)) .pre) _ (at-gates (c .before .before) .gate-lines .ensures) _ _ (c .before .before .step2 .given .1) (c .if1 .left)
+returns-3 c = gates-back _ _ _ (at-start (c .before .before .before .before) .pre) _ (c .before .before .before .before .gate-lines .ensures) _ _ (c .before .step .given .1)
+
+returns-4 : tie.Need-returns-4
+returns-4 c =
+    let ended = c .before .before in
+    let read = at-gates (ended .before) in
+    gates-closed _ _ _ (at-start read .pre) _ (read .gate-lines .ensures) _ _ (ended .before .before .step2 .given .1) (ended .if1 .left)
+    (sym (c .before .earlier-used .ensures) ∙ not-false _ (c .if2 .left))
 
 pub from-gates-spec : {M : Type 1} → statement M
 from-gates-spec =
     tie.close
-    (tie.spec gate-lines-requires enum-known-step enum-known-step-2 returns returns-2 returns-3)
+    (tie.spec gate-lines-requires enum-known-step enum-known-step-2 returns earlier-used-requires returns-2 returns-3 returns-4)

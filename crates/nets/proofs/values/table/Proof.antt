@@ -1,5 +1,5 @@
 -- `nets::values::table` meets its contract: it lends the net's parts to `fill`. Assumes nothing.
-use Prim.Native.Nat.{suc, _≤_}
+use Prim.Native.Nat.{_≤_, _<_}
 use mathlib.Core.Path.{_≡_}
 use native.Mathlib.Omega.{arith}
 use borrow.Author.Needs.{needs}
@@ -26,7 +26,7 @@ fill-requires : tie.Need-fill-requires
 fill-requires c κs =
     let start = at-start (c .before .before .before) in
     let net = start .args .net in
-    let count : suc (net .gates) ≡ net .inputs = gates-count _ (start .pre .0) in
+    let count : net .gates < net .inputs = gates-count _ (start .pre .0) in
     let most : net .inputs ≤ mostInputs = sound-size _ (start .pre .0) .inputs-most in
     let left : _ ≡ length (net .left) = slice-aggregate-fill (c .before .before .before) in
     let right : _ ≡ length (net .right) = slice-aggregate-fill-2 (c .before .before) in
