@@ -1,12 +1,12 @@
 -- What bare cells come to, one law for each outcome, and what follows of those that are accepted.
 -- Assumes nothing.
 use Prim.Native.Nat.{ℕ, _^_, _≤_, _<_}
-use mathlib.Core.Path.{_≡_, refl, ap, _∙_}
+use mathlib.Core.Path.{_≡_, refl, sym, ap, _∙_}
 use mathlib.Core.Bool.{Bool, true, false, not, and-false}
 use mathlib.Core.List.{List}
 use native.Mathlib.Omega.{arith}
 use lib.Dec.{eqb, leb}
-use lib.ListN.{length}
+use lib.ListN.{length, getD}
 use borrow.Author.Tests.{eqb-true, eqb-false, eq-eqb, ne-eqb, lt-ltb, le-ltb, le-leb}
 use Rattle.rules.specs.Lists.{all, firstPlace}
 use Rattle.rules.specs.Limits.{sizeFits}
@@ -40,6 +40,12 @@ module _ (m n : ℕ) (cells : List ℕ) where
     bare-good h =
         rw (fits, eq-eqb (length cells) (m ^ n) count, all-place (λ c. leb c m) cells, ← over, le-ltb k (length cells) h, bareCells)
 
+  -- no cell is above m
+  pub bare-within : sizeFits m n ≡ true → length cells ≡ m ^ n → ((k : ℕ) → k < length cells → getD cells k 0 ≤ m) → answers.accepted tt ≡ bareCells m n cells
+  unfolding bareCells
+  bare-within fits count within =
+      rw (fits, eq-eqb (length cells) (m ^ n) count, all-each (λ c. leb c m) 0 cells (λ k h. le-leb _ _ (within k h)), bareCells)
+
   never : answers.accepted tt ≡ bareCells m n cells → answers.refused 9 0 ≡ bareCells m n cells → ⊥
   never e r = let z : _≡_ {A = ℕ} 0 1 = cc in omega arith
 
@@ -65,11 +71,4 @@ module _ (m n : ℕ) (cells : List ℕ) where
 
 -- the inks of a table that keeps the rules are bare cells that are accepted
 pub bare-kept : (t : Table) → KeptTable t → bareCells (t .header .levels) (t .header .inputs) (t .inks) ≡ answers.accepted tt
-unfolding bareCells
-bare-kept t kept =
-    rw (
-      kept-fits (t .header) (kept .header),
-      eq-eqb (length (t .inks)) (t .header .levels ^ t .header .inputs) (kept .count),
-      all-each (λ c. leb c (t .header .levels)) 0 (t .inks) (λ k h. le-leb _ _ (kept .within k h)),
-      bareCells,
-    )
+bare-kept t kept = sym (bare-within (t .header .levels) (t .header .inputs) (t .inks) (kept-fits (t .header) (kept .header)) (kept .count) (kept .within))

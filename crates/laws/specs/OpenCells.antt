@@ -20,7 +20,7 @@ use Rattle.rules.specs.Reading.{readTable}
 use Rattle.rules.specs.BareCells.{bareCells}
 use Rattle.rules.specs.OpenCells.{isOpen, full, fullCells, fullTable, readFull}
 use Rattle.laws.specs.Answers.{not-refused}
-use Rattle.laws.specs.BareCells.{bare-accepted, bare-inks, bare-kept}
+use Rattle.laws.specs.BareCells.{bare-within, bare-accepted, bare-inks, bare-kept}
 use Rattle.laws.specs.FirstPlaces.{any-place, at-first, before-first}
 use Rattle.laws.specs.Places.{mem-getD}
 use Rattle.laws.specs.Tests.{all-each, all-mem}
@@ -120,6 +120,11 @@ module _ (m n : ℕ) (cells : List ℕ) where
   pub cells-judged : accepted tt ≡ bareCells m n cells → full m cells ≡ fullCells m n cells
   unfolding fullCells onward
   cells-judged e = rw (← e)
+
+  -- cells below m
+  pub cells-full : sizeFits m n ≡ true → length cells ≡ m ^ n → ((k : ℕ) → k < length cells → getD cells k 0 < m) → accepted tt ≡ fullCells m n cells
+  cells-full fits count below =
+      sym (open-none m cells (λ k h e. omega (arith, below k h))) ∙ cells-judged (bare-within m n cells fits count (λ k h. omega (arith, below k h)))
 
   -- full cells are bare cells that are accepted, none of them open
   pub cells-accepted : accepted tt ≡ fullCells m n cells → (accepted tt ≡ bareCells m n cells) × (full m cells ≡ accepted tt)

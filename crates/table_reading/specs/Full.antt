@@ -7,7 +7,6 @@ use native.Mathlib.Nat.{sub-zero}
 use native.Mathlib.Omega.{arith}
 use lib.ListN.{take}
 use Rattle.rules.specs.Answers as answers
-use Rattle.rules.specs.Answers.{refused}
 use Rattle.rules.specs.Reading.{readTable}
 use Rattle.rules.specs.OpenCells.{full, fullTable, readFull}
 use Rattle.laws.specs.Bounds.{Below, below-at, at-below}
