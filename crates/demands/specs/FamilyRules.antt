@@ -11,13 +11,11 @@ use Rattle.rules.specs.Groups.{size, wholeGroup}
 use Rattle.rules.specs.Wirings.{Wiring, input, gate, groupOf, linksOf}
 use Rattle.rules.specs.Filling.{filled}
 use Rattle.rules.specs.Family.{treeCount, familyGates}
-use Rattle.rules.specs.Kept.{KeptTable}
 use Rattle.rules.specs.Answers.{accepted, inkIn}
-use Rattle.rules.specs.Reading.{readNet, readTable}
+use Rattle.rules.specs.Reading.{readNet}
 use Rattle.rules.specs.FamilyCalls.{countOfTable, familyNet, familyTreeCall}
 use Rattle.laws.specs.Answers.{accepted-inj}
 use Rattle.laws.specs.Settling.{marksOfTable}
-use Rattle.readback.specs.ReadBack.{table-accepted}
 use Rattle.trees.specs.Trees.{wiringIn, WiringOf, fill}
 use Rattle.trees.specs.Members.{whole-below, size-single, size-whole, size-le}
 use Rattle.trees.specs.NetTables.{levels-pos, inputs-several}
@@ -29,6 +27,8 @@ use Rattle.demands.specs.Settles.{sheetOf}
 use Rattle.demands.specs.FamilySheets.{tree-written, tree-sheet}
 use Rattle.demands.specs.FamilyTreeClause.{lastTree}
 use Rattle.demands.specs.FamilyOrder.{Earlier, in-order}
+use Rattle.rules.specs.OpenCells.{readFull}
+use Rattle.demands.specs.FullSheets.{FullKept, full-accepted}
 
 -- a wiring of all inputs is that of its links, filled
 filled-wiring : (m n : ℕ) → 1 < n → (f : ℕ → ℕ) (w : Wiring) → WiringOf n (wholeGroup n) w → wiringIn (lastTree n (filled m n f (linksOf n 0 w))) ≡ w
@@ -52,7 +52,7 @@ pub record InFamily (t : Table) (net : Net) : Type 0 where
   -- "Gate tables follow the settled net's rule", and the gate lines its order: A's, then B's, then the group's own
   pub by-rule : net .gates ≡ filled (t .header .levels) (t .header .inputs) (inkIn (t .inks)) (linksOf (t .header .inputs) 0 (wiringOfNet net))
 
-module _ (t : Table) (kept : KeptTable t) where
+module _ (t : Table) (kept : FullKept t) where
   pos : 0 < t .header .levels
   pos = levels-pos (t .header .levels) (kept .header .levels)
 
@@ -87,9 +87,9 @@ module _ (t : Table) (kept : KeptTable t) where
       (in-order (t .header .inputs) (marksOfTable t) (t .header .inputs) (wholeGroup (t .header .inputs)) a b (whole-below (t .header .inputs))
       (size-le (t .header .inputs) (wholeGroup (t .header .inputs))) less h)
 
-module _ (s : List ℕ) (t : Table) (reads : readTable s ≡ accepted t) where
-  kept-table : KeptTable t
-  kept-table = table-accepted s t reads .1
+module _ (s : List ℕ) (t : Table) (reads : readFull s ≡ accepted t) where
+  kept-table : FullKept t
+  kept-table = full-accepted s t reads .1
 
   -- the net of a sheet that is written
   the-net : (r : ℕ) (cells marks output sheet : List ℕ) → sheetOf (familyTreeCall s r cells marks output) ≡ accepted sheet

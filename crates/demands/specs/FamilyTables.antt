@@ -11,7 +11,7 @@ use Rattle.rules.specs.Sheets.{Gate, Net, Table}
 use Rattle.rules.specs.Printed.{printedNet}
 use Rattle.rules.specs.Groups.{wholeGroup}
 use Rattle.rules.specs.Family.{treeCount, SameWiring}
-use Rattle.rules.specs.Kept.{IsNet, KeptNet, KeptTable}
+use Rattle.rules.specs.Kept.{IsNet, KeptNet}
 use Rattle.rules.specs.Answers.{inkIn}
 use Rattle.rules.specs.Reading.{tableOfNet}
 use Rattle.rules.specs.Settling.{settledNet}
@@ -28,8 +28,9 @@ use Rattle.trees.specs.FamilyWirings.{two-counted}
 use Rattle.trees.specs.FamilyBounds.{treesOn, count-bound, count-fits}
 use Rattle.trees.specs.FamilyNets.{family-computes, family-differ, every-wiring, family-settled, no-family}
 use Rattle.demands.specs.Makes.{HasTree}
+use Rattle.demands.specs.FullSheets.{FullKept}
 
-module _ (t : Table) (kept : KeptTable t) where
+module _ (t : Table) (kept : FullKept t) where
   pos : 0 < t .header .levels
   pos = levels-pos (t .header .levels) (kept .header .levels)
 

@@ -13,12 +13,11 @@ use Rattle.rules.specs.Value.{value}
 use Rattle.rules.specs.Groups.{size}
 use Rattle.rules.specs.Wirings.{groupOf}
 use Rattle.rules.specs.Family.{SameWiring}
-use Rattle.rules.specs.Kept.{IsNet, KeptTable}
+use Rattle.rules.specs.Kept.{IsNet}
 use Rattle.rules.specs.Answers.{accepted}
-use Rattle.rules.specs.Reading.{readNet, readTable}
+use Rattle.rules.specs.Reading.{readNet}
 use Rattle.rules.specs.FamilyCalls.{familyNet, familyTreeCall}
 use Rattle.laws.specs.Answers.{accepted-inj}
-use Rattle.readback.specs.ReadBack.{table-accepted}
 use Rattle.trees.specs.Trees.{Tree, leaf, node, wiringIn, treeValue}
 use Rattle.trees.specs.Members.{size-single, size-whole}
 use Rattle.trees.specs.Forest.{treeAt, withTrees, inputTrees}
@@ -33,6 +32,8 @@ use Rattle.demands.specs.Settles.{sheetOf}
 use Rattle.demands.specs.TreeClause.{TreeFor, TreeAgrees, agrees-all}
 use Rattle.demands.specs.FamilyTables.{family-kept}
 use Rattle.demands.specs.FamilySheets.{OneWiring, tree-written, tree-sheet, one-wiring, UnderOneNumber, every-gates}
+use Rattle.rules.specs.OpenCells.{readFull}
+use Rattle.demands.specs.FullSheets.{FullKept, full-accepted}
 
 -- the tree that a gate list is: that of its last gate
 abbrev pub lastTree : ℕ → List Gate → Tree
@@ -63,9 +64,9 @@ module _ (m n : ℕ) (several : 1 < n) where
     lines-tree n digits a b (is .once),
   )
 
-module _ (s : List ℕ) (t : Table) (reads : readTable s ≡ accepted t) where
-  kept : KeptTable t
-  kept = table-accepted s t reads .1
+module _ (s : List ℕ) (t : Table) (reads : readFull s ≡ accepted t) where
+  kept : FullKept t
+  kept = full-accepted s t reads .1
 
   several : 1 < t .header .inputs
   several = inputs-several (t .header .inputs) (kept .header .inputs)

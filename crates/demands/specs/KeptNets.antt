@@ -8,7 +8,8 @@ use lib.ListN.{length}
 use Rattle.rules.specs.Sheets.{Header, Gate, Net, Table}
 use Rattle.rules.specs.Settled.{settledGates}
 use Rattle.rules.specs.Family.{familyGates}
-use Rattle.rules.specs.Kept.{KeptNet, KeptTable}
+use Rattle.rules.specs.Kept.{KeptNet}
+use Rattle.demands.specs.FullSheets.{FullKept}
 use Rattle.rules.specs.Answers.{inkIn}
 use Rattle.rules.specs.Reading.{tableOfNet}
 use Rattle.rules.specs.Settling.{settledNet}
@@ -27,7 +28,7 @@ FillingFor net t filling = Filling (net .header .levels) (net .header .inputs) (
 abbrev pub Roomy : Net → Table → Type 0
 Roomy net t = length (net .gates) ≤ roomyBefore net t
 
-module _ (net : Net) (t : Table) (kept : KeptNet net) (kept-t : KeptTable t) (header : net .header ≡ t .header) where
+module _ (net : Net) (t : Table) (kept : KeptNet net) (kept-t : FullKept t) (header : net .header ≡ t .header) where
   abbrev m : ℕ
   m = net .header .levels
 

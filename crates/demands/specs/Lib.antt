@@ -1,6 +1,7 @@
 -- The user's demands as theorems about the definitions of the calls. docs/PROMISES.md quotes each sentence beside its theorem.
 -- Assumes nothing.
 pub mod FirstLines
+pub mod FullSheets
 pub mod Listing
 pub mod Settles
 pub mod Numbers

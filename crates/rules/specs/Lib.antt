@@ -7,7 +7,7 @@
 -- nets (`Layers`, `Shallow`, `ShallowSettling`, `Shallower`, with `ShallowCases`), every wiring of a table (`Family`, `FamilyCalls`, with
 -- `FamilyCases`), the comparison of two assignments (`Differences`, with `DifferenceCases`), arrival times (`ArrivalSheet`, `Arrivals`, with
 -- `ArrivalCases`), loose table sheets (`LooseSheet`, `Tidying`, with `LooseCases`), marking as a job (`Jobs`, with `JobCases`), a wiring kept
--- (`Keeping`, with `KeepingCases`) and whole glyphs (`Glyphs`, with `GlyphCases`).
+-- (`Keeping`, with `KeepingCases`), whole glyphs (`Glyphs`, with `GlyphCases`) and cells left open (with `OpenCases`).
 -- `Evaluation` lets all of it compute.
 -- Assumes nothing.
 pub mod Lists
@@ -59,5 +59,6 @@ pub mod LooseCases
 pub mod JobCases
 pub mod KeepingCases
 pub mod GlyphCases
+pub mod OpenCases
 pub mod Refusals
 pub mod Orders
