@@ -1,6 +1,6 @@
 -- An accepted sheet of a full table (document 02, K13): which sheets these are, what their tables keep, and the numbers with which others are refused.
 -- Assumes nothing.
-use Prim.Native.Nat.{ℕ, _^_, _<_}
+use Prim.Native.Nat.{ℕ, _^_}
 use mathlib.Core.Path.{_≡_, refl, sym, ap, _∙_, subst}
 use mathlib.Core.Logic.{_↔_}
 use mathlib.Core.List.{List, [], _∷_}

@@ -51,3 +51,4 @@ pub mod KeptNets
 pub mod Keeping
 pub mod KeepingLengths
 pub mod Glyphs
+pub mod OpenCells

@@ -42,7 +42,7 @@ by-onward numbers (accepted x) next h k = k x
 by-onward numbers (refused number place) next h k = refuses numbers number place (h number place refl)
 
 -- 9 or 10, among whatever numbers the rest of the call has
-bare-numbers : (m n : ℕ) (cells : List ℕ) (numbers : List ℕ) → In 9 numbers → In 10 numbers → Gives numbers (bareCells m n cells)
+pub bare-numbers : (m n : ℕ) (cells : List ℕ) (numbers : List ℕ) → In 9 numbers → In 10 numbers → Gives numbers (bareCells m n cells)
 unfolding bareCells
 bare-numbers m n cells numbers nine ten =
     by-test (Gives numbers) (sizeFits m n && eqb (length cells) (m ^ n)) _ _

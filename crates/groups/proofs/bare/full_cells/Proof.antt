@@ -81,6 +81,6 @@ full-cells-spec =
     inks-below-requires
     returns-3
     first-over-requires
-    returns-4
     judge-full-requires
+    returns-4
     returns-5)
