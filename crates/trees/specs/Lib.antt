@@ -54,6 +54,7 @@ pub mod FamilyWirings
 pub mod GateGroups
 pub mod FamilyNets
 pub mod KeptLinks
+pub mod CarriedValues
 pub mod KeptWirings
 pub mod ChangedGates
 pub mod FamilyBounds
