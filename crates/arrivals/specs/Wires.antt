@@ -25,7 +25,7 @@ use Rattle.nets.specs.declared.forms.Net.{Net}
 use Rattle.nets.specs.Forms.{gateOf, gatesOf}
 use Rattle.nets.specs.References.{refers-back}
 use Rattle.nets.specs.Room.{mostWires}
-use Rattle.nets.specs.Sound.{Sound, sound-size, gates-count, gates-length, wires-room}
+use Rattle.nets.specs.Sound.{Sound, sound-size, gates-pos, gates-count, gates-length, wires-room}
 use Rattle.arrival_reading.specs.declared.lines.Times.{Times}
 use Rattle.arrival_reading.specs.Lines.{TimesHeld, arrivalsIn}
 use Rattle.arrivals.specs.declared.arrival.Ends.{Ends}
@@ -130,9 +130,8 @@ module _ (net : Net) (sound : Sound net) (delay : ℕ) (byte : delay ≤ mostDel
       → getD (timesTo net delay end (net .gates)) (net .inputs + net .gates - 1) 0 ≡ settlingTime (net .inputs) (gatesOf net) delay arrivals
   unfolding gatesOf
   to-last arrivals e =
-      let several : 1 < net .inputs = omega (arith, sound-size net sound .inputs-least) in
       ap (λ (k : ℕ). getD (timesTo net delay end (net .gates)) (net .inputs + k - 1) 0) (sym (gates-length net))
-      ∙ sym (settling-last (net .levels) (net .inputs) (gatesOf net) several (sound .gates) delay (firstTimes end (net .inputs)) (map-range-length (λ i. getD end i 0) 0 (net .inputs)))
+      ∙ sym (settling-last (net .levels) (net .inputs) (gatesOf net) (sound .gates) delay (firstTimes end (net .inputs)) (map-range-length (λ i. getD end i 0) 0 (net .inputs)))
       ∙ ap (settlingTime (net .inputs) (gatesOf net) delay) (sym e)
 
 module _ (net : Net) (sound : Sound net) (delay : ℕ) (byte : delay ≤ mostDelay) (times : Times) (held : TimesHeld times (net .inputs)) where
@@ -188,7 +187,7 @@ module _ (net : Net) (sound : Sound net) (delay : ℕ) (byte : delay ≤ mostDel
   unfolding arrivalsIn
   wired-all k ends wired all d =
       let is : k ≡ net .gates = omega (arith, wired .low) in
-      let last : net .inputs + net .gates - 1 < net .inputs + k = omega (arith, gates-count net sound) in
+      let last : net .inputs + net .gates - 1 < net .inputs + k = omega (arith, gates-pos net sound) in
       at-reference k ends wired d (net .inputs + net .gates - 1) last
       ∙ ap (λ (j : ℕ). endsAt (getD (timesTo net delay (times .from) j) (net .inputs + net .gates - 1) 0) (getD (timesTo net delay (times .to) j) (net .inputs + net .gates - 1) 0)) is
       ∙ ap₂ endsAt

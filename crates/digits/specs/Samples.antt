@@ -1,23 +1,20 @@
 -- One assignment for each value that a wire below the last carries, in the order of the values: an input's levels, or the first of
 -- each class.
 -- Assumes nothing.
-use Prim.Native.Nat.{ℕ, zero, suc, _+_, _-_, _*_, _/_, _%_, _^_, _≤_, _<_}
+use Prim.Native.Nat.{ℕ, _-_, _*_, _/_, _%_, _^_, _≤_, _<_}
 use mathlib.Core.Path.{_≡_, refl, sym, ap, _∙_, subst⁻¹}
 use mathlib.Core.Logic.{_≢_}
 use mathlib.Core.Bool.{Bool, true, false}
-use mathlib.Core.List.{List, [], _∷_, map, map-map, append-nil}
-use native.Mathlib.Nat.{zero-mul, zero-add, mul-one, pow-zero, pow-suc, le-refl, le-step, mul-assoc, mul-div-cancel, mul-comm, mod-eq-of-lt, one-le-pow, pow-le-pow-right}
-use native.Mathlib.Decide.{decLt}
+use mathlib.Core.List.{List}
+use native.Mathlib.Nat.{zero-add, pow-suc, mul-div-cancel, mul-comm, mod-eq-of-lt, one-le-pow, pow-le-pow-right}
 use native.Mathlib.Omega.{arith}
-use borrow.Author.Tests.{eq-eqb, ne-eqb, eqb-true, eqb-false}
+use borrow.Author.Tests.{eq-eqb, eqb-true, eqb-false}
 use lib.ListN.{length, getD, take}
 use lib.Dec.{eqb}
-use Rattle.rules.specs.Lists.{range, concatMap}
 use Rattle.rules.specs.Sheets.{level}
-use Rattle.rules.specs.Groups.{member, points, part, size, classes, multiplicity}
+use Rattle.rules.specs.Groups.{points, part, size, classes, multiplicity}
 use Rattle.rules.specs.Wirings.{firstInput}
 use Rattle.rules.specs.Filling.{carried, classNumber}
-use Rattle.laws.specs.Concat.{map-same, concat-single}
 use Rattle.laws.specs.Ranges.{map-range-length, map-range-at}
 use Rattle.radix.specs.Fronts.{Front}
 use Rattle.groups.specs.Firsts.{Counted}
@@ -25,40 +22,9 @@ use Rattle.laws.specs.Places.{mem-getD}
 use Rattle.trees.specs.Members.{member-single, size-one}
 use Rattle.trees.specs.Levels.{level-below, level-part-in}
 use Rattle.trees.specs.Points.{points-are-parts}
+use Rattle.trees.specs.Neighbours.{levelPoints, points-single}
 use Rattle.trees.specs.Classes.{classes-are-points, class-below, class-part, class-listed, listed-once}
 use Rattle.trees.specs.Carried.{carried-several, carried-input}
-
--- ---- the assignments of a group of one input
-
--- no member among the inputs
-points-none : (m n g : ℕ) → ((i : ℕ) → i < n → member i g ≡ false) → points m n g ≡ 0 ∷ []
-unfolding points concatMap
-points-none m zero g none = refl
-points-none m (suc n) g none = rw (points-none m n g (λ i h. none i (le-step h)), none n (le-refl (suc n)), zero-mul)
-
-level-alone : (m l : ℕ) → 0 * m + l ≡ l * m ^ 0
-level-alone m l = rw (zero-mul, zero-add, pow-zero, mul-one)
-
--- one for each level: the level times the input's weight
-abbrev pub levelPoints : ℕ → ℕ → List ℕ
-levelPoints m w = map (λ l. l * w) (range 0 m)
-
-points-single : (m n i : ℕ) → i < n → points m n (2 ^ i) ≡ levelPoints m (m ^ (n - 1 - i))
-unfolding points concatMap
-points-single m zero i h = absurd (omega arith)
-points-single m (suc n) i h = go (decLt i n) (points-single m n i)
-  where
-    go : Dec (i < n) → (i < n → points m n (2 ^ i) ≡ levelPoints m (m ^ (n - 1 - i))) → points m (suc n) (2 ^ i) ≡ levelPoints m (m ^ (suc n - 1 - i))
-    go (yes less) before =
-        let next : suc n - 1 - i ≡ suc (n - 1 - i) = omega arith in
-        rw (member-single n i, ne-eqb n i (λ e. omega arith), concat-single (λ p. p * m), before less, next, pow-suc)
-        (map-map (λ p. p * m) (λ l. l * m ^ (n - 1 - i)) (range 0 m) ∙ map-same _ _ (λ l. mul-assoc l (m ^ (n - 1 - i)) m) (range 0 m))
-    go (no last) before =
-        let same : i ≡ n = omega arith in
-        let none : suc n - 1 - i ≡ 0 = omega arith in
-        let empty = points-none m n (2 ^ i) (λ j h. member-single j i ∙ ne-eqb j i (λ e. omega arith)) in
-        rw (member-single n i, eq-eqb n i (sym same), empty, none)
-        (append-nil (map (λ l. 0 * m + l) (range 0 m)) ∙ map-same _ _ (level-alone m) (range 0 m))
 
 -- ---- the samples
 

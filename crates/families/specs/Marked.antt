@@ -9,13 +9,14 @@ use native.Mathlib.Omega.{arith}
 use lib.ListN.{length, getD, replicate, take}
 use lib.Pow.{pow-mono}
 use Rattle.rules.specs.Limits.{mostInputs, sizeFits}
-use Rattle.rules.specs.Groups.{wholeGroup}
 use Rattle.rules.specs.Marks.{marksOf, storedMarks}
+use Rattle.rules.specs.Leaves.{leavesOf}
 use Rattle.rules.specs.Family.{treeCount, countsOf}
 use Rattle.rules.specs.Answers.{inkIn, written}
 use Rattle.laws.specs.Sizes.{sized}
-use Rattle.trees.specs.Members.{whole-below}
 use Rattle.trees.specs.MarkRule.{marks-length}
+use Rattle.trees.specs.LeafGroup.{leaves-below, leaves-some}
+use Rattle.filling.specs.MadeNet.{some-level, two-inputs}
 use Rattle.numbering.specs.Counts.{CountsKept, Countable, CountKept}
 
 -- no count is known yet
@@ -33,7 +34,7 @@ groups-room m n fit = pow-mono {i = n} {j = mostInputs} (sized m n fit .inputs-m
 
 -- the count, and what is written
 pub record MarkedCount (m n : ℕ) (inks cells marks : List ℕ) (r : ℕ) (cells-then own marks-then counts : List ℕ) : Type 0 where
-  pub count : r ≡ treeCount n (marksOf m n (inkIn inks))
+  pub count : r ≡ treeCount n (marksOf m n (inkIn inks)) (leavesOf m n (inkIn inks))
   pub copied : cells-then ≡ written cells inks
   pub front : take (2 ^ n) own ≡ marksOf m n (inkIn inks)
   pub marked : marks-then ≡ written marks (storedMarks (marksOf m n (inkIn inks)))
@@ -41,31 +42,28 @@ pub record MarkedCount (m n : ℕ) (inks cells marks : List ℕ) (r : ℕ) (cell
 
 module _ (m n : ℕ) (fit : sizeFits m n ≡ true) (f : ℕ → ℕ) where
   pos : 0 < m
-  pos = omega (arith, sized m n fit .levels-least)
-
-  -- a whole number of inputs
-  whole-some : 0 < wholeGroup n
-  unfolding wholeGroup
-  whole-some = omega (arith, pow-mono {i = 2} {j = n} (sized m n fit .inputs-least))
+  pos = some-level m n fit
 
   -- the front of the call's own marks, by the number past the groups
   pub marks-front : (own : List ℕ) → take (2 ^ n) own ≡ marksOf m n f → (end : ℕ) → end ≡ 2 ^ n → take (end - 0) own ≡ marksOf m n f
   marks-front own front end is = ap (λ (k : ℕ). take k own) (sub-zero end ∙ is) ∙ front
 
   module _ (own counts : List ℕ) (front : own ≡ marksOf m n f) (room : 2 ^ n ≤ length counts) (kept : CountsKept own counts) where
-    -- so the whole group's trees can be counted, ..
-    pub whole-countable : Countable own counts (wholeGroup n)
-    whole-countable =
+    -- so the trees on the leaves can be counted, ..
+    pub leaves-countable : Countable own counts (leavesOf m n f)
+    leaves-countable =
+        let below = leaves-below m n pos f in
         record {
-          some = whole-some;
-          below = lt-of-lt-of-le (whole-below n) (pow-mono {i = n} {j = mostInputs} (sized m n fit .inputs-most));
-          marked = subst⁻¹ (λ (l : List ℕ). wholeGroup n < length l) front (omega (arith, whole-below n, marks-length m n pos f));
-          room = omega (arith, whole-below n);
+          some = leaves-some m n pos f (two-inputs m n fit);
+          below = lt-of-lt-of-le below (groups-room m n fit);
+          marked = subst⁻¹ (λ (l : List ℕ). leavesOf m n f < length l) front (omega (arith, marks-length m n pos f));
+          room = omega arith;
           kept = kept;
         }
 
   -- .. and are the table's
-  pub whole-counted : (own : List ℕ) → own ≡ marksOf m n f → (g : ℕ) → g ≡ wholeGroup n → (r : ℕ) (counts : List ℕ) → CountKept own g r counts → r ≡ treeCount n (marksOf m n f)
+  pub leaves-counted : (own : List ℕ) → own ≡ marksOf m n f → (g : ℕ) → g ≡ leavesOf m n f → (r : ℕ) (counts : List ℕ) → CountKept own g r counts
+      → r ≡ treeCount n (marksOf m n f) (leavesOf m n f)
   unfolding treeCount
-  whole-counted own front g whole r counts found =
-      found .count n (subst⁻¹ (λ (k : ℕ). k < 2 ^ n) whole (whole-below n)) ∙ (λ i. getD (countsOf n (front i)) (whole i) 0)
+  leaves-counted own front g leaves r counts found =
+      found .count n (subst⁻¹ (λ (k : ℕ). k < 2 ^ n) leaves (leaves-below m n pos f)) ∙ (λ i. getD (countsOf n (front i)) (leaves i) 0)

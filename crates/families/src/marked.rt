@@ -6,6 +6,7 @@ ghost use lib.ListN.{length};
 ghost use Rattle.rules.specs.Limits.{sizeFits};
 ghost use Rattle.rules.specs.Marks.{marksLength};
 ghost use Rattle.families.specs.Marked.{NoneKnown, MarkedCount};
+use leaves::group;
 use lines::put::copy;
 use marking::all;
 use numbering::counts;
@@ -28,5 +29,6 @@ pub fn count_marked(
     copy(inks, cells, 0);
     all::mark_and_store(m, n, inks, own, marks);
     let end = powers::power(2, n);
-    counts::group_count(&own[0..end], counts, end - 1)
+    let leaves = group::leaves(m, n, inks);
+    counts::group_count(&own[0..end], counts, leaves)
 }

@@ -1,19 +1,19 @@
-// The net of a number: its wiring of all inputs, filled.
+// The net of a number: its wiring of the table's leaves, filled.
 ghost use mathlib.Core.Path.{_≡_};
 ghost use mathlib.Core.Bool.{true};
 ghost use Prim.Native.Nat.{ℕ, _^_, _≤_, _<_};
 ghost use lib.ListN.{length};
 ghost use Rattle.rules.specs.Limits.{sizeFits};
-ghost use Rattle.rules.specs.Groups.{wholeGroup};
 ghost use Rattle.rules.specs.Marks.{marksOf};
+ghost use Rattle.rules.specs.Leaves.{leavesOf};
 ghost use Rattle.rules.specs.Family.{treeCount, familyGates};
 ghost use Rattle.rules.specs.Answers.{inkIn};
 ghost use Rattle.filling.specs.MadeNet.{NetOf};
 ghost use Rattle.numbering.specs.Counts.{Countable};
 use filling::fill;
+use leaves::group;
 use nets::forms;
 use numbering::numbered;
-use radix::powers;
 
 // The net of number r of a table, which is below its count. `marks` has the table's marks and no further byte.
 pub fn family_net(
@@ -25,10 +25,11 @@ pub fn family_net(
     r: u64,
 ) -> forms::Net
     requires { ⌜ (sizeFits m n ≡ true) × (m ^ n ≤ length (now cells)) × ((p : ℕ) → p < m ^ n → inkIn (now cells) p < m)
-        × ((now marks) ≡ marksOf m n (inkIn (now cells))) × (Countable (now marks) (now counts) (wholeGroup n))
-        × (r < treeCount n (marksOf m n (inkIn (now cells)))) ⌝ }
+        × ((now marks) ≡ marksOf m n (inkIn (now cells))) × (Countable (now marks) (now counts) (leavesOf m n (inkIn (now cells))))
+        × (r < treeCount n (marksOf m n (inkIn (now cells))) (leavesOf m n (inkIn (now cells)))) ⌝ }
     ensures { λ net. ⌜ NetOf m n (familyGates m n (inkIn (now (cells .entry))) (marksOf m n (inkIn (now (cells .entry)))) r) net ⌝ }
 {
-    let wiring = numbered::wiring_of(n, marks, counts, powers::power(2, n) - 1, r);
+    let leaves = group::leaves(m, n, cells);
+    let wiring = numbered::wiring_of(n, marks, counts, leaves, r);
     fill::fill(m, n, cells, wiring)
 }

@@ -1,6 +1,6 @@
 -- The net that a choice of parts makes of a table, by value: its gates are the definitions', and they keep the rules of a net sheet.
 -- Assumes nothing.
-use Prim.Native.Nat.{ℕ, _+_, _-_, _^_, _≤_, _<_}
+use Prim.Native.Nat.{ℕ, _^_, _≤_, _<_}
 use mathlib.Core.Path.{_≡_, refl, sym, ap, _∙_, subst, subst⁻¹}
 use mathlib.Core.Logic.{_≢_}
 use mathlib.Core.Bool.{true}
@@ -15,6 +15,7 @@ use Rattle.rules.specs.Marks.{markIn, marksOf}
 use Rattle.rules.specs.Wirings as rules
 use Rattle.rules.specs.Wirings.{wiringBy, linksOf}
 use Rattle.rules.specs.Filling.{inputGroups, filled}
+use Rattle.rules.specs.Leaves.{leavesOf}
 use Rattle.rules.specs.Settled.{splitOf, settledWiring, settledGates}
 use Rattle.rules.specs.Shallow.{shallowWiring, shallowGates}
 use Rattle.rules.specs.Kept.{IsNet}
@@ -25,11 +26,13 @@ use Rattle.marks.specs.Splits.{split-agree}
 use Rattle.marks.specs.Fewest.{Known, shallow-agree}
 use Rattle.trees.specs.Trees.{WiringOf, EachGate}
 use Rattle.trees.specs.Classes.{Few}
-use Rattle.trees.specs.Members.{member-inside, whole-below, size-whole, size-le}
-use Rattle.trees.specs.MarkRule.{marked, marks-length}
+use Rattle.trees.specs.Members.{member-inside, size-le}
+use Rattle.trees.specs.MarkRule.{marked}
 use Rattle.trees.specs.MarkTwo.{Split, Splits, settled-splits, wiring-of, wiring-agree, each-gate, two-says}
 use Rattle.trees.specs.Fillings.{Fillable, wiring-fillable}
 use Rattle.trees.specs.Existence.{filled-computes}
+use Rattle.trees.specs.LeafGroup.{leaves-below, leaves-hold, leaves-several}
+use Rattle.trees.specs.CutWirings.{leaves-marked}
 use Rattle.trees.specs.Shallow.{shallowPart, shallow-splits}
 use Rattle.wirings.specs.declared.choice.Choice.{Choice}
 use Rattle.wirings.specs.declared.choice.Choice.the-variants.{Settled, Shallow}
@@ -48,7 +51,6 @@ gatesBy Shallow m n f = shallowGates m n f (marksOf m n f)
 pub record NetOf (m n : ℕ) (gates-are : List Gate) (net : Net) : Type 0 where
   pub levels : net .levels ≡ m
   pub inputs : net .inputs ≡ n
-  pub count : net .gates + 1 ≡ n
   pub gates : gatesOf net ≡ gates-are
   -- references back, none twice, m·m digits below m
   pub kept : IsNet m n (gatesOf net)
@@ -56,25 +58,32 @@ pub record NetOf (m n : ℕ) (gates-are : List Gate) (net : Net) : Type 0 where
 abbrev pub MadeNet : Choice → ℕ → ℕ → (ℕ → ℕ) → Net → Type 0
 MadeNet choice m n f net = NetOf m n (gatesBy choice m n f) net
 
--- ---- a wiring of all inputs with few classes at each gate
+-- what a size within the bounds has: a level, and two inputs
+pub some-level : (m n : ℕ) → sizeFits m n ≡ true → 0 < m
+some-level m n fit = omega (arith, sized m n fit .levels-least)
 
-module _ (m n : ℕ) (f : ℕ → ℕ) (fit : sizeFits m n ≡ true) (tree : rules.Wiring) (of : WiringOf n (wholeGroup n) tree) (few : EachGate (Few m n f) tree)
-    (w : Wiring) (count : w .gates + 1 ≡ n) (links : linksIn w ≡ linksOf n 0 tree) where
+pub two-inputs : (m n : ℕ) → sizeFits m n ≡ true → 1 < n
+two-inputs m n fit = omega (arith, sized m n fit .inputs-least)
+
+-- ---- a wiring of the leaves with few classes at each gate
+
+module _ (m n : ℕ) (f : ℕ → ℕ) (fit : sizeFits m n ≡ true) (tree : rules.Wiring) (of : WiringOf n (leavesOf m n f) tree) (few : EachGate (Few m n f) tree)
+    (w : Wiring) (links : linksIn w ≡ linksOf n 0 tree) where
   -- can be filled, ..
   pub wiring-fills : Fillable m n f (inputGroups n) (linksIn w)
-  wiring-fills = subst⁻¹ (Fillable m n f (inputGroups n)) links (wiring-fillable m n (omega (arith, sized m n fit .levels-least)) f tree (of .0) few)
+  wiring-fills = subst⁻¹ (Fillable m n f (inputGroups n)) links (wiring-fillable m n (some-level m n fit) f tree (of .0) few)
 
   -- .. and filled it is the net of its gates
   pub wiring-net : ((p : ℕ) → p < m ^ n → f p < m) → (net : Net) → Filled m n f w net → NetOf m n (filled m n f (linksOf n 0 tree)) net
   wiring-net inks net done =
+      let pos = some-level m n fit in
       let is : gatesOf net ≡ filled m n f (linksOf n 0 tree) = done .gates ∙ ap (filled m n f) links in
       record {
         levels = done .levels;
         inputs = done .inputs;
-        count = ap (λ (k : ℕ). k + 1) (done .count) ∙ count;
         gates = is;
         kept = subst⁻¹ (IsNet m n) is
-            (filled-computes m n (omega (arith, sized m n fit .levels-least)) (omega (arith, sized m n fit .inputs-least)) f tree of few inks .0);
+            (filled-computes m n pos f (leavesOf m n f) (leaves-several m n pos f (two-inputs m n fit)) tree of (leaves-hold m n pos f) few inks .0);
       }
 
 -- ---- the marks in an array, and the fewest layers
@@ -94,9 +103,10 @@ abbrev pub LayersKnown : Choice → ℕ → List ℕ → List ℕ → Type 0
 LayersKnown Settled n marks fewest = Unit {0}
 LayersKnown Shallow n marks fewest = (2 ^ n ≤ length fewest) × Known n marks (2 ^ n) fewest
 
-pub layers-room : (choice : Choice) (n : ℕ) (marks fewest : List ℕ) → LayersKnown choice n marks fewest → LayersRoom choice (wholeGroup n) fewest
-layers-room Settled n marks fewest known = tt
-layers-room Shallow n marks fewest known = omega (arith, whole-below n, known .0)
+pub layers-room : (choice : Choice) (n : ℕ) (marks fewest : List ℕ) → LayersKnown choice n marks fewest → (leaves : ℕ) → leaves < 2 ^ n
+    → LayersRoom choice leaves fewest
+layers-room Settled n marks fewest known leaves leaves< = tt
+layers-room Shallow n marks fewest known leaves leaves< = omega (arith, known .0)
 
 -- ---- a choice on the marks themselves
 
@@ -105,11 +115,12 @@ abbrev ownSplit : Choice → ℕ → List ℕ → ℕ → ℕ
 ownSplit Settled n marks = splitOf n marks
 ownSplit Shallow n marks = shallowPart n marks
 
--- the wiring of all inputs
-abbrev ownWiring : Choice → ℕ → List ℕ → rules.Wiring
-ownWiring choice n marks = wiringBy n (ownSplit choice n marks) n (wholeGroup n)
+-- the wiring of some leaves
+abbrev ownWiring : Choice → ℕ → List ℕ → ℕ → rules.Wiring
+ownWiring choice n marks leaves = wiringBy n (ownSplit choice n marks) n leaves
 
-own-gates : (choice : Choice) (m n : ℕ) (f : ℕ → ℕ) → filled m n f (linksOf n 0 (ownWiring choice n (marksOf m n f))) ≡ gatesBy choice m n f
+own-gates : (choice : Choice) (m n : ℕ) (f : ℕ → ℕ)
+    → filled m n f (linksOf n 0 (ownWiring choice n (marksOf m n f) (leavesOf m n f))) ≡ gatesBy choice m n f
 unfolding settledGates settledWiring shallowGates shallowWiring
 own-gates Settled m n f = refl
 own-gates Shallow m n f = refl
@@ -122,13 +133,13 @@ module _ (choice : Choice) (m n : ℕ) (pos : 0 < m) (f : ℕ → ℕ) where
     | Shallow ↦ shallow-splits m n pos f
   ]
 
-  -- so the wiring of all inputs has few classes at each gate
-  own-wiring-of : marked m n pos f (wholeGroup n) ≡ 2
-      → WiringOf n (wholeGroup n) (ownWiring choice n (marksOf m n f)) × EachGate (Few m n f) (ownWiring choice n (marksOf m n f))
-  own-wiring-of two =
-      let w = wiring-of n (marked m n pos f) (wholeGroup n) (ownSplit choice n (marksOf m n f)) (own-splits (wholeGroup n)) n (wholeGroup n) (whole-below n)
-      (member-inside n (wholeGroup n) (wholeGroup n) (λ i i< is. is)) (size-le n (wholeGroup n)) two in
-      (w .0, each-gate n (ownWiring choice n (marksOf m n f)) (λ g g< two-g. two-says m n pos f g g< two-g .few) (w .0 .0) (w .1))
+  -- so the wiring of leaves of mark 2 has few classes at each gate
+  own-wiring-of : (leaves : ℕ) → leaves < 2 ^ n → marked m n pos f leaves ≡ 2
+      → WiringOf n leaves (ownWiring choice n (marksOf m n f) leaves) × EachGate (Few m n f) (ownWiring choice n (marksOf m n f) leaves)
+  own-wiring-of leaves leaves< two =
+      let w = wiring-of n (marked m n pos f) leaves (ownSplit choice n (marksOf m n f)) (own-splits leaves) n leaves leaves<
+      (member-inside n leaves leaves (λ i i< is. is)) (size-le n leaves) two in
+      (w .0, each-gate n (ownWiring choice n (marksOf m n f) leaves) (λ g g< two-g. two-says m n pos f g g< two-g .few) (w .0 .0) (w .1))
 
 -- ---- the same choice on the marks in an array
 
@@ -172,34 +183,45 @@ module _ (choice : Choice) (m n : ℕ) (pos : 0 < m) (f : ℕ → ℕ) (marks fe
         splits = λ g g< g-in two-g several. split-found g g< two-g several;
       }
 
-  -- .. and the wiring of all inputs is the one from the marks themselves
-  wiring-found : marked m n pos f (wholeGroup n) ≡ 2 → wiringBy n found n (wholeGroup n) ≡ ownWiring choice n (marksOf m n f)
-  wiring-found two =
-      sym (wiring-agree n (marked m n pos f) (wholeGroup n) own (own-splits choice m n pos f (wholeGroup n)) found
-      (λ g g< two-g. sym (found-own g g< (holds .same g g< ∙ two-g))) n (wholeGroup n) (whole-below n)
-      (member-inside n (wholeGroup n) (wholeGroup n) (λ i i< is. is)) two)
+  -- .. and its wiring is the one from the marks themselves
+  wiring-found : (leaves : ℕ) → leaves < 2 ^ n → marked m n pos f leaves ≡ 2 → wiringBy n found n leaves ≡ ownWiring choice n (marksOf m n f) leaves
+  wiring-found leaves leaves< two =
+      sym (wiring-agree n (marked m n pos f) leaves own (own-splits choice m n pos f leaves) found
+      (λ g g< two-g. sym (found-own g g< (holds .same g g< ∙ two-g))) n leaves leaves<
+      (member-inside n leaves leaves (λ i i< is. is)) two)
 
 -- ---- the net
+
+-- the leaves have mark 2 where the whole group has
+pub leaves-two : (m n : ℕ) (fit : sizeFits m n ≡ true) (f : ℕ → ℕ) → markIn (marksOf m n f) (wholeGroup n) ≡ 2
+    → marked m n (some-level m n fit) f (leavesOf m n f) ≡ 2
+leaves-two m n fit f two = leaves-marked m n (some-level m n fit) f (two-inputs m n fit) .1 two
 
 -- the wiring that is chosen for a table that has a tree
 module _ (choice : Choice) (m n : ℕ) (f : ℕ → ℕ) (fit : sizeFits m n ≡ true) (two : markIn (marksOf m n f) (wholeGroup n) ≡ 2) (marks fewest : List ℕ)
     (holds : MarksIn m n f marks) (known : LayersKnown choice n marks fewest) (w : Wiring)
-    (chosen : Chosen n (splitBy choice n marks fewest) (wholeGroup n) w) where
+    (chosen : Chosen n (splitBy choice n marks fewest) (leavesOf m n f) w) where
   pos : 0 < m
-  pos = omega (arith, sized m n fit .levels-least)
+  pos = some-level m n fit
 
-  links-are : linksIn w ≡ linksOf n 0 (ownWiring choice n (marksOf m n f))
-  links-are = chosen .links ∙ ap (linksOf n 0) (wiring-found choice m n pos f marks fewest holds known two)
+  links-are : linksIn w ≡ linksOf n 0 (ownWiring choice n (marksOf m n f) (leavesOf m n f))
+  links-are =
+      chosen .links
+      ∙ ap (linksOf n 0) (wiring-found choice m n pos f marks fewest holds known (leavesOf m n f) (leaves-below m n pos f) (leaves-two m n fit f two))
 
-  pub chosen-count : w .gates + 1 ≡ n
-  chosen-count = chosen .count ∙ size-whole n
+  tree-of : WiringOf n (leavesOf m n f) (ownWiring choice n (marksOf m n f) (leavesOf m n f))
+      × EachGate (Few m n f) (ownWiring choice n (marksOf m n f) (leavesOf m n f))
+  tree-of = own-wiring-of choice m n pos f (leavesOf m n f) (leaves-below m n pos f) (leaves-two m n fit f two)
 
-  -- can be filled, ..
+  -- has fewer gates than there are inputs, ..
+  pub chosen-count : w .gates < n
+  chosen-count = omega (arith, chosen .count, size-le n (leavesOf m n f))
+
+  -- .. can be filled, ..
   pub chosen-fillable : Fillable m n f (inputGroups n) (linksIn w)
-  chosen-fillable = let of = own-wiring-of choice m n pos f two in wiring-fills m n f fit _ (of .0) (of .1) w chosen-count links-are
+  chosen-fillable = wiring-fills m n f fit _ (tree-of .0) (tree-of .1) w links-are
 
   -- .. and filled it is the net that the choice makes
   pub chosen-made : ((p : ℕ) → p < m ^ n → f p < m) → (net : Net) → Filled m n f w net → MadeNet choice m n f net
   chosen-made inks net done =
-      let of = own-wiring-of choice m n pos f two in
-      subst (λ (gates : List Gate). NetOf m n gates net) (own-gates choice m n f) (wiring-net m n f fit _ (of .0) (of .1) w chosen-count links-are inks net done)
+      subst (λ (gates : List Gate). NetOf m n gates net) (own-gates choice m n f) (wiring-net m n f fit _ (tree-of .0) (tree-of .1) w links-are inks net done)

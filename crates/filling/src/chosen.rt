@@ -1,4 +1,4 @@
-// The net that a choice of parts makes of a table: its wiring of all inputs, filled.
+// The net that a choice of parts makes of a table: its wiring of the table's leaves, filled.
 ghost use mathlib.Core.Path.{_≡_};
 ghost use mathlib.Core.Bool.{true};
 ghost use Prim.Native.Nat.{ℕ, _^_, _≤_, _<_};
@@ -9,8 +9,8 @@ ghost use Rattle.rules.specs.Marks.{markIn, marksOf};
 ghost use Rattle.rules.specs.Answers.{inkIn};
 ghost use Rattle.filling.specs.MadeNet.{LayersKnown, MarksIn, MadeNet};
 use crate::fill;
+use leaves::group;
 use nets::forms;
-use radix::powers;
 use wirings::choice::Choice;
 use wirings::choose;
 
@@ -28,6 +28,6 @@ pub fn chosen_net(
         × (LayersKnown choice n (now marks) (now fewest)) ⌝ }
     ensures { λ r. ⌜ MadeNet choice m n (inkIn (now (cells .entry))) r ⌝ }
 {
-    let wiring = choose::choose(choice, n, marks, fewest, powers::power(2, n) - 1);
+    let wiring = choose::choose(choice, n, marks, fewest, group::leaves(m, n, cells));
     fill::fill(m, n, cells, wiring)
 }

@@ -137,6 +137,12 @@ module _ {A : Type 0} (test : A → Bool) where
   none-mem (List·Memᴰ·head {x = z} {xs} e) h = ap test e ∙ none-iff z xs .0 h .0
   none-mem (List·Memᴰ·tail {x = z} {xs} i) h = none-mem i (none-iff z xs .0 h .1)
 
+  -- .. and the other way round; ..
+  pub mem-none : (xs : List A) → ((x : A) → List·Memᴰ x xs → test x ≡ false) → any test xs ≡ false
+  unfolding any
+  mem-none [] h = refl
+  mem-none (x ∷ xs) h = none-iff x xs .1 (h x (List·Memᴰ·head refl), mem-none xs (λ z i. h z (List·Memᴰ·tail i)))
+
   -- .. and one that passes is enough
   pub mem-any : {x : A} {xs : List A} → List·Memᴰ x xs → test x ≡ true → any test xs ≡ true
   mem-any {xs} i h = not-false-true (any test xs) (λ e. true≢false (sym h ∙ none-mem i e))

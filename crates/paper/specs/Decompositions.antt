@@ -2,16 +2,15 @@
 -- and n inputs and every group X of the inputs. Y is the others.
 -- Assumes nothing.
 use Prim.Native.Nat.{ℕ, _+_, _^_, _≤_, _<_}
-use mathlib.Core.Path.{_≡_, refl, sym, ap, _∙_, _≡⟨_⟩_, _∎}
+use mathlib.Core.Path.{_≡_, sym, ap, _∙_, _≡⟨_⟩_, _∎}
 use mathlib.Core.Logic.{_↔_}
-use mathlib.Core.Bool.{Bool, true, false, cond}
 use native.Mathlib.Nat.{add-comm, lt-of-lt-of-le}
 use lib.ListN.{getD}
-use Rattle.rules.specs.Groups.{member, part, others, classes, multiplicity}
+use Rattle.rules.specs.Groups.{part, others, classes, multiplicity}
 use Rattle.rules.specs.Filling.{classNumber}
 use Rattle.trees.specs.Trees.{mix, Alike, Tells}
 use Rattle.trees.specs.Members.{others-below}
-use Rattle.trees.specs.Levels.{part-mix, level-ext, mix-below, level-mix}
+use Rattle.trees.specs.Levels.{part-mix, mix-below, mix-self}
 use Rattle.trees.specs.Points.{points-are-parts}
 use Rattle.trees.specs.Classes.{alike-class, class-below, class-listed, class-part, classes-are-points, few-classes}
 use Rattle.paper.specs.PartitionMatrix.{columnMultiplicity, rowMultiplicity, column-multiplicity, row-multiplicity, others-others}
@@ -43,16 +42,6 @@ abbrev pub Labels : ℕ → ℕ → (ℕ → ℕ) → ℕ → (ℕ → ℕ) → 
 Labels m n f x g = (p q : ℕ) → Alike m n f x p q → g (part m n x p) ≡ g (part m n x q)
 
 module _ (m n : ℕ) (pos : 0 < m) (x : ℕ) (x< : x < 2 ^ n) where
-  -- an index is a mix with itself
-  mix-self : (p : ℕ) → p < m ^ n → mix m n x p p ≡ p
-  mix-self p p< =
-      level-ext m n pos (mix m n x p p) p (mix-below m n pos x p p x<) p<
-      (λ i h. rw (level-mix m n pos x p p i x< h) (either (member i x)))
-    where
-      either : (b : Bool) {k : ℕ} → cond b k k ≡ k
-      either true = refl
-      either false = refl
-
   -- a mix over x is one over the others, the other way round
   mix-others : (p y : ℕ) → mix m n (others n x) y p ≡ mix m n x p y
   unfolding mix
@@ -85,7 +74,7 @@ module _ (m n : ℕ) (pos : 0 < m) (f : ℕ → ℕ) (x : ℕ) (x< : x < 2 ^ n) 
 
   -- so F is to be the ink at a column's first assignment, and the levels of Y
   pub class-equation : (p : ℕ) → p < m ^ n → f p ≡ f (listed m n f x (classNumber m n f x (part m n x p)) + part m n (others n x) p)
-  class-equation p h = rw (class-part m n pos f x x< p) (sym (ap f (mix-self m n pos x x< p h)) ∙ by-class p p)
+  class-equation p h = rw (class-part m n pos f x x< p) (sym (ap f (mix-self m n pos x p x< h)) ∙ by-class p p)
 
   -- with at most k classes, the labels are below k
   pub label-below : {k : ℕ} → multiplicity m n f x ≤ k → (p : ℕ) → classNumber m n f x p < k

@@ -135,6 +135,15 @@ module _ (m n : ℕ) (pos : 0 < m) where
   pub level-mix-out : (g p y i : ℕ) → g < 2 ^ n → i < n → member i g ≡ false → level m n (mix m n g p y) i ≡ level m n y i
   level-mix-out g p y i g< h e = rw (level-mix, e)
 
+  -- an index is a mix with itself
+  pub mix-self : (g p : ℕ) → g < 2 ^ n → p < m ^ n → mix m n g p p ≡ p
+  mix-self g p g< p< =
+      level-ext m n pos (mix m n g p p) p (mix-below g p p g<) p< (λ i h. rw (level-mix g p p i g< h) (either (member i g)))
+    where
+      either : (b : Bool) {k : ℕ} → cond b k k ≡ k
+      either true = refl
+      either false = refl
+
   pub part-whole : (p : ℕ) → p < m ^ n → part m n (wholeGroup n) p ≡ p
   part-whole p p< = level-ext m n pos (part m n (wholeGroup n) p) p (part-below (wholeGroup n) p) p< (λ i h. level-part-in (wholeGroup n) p i h (member-whole i n h))
 

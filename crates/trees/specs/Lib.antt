@@ -6,6 +6,7 @@ pub mod GroupSum
 pub mod Levels
 pub mod Points
 pub mod Alike
+pub mod Neighbours
 pub mod Differences
 pub mod Firsts
 pub mod Classes

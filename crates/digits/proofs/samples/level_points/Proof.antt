@@ -10,7 +10,7 @@ use lib.ListN.{length, take, set, length-set}
 use lib.Seq.{take-suc-set}
 use Rattle.rules.specs.Lists.{range}
 use Rattle.laws.specs.Ranges.{map-range-suc}
-use Rattle.digits.specs.Samples.{levelPoints}
+use Rattle.trees.specs.Neighbours.{levelPoints}
 use Rattle.digits.proofs.samples.level_points.Statement.{statement}
 use Rattle.digits.proofs.samples.level_points.Tie as tie
 

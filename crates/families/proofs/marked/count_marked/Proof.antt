@@ -1,23 +1,21 @@
 -- `families::marked::count_marked` meets its contract. Assumes nothing.
 use Prim.Native.Nat.{ℕ, _-_}
-use mathlib.Core.Path.{_≡_, ap, subst, subst⁻¹}
+use mathlib.Core.Path.{_≡_, subst, subst⁻¹}
 use mathlib.Core.Logic.{inl}
 use mathlib.Core.List.{List}
 use native.Mathlib.Omega.{arith}
 use borrow.Author.Needs.{needs}
 use lib.ListN.{take}
-use lib.Pow.{pow-pos}
-use Rattle.rules.specs.Groups.{wholeGroup}
 use Rattle.rules.specs.Marks.{marksOf}
 use Rattle.rules.specs.Answers.{inkIn}
 use Rattle.laws.specs.Sizes.{sized}
 use Rattle.lines.specs.Put.{put-wrote}
 use Rattle.numbering.specs.Counts.{CountsKept, Countable}
-use Rattle.families.specs.Marked.{marks-front, whole-countable, whole-counted}
+use Rattle.families.specs.Marked.{marks-front, leaves-countable, leaves-counted}
 use Rattle.families.proofs.marked.count_marked.Statement.{statement}
 use Rattle.families.proofs.marked.count_marked.Tie as tie
 
--- the start, the copy of the inks, the marks, the number of the groups and their count, each from the next
+-- the start, the copy of the inks, the marks, the number of the groups, the leaves and the count, each from the next
 abbrev at-start : tie.After-copy → tie.Start
 at-start c = c .before .before .before .before .before .before .before
 
@@ -27,8 +25,11 @@ at-copy c = c .before .before .before .before .before
 abbrev at-marks : tie.After-power → tie.After-mark-and-store
 at-marks c = c .before .before .before .before .before
 
+abbrev at-leaves : tie.After-group-count-arg2 → tie.After-leaves
+at-leaves c = c .before .before .before
+
 abbrev at-power : tie.After-group-count-arg2 → tie.After-power
-at-power c = c .before .before .before
+at-power c = at-leaves c .before
 
 abbrev at-count : tie.After-slice-known8 → tie.After-group-count
 at-count c = c .before .before
@@ -52,11 +53,6 @@ module _ (c : tie.After-power) where
   is-own : own ≡ marksOf (start .args .m) (start .args .n) f
   is-own = marks-front (start .args .m) (start .args .n) (start .pre .0) f _ (at-marks c .mark-and-store .ensures .own .front) (c .power .result) (c .power .ensures)
 
-  -- the number that is passed is the whole group's
-  whole : c .power .result - 1 ≡ wholeGroup (start .args .n)
-  unfolding wholeGroup
-  whole = ap (λ (k : ℕ). k - 1) (c .power .ensures)
-
 copy-requires : tie.Need-copy-requires
 copy-requires c κs = search needs
 
@@ -68,6 +64,9 @@ power-requires c κs =
     let s = marks-start (c .before .before .before .before) in
     omega (arith, sized (s .args .m) (s .args .n) (s .pre .0) .inputs-most)
 
+leaves-requires : tie.Need-leaves-requires
+leaves-requires c κs = search needs
+
 sub-group-count : tie.Need-sub-group-count
 sub-group-count c = search needs
 
@@ -77,15 +76,12 @@ part-group-count-start c = search needs
 part-group-count-end : tie.Need-part-group-count-end
 part-group-count-end c = search needs
 
-sub-group-count-2 : tie.Need-sub-group-count-2
-sub-group-count-2 c = omega (arith, at-power c .power .ensures, pow-pos (start (at-power c) .args .n))
-
 group-count-requires : tie.Need-group-count-requires
 group-count-requires c κs =
     let power = at-power c in
     let s = start power in
-    subst⁻¹ (Countable (own power) (s .args .counts .now)) (whole power)
-    (whole-countable (s .args .m) (s .args .n) (s .pre .0) (f power) (own power) (s .args .counts .now) (is-own power) (s .pre .5) (λ g. inl (s .pre .6 g)))
+    subst⁻¹ (Countable (own power) (s .args .counts .now)) (at-leaves c .leaves .ensures)
+    (leaves-countable (s .args .m) (s .args .n) (s .pre .0) (f power) (own power) (s .args .counts .now) (is-own power) (s .pre .5) (λ g. inl (s .pre .6 g)))
 
 same-length : tie.Need-same-length
 same-length c = search needs
@@ -106,7 +102,7 @@ returns c =
     let s = start power in
     let did = at-marks power .mark-and-store in
     record {
-      count = whole-counted (s .args .m) (s .args .n) (s .pre .0) (f power) (own power) (is-own power) _ (whole power) (found .group-count .result) _ (found .group-count .ensures);
+      count = leaves-counted (s .args .m) (s .args .n) (s .pre .0) (f power) (own power) (is-own power) _ (at-leaves (found .before) .leaves .ensures) (found .group-count .result) _ (found .group-count .ensures);
       copied = put-wrote (s .pre .2) (at-copy (at-marks power) .copy .ensures) .text;
       front = did .ensures .own .front;
       marked = did .ensures .buffer;
@@ -120,10 +116,10 @@ count-marked-spec =
     copy-requires
     mark-and-store-requires
     power-requires
+    leaves-requires
     sub-group-count
     part-group-count-start
     part-group-count-end
-    sub-group-count-2
     group-count-requires
     same-length
     same-length-2

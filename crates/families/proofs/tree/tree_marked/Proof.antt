@@ -11,7 +11,7 @@ use Rattle.rules.specs.Marks.{marksOf}
 use Rattle.rules.specs.Answers.{inkIn}
 use Rattle.synthesis.specs.Outcomes.{given-size, given-count, given-below, made-inside, made-short}
 use Rattle.numbering.specs.Counts.{CountsKept}
-use Rattle.families.specs.Marked.{none-known, groups-room, marks-front, whole-countable}
+use Rattle.families.specs.Marked.{none-known, groups-room, marks-front, leaves-countable}
 use Rattle.families.specs.Outcomes.{order-past, order-tree}
 use Rattle.families.proofs.tree.tree_marked.Statement.{statement}
 use Rattle.families.proofs.tree.tree_marked.Tie as tie
@@ -105,7 +105,7 @@ family-net-requires c κs =
       le-of-eq (sym (given-count _ _ _ (start .pre .0))),
       given-below _ _ _ (start .pre .0),
       is-own,
-      whole-countable (h .levels) (h .inputs) size f own (did .last .1 .1 .1 .1 .1 .1 .0) is-own (omega (arith, groups-room _ _ size, long)) kept,
+      leaves-countable (h .levels) (h .inputs) size f own (did .last .1 .1 .1 .1 .1 .1 .0) is-own (omega (arith, groups-room _ _ size, long)) kept,
       omega (arith, test .if1 .left, did .ensures .count),
     )
 
