@@ -59,3 +59,5 @@ pub mod Covers
 pub mod Reps
 pub mod Told
 pub mod TakenOff
+pub mod SameTests
+pub mod Renaming
