@@ -31,7 +31,8 @@ use Rattle.trees.specs.Wirings.{group-below}
 use Rattle.trees.specs.Forest.{joined, withTrees, inputTrees, trees-length, inputs-length}
 use Rattle.trees.specs.NetTree.{net-tree, netWiring, net-uses}
 use Rattle.trees.specs.UsedOnce.{listed-used, used-listed, used-inputs-length}
-use Rattle.trees.specs.Layers.{gates-ways, depth, net-layers}
+use Rattle.trees.specs.Depths.{depth}
+use Rattle.trees.specs.Layers.{gates-ways, net-layers}
 
 -- the largest of one number
 most-one : (k : ℕ) → most (k ∷ []) ≡ k

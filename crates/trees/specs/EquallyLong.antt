@@ -7,7 +7,7 @@ use native.Mathlib.Omega.{arith}
 use lib.ListN.{length, length-append, length-map}
 use Rattle.rules.specs.Lists.{range, concatMap, total}
 use Rattle.rules.specs.Sheets.{Header, Gate, Net, referenceText, usedBy}
-use Rattle.rules.specs.Printed.{line, firstLines, printedGate, printedNet}
+use Rattle.rules.specs.Printed.{line, printedGate, printedNet}
 use Rattle.rules.specs.Kept.{GateTable, Tables, IsNet, KeptNet}
 use Rattle.rules.specs.Arrivals.{usedInputs}
 use Rattle.trees.specs.UsedOnce.{used-sum, used-inputs-length}

@@ -9,11 +9,11 @@ use mathlib.Core.Bool.{true, true≢false}
 use mathlib.Core.List.{List}
 use native.Mathlib.Omega.{arith}
 use Rattle.rules.specs.Sheets.{Gate}
-use Rattle.rules.specs.Groups.{member, part, size, wholeGroup}
+use Rattle.rules.specs.Groups.{part, size, wholeGroup}
 use Rattle.rules.specs.Marks.{markIn, marksOf}
 use Rattle.rules.specs.Wirings.{Wiring, input, gate, groupOf, gatesIn, linksOf}
 use Rattle.rules.specs.Filling.{filled}
-use Rattle.rules.specs.Leaves.{matters, leavesOf}
+use Rattle.rules.specs.Leaves.{leavesOf}
 use Rattle.rules.specs.Settled.{settledWiring, settledGates}
 use Rattle.rules.specs.Kept.{IsNet}
 use Rattle.laws.specs.Tests.{not-false-true}
@@ -21,12 +21,13 @@ use Rattle.trees.specs.Trees.{Tree, wiringIn, treeValue, mix, Tells, Eac
 use Rattle.trees.specs.Levels.{mix-below, part-mix, part-ext}
 use Rattle.trees.specs.NetTree.{net-tree, netWiring, netGroup, net-group-below, UsesJust}
 use Rattle.trees.specs.Classes.{Few}
-use Rattle.trees.specs.Wirings.{group-below, gates-in-size, tree-part, necessity, fill-filled, fill-computes}
+use Rattle.trees.specs.Wirings.{group-below, group-some, gates-in-size, tree-part, necessity, fill-filled, fill-computes}
 use Rattle.trees.specs.Fillings.{filled-net, filled-uses, filled-value}
 use Rattle.trees.specs.MarkRule.{marked}
 use Rattle.trees.specs.MarkTwo.{wiring-mark, settled-wiring-of}
 use Rattle.trees.specs.Mattering.{Holding, matters-differ}
 use Rattle.trees.specs.LeafGroup.{leaves-below, leaves-hold, leaves-several}
+use Rattle.trees.specs.CutWirings.{holding-marked, leaves-marked}
 
 -- some net of m levels and n inputs has the table
 abbrev pub TreeExists : ℕ → ℕ → (ℕ → ℕ) → Type 0
@@ -80,6 +81,12 @@ module _ (m n : ℕ) (pos : 0 < m) (f : ℕ → ℕ) where
     pub net-holds : Holding m n pos f (netGroup m n gates net)
     net-holds = let t = net-tree m n gates net in computes-holds (t .tree) (t .once) has-tree
 
+    -- its leaves have mark 2, and so have all inputs together
+    pub net-marks : marked m n pos f (wholeGroup n) ≡ 2
+    net-marks =
+        holding-marked m n pos f (netGroup m n gates net) (group-some (netWiring m n gates net)) (net-group-below m n gates net) net-holds .0
+        (wiring-mark m n pos f (netWiring m n gates net) (net-tree m n gates net .once) net-few)
+
   -- ---- what suffices
 
   -- a wiring of a group with two or more members that has every input that matters, with few classes at each gate: its filling is a net, ..
@@ -100,3 +107,47 @@ module _ (m n : ℕ) (pos : 0 < m) (f : ℕ → ℕ) where
     -- .. and uses just the group's inputs
     pub filled-leaves : UsesJust n (filled m n f (linksOf n 0 w)) g
     filled-leaves = rw (of .1) at (filled-uses m n f w (of .0) (several-gates n g w of several))
+
+-- ---- the settled net
+
+-- a net on just the table's leaves has the table
+abbrev pub LeafTree : ℕ → ℕ → (ℕ → ℕ) → Type 0
+LeafTree m n f = (gates : List Gate) × IsNet m n gates × Computes m n gates f × UsesJust n gates (leavesOf m n f)
+
+module _ (m n : ℕ) (pos : 0 < m) (several : 1 < n) (f : ℕ → ℕ) where
+  -- the leaves' settled wiring, where the whole group has mark 2
+  settled-of : marked m n pos f (wholeGroup n) ≡ 2 →
+      let w = settledWiring n (marksOf m n f) (leavesOf m n f) in
+      WiringOf n (leavesOf m n f) w × EachGate (Few m n f) w
+  settled-of two = settled-wiring-of m n pos f (leavesOf m n f) (leaves-below m n pos f) (leaves-marked m n pos f several .1 two)
+
+  -- Mark 2 at the whole group: the settled net is a net, and has the table, ..
+  pub settled-net : ((p : ℕ) → p < m ^ n → f p < m) → marked m n pos f (wholeGroup n) ≡ 2
+      → IsNet m n (settledGates m n f (marksOf m n f)) × Computes m n (settledGates m n f (marksOf m n f)) f
+  unfolding settledGates
+  settled-net inks two =
+      let w = settled-of two in
+      filled-computes m n pos f (leavesOf m n f) (leaves-several m n pos f several) (settledWiring n (marksOf m n f) (leavesOf m n f)) (w .0)
+      (leaves-hold m n pos f) (w .1) inks
+
+  -- .. and "has just the inputs that matter as leaves", made up to two
+  pub settled-leaves : marked m n pos f (wholeGroup n) ≡ 2 → UsesJust n (settledGates m n f (marksOf m n f)) (leavesOf m n f)
+  unfolding settledGates
+  settled-leaves two =
+      filled-leaves m n pos f (leavesOf m n f) (leaves-several m n pos f several) (settledWiring n (marksOf m n f) (leavesOf m n f)) (settled-of two .0)
+
+  -- "A tree exists exactly when the whole group has mark 2.", ..
+  pub tree-exists : ((p : ℕ) → p < m ^ n → f p < m) → TreeExists m n f ↔ (markIn (marksOf m n f) (wholeGroup n) ≡ 2)
+  tree-exists inks = (
+    λ t. net-marks m n pos f (t .0) (t .1) (t .2),
+    λ two. (settledGates m n f (marksOf m n f), settled-net inks two .0, settled-net inks two .1),
+  )
+
+  -- .. and exactly when one stands on just the leaves (document 02, K12)
+  pub leaf-tree-exists : ((p : ℕ) → p < m ^ n → f p < m) → TreeExists m n f ↔ LeafTree m n f
+  leaf-tree-exists inks = (
+    λ t.
+        let two = tree-exists inks .0 t in
+        (settledGates m n f (marksOf m n f), settled-net inks two .0, settled-net inks two .1, settled-leaves two),
+    λ t. (t .0, t .1, t .2),
+  )

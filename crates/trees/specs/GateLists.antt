@@ -11,7 +11,7 @@ use Rattle.rules.specs.Value.{value}
 use Rattle.rules.specs.Wirings.{Wiring, input, gate, groupOf, gatesIn, referenceTo}
 use Rattle.rules.specs.Filling.{gateDigits}
 use Rattle.rules.specs.Kept.{IsNet}
-use Rattle.trees.specs.Trees.{Tree, wiringIn, EachOnce, Filled, treeValue, fill}
+use Rattle.trees.specs.Trees.{wiringIn, EachOnce, Filled, treeValue, fill}
 use Rattle.trees.specs.NetTree.{UsesJust}
 use Rattle.trees.specs.TreeLists.{treeGates, lines-use, tree-net, tree-net-value}
 

@@ -1,50 +1,59 @@
--- "refused with 23 exactly when no filling of that wiring computes the table" (document 02, K10): for any net, whatever its line order and its sides, some
--- digits at its gates compute the table exactly when each gate's group has at most m classes, and then the class rule's do.
+-- "refused with 23 exactly when no filling of that wiring computes the table" (document 02, K10): for any net, whatever its leaves, its line order and its
+-- sides, some digits at its gates compute the table exactly when every input that matters is used (document 02, K12) and each gate's group has at most m
+-- classes, and then the class rule's do.
 -- Assumes nothing.
 use Prim.Native.Nat.{ℕ, suc, _+_, _-_, _^_, _≤_, _<_}
-use mathlib.Core.Path.{_≡_, refl, sym, ap, ap₂, _∙_, subst, subst⁻¹}
-use mathlib.Core.Logic.{_↔_, ⊎-elim}
-use mathlib.Core.Bool.{Bool, true, false}
+use mathlib.Core.Path.{_≡_, refl, sym, ap, _∙_, subst⁻¹}
+use mathlib.Core.Logic.{_↔_, _⊎_, inl, inr, ⊎-elim}
+use mathlib.Core.Bool.{Bool, true, false, not, _&&_, and-eq-true-iff, true≢false}
 use mathlib.Core.List.{List, [], _∷_, _++_, List·Memᴰ}
 use native.Mathlib.Nat.{lt-of-not-le, zero-add}
 use native.Mathlib.Decide.{decLt, decLe}
 use native.Mathlib.Omega.{arith}
 use lib.ListN.{length, getD, length-map, List·getD-append}
 use lib.Seq.{getD-append-seam}
-use lib.Dec.{ltb, eqb·suc-zero}
-use borrow.Author.Tests.{ltb-true, ltb-false, lt-ltb}
-use Rattle.rules.specs.Sheets.{Gate, level, levelsAt}
+use lib.Dec.{eqb, ltb, eqb·suc-zero}
+use borrow.Author.Tests.{ltb-true, ltb-false}
+use Rattle.rules.specs.Lists.{range, any, firstPlace}
+use Rattle.rules.specs.Sheets.{Gate, Net, Table, usedBy, level, levelsAt}
 use Rattle.rules.specs.Value.{gateValue, withGates, value}
-use Rattle.rules.specs.Groups.{part, wholeGroup, multiplicity}
-use Rattle.rules.specs.Wirings.{Wiring, input, gate, groupOf, Link}
+use Rattle.rules.specs.Groups.{part, multiplicity}
+use Rattle.rules.specs.Wirings.{Wiring, input, gate, Link}
 use Rattle.rules.specs.Filling.{carried, given, gateDigits, inputGroups, filledFrom, filled}
+use Rattle.rules.specs.Leaves.{matters}
 use Rattle.rules.specs.Family.{gateGroups}
-use Rattle.rules.specs.Keeping.{linkOf, gateLinks, keptGates, roomyGates}
+use Rattle.rules.specs.Answers.{inkIn}
+use Rattle.rules.specs.Keeping.{linkOf, gateLinks, keptGates, roomyGates, leavesOut}
 use Rattle.rules.specs.Kept.{RefersBack, Tables, IsNet}
-use Rattle.laws.specs.FirstPlaces.{before-first, at-first}
+use Rattle.laws.specs.Tests.{not-true-false, none-mem}
+use Rattle.laws.specs.FirstPlaces.{before-first, at-first, first-passing}
 use Rattle.laws.specs.Places.{length-snoc, mem-getD}
-use Rattle.laws.specs.Ranges.{map-range-length, map-range-at}
+use Rattle.laws.specs.Ranges.{mem-range, range-mem, map-range-length, map-range-at}
 use Rattle.trees.specs.Trees.{Tree, wiringIn, EachGate, Computes}
 use Rattle.trees.specs.Classes.{Few}
-use Rattle.trees.specs.Levels.{part-whole}
 use Rattle.trees.specs.Carried.{carried-several, carried-input}
 use Rattle.trees.specs.DigitRule.{Parts, join-several, gate-digit, gate-table}
 use Rattle.trees.specs.Wirings.{group-below}
 use Rattle.trees.specs.Homes.{grown-inputs, grown-gates}
 use Rattle.trees.specs.Forest.{treeAt, withTrees, joined, inputTrees, trees-length, inputs-length}
-use Rattle.trees.specs.NetTree.{TreeOf, net-tree, net-whole}
-use Rattle.trees.specs.Existence.{tree-few}
-use Rattle.trees.specs.Fillings.{linkGroup, withGroups, groups-earlier, groups-length, inputs-grouped, Fillable}
+use Rattle.trees.specs.NetTree.{net-tree, netWiring, netGroup, net-group-below, net-uses}
+use Rattle.trees.specs.Mattering.{Holding, holding-part}
+use Rattle.trees.specs.Existence.{net-few, net-holds}
+use Rattle.trees.specs.Fillings.{linkGroup, withGroups, inputs-grouped, Fillable}
 use Rattle.trees.specs.GateLinks.{treeGroup, groupsIn, group-at, groups-joined, inputs-in, gates-fillable}
 use Rattle.trees.specs.NormalWirings.{Joins, joins-cases, joins-none}
 use Rattle.trees.specs.GateGroups.{net-joins}
-use Rattle.trees.specs.KeptLinks.{same-net, gate-groups-length, gate-group-at, same-groups, filled-keeps, kept-links}
+use Rattle.trees.specs.KeptLinks.{same-used, same-net, gate-groups-length, gate-group-at, same-groups, filled-keeps, kept-links}
 
 -- A filling of a wiring that computes the table: the same left and right at every gate line, with any tables, so that the value is the ink at every assignment.
 pub record Filling (m n : ℕ) (f : ℕ → ℕ) (gates filling : List Gate) : Type 0 where
   pub wiring : gateLinks filling ≡ gateLinks gates
   pub tables : Tables m filling
   pub computes : Computes m n filling f
+
+-- every input that matters is used
+abbrev pub UsesMattering : ℕ → ℕ → (ℕ → ℕ) → List Gate → Type 0
+UsesMattering m n f gates = (i : ℕ) → i < n → matters m n f i ≡ true → any (eqb i) (usedBy gates) ≡ true
 
 -- the group of every gate has at most m classes
 abbrev pub GatesFew : ℕ → ℕ → (ℕ → ℕ) → List Gate → Type 0
@@ -177,17 +186,16 @@ group-small m n gates net r h =
     ∙ group-at forest r r<)
     (group-below n (wiringIn (treeAt forest r)) (grown .once r r<))
 
--- a net's last gate has all inputs below it
-last-whole : (m n : ℕ) (gates : List Gate) → 1 < n → IsNet m n gates
-    → getD (withGroups (inputGroups n) (gateLinks gates)) (n + length gates - 1) 0 ≡ wholeGroup n
-last-whole m n gates several net =
+-- a net's last gate has its leaves below it
+last-leaves : (m n : ℕ) (gates : List Gate) (net : IsNet m n gates)
+    → getD (withGroups (inputGroups n) (gateLinks gates)) (n + length gates - 1) 0 ≡ netGroup m n gates net
+last-leaves m n gates net =
     let forest : List Tree = withTrees (inputTrees n) gates in
     let at : ℕ = n + length gates - 1 in
     ap (λ (gs : List ℕ). getD (withGroups gs (gateLinks gates)) at 0) (sym (inputs-in n))
     ∙ ap (λ (gs : List ℕ). getD gs at 0) (groups-of-trees (inputTrees n) gates (rw inputs-length (net .rules .back)))
-    ∙ group-at forest at (omega (arith, trees-length (inputTrees n) gates, inputs-length n))
-    ∙ ap treeGroup (sym (net-tree m n gates several net .last))
-    ∙ net-whole m n gates several net
+    ∙ group-at forest at (omega (arith, net .some, trees-length (inputTrees n) gates, inputs-length n))
+    ∙ ap treeGroup (sym (net-tree m n gates net .last))
 
 -- what holds of every gate's group of a wiring holds of each group that it joins
 each-joined : (P : ℕ → Type 0) (w : Wiring) → EachGate P w → (h : ℕ) → Joins h w → P h
@@ -195,20 +203,63 @@ each-joined P (input i) each h is = absurd (joins-none h i is)
 each-joined P (gate a b) each h is =
     ⊎-elim (each-joined P a (each .1) h) (λ later. ⊎-elim (each-joined P b (each .2) h) (λ own. subst⁻¹ P own (each .0)) later) (joins-cases h a b is)
 
+-- ---- the inputs that are left out
+
+-- "A kept wiring that leaves out an input that matters" (document 02, K12), as the test
+abbrev leavesOutOf : ℕ → ℕ → (ℕ → ℕ) → List Gate → Bool
+leavesOutOf m n f gates = any (λ i. not (any (eqb i) (usedBy gates)) && matters m n f i) (range 0 n)
+
+-- it fails exactly where every input that matters is used
+out-none : (m n : ℕ) (f : ℕ → ℕ) (gates : List Gate) → (leavesOutOf m n f gates ≡ false) ↔ UsesMattering m n f gates
+out-none m n f gates = (
+  λ none i i< is. used (any (eqb i) (usedBy gates)) (matters m n f i) is (none-mem test (mem-range 0 n i (omega arith) (omega arith)) none),
+  λ uses. not-true-false (leavesOutOf m n f gates) λ some.
+      let (k<, passes) = first-passing test 0 (range 0 n) some in
+      let i : ℕ = getD (range 0 n) (firstPlace test (range 0 n)) 0 in
+      let i< = range-mem 0 n i (mem-getD (range 0 n) (firstPlace test (range 0 n)) 0 k<) .1 in
+      let (free, is) = and-eq-true-iff _ _ .0 passes in
+      true≢false (sym free ∙ ap not (uses i (omega arith) is)),
+)
+  where
+    test : ℕ → Bool
+    test i = not (any (eqb i) (usedBy gates)) && matters m n f i
+
+    used : (s t : Bool) → t ≡ true → (not s && t) ≡ false → s ≡ true
+    used true t is e = refl
+    used false t is e = absurd (true≢false (sym is ∙ e))
+
+-- the same of a net sheet and a table sheet
+pub leaves-out-none : (net : Net) (t : Table)
+    → (leavesOut net t ≡ false) ↔ UsesMattering (net .header .levels) (net .header .inputs) (inkIn (t .inks)) (net .gates)
+unfolding leavesOut
+leaves-out-none net t = out-none (net .header .levels) (net .header .inputs) (inkIn (t .inks)) (net .gates)
+
 -- ---- both ways
 
-module _ (m n : ℕ) (pos : 0 < m) (several : 1 < n) (f : ℕ → ℕ) (gates : List Gate) (net : IsNet m n gates) where
-  -- Whatever the digits: a filling that computes the table has at most m classes at each gate's group.
+module _ (m n : ℕ) (pos : 0 < m) (f : ℕ → ℕ) (gates : List Gate) (net : IsNet m n gates) where
+  -- the net's leaves have every input that matters exactly where those are used
+  pub uses-holding : UsesMattering m n f gates ↔ Holding m n pos f (netGroup m n gates net)
+  uses-holding = (
+    λ uses i i< is. sym (net-uses m n gates net i i<) ∙ uses i i< is,
+    λ holds i i< is. net-uses m n gates net i i< ∙ holds i i< is,
+  )
+
+  -- Whatever the digits: where a filling computes the table, every input that matters is used, ..
+  pub filling-uses : (filling : List Gate) → Filling m n f gates filling → UsesMattering m n f gates
+  filling-uses filling fills i i< is =
+      let own : IsNet m n filling = same-net m n gates filling (fills .wiring) net (fills .tables) in
+      ap (any (eqb i)) (sym (same-used gates filling (fills .wiring)))
+      ∙ net-uses m n filling own i i< ∙ net-holds m n pos f filling own (fills .computes) i i< is
+
+  -- .. and each gate's group has at most m classes.
   pub filling-few : (filling : List Gate) → Filling m n f gates filling → GatesFew m n f gates
   filling-few filling fills k k< =
       let own : IsNet m n filling = same-net m n gates filling (fills .wiring) net (fills .tables) in
-      let t : TreeOf m n filling = net-tree m n filling several own in
-      let few : EachGate (Few m n f) (wiringIn (t .tree)) =
-      tree-few m n pos several f (t .tree) (t .once) (net-whole m n filling several own) (t .filled) (λ p h. sym (t .same p) ∙ fills .computes p h) in
+      let few : EachGate (Few m n f) (netWiring m n filling own) = net-few m n pos f filling own (fills .computes) in
       let groups : gateGroups n filling ≡ gateGroups n gates = same-groups n gates filling (fills .wiring) in
       let here = mem-getD (gateGroups n gates) k 0 (omega (arith, gate-groups-length n gates)) in
-      each-joined (Few m n f) (wiringIn (t .tree)) few (getD (gateGroups n gates) k 0)
-      (net-joins m n filling several own (getD (gateGroups n gates) k 0) .0
+      each-joined (Few m n f) (netWiring m n filling own) few (getD (gateGroups n gates) k 0)
+      (net-joins m n filling own (getD (gateGroups n gates) k 0) .0
       (subst⁻¹ (List·Memᴰ (getD (gateGroups n gates) k 0)) groups here))
 
   module _ (few : GatesFew m n f gates) where
@@ -216,24 +267,24 @@ module _ (m n : ℕ) (pos : 0 < m) (several : 1 < n) (f : ℕ → ℕ) (gates : 
     pub kept-fillable : Fillable m n f (inputGroups n) (gateLinks gates)
     kept-fillable = gates-fillable m n f pos gates (net .rules) (λ k h. rw (gate-group-at n gates k) (few k h))
 
-    -- and the class rule's filling computes the table
-    kept-value : (p : ℕ) → p < m ^ n → value m n (keptGates m n f gates) p ≡ f p
+    -- and where every input that matters is used the class rule's filling computes the table
+    kept-value : UsesMattering m n f gates → (p : ℕ) → p < m ^ n → value m n (keptGates m n f gates) p ≡ f p
     unfolding keptGates given
-    kept-value p p< =
+    kept-value uses p p< =
         let count = length-map gates linkOf in
         let at : n + length (gateLinks gates) - 1 ≡ n + length gates - 1 = omega arith in
-        filled-gives m n pos f p (gateLinks gates) (omega (arith, net .count)) kept-fillable
+        filled-gives m n pos f p (gateLinks gates) (omega (arith, net .some)) kept-fillable
         ∙ ap (λ (r : ℕ). f (part m n (getD (withGroups (inputGroups n) (gateLinks gates)) r 0) p)) at
-        ∙ ap (λ (g : ℕ). f (part m n g p)) (last-whole m n gates several net)
-        ∙ ap f (part-whole m n pos p p<)
+        ∙ ap (λ (g : ℕ). f (part m n g p)) (last-leaves m n gates net)
+        ∙ holding-part m n pos f (netGroup m n gates net) p (net-group-below m n gates net) (uses-holding .0 uses) p<
 
-    pub kept-fills : ((p : ℕ) → p < m ^ n → f p < m) → Filling m n f gates (keptGates m n f gates)
+    pub kept-fills : UsesMattering m n f gates → ((p : ℕ) → p < m ^ n → f p < m) → Filling m n f gates (keptGates m n f gates)
     unfolding keptGates filled
-    kept-fills inks =
+    kept-fills uses inks =
         record {
           wiring = kept-links m n f gates;
           tables = filled-tables m n pos f (inputGroups n) (gateLinks gates) kept-fillable inks;
-          computes = kept-value;
+          computes = kept-value uses;
         }
 
   -- ---- the first gate with too many
@@ -259,14 +310,16 @@ module _ (m n : ℕ) (pos : 0 < m) (several : 1 < n) (f : ℕ → ℕ) (gates : 
       go few (yes all) = all
       go few (no some) = let at = crowded-at (lt-of-not-le some) in absurd (omega (arith, few (roomyGates m n f gates) (lt-of-not-le some)))
 
-  -- "refused with 23 exactly when no filling of that wiring computes the table"
+  -- "refused with 23 exactly when no filling of that wiring computes the table": an input that matters is not used, or a gate's group has too many classes
   pub no-filling : ((p : ℕ) → p < m ^ n → f p < m)
-      → (roomyGates m n f gates < length gates) ↔ ((filling : List Gate) → Filling m n f gates filling → ⊥)
+      → ((UsesMattering m n f gates → ⊥) ⊎ (roomyGates m n f gates < length gates)) ↔ ((filling : List Gate) → Filling m n f gates filling → ⊥)
   no-filling inks = (
-    λ some filling fills. omega (arith, all-roomy .1 (filling-few filling fills)),
-    λ none. go none (decLt (roomyGates m n f gates) (length gates)),
+    λ why filling fills. ⊎-elim (λ out. out (filling-uses filling fills)) (λ some. omega (arith, all-roomy .1 (filling-few filling fills))) why,
+    λ none. go none (leavesOutOf m n f gates) refl (decLt (roomyGates m n f gates) (length gates)),
   )
     where
-      go : ((filling : List Gate) → Filling m n f gates filling → ⊥) → Dec (roomyGates m n f gates < length gates) → roomyGates m n f gates < length gates
-      go none (yes some) = some
-      go none (no all) = absurd (none (keptGates m n f gates) (kept-fills (all-roomy .0 (omega arith)) inks))
+      go : ((filling : List Gate) → Filling m n f gates filling → ⊥) → (b : Bool) → leavesOutOf m n f gates ≡ b → Dec (roomyGates m n f gates < length gates)
+          → (UsesMattering m n f gates → ⊥) ⊎ (roomyGates m n f gates < length gates)
+      go none true out _ = inl (λ uses. true≢false (sym out ∙ out-none m n f gates .1 uses))
+      go none false takes (yes some) = inr some
+      go none false takes (no all) = absurd (none (keptGates m n f gates) (kept-fills (all-roomy .0 (omega arith)) (out-none m n f gates .0 takes) inks))

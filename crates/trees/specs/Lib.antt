@@ -34,6 +34,7 @@ pub mod SettledRules
 pub mod NoTree
 pub mod Existence
 pub mod TreeExistence
+pub mod FewestGates
 pub mod Uniqueness
 pub mod DistinctInks
 pub mod NetTables

@@ -23,9 +23,6 @@ module _ (net : Net) (kept : KeptNet net) where
   pos : 0 < net .header .levels
   pos = levels-pos (net .header .levels) (kept .header .levels)
 
-  several : 1 < net .header .inputs
-  several = inputs-several (net .header .inputs) (kept .header .inputs)
-
   -- a net's table keeps a table's rules, and its whole group has mark 2
   pub kept-table : KeptTable (tableOfNet net)
   unfolding tableOfNet
@@ -34,18 +31,18 @@ module _ (net : Net) (kept : KeptNet net) where
       record {
         header = kept .header;
         count = count;
-        below = λ k h. net-inks (net .header .levels) (net .header .inputs) pos several (net .gates) (kept .gates) k (subst (λ (l : ℕ). k < l) count h);
+        below = λ k h. net-inks (net .header .levels) (net .header .inputs) pos (net .gates) (kept .gates) k (subst (λ (l : ℕ). k < l) count h);
       }
 
   pub net-whole-two : WholeTwo (tableOfNet net)
   unfolding tableOfNet
-  net-whole-two = net-two (net .header .levels) (net .header .inputs) pos several (net .gates) (kept .gates)
+  net-whole-two = net-two (net .header .levels) (net .header .inputs) pos (net .gates) (kept .gates)
 
   -- its settled net keeps a net's rules, and has its table
   pub settled-kept : KeptNet (settledNet (tableOfNet net))
   unfolding settledNet tableOfNet settledOf
-  settled-kept = record { header = kept .header; gates = settled-is-net (net .header .levels) (net .header .inputs) pos several (net .gates) (kept .gates) }
+  settled-kept = record { header = kept .header; gates = settled-is-net (net .header .levels) (net .header .inputs) pos (net .gates) (kept .gates) }
 
   pub settled-has-table : tableOfNet (settledNet (tableOfNet net)) ≡ tableOfNet net
   unfolding settledNet tableOfNet settledOf
-  settled-has-table = λ i. record { header = net .header; inks = settled-table (net .header .levels) (net .header .inputs) pos several (net .gates) (kept .gates) i }
+  settled-has-table = λ i. record { header = net .header; inks = settled-table (net .header .levels) (net .header .inputs) pos (net .gates) (kept .gates) i }

@@ -22,7 +22,7 @@ use Rattle.trees.specs.Classes.{Few}
 use Rattle.trees.specs.Wirings.{group-below}
 use Rattle.trees.specs.MarkRule.{parts-found, parts-at-holds, marked}
 use Rattle.trees.specs.MarkTwo.{Splits, two-says, gate-twos, wiring-mark, wiring-of, each-gate}
-use Rattle.trees.specs.Layers.{depth}
+use Rattle.trees.specs.Depths.{depth}
 use Rattle.trees.specs.FewestLayers.{fewest, fewest-least, fewest-single, Shallowest, fewest-attained}
 use Rattle.trees.specs.Choices.{EachSplit, EachWithin, takes-chosen}
 

@@ -1,82 +1,125 @@
--- The shallow net: where the whole group has mark 2 it is a net with the table, and "Every other tree computing that table has at least as many
--- layers". It depends on the table alone.
+-- The shallow net: where the whole group has mark 2 it is a net with the table, on the same leaves as the settled net, and "Every other tree computing that
+-- table has at least as many layers", whatever its leaves. It depends on the table alone.
 -- Assumes nothing.
 use Prim.Native.Nat.{ℕ, _^_, _≤_, _<_}
-use mathlib.Core.Path.{_≡_, sym, ap, _∙_, subst}
-use mathlib.Core.Logic.{_↔_}
+use mathlib.Core.Path.{_≡_, sym, ap, _∙_}
+use mathlib.Core.Logic.{_↔_, by-cases}
 use mathlib.Core.List.{List}
 use native.Mathlib.Omega.{arith}
+use native.Mathlib.Decide.{decLt}
+use lib.ListN.{length}
 use Rattle.rules.specs.Sheets.{Gate}
 use Rattle.rules.specs.Value.{tableOf}
-use Rattle.rules.specs.Groups.{size, wholeGroup}
+use Rattle.rules.specs.Groups.{wholeGroup}
 use Rattle.rules.specs.Marks.{marksOf}
-use Rattle.rules.specs.Wirings.{Wiring, input, gate, groupOf, linksOf}
+use Rattle.rules.specs.Wirings.{Wiring, input, gate, groupOf, gatesIn, linksOf}
 use Rattle.rules.specs.Filling.{filled}
+use Rattle.rules.specs.Leaves.{mattering, leavesOf}
 use Rattle.rules.specs.Layers.{layers}
 use Rattle.rules.specs.Shallow.{shallowWiring, shallowGates}
 use Rattle.rules.specs.Answers.{inkIn}
 use Rattle.rules.specs.Kept.{IsNet}
-use Rattle.trees.specs.Trees.{Tree, wiringIn, treeValue, WiringOf, Computes}
-use Rattle.trees.specs.Members.{whole-below, size-single, size-whole}
-use Rattle.trees.specs.NetTree.{TreeOf, net-tree, net-whole}
+use Rattle.trees.specs.Trees.{Tree, wiringIn, treeValue, EachOnce, EachGate, WiringOf, Computes}
+use Rattle.trees.specs.Classes.{Few}
+use Rattle.trees.specs.NetTree.{net-several, net-tree, UsesJust}
 use Rattle.trees.specs.MarkRule.{marked}
-use Rattle.trees.specs.Existence.{tree-few, filled-computes}
-use Rattle.trees.specs.TreeExistence.{WholeTree}
+use Rattle.trees.specs.Mattering.{Holding}
+use Rattle.trees.specs.LeafGroup.{leaves-below, leaves-hold, leaves-size, leaves-several, leaves-some}
+use Rattle.trees.specs.CutWirings.{cut, leaves-marked}
+use Rattle.trees.specs.Existence.{several-gates, tree-few, computes-holds, filled-computes, filled-leaves}
+use Rattle.trees.specs.TreeExistence.{FanoutFree, net-fanout-free}
+use Rattle.trees.specs.FewestGates.{leaves-idle}
 use Rattle.trees.specs.Uniqueness.{table-length, table-at, table-is, net-inks, net-two}
-use Rattle.trees.specs.Layers.{depth, net-layers, filled-layers}
-use Rattle.trees.specs.FewestLayers.{fewest}
+use Rattle.trees.specs.Depths.{depth}
+use Rattle.trees.specs.Layers.{net-layers, filled-layers}
+use Rattle.trees.specs.FewestLayers.{fewest, fewest-small}
 use Rattle.trees.specs.Shallow.{depth-at-least, shallow-wiring-of, shallow-depth}
 
+-- a wiring with a gate has a layer
+depth-some : (w : Wiring) → 0 < gatesIn w → 0 < depth w
+unfolding gatesIn depth
+depth-some (input i) some = absurd (omega arith)
+depth-some (gate a b) some = omega arith
+
 module _ (m n : ℕ) (pos : 0 < m) (several : 1 < n) (f : ℕ → ℕ) where
-  -- the fewest layers of the whole group
-  abbrev fewestWhole : ℕ
-  fewestWhole = fewest n (marksOf m n f) (wholeGroup n)
+  -- the fewest layers of the leaves
+  abbrev fewestLeaves : ℕ
+  fewestLeaves = fewest n (marksOf m n f) (leavesOf m n f)
 
   -- ---- no tree has fewer layers
 
-  -- a tree over all inputs that has the table, whatever its wiring and its digits
-  pub tree-at-least : (t : Tree) → WholeTree m n t → ((p : ℕ) → p < m ^ n → treeValue m n t p ≡ f p) → fewestWhole ≤ depth (wiringIn t)
+  -- With few classes at each gate and with every input that matters: what does not matter may be cut out, and where fewer than two inputs matter one layer is
+  -- the least there is.
+  wiring-at-least : (w : Wiring) → EachOnce n w → 0 < gatesIn w → EachGate (Few m n f) w → Holding m n pos f (groupOf w) → fewestLeaves ≤ depth w
+  wiring-at-least w once some few holds =
+      by-cases (decLt 1 (length (mattering m n f)))
+      (λ enough.
+      let less = cut m n pos f w once few (leavesOf m n f) (leaves-some m n pos f several) (leaves-below m n pos f)
+      (leaves-idle m n pos several f enough (groupOf w) holds) in
+      let least = depth-at-least m n pos f (less .wiring) (less .of-group .0) (less .few) in
+      omega (arith, less .no-deeper, rw (less .of-group .1) at least))
+      (λ scarce.
+      omega (
+        arith,
+        depth-some w some,
+        leaves-size m n pos f several,
+        fewest-small n (marksOf m n f) (leavesOf m n f) (leaves-below m n pos f) (leaves-some m n pos f several),
+      ))
+
+  -- a tree that has the table, whatever its leaves, its wiring and its digits
+  pub tree-at-least : (t : Tree) → FanoutFree m n t → ((p : ℕ) → p < m ^ n → treeValue m n t p ≡ f p) → fewestLeaves ≤ depth (wiringIn t)
   tree-at-least t is has =
-      subst (λ (g : ℕ). fewest n (marksOf m n f) g ≤ depth (wiringIn t)) (is .whole)
-      (depth-at-least m n pos f (wiringIn t) (is .once) (tree-few m n pos several f t (is .once) (is .whole) (is .filled) has))
+      wiring-at-least (wiringIn t) (is .once) (is .gates) (tree-few m n pos f t (is .once) has (is .filled)) (computes-holds m n pos f t (is .once) has)
 
   -- a net with the table
-  pub net-at-least : (gates : List Gate) → IsNet m n gates → Computes m n gates f → fewestWhole ≤ layers n gates
+  pub net-at-least : (gates : List Gate) → IsNet m n gates → Computes m n gates f → fewestLeaves ≤ layers n gates
   net-at-least gates net has =
-      let t : TreeOf m n gates = net-tree m n gates several net in
-      let is : WholeTree m n (t .tree) = record { once = t .once; whole = net-whole m n gates several net; filled = t .filled } in
-      rw (net-layers m n gates several net) (tree-at-least (t .tree) is (λ p h. sym (t .same p) ∙ has p h))
+      rw (net-layers m n gates net)
+      (tree-at-least (net-tree m n gates net .tree) (net-fanout-free m n gates net) (λ p h. sym (net-tree m n gates net .same p) ∙ has p h))
 
   -- ---- the shallow net has as few
 
-  -- the filling of a wiring of all inputs has the wiring's layers
-  whole-layers : (w : Wiring) → WiringOf n (wholeGroup n) w → layers n (filled m n f (linksOf n 0 w)) ≡ depth w
-  unfolding groupOf
-  whole-layers (input i) of = absurd (omega (arith, size-single i n (of .0), size-whole n, ap (size n) (of .1)))
-  whole-layers (gate a b) of = filled-layers m n f a b (of .0)
+  -- the filling of a wiring with a gate has the wiring's layers
+  wiring-layers : (w : Wiring) → EachOnce n w → 0 < gatesIn w → layers n (filled m n f (linksOf n 0 w)) ≡ depth w
+  unfolding gatesIn
+  wiring-layers (input i) once some = absurd (omega arith)
+  wiring-layers (gate a b) once some = filled-layers m n f a b once
 
   module _ (two : marked m n pos f (wholeGroup n) ≡ 2) where
-    -- it is a net, and has the table
+    abbrev shallow : Wiring
+    shallow = shallowWiring n (marksOf m n f) (leavesOf m n f)
+
+    leaves-two : marked m n pos f (leavesOf m n f) ≡ 2
+    leaves-two = leaves-marked m n pos f several .1 two
+
+    shallow-of : WiringOf n (leavesOf m n f) shallow × EachGate (Few m n f) shallow
+    shallow-of = shallow-wiring-of m n pos f (leavesOf m n f) (leaves-below m n pos f) leaves-two
+
+    -- it is a net, and has the table, ..
     pub shallow-net : ((p : ℕ) → p < m ^ n → f p < m)
         → IsNet m n (shallowGates m n f (marksOf m n f)) × Computes m n (shallowGates m n f (marksOf m n f)) f
     unfolding shallowGates
     shallow-net inks =
-        let w = shallow-wiring-of m n pos f (wholeGroup n) (whole-below n) two in
-        filled-computes m n pos several f (shallowWiring n (marksOf m n f) (wholeGroup n)) (w .0) (w .1) inks
+        filled-computes m n pos f (leavesOf m n f) (leaves-several m n pos f several) shallow (shallow-of .0) (leaves-hold m n pos f) (shallow-of .1) inks
 
-    pub shallow-layers : layers n (shallowGates m n f (marksOf m n f)) ≡ fewestWhole
+    -- .. and uses "the same leaves"
+    pub shallow-leaves : UsesJust n (shallowGates m n f (marksOf m n f)) (leavesOf m n f)
+    unfolding shallowGates
+    shallow-leaves = filled-leaves m n pos f (leavesOf m n f) (leaves-several m n pos f several) shallow (shallow-of .0)
+
+    pub shallow-layers : layers n (shallowGates m n f (marksOf m n f)) ≡ fewestLeaves
     unfolding shallowGates
     shallow-layers =
-        whole-layers (shallowWiring n (marksOf m n f) (wholeGroup n)) (shallow-wiring-of m n pos f (wholeGroup n) (whole-below n) two .0)
-        ∙ shallow-depth m n pos f (wholeGroup n) (whole-below n) two
+        wiring-layers shallow (shallow-of .0 .0) (several-gates n (leavesOf m n f) shallow (shallow-of .0) (leaves-several m n pos f several))
+        ∙ shallow-depth m n pos f (leavesOf m n f) (leaves-below m n pos f) leaves-two
 
     -- "Every other tree computing that table has at least as many layers": every net, ..
     pub shallowest-net : (gates : List Gate) → IsNet m n gates → Computes m n gates f
         → layers n (shallowGates m n f (marksOf m n f)) ≤ layers n gates
     shallowest-net gates net has = rw shallow-layers (net-at-least gates net has)
 
-    -- .. and every tree, whatever its wiring and its digits
-    pub shallowest-tree : (t : Tree) → WholeTree m n t → ((p : ℕ) → p < m ^ n → treeValue m n t p ≡ f p)
+    -- .. and every tree, whatever its leaves, its wiring and its digits
+    pub shallowest-tree : (t : Tree) → FanoutFree m n t → ((p : ℕ) → p < m ^ n → treeValue m n t p ≡ f p)
         → layers n (shallowGates m n f (marksOf m n f)) ≤ depth (wiringIn t)
     shallowest-tree t is has = rw shallow-layers (tree-at-least t is has)
 
@@ -86,25 +129,25 @@ module _ (m n : ℕ) (pos : 0 < m) (several : 1 < n) (f : ℕ → ℕ) where
 unfoldable pub shallowOf : ℕ → ℕ → List Gate → List Gate
 shallowOf m n gates = shallowGates m n (inkIn (tableOf m n gates)) (marksOf m n (inkIn (tableOf m n gates)))
 
-module _ (m n : ℕ) (pos : 0 < m) (several : 1 < n) where
+module _ (m n : ℕ) (pos : 0 < m) where
   module _ (gates : List Gate) (net : IsNet m n gates) where
     -- a net's shallow net is a net, ..
     pub shallow-is-net : IsNet m n (shallowOf m n gates)
     unfolding shallowOf
-    shallow-is-net = shallow-net m n pos several (inkIn (tableOf m n gates)) (net-two m n pos several gates net) (net-inks m n pos several gates net) .0
+    shallow-is-net = shallow-net m n pos (net-several m n gates net) (inkIn (tableOf m n gates)) (net-two m n pos gates net) (net-inks m n pos gates net) .0
 
     -- .. with its table, ..
     pub shallow-table : tableOf m n (shallowOf m n gates) ≡ tableOf m n gates
     unfolding shallowOf
     shallow-table =
         table-is m n (shallowOf m n gates) (tableOf m n gates) (table-length m n gates)
-        (shallow-net m n pos several (inkIn (tableOf m n gates)) (net-two m n pos several gates net) (net-inks m n pos several gates net) .1)
+        (shallow-net m n pos (net-several m n gates net) (inkIn (tableOf m n gates)) (net-two m n pos gates net) (net-inks m n pos gates net) .1)
 
     -- .. and no more layers
     pub shallow-no-deeper : layers n (shallowOf m n gates) ≤ layers n gates
     unfolding shallowOf
     shallow-no-deeper =
-        shallowest-net m n pos several (inkIn (tableOf m n gates)) (net-two m n pos several gates net) gates net
+        shallowest-net m n pos (net-several m n gates net) (inkIn (tableOf m n gates)) (net-two m n pos gates net) gates net
         (λ p h. sym (table-at m n gates p h))
 
   -- Two nets have the same shallow net exactly when they compute the same table.

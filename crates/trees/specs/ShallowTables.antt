@@ -9,19 +9,21 @@ use Rattle.rules.specs.Sheets.{Gate, Net, Table}
 use Rattle.rules.specs.Printed.{printedNet}
 use Rattle.rules.specs.Layers.{layers}
 use Rattle.rules.specs.Kept.{IsNet, KeptNet, KeptTable}
+use Rattle.rules.specs.Leaves.{leavesOf}
 use Rattle.rules.specs.Answers.{inkIn}
 use Rattle.rules.specs.Reading.{tableOfNet}
 use Rattle.rules.specs.Settling.{settledNet}
 use Rattle.rules.specs.ShallowSettling.{shallowNet, netLayers}
 use Rattle.laws.specs.Settling.{WholeTwo}
 use Rattle.trees.specs.Trees.{Tree, wiringIn, treeValue, Computes}
-use Rattle.trees.specs.Existence.{settled-net}
-use Rattle.trees.specs.TreeExistence.{WholeTree}
+use Rattle.trees.specs.Existence.{settled-net, settled-leaves}
+use Rattle.trees.specs.TreeExistence.{FanoutFree}
 use Rattle.trees.specs.Uniqueness.{table-is, table-at}
 use Rattle.trees.specs.NetTables.{levels-pos, inputs-several, kept-table, net-whole-two}
+use Rattle.trees.specs.UsedOnce.{same-inputs}
 use Rattle.trees.specs.EquallyLong.{equally-long}
-use Rattle.trees.specs.Layers.{depth}
-use Rattle.trees.specs.ShallowNet.{shallow-net, shallowest-net, shallowest-tree}
+use Rattle.trees.specs.Depths.{depth}
+use Rattle.trees.specs.ShallowNet.{shallow-net, shallow-leaves, shallowest-net, shallowest-tree}
 
 module _ (t : Table) (kept : KeptTable t) (two : WholeTwo t) where
   pos : 0 < t .header .levels
@@ -53,7 +55,7 @@ module _ (t : Table) (kept : KeptTable t) (two : WholeTwo t) where
   shallow-least-gates = shallowest-net (t .header .levels) (t .header .inputs) pos several (inkIn (t .inks)) two
 
   -- .. and no tree
-  pub shallow-least-tree : (tree : Tree) → WholeTree (t .header .levels) (t .header .inputs) tree
+  pub shallow-least-tree : (tree : Tree) → FanoutFree (t .header .levels) (t .header .inputs) tree
       → ((p : ℕ) → p < t .header .levels ^ t .header .inputs → treeValue (t .header .levels) (t .header .inputs) tree p ≡ inkIn (t .inks) p)
       → netLayers (shallowNet t) ≤ depth (wiringIn tree)
   unfolding shallowNet netLayers
@@ -67,7 +69,10 @@ module _ (t : Table) (kept : KeptTable t) (two : WholeTwo t) where
         header = kept .header;
         gates = settled-net (t .header .levels) (t .header .inputs) pos several (inkIn (t .inks)) inks-below two .0;
       } in
-      equally-long (shallowNet t) (settledNet t) shallow-kept settled-kept refl
+      let used = same-inputs (t .header .inputs) (shallowNet t .gates) (settledNet t .gates) (leavesOf (t .header .levels) (t .header .inputs) (inkIn (t .inks)))
+      (shallow-leaves (t .header .levels) (t .header .inputs) pos several (inkIn (t .inks)) two)
+      (settled-leaves (t .header .levels) (t .header .inputs) pos several (inkIn (t .inks)) two) in
+      equally-long (shallowNet t) (settledNet t) shallow-kept settled-kept refl used
 
 -- no net with the table has fewer layers
 pub shallow-least-net : (net : Net) → KeptNet net → netLayers (shallowNet (tableOfNet net)) ≤ netLayers net

@@ -2,31 +2,30 @@
 -- when a net does.
 -- Assumes nothing.
 use Prim.Native.Nat.{ℕ, _+_, _*_, _^_, _<_}
-use mathlib.Core.Path.{_≡_, sym, ap, _∙_}
+use mathlib.Core.Path.{_≡_, sym, _∙_}
 use mathlib.Core.Logic.{_↔_}
 use mathlib.Core.List.{List}
 use native.Mathlib.Omega.{arith}
 use lib.ListN.{getD}
 use Rattle.rules.specs.Sheets.{Gate, levelsAt}
 use Rattle.rules.specs.Value.{value}
-use Rattle.rules.specs.Groups.{size, wholeGroup}
-use Rattle.rules.specs.Wirings.{groupOf}
+use Rattle.rules.specs.Wirings.{groupOf, gatesIn}
 use Rattle.rules.specs.Kept.{IsNet}
 use Rattle.trees.specs.Trees.{Tree, leaf, node, wiringIn, EachOnce, Filled, treeValue}
-use Rattle.trees.specs.Members.{size-single, size-whole}
-use Rattle.trees.specs.NetTree.{TreeOf, net-tree, net-whole}
-use Rattle.trees.specs.TreeLists.{treeGates, tree-net, tree-net-value, levels-valued}
+use Rattle.trees.specs.NetTree.{TreeOf, net-tree, UsesJust, net-uses}
+use Rattle.trees.specs.UsedOnce.{net-gates}
+use Rattle.trees.specs.TreeLists.{treeGates, lines-use, tree-net, tree-net-value, levels-valued}
 use Rattle.trees.specs.Existence.{TreeExists}
 
--- A "fanout-free tree of two-input gates, each input at just one leaf", with m·m digits below m at each gate
-pub record WholeTree (m n : ℕ) (t : Tree) : Type 0 where
+-- A "fanout-free tree of two-input gates", with m·m digits below m at each gate: no input at two leaves; "inputs may stay unused" (document 02, K12)
+pub record FanoutFree (m n : ℕ) (t : Tree) : Type 0 where
   pub once : EachOnce n (wiringIn t)
-  pub whole : groupOf (wiringIn t) ≡ wholeGroup n
+  pub gates : 0 < gatesIn (wiringIn t)
   pub filled : Filled m t
 
 -- such a tree computes the table
 abbrev pub SomeTree : ℕ → ℕ → (ℕ → ℕ) → Type 0
-SomeTree m n f = (t : Tree) × WholeTree m n t × ((p : ℕ) → p < m ^ n → treeValue m n t p ≡ f p)
+SomeTree m n f = (t : Tree) × FanoutFree m n t × ((p : ℕ) → p < m ^ n → treeValue m n t p ≡ f p)
 
 -- Section I's value at an assignment, given by its levels
 unfoldable pub treeValueAt : ℕ → Tree → List ℕ → ℕ
@@ -39,26 +38,35 @@ unfolding treeValueAt treeValue
 tree-at-levels m n (leaf i) once p = levels-valued n m p .1 i once
 tree-at-levels m n (node digits a b) once p = rw (tree-at-levels m n a (once .1) p, tree-at-levels m n b (once .2) p)
 
-module _ (m n : ℕ) (several : 1 < n) where
-  -- each tree is some net, ..
-  pub tree-is-net : (t : Tree) → WholeTree m n t → (gates : List Gate) × IsNet m n gates × ((p : ℕ) → value m n gates p ≡ treeValue m n t p)
-  unfolding groupOf
-  tree-is-net (leaf i) is = absurd (omega (arith, size-single i n (is .once), size-whole n, ap (size n) (is .whole)))
+module _ (m n : ℕ) where
+  -- each tree is some net, on the same leaves, ..
+  pub tree-is-net : (t : Tree) → FanoutFree m n t
+      → (gates : List Gate) × IsNet m n gates × ((p : ℕ) → value m n gates p ≡ treeValue m n t p) × UsesJust n gates (groupOf (wiringIn t))
+  unfolding gatesIn
+  tree-is-net (leaf i) is = absurd (omega (arith, is .gates))
   tree-is-net (node digits a b) is = (
     treeGates n 0 (node digits a b),
-    tree-net n m (node digits a b) (is .once) (is .whole) (is .filled),
+    tree-net n m (node digits a b) (is .once) (is .gates) (is .filled),
     tree-net-value n m digits a b (is .once),
+    lines-use n (node digits a b) (is .once) (is .gates),
   )
 
+  -- the tree that a net is
+  pub net-fanout-free : (gates : List Gate) (net : IsNet m n gates) → FanoutFree m n (net-tree m n gates net .tree)
+  net-fanout-free gates net =
+      let t : TreeOf m n gates = net-tree m n gates net in
+      record { once = t .once; gates = omega (arith, net-gates m n gates net, net .some); filled = t .filled }
+
   -- .. and each net is a tree
-  pub net-is-whole-tree : (gates : List Gate) → IsNet m n gates → (t : Tree) × WholeTree m n t × ((p : ℕ) → value m n gates p ≡ treeValue m n t p)
-  net-is-whole-tree gates net =
-      let t : TreeOf m n gates = net-tree m n gates several net in
-      (t .tree, record { once = t .once; whole = net-whole m n gates several net; filled = t .filled }, t .same)
+  pub net-is-fanout-free : (gates : List Gate) → IsNet m n gates
+      → (t : Tree) × FanoutFree m n t × ((p : ℕ) → value m n gates p ≡ treeValue m n t p) × UsesJust n gates (groupOf (wiringIn t))
+  net-is-fanout-free gates net =
+      let t : TreeOf m n gates = net-tree m n gates net in
+      (t .tree, net-fanout-free gates net, t .same, net-uses m n gates net)
 
   -- so one computes the table exactly when the other does
   pub trees-are-nets : (f : ℕ → ℕ) → SomeTree m n f ↔ TreeExists m n f
   trees-are-nets f = (
     λ some. let net = tree-is-net (some .0) (some .1) in (net .0, net .1, λ p h. net .2 p ∙ some .2 p h),
-    λ some. let tree = net-is-whole-tree (some .0) (some .1) in (tree .0, tree .1, λ p h. sym (tree .2 p) ∙ some .2 p h),
+    λ some. let tree = net-is-fanout-free (some .0) (some .1) in (tree .0, tree .1, λ p h. sym (tree .2 p) ∙ some .2 p h),
   )

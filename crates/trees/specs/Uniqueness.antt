@@ -1,4 +1,5 @@
--- The settled net depends on the table alone: two nets have the same settled net exactly when they compute the same table.
+-- The settled net depends on the table alone: two nets have the same settled net exactly when they compute the same table, "unused inputs included"
+-- (document 02, K12): a net's table is over all inputs, whichever it uses.
 -- Assumes nothing.
 use Prim.Native.Nat.{ℕ, _^_, _<_}
 use mathlib.Core.Path.{_≡_, sym, ap, _∙_, subst, subst⁻¹}
@@ -16,7 +17,7 @@ use Rattle.rules.specs.Answers.{inkIn}
 use Rattle.rules.specs.Kept.{IsNet}
 use Rattle.laws.specs.Ranges.{map-range-length, map-range-at}
 use Rattle.trees.specs.Trees.{Computes}
-use Rattle.trees.specs.NetTree.{TreeOf, net-tree}
+use Rattle.trees.specs.NetTree.{TreeOf, net-several, net-tree}
 use Rattle.trees.specs.Wirings.{tree-below}
 use Rattle.trees.specs.MarkRule.{marked}
 use Rattle.trees.specs.Existence.{net-marks, settled-net}
@@ -41,29 +42,29 @@ module _ (m n : ℕ) where
 unfoldable pub settledOf : ℕ → ℕ → List Gate → List Gate
 settledOf m n gates = settledGates m n (inkIn (tableOf m n gates)) (marksOf m n (inkIn (tableOf m n gates)))
 
-module _ (m n : ℕ) (pos : 0 < m) (several : 1 < n) where
+module _ (m n : ℕ) (pos : 0 < m) where
   -- a net's inks are below m
   pub net-inks : (gates : List Gate) → IsNet m n gates → (p : ℕ) → p < m ^ n → inkIn (tableOf m n gates) p < m
   net-inks gates net p h =
-      let t : TreeOf m n gates = net-tree m n gates several net in
+      let t : TreeOf m n gates = net-tree m n gates net in
       subst⁻¹ (λ (k : ℕ). k < m) (table-at m n gates p h ∙ t .same p)
       (tree-below m n pos (λ k. k) (t .tree) (t .filled) p)
 
   -- a net's table gives the whole group mark 2
   pub net-two : (gates : List Gate) → IsNet m n gates → marked m n pos (inkIn (tableOf m n gates)) (wholeGroup n) ≡ 2
-  net-two gates net = net-marks m n pos several (inkIn (tableOf m n gates)) gates net (λ p h. sym (table-at m n gates p h))
+  net-two gates net = net-marks m n pos (inkIn (tableOf m n gates)) gates net (λ p h. sym (table-at m n gates p h))
 
   -- a net settles to a net with its table
   pub settled-is-net : (gates : List Gate) → IsNet m n gates → IsNet m n (settledOf m n gates)
   unfolding settledOf
   settled-is-net gates net =
-      settled-net m n pos several (inkIn (tableOf m n gates)) (net-inks gates net) (net-two gates net) .0
+      settled-net m n pos (net-several m n gates net) (inkIn (tableOf m n gates)) (net-inks gates net) (net-two gates net) .0
 
   pub settled-table : (gates : List Gate) → IsNet m n gates → tableOf m n (settledOf m n gates) ≡ tableOf m n gates
   unfolding settledOf
   settled-table gates net =
       table-is m n (settledOf m n gates) (tableOf m n gates) (table-length m n gates)
-      (settled-net m n pos several (inkIn (tableOf m n gates)) (net-inks gates net) (net-two gates net) .1)
+      (settled-net m n pos (net-several m n gates net) (inkIn (tableOf m n gates)) (net-inks gates net) (net-two gates net) .1)
 
   -- Two nets have the same settled net exactly when they compute the same table.
   pub settled-unique : (g h : List Gate) → IsNet m n g → IsNet m n h
