@@ -62,3 +62,4 @@ pub mod Told
 pub mod TakenOff
 pub mod SameTests
 pub mod Renaming
+pub mod RenamedWirings
