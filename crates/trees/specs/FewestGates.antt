@@ -28,7 +28,7 @@ use Rattle.trees.specs.Mattering.{Holding}
 use Rattle.trees.specs.LeafGroup.{leaves-below, leaves-matter, leaves-size, leaves-some}
 use Rattle.trees.specs.CutWirings.{Idle, cut}
 use Rattle.trees.specs.Existence.{tree-few, computes-holds, net-few, net-holds, net-marks, settled-net, settled-leaves}
-use Rattle.trees.specs.TreeExistence.{FanoutFree}
+use Rattle.trees.specs.TreeExistence.{GateTree}
 
 module _ (m n : ℕ) (pos : 0 < m) (several : 1 < n) (f : ℕ → ℕ) where
   -- where two or more inputs matter, the leaves are those of every group that has all that matter, less what does not
@@ -50,7 +50,7 @@ module _ (m n : ℕ) (pos : 0 < m) (several : 1 < n) (f : ℕ → ℕ) where
       (λ scarce. omega (arith, leaves-size m n pos f several))
 
   -- so has every tree that computes the table, ..
-  pub tree-gates-least : (t : Tree) → FanoutFree m n t → ((p : ℕ) → p < m ^ n → treeValue m n t p ≡ f p)
+  pub tree-gates-least : (t : Tree) → GateTree m n t → ((p : ℕ) → p < m ^ n → treeValue m n t p ≡ f p)
       → size n (leavesOf m n f) ≤ suc (gatesIn (wiringIn t))
   tree-gates-least t is has =
       wiring-gates-least (wiringIn t) (is .once) (is .gates) (tree-few m n pos f t (is .once) has (is .filled)) (computes-holds m n pos f t (is .once) has)

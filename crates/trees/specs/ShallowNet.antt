@@ -27,7 +27,7 @@ use Rattle.trees.specs.Mattering.{Holding}
 use Rattle.trees.specs.LeafGroup.{leaves-below, leaves-hold, leaves-size, leaves-several, leaves-some}
 use Rattle.trees.specs.CutWirings.{cut, leaves-marked}
 use Rattle.trees.specs.Existence.{several-gates, tree-few, computes-holds, filled-computes, filled-leaves}
-use Rattle.trees.specs.TreeExistence.{FanoutFree, net-fanout-free}
+use Rattle.trees.specs.TreeExistence.{GateTree, net-gate-tree}
 use Rattle.trees.specs.FewestGates.{leaves-idle}
 use Rattle.trees.specs.Uniqueness.{table-length, table-at, table-is, net-inks, net-two}
 use Rattle.trees.specs.Depths.{depth}
@@ -67,7 +67,7 @@ module _ (m n : ℕ) (pos : 0 < m) (several : 1 < n) (f : ℕ → ℕ) where
       ))
 
   -- a tree that has the table, whatever its leaves, its wiring and its digits
-  pub tree-at-least : (t : Tree) → FanoutFree m n t → ((p : ℕ) → p < m ^ n → treeValue m n t p ≡ f p) → fewestLeaves ≤ depth (wiringIn t)
+  pub tree-at-least : (t : Tree) → GateTree m n t → ((p : ℕ) → p < m ^ n → treeValue m n t p ≡ f p) → fewestLeaves ≤ depth (wiringIn t)
   tree-at-least t is has =
       wiring-at-least (wiringIn t) (is .once) (is .gates) (tree-few m n pos f t (is .once) has (is .filled)) (computes-holds m n pos f t (is .once) has)
 
@@ -75,7 +75,7 @@ module _ (m n : ℕ) (pos : 0 < m) (several : 1 < n) (f : ℕ → ℕ) where
   pub net-at-least : (gates : List Gate) → IsNet m n gates → Computes m n gates f → fewestLeaves ≤ layers n gates
   net-at-least gates net has =
       rw (net-layers m n gates net)
-      (tree-at-least (net-tree m n gates net .tree) (net-fanout-free m n gates net) (λ p h. sym (net-tree m n gates net .same p) ∙ has p h))
+      (tree-at-least (net-tree m n gates net .tree) (net-gate-tree m n gates net) (λ p h. sym (net-tree m n gates net .same p) ∙ has p h))
 
   -- ---- the shallow net has as few
 
@@ -119,7 +119,7 @@ module _ (m n : ℕ) (pos : 0 < m) (several : 1 < n) (f : ℕ → ℕ) where
     shallowest-net gates net has = rw shallow-layers (net-at-least gates net has)
 
     -- .. and every tree, whatever its leaves, its wiring and its digits
-    pub shallowest-tree : (t : Tree) → FanoutFree m n t → ((p : ℕ) → p < m ^ n → treeValue m n t p ≡ f p)
+    pub shallowest-tree : (t : Tree) → GateTree m n t → ((p : ℕ) → p < m ^ n → treeValue m n t p ≡ f p)
         → layers n (shallowGates m n f (marksOf m n f)) ≤ depth (wiringIn t)
     shallowest-tree t is has = rw shallow-layers (tree-at-least t is has)
 

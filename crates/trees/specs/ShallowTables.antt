@@ -17,7 +17,7 @@ use Rattle.rules.specs.ShallowSettling.{shallowNet, netLayers}
 use Rattle.laws.specs.Settling.{WholeTwo}
 use Rattle.trees.specs.Trees.{Tree, wiringIn, treeValue, Computes}
 use Rattle.trees.specs.Existence.{settled-net, settled-leaves}
-use Rattle.trees.specs.TreeExistence.{FanoutFree}
+use Rattle.trees.specs.TreeExistence.{GateTree}
 use Rattle.trees.specs.Uniqueness.{table-is, table-at}
 use Rattle.trees.specs.NetTables.{levels-pos, inputs-several, kept-table, net-whole-two}
 use Rattle.trees.specs.UsedOnce.{same-inputs}
@@ -55,7 +55,7 @@ module _ (t : Table) (kept : KeptTable t) (two : WholeTwo t) where
   shallow-least-gates = shallowest-net (t .header .levels) (t .header .inputs) pos several (inkIn (t .inks)) two
 
   -- .. and no tree
-  pub shallow-least-tree : (tree : Tree) → FanoutFree (t .header .levels) (t .header .inputs) tree
+  pub shallow-least-tree : (tree : Tree) → GateTree (t .header .levels) (t .header .inputs) tree
       → ((p : ℕ) → p < t .header .levels ^ t .header .inputs → treeValue (t .header .levels) (t .header .inputs) tree p ≡ inkIn (t .inks) p)
       → netLayers (shallowNet t) ≤ depth (wiringIn tree)
   unfolding shallowNet netLayers

@@ -18,14 +18,14 @@ use Rattle.trees.specs.TreeLists.{treeGates, lines-use, tree-net, tree-n
 use Rattle.trees.specs.Existence.{TreeExists}
 
 -- A "fanout-free tree of two-input gates", with m·m digits below m at each gate: no input at two leaves; "inputs may stay unused" (document 02, K12)
-pub record FanoutFree (m n : ℕ) (t : Tree) : Type 0 where
+pub record GateTree (m n : ℕ) (t : Tree) : Type 0 where
   pub once : EachOnce n (wiringIn t)
   pub gates : 0 < gatesIn (wiringIn t)
   pub filled : Filled m t
 
 -- such a tree computes the table
 abbrev pub SomeTree : ℕ → ℕ → (ℕ → ℕ) → Type 0
-SomeTree m n f = (t : Tree) × FanoutFree m n t × ((p : ℕ) → p < m ^ n → treeValue m n t p ≡ f p)
+SomeTree m n f = (t : Tree) × GateTree m n t × ((p : ℕ) → p < m ^ n → treeValue m n t p ≡ f p)
 
 -- Section I's value at an assignment, given by its levels
 unfoldable pub treeValueAt : ℕ → Tree → List ℕ → ℕ
@@ -40,7 +40,7 @@ tree-at-levels m n (node digits a b) once p = rw (tree-at-levels m n a (once .1)
 
 module _ (m n : ℕ) where
   -- each tree is some net, on the same leaves, ..
-  pub tree-is-net : (t : Tree) → FanoutFree m n t
+  pub tree-is-net : (t : Tree) → GateTree m n t
       → (gates : List Gate) × IsNet m n gates × ((p : ℕ) → value m n gates p ≡ treeValue m n t p) × UsesJust n gates (groupOf (wiringIn t))
   unfolding gatesIn
   tree-is-net (leaf i) is = absurd (omega (arith, is .gates))
@@ -52,21 +52,21 @@ module _ (m n : ℕ) where
   )
 
   -- the tree that a net is
-  pub net-fanout-free : (gates : List Gate) (net : IsNet m n gates) → FanoutFree m n (net-tree m n gates net .tree)
-  net-fanout-free gates net =
+  pub net-gate-tree : (gates : List Gate) (net : IsNet m n gates) → GateTree m n (net-tree m n gates net .tree)
+  net-gate-tree gates net =
       let t : TreeOf m n gates = net-tree m n gates net in
       record { once = t .once; gates = omega (arith, net-gates m n gates net, net .some); filled = t .filled }
 
   -- .. and each net is a tree
-  pub net-is-fanout-free : (gates : List Gate) → IsNet m n gates
-      → (t : Tree) × FanoutFree m n t × ((p : ℕ) → value m n gates p ≡ treeValue m n t p) × UsesJust n gates (groupOf (wiringIn t))
-  net-is-fanout-free gates net =
+  pub net-is-gate-tree : (gates : List Gate) → IsNet m n gates
+      → (t : Tree) × GateTree m n t × ((p : ℕ) → value m n gates p ≡ treeValue m n t p) × UsesJust n gates (groupOf (wiringIn t))
+  net-is-gate-tree gates net =
       let t : TreeOf m n gates = net-tree m n gates net in
-      (t .tree, net-fanout-free gates net, t .same, net-uses m n gates net)
+      (t .tree, net-gate-tree gates net, t .same, net-uses m n gates net)
 
   -- so one computes the table exactly when the other does
   pub trees-are-nets : (f : ℕ → ℕ) → SomeTree m n f ↔ TreeExists m n f
   trees-are-nets f = (
     λ some. let net = tree-is-net (some .0) (some .1) in (net .0, net .1, λ p h. net .2 p ∙ some .2 p h),
-    λ some. let tree = net-is-fanout-free (some .0) (some .1) in (tree .0, tree .1, λ p h. sym (tree .2 p) ∙ some .2 p h),
+    λ some. let tree = net-is-gate-tree (some .0) (some .1) in (tree .0, tree .1, λ p h. sym (tree .2 p) ∙ some .2 p h),
   )

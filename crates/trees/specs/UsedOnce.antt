@@ -183,7 +183,7 @@ used-inputs-length m n gates net =
       used-length gates,
     )
 
--- "Its gates are one fewer than its leaves": so has the group of a net's leaves
+-- so many members has the group of a net's leaves
 pub net-size : (m n : ℕ) (gates : List Gate) (net : IsNet m n gates) → size n (netGroup m n gates net) ≡ suc (length gates)
 unfolding size usedInputs
 net-size m n gates net =
