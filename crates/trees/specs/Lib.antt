@@ -63,3 +63,6 @@ pub mod TakenOff
 pub mod SameTests
 pub mod Renaming
 pub mod RenamedWirings
+pub mod CarriedValues
+pub mod RenamedGates
+pub mod ButLast

@@ -16,7 +16,7 @@ use Rattle.rules.specs.Leaves.{matters, mattering, leafInputs, leavesOf}
 use Rattle.rules.specs.Marks.{markOf, marksBelow, marksOf}
 use Rattle.laws.specs.Tests.{two-ways, any-same}
 use Rattle.laws.specs.Listed.{those-listed}
-use Rattle.trees.specs.SameTests.{all-same, firsts-same}
+use Rattle.trees.specs.SameTests.{all-same, firsts-same, firsts-have}
 use Rattle.trees.specs.Trees.{mix}
 use Rattle.trees.specs.Levels.{mix-below}
 use Rattle.trees.specs.Points.{points-are-parts, points-empty}
@@ -60,6 +60,12 @@ module _ (m n : ℕ) (pos : 0 < m) where
           let none : others n g ≡ 0 = omega arith in
           let y-zero : y ≡ 0 = List·Memᴰ·eq-of-singleton (rw (none, points-empty m n pos) at y-in) in
           omega (arith, p-is .1)
+
+  -- each of a group's classes is listed by one of the group's assignments
+  pub classes-of-points : (f : ℕ → ℕ) (g q : ℕ) → List·Memᴰ q (classes m n f g) → List·Memᴰ q (points m n g)
+  unfolding classes
+  classes-of-points f g =
+      firsts-have (λ p. List·Memᴰ p (points m n g)) _ [] (points m n g) (λ x is. absurd (List·Memᴰ·not-nil is)) (λ x is. is)
 
 -- ---- what two such tables share
 

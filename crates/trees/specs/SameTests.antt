@@ -5,9 +5,9 @@ use mathlib.Core.Path.{_≡_, refl, ap, subst⁻¹}
 use mathlib.Core.Logic.{⊎-elim}
 use mathlib.Core.Bool.{Bool, true, false}
 use mathlib.Core.List.{List, [], _∷_, _++_, List·Memᴰ, List·Memᴰ·head, List·Memᴰ·tail, List·Memᴰ·append-cases, List·Memᴰ·eq-of-singleton}
-use Rattle.rules.specs.Lists.{all, firstPlace}
+use Rattle.rules.specs.Lists.{all, any, firstPlace}
 use Rattle.rules.specs.Groups.{firsts}
-use Rattle.laws.specs.Tests.{any-same}
+use Rattle.laws.specs.Tests.{any-same, by-test}
 
 -- equal tests choose between equal things
 chosen : {A : Type 0} {s t : Bool} {a b x y : A} → s ≡ t → a ≡ x → b ≡ y
@@ -53,3 +53,11 @@ firsts-same P s t agree kept (p ∷ ps) before later =
     chosen (any-same (s p) (t p) kept (λ y is. agree p y own (before y is)))
     (firsts-same P s t agree kept ps before (others-have later))
     (firsts-same P s t agree (kept ++ (p ∷ [])) ps (snoc-has kept p before own) (others-have later))
+
+-- and what they keep of elements that have P has it
+pub firsts-have : {A : Type 0} (P : A → Type 0) (s : A → A → Bool) (kept ps : List A) → Each P kept → Each P ps → Each P (firsts s kept ps)
+unfolding firsts
+firsts-have P s kept [] before later = before
+firsts-have P s kept (p ∷ ps) before later =
+    by-test (Each P) (any (s p) kept) _ _ (firsts-have P s kept ps before (others-have later))
+    (firsts-have P s (kept ++ (p ∷ [])) ps (snoc-has kept p before (later p (List·Memᴰ·head refl))) (others-have later))
