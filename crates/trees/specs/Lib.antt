@@ -66,3 +66,4 @@ pub mod RenamedWirings
 pub mod CarriedValues
 pub mod RenamedGates
 pub mod ButLast
+pub mod RenamedNets
