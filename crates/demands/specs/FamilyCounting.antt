@@ -8,6 +8,7 @@ use mathlib.Core.List.{List, []}
 use lib.ListN.{length}
 use Rattle.rules.specs.Lists.{any}
 use Rattle.rules.specs.Sheets.{Table}
+use Rattle.rules.specs.Groups.{size}
 use Rattle.rules.specs.Marks.{marksLength}
 use Rattle.rules.specs.Answers.{accepted, refused}
 use Rattle.rules.specs.Reading.{readTable}
@@ -17,10 +18,10 @@ use Rattle.laws.specs.Answers.{accepted-inj, not-refused}
 use Rattle.readback.specs.ReadBack.{table-accepted}
 use Rattle.trees.specs.FamilyBounds.{treesOn}
 use Rattle.demands.specs.Numbers.{not-given, refuses}
-use Rattle.demands.specs.Makes.{HasTree, HasSheet, make-refuses, make-refuses-sheets}
+use Rattle.demands.specs.Makes.{leavesOfTable, HasTree, HasSheet, make-refuses, make-refuses-sheets}
 use Rattle.demands.specs.FamilyOutcomes.{made-answer, counted-answer, judgedNumbers, Judged, turned-back, goes-on, on-with, judge, marked-leaves, marked-numbers}
 use Rattle.demands.specs.FamilyNumbers.{family-count-numbers}
-use Rattle.demands.specs.FamilyTables.{none-counted, table-bound, table-fits}
+use Rattle.demands.specs.FamilyTables.{none-counted, leaves-bound, table-bound, table-fits}
 
 -- ---- beside making, whatever the sheet and the buffers
 
@@ -93,7 +94,11 @@ module _ (s cells marks : List ℕ) where
 -- ---- an accepted table sheet
 
 module _ (s : List ℕ) (t : Table) (reads : readTable s ≡ accepted t) where
-  -- there are at most (2n − 3)!! trees
+  -- there are at most (2k − 3)!! trees for k leaves, ..
+  pub count-leaves-most : countOfTable t ≤ treesOn (size (t .header .inputs) (leavesOfTable t))
+  count-leaves-most = leaves-bound t (table-accepted s t reads .1)
+
+  -- .. and so at most (2n − 3)!!
   pub count-most : countOfTable t ≤ treesOn (t .header .inputs)
   count-most = table-bound t (table-accepted s t reads .1)
 

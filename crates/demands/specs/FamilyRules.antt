@@ -1,13 +1,14 @@
 -- Document 02, K3, by which rules the sheets of a family are chosen and stand in a row: "A split is counted once, with the first-listed input on the left. The
--- order is by A's number, then A's tree, then B's. Gate tables follow the settled net's rule." Said of what is written, with no counts.
+-- order is by A's number, then A's tree, then B's. Gate tables follow the settled net's rule.", and all "on just these" leaves (K12). Said of what is
+-- written, with no counts.
 -- Assumes nothing.
-use Prim.Native.Nat.{ℕ, _<_}
+use Prim.Native.Nat.{ℕ, _^_, _<_}
 use mathlib.Core.Path.{_≡_, refl, sym, ap, _∙_, subst, subst₂}
 use mathlib.Core.Bool.{true, false}
 use mathlib.Core.List.{List}
 use native.Mathlib.Omega.{arith}
 use Rattle.rules.specs.Sheets.{Gate, Net, Table}
-use Rattle.rules.specs.Groups.{size, wholeGroup}
+use Rattle.rules.specs.Groups.{size}
 use Rattle.rules.specs.Wirings.{Wiring, input, gate, groupOf, linksOf}
 use Rattle.rules.specs.Filling.{filled}
 use Rattle.rules.specs.Family.{treeCount, familyGates}
@@ -19,22 +20,26 @@ use Rattle.laws.specs.Answers.{accepted-inj}
 use Rattle.laws.specs.Settling.{marksOfTable}
 use Rattle.readback.specs.ReadBack.{table-accepted}
 use Rattle.trees.specs.Trees.{wiringIn, WiringOf, fill}
-use Rattle.trees.specs.Members.{whole-below, size-single, size-whole, size-le}
+use Rattle.trees.specs.Members.{size-single, size-le}
+use Rattle.trees.specs.NetTree.{UsesJust}
+use Rattle.trees.specs.LeafGroup.{leaves-below, leaves-several}
 use Rattle.trees.specs.NetTables.{levels-pos, inputs-several}
 use Rattle.trees.specs.GateLists.{fill-wiring}
 use Rattle.trees.specs.LinesTree.{lines-tree, filled-lines}
 use Rattle.trees.specs.NormalWirings.{Normal}
 use Rattle.trees.specs.FamilyWirings.{wiringNumbered, OfFamily, number-gives}
 use Rattle.demands.specs.Settles.{sheetOf}
+use Rattle.demands.specs.Makes.{leavesOfTable}
+use Rattle.demands.specs.FamilyTables.{family-on-leaves}
 use Rattle.demands.specs.FamilySheets.{tree-written, tree-sheet}
 use Rattle.demands.specs.FamilyTreeClause.{lastTree}
 use Rattle.demands.specs.FamilyOrder.{Earlier, in-order}
 
--- a wiring of all inputs is that of its links, filled
-filled-wiring : (m n : ℕ) → 1 < n → (f : ℕ → ℕ) (w : Wiring) → WiringOf n (wholeGroup n) w → wiringIn (lastTree n (filled m n f (linksOf n 0 w))) ≡ w
+-- a wiring of a group of two or more is that of its links, filled
+filled-wiring : (m n : ℕ) (f : ℕ → ℕ) (g : ℕ) → 1 < size n g → (w : Wiring) → WiringOf n g w → wiringIn (lastTree n (filled m n f (linksOf n 0 w))) ≡ w
 unfolding groupOf fill
-filled-wiring m n several f (input i) of = absurd (omega (arith, size-single i n (of .0), size-whole n, ap (size n) (of .1)))
-filled-wiring m n several f (gate a b) of =
+filled-wiring m n f g several (input i) of = absurd (omega (arith, size-single i n (of .0), ap (size n) (of .1)))
+filled-wiring m n f g several (gate a b) of =
     ap (λ (gates : List Gate). wiringIn (lastTree n gates)) (filled-lines m n f (gate a b) (of .0))
     ∙ ap wiringIn (lines-tree n _ (fill m n f false a) (fill m n f false b) (rw (fill-wiring m n f false a, fill-wiring m n f false b) (of .0)))
     ∙ fill-wiring m n f true (gate a b)
@@ -47,6 +52,8 @@ wiringOfNet net = wiringIn (lastTree (net .header .inputs) (net .gates))
 pub record InFamily (t : Table) (net : Net) : Type 0 where
   -- it has the table's levels, inputs and names
   pub header : net .header ≡ t .header
+  -- it is on just the table's leaves
+  pub leaves : UsesJust (t .header .inputs) (net .gates) (leavesOfTable t)
   -- "with the first-listed input on the left", at each gate
   pub first-left : Normal (t .header .inputs) (wiringOfNet net)
   -- "Gate tables follow the settled net's rule", and the gate lines its order: A's, then B's, then the group's own
@@ -56,26 +63,30 @@ module _ (t : Table) (kept : KeptTable t) where
   pos : 0 < t .header .levels
   pos = levels-pos (t .header .levels) (kept .header .levels)
 
-  several : 1 < t .header .inputs
-  several = inputs-several (t .header .inputs) (kept .header .inputs)
+  several : 1 < size (t .header .inputs) (leavesOfTable t)
+  several = leaves-several (t .header .levels) (t .header .inputs) pos (inkIn (t .inks)) (inputs-several (t .header .inputs) (kept .header .inputs))
+
+  leaves< : leavesOfTable t < 2 ^ t .header .inputs
+  leaves< = leaves-below (t .header .levels) (t .header .inputs) pos (inkIn (t .inks))
 
   -- the wiring of a number
   abbrev numberWiring : ℕ → Wiring
-  numberWiring r = wiringNumbered (t .header .levels) (t .header .inputs) pos (inkIn (t .inks)) (wholeGroup (t .header .inputs)) r
+  numberWiring r = wiringNumbered (t .header .levels) (t .header .inputs) pos (inkIn (t .inks)) (leavesOfTable t) r
 
-  gives : (r : ℕ) → r < countOfTable t → OfFamily (t .header .levels) (t .header .inputs) pos (inkIn (t .inks)) (wholeGroup (t .header .inputs)) r (numberWiring r)
+  gives : (r : ℕ) → r < countOfTable t → OfFamily (t .header .levels) (t .header .inputs) pos (inkIn (t .inks)) (leavesOfTable t) r (numberWiring r)
   unfolding countOfTable treeCount
-  gives r h = number-gives (t .header .levels) (t .header .inputs) pos (inkIn (t .inks)) (wholeGroup (t .header .inputs)) (whole-below (t .header .inputs)) r h
+  gives r h = number-gives (t .header .levels) (t .header .inputs) pos (inkIn (t .inks)) (leavesOfTable t) leaves< r h
 
   -- is that of its net
   net-wiring : (r : ℕ) → r < countOfTable t → wiringOfNet (familyNet r t) ≡ numberWiring r
   unfolding familyNet familyGates
-  net-wiring r h = filled-wiring (t .header .levels) (t .header .inputs) several (inkIn (t .inks)) (numberWiring r) (gives r h .of)
+  net-wiring r h = filled-wiring (t .header .levels) (t .header .inputs) (inkIn (t .inks)) (leavesOfTable t) several (numberWiring r) (gives r h .of)
 
   net-in-family : (r : ℕ) → r < countOfTable t → InFamily t (familyNet r t)
   unfolding familyNet familyGates
   net-in-family r h = record {
     header = refl;
+    leaves = family-on-leaves t kept r h;
     first-left = rw (net-wiring r h) (gives r h .norm);
     by-rule = rw (net-wiring r h) refl;
   }
@@ -84,8 +95,8 @@ module _ (t : Table) (kept : KeptTable t) where
   unfolding countOfTable treeCount
   nets-in-order a b less h =
       rw (net-wiring a (omega arith), net-wiring b h)
-      (in-order (t .header .inputs) (marksOfTable t) (t .header .inputs) (wholeGroup (t .header .inputs)) a b (whole-below (t .header .inputs))
-      (size-le (t .header .inputs) (wholeGroup (t .header .inputs))) less h)
+      (in-order (t .header .inputs) (marksOfTable t) (t .header .inputs) (leavesOfTable t) a b leaves<
+      (size-le (t .header .inputs) (leavesOfTable t)) less h)
 
 module _ (s : List ℕ) (t : Table) (reads : readTable s ≡ accepted t) where
   kept-table : KeptTable t

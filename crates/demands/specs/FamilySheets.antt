@@ -1,6 +1,7 @@
--- Document 02, K3, the sheets of a family: "Every wiring that computes the table turns up under just one number". What the call of a number below the count
--- writes is an accepted net sheet with exactly the table; the sheets of two numbers are of two wirings; and every net that has the table is one wiring
--- with what the call of just one number writes.
+-- Document 02, K3, the sheets of a family: "Every wiring that computes the table turns up under just one number", where "a family numbers the wirings on
+-- just these" leaves (K12). What the call of a number below the count writes is an accepted net sheet with exactly the table, on just its leaves; the sheets
+-- of two numbers are of two wirings; every net on the leaves that has the table is one wiring with what the call of just one number writes, and no
+-- other net is.
 -- Assumes nothing.
 use Prim.Native.Nat.{ℕ, _≤_, _<_}
 use mathlib.Core.Path.{_≡_, sym, ap, _∙_, subst, subst₂}
@@ -24,11 +25,13 @@ use Rattle.laws.specs.FamilyCalls.{count-tree}
 use Rattle.readback.specs.ReadBack.{net-accepted, net-read-back, table-accepted}
 use Rattle.readback.specs.Length.{net-length}
 use Rattle.trees.specs.Trees.{Computes}
+use Rattle.trees.specs.NetTree.{UsesJust}
 use Rattle.trees.specs.Uniqueness.{table-at}
 use Rattle.demands.specs.FirstLines.{threeLines, three-lines}
 use Rattle.demands.specs.Settles.{sheetIn, sheetOf, Long}
+use Rattle.demands.specs.Makes.{leavesOfTable}
 use Rattle.demands.specs.FamilyOutcomes.{on-with, Numbered, refuses-all, no-number, has-tree, numbered}
-use Rattle.demands.specs.FamilyTables.{family-kept, family-has-table, numbers-long, family-as-long, numbers-apart, number-of}
+use Rattle.demands.specs.FamilyTables.{family-kept, family-has-table, family-on-leaves, numbers-long, family-as-long, numbers-apart, number-of, numbers-on-leaves}
 
 -- a sheet that is written is the one that was to be
 front-written : (sheet cells marks output found : List ℕ) → sheetOf (writtenSheet sheet cells marks output) ≡ accepted found → sheet ≡ found
@@ -68,6 +71,10 @@ module _ (s : List ℕ) (t : Table) (reads : readTable s ≡ accepted t) where
   -- .. with exactly the table, ..
   pub tree-has-table : (r : ℕ) → r < countOfTable t → tableOfNet (familyNet r t) ≡ t
   tree-has-table r h = family-has-table t kept r h
+
+  -- .. on just its leaves, ..
+  pub tree-on-leaves : (r : ℕ) → r < countOfTable t → UsesJust (t .header .inputs) (familyNet r t .gates) (leavesOfTable t)
+  tree-on-leaves r h = family-on-leaves t kept r h
 
   -- .. the first three lines of the table's header, and never over 512 bytes
   pub tree-lines : (r : ℕ) → r < countOfTable t → threeLines (printedNet (familyNet r t)) ≡ firstLines (t .header) (t .header .names)
@@ -135,11 +142,11 @@ module _ (s : List ℕ) (t : Table) (reads : readTable s ≡ accepted t) where
         → (sheet : List ℕ) × (sheetOf (familyTreeCall s number cells marks output) ≡ accepted sheet) × Shows sheet
     pub only : (r : ℕ) (cells marks output sheet : List ℕ) → sheetOf (familyTreeCall s r cells marks output) ≡ accepted sheet → Shows sheet → r ≡ number
 
-  -- "Every wiring that computes the table turns up under just one number": every gate list, ..
-  pub every-gates : (gates : List Gate) → IsNet (t .header .levels) (t .header .inputs) gates
+  -- "Every wiring that computes the table turns up under just one number": every gate list on just the leaves, ..
+  pub every-gates : (gates : List Gate) → IsNet (t .header .levels) (t .header .inputs) gates → UsesJust (t .header .inputs) gates (leavesOfTable t)
       → Computes (t .header .levels) (t .header .inputs) gates (inkIn (t .inks)) → UnderOneNumber (OneWiring (t .header .inputs) gates)
-  every-gates gates net has =
-      let is = number-of t kept gates net has in
+  every-gates gates net uses has =
+      let is = number-of t kept gates net uses has in
       record {
         number = is .number;
         below = is .below;
@@ -152,13 +159,21 @@ module _ (s : List ℕ) (t : Table) (reads : readTable s ≡ accepted t) where
             is .only r (tree-written r cells marks output sheet e .0) (one-wiring r cells marks output sheet e gates one);
       }
 
-  -- .. and every accepted net sheet of the table's levels and inputs that has the table, whatever its names, sides, gate numbers and gate tables
+  -- .. and every accepted net sheet of the table's levels and inputs that has the table and uses just the leaves, whatever its names, sides, gate numbers and
+  -- gate tables
   pub every-sheet : (q : List ℕ) (net : Net) → readNet q ≡ accepted net → net .header .levels ≡ t .header .levels → net .header .inputs ≡ t .header .inputs
-      → tableOfNet net .inks ≡ t .inks → UnderOneNumber (OneWiring (t .header .inputs) (net .gates))
+      → UsesJust (t .header .inputs) (net .gates) (leavesOfTable t) → tableOfNet net .inks ≡ t .inks → UnderOneNumber (OneWiring (t .header .inputs) (net .gates))
   unfolding tableOfNet
-  every-sheet q net reads-net levels inputs inks =
+  every-sheet q net reads-net levels inputs uses inks =
       every-gates (net .gates)
-      (subst₂ (λ (m n : ℕ). IsNet m n (net .gates)) levels inputs (net-accepted q net reads-net .1 .gates))
+      (subst₂ (λ (m n : ℕ). IsNet m n (net .gates)) levels inputs (net-accepted q net reads-net .1 .gates)) uses
       (subst₂ (λ (m n : ℕ). Computes m n (net .gates) (inkIn (t .inks))) levels inputs
       (subst (λ (xs : List ℕ). Computes (net .header .levels) (net .header .inputs) (net .gates) (inkIn xs)) inks
       (λ p h. sym (table-at (net .header .levels) (net .header .inputs) (net .gates) p h))))
+
+  -- "just these": a net that is one wiring with what a call writes, whatever the buffers, uses just the leaves
+  pub just-leaves : (r : ℕ) (cells marks output sheet : List ℕ) → sheetOf (familyTreeCall s r cells marks output) ≡ accepted sheet
+      → (gates : List Gate) → IsNet (t .header .levels) (t .header .inputs) gates → OneWiring (t .header .inputs) gates sheet
+      → UsesJust (t .header .inputs) gates (leavesOfTable t)
+  just-leaves r cells marks output sheet e gates net one =
+      numbers-on-leaves t kept gates net r (tree-written r cells marks output sheet e .0) (one-wiring r cells marks output sheet e gates one)

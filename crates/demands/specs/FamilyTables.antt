@@ -1,15 +1,18 @@
--- The family of an accepted table, under the table's header: the net of each number below the count keeps a net sheet's rules and has exactly the
--- table, its sheet is as long as the settled net's, and number 0 is the settled net. There is a number exactly when the whole group has mark 2.
+-- The family of an accepted table, under the table's header: the net of each number below the count keeps a net sheet's rules, has exactly the
+-- table and stands on just the table's leaves, its sheet is as long as the settled net's, and number 0 is the settled net. There is a number exactly when
+-- the whole group has mark 2.
 -- Assumes nothing.
-use Prim.Native.Nat.{ℕ, _^_, _≤_, _<_}
+use Prim.Native.Nat.{ℕ, zero, suc, _+_, _*_, _^_, _≤_, _<_}
 use mathlib.Core.Path.{_≡_, refl, ap, _∙_, subst⁻¹}
-use mathlib.Core.Logic.{_↔_}
+use mathlib.Core.Logic.{_↔_, by-cases}
 use mathlib.Core.List.{List}
+use native.Mathlib.Nat.{le-trans, le-refl, mul-le-mul-right}
 use native.Mathlib.Omega.{arith}
+use native.Mathlib.Decide.{decLe}
 use lib.ListN.{length}
 use Rattle.rules.specs.Sheets.{Gate, Net, Table}
 use Rattle.rules.specs.Printed.{printedNet}
-use Rattle.rules.specs.Groups.{wholeGroup}
+use Rattle.rules.specs.Groups.{size}
 use Rattle.rules.specs.Family.{treeCount, SameWiring}
 use Rattle.rules.specs.Kept.{IsNet, KeptNet, KeptTable}
 use Rattle.rules.specs.Answers.{inkIn}
@@ -19,15 +22,30 @@ use Rattle.rules.specs.FamilyCalls.{countOfTable, familyNet}
 use Rattle.laws.specs.Sizes.{kept-size}
 use Rattle.laws.specs.Settling.{WholeTwo, marksOfTable}
 use Rattle.trees.specs.Trees.{Computes}
-use Rattle.trees.specs.Members.{whole-below, size-whole}
+use Rattle.trees.specs.Members.{size-le}
 use Rattle.trees.specs.Uniqueness.{table-is}
 use Rattle.trees.specs.NetTables.{levels-pos, inputs-several}
+use Rattle.trees.specs.NetTree.{UsesJust}
+use Rattle.trees.specs.UsedOnce.{same-inputs}
+use Rattle.trees.specs.LeafGroup.{leaves-below}
+use Rattle.trees.specs.CutWirings.{leaves-marked}
 use Rattle.trees.specs.EquallyLong.{equally-long}
 use Rattle.trees.specs.FamilyCounts.{counted-two}
 use Rattle.trees.specs.FamilyWirings.{two-counted}
 use Rattle.trees.specs.FamilyBounds.{treesOn, count-bound, count-fits}
-use Rattle.trees.specs.FamilyNets.{family-computes, family-differ, every-wiring, family-settled, no-family}
-use Rattle.demands.specs.Makes.{HasTree}
+use Rattle.trees.specs.FamilyNets.{family-computes, family-leaves, family-differ, every-wiring, only-leaves, family-settled, no-family}
+use Rattle.demands.specs.Makes.{leavesOfTable, HasTree}
+
+-- more inputs have no fewer trees
+trees-suc : (k : ℕ) → treesOn k ≤ treesOn (suc k)
+unfolding treesOn
+trees-suc zero = omega arith
+trees-suc (suc k) = omega (arith, mul-le-mul-right (treesOn (suc k)) (let z : 1 ≤ k + k + 1 = omega arith in z))
+
+trees-more : (j k : ℕ) → j ≤ k → treesOn j ≤ treesOn k
+trees-more j zero h = let z : j ≡ 0 = omega arith in rw z (le-refl _)
+trees-more j (suc k) h =
+    by-cases (decLe j k) (λ before. le-trans (trees-more j k before) (trees-suc k)) (λ last. let z : j ≡ suc k = omega arith in rw z (le-refl _))
 
 module _ (t : Table) (kept : KeptTable t) where
   pos : 0 < t .header .levels
@@ -39,16 +57,23 @@ module _ (t : Table) (kept : KeptTable t) where
   inks-below : (p : ℕ) → p < t .header .levels ^ t .header .inputs → inkIn (t .inks) p < t .header .levels
   inks-below p h = kept .below p (subst⁻¹ (λ (k : ℕ). p < k) (kept .count) h)
 
+  leaves< : leavesOfTable t < 2 ^ t .header .inputs
+  leaves< = leaves-below (t .header .levels) (t .header .inputs) pos (inkIn (t .inks))
+
   -- ---- how many
 
   -- a tree, and so a number
   pub two-some : WholeTwo t → 0 < countOfTable t
   unfolding countOfTable treeCount
-  two-some two = two-counted (t .header .levels) (t .header .inputs) pos (inkIn (t .inks)) (wholeGroup (t .header .inputs)) (whole-below (t .header .inputs)) two
+  two-some two =
+      two-counted (t .header .levels) (t .header .inputs) pos (inkIn (t .inks)) (leavesOfTable t) leaves<
+      (leaves-marked (t .header .levels) (t .header .inputs) pos (inkIn (t .inks)) several .1 two)
 
   pub some-two : 0 < countOfTable t → WholeTwo t
   unfolding countOfTable treeCount
-  some-two some = counted-two (t .header .inputs) (marksOfTable t) (wholeGroup (t .header .inputs)) (whole-below (t .header .inputs)) some
+  some-two some =
+      leaves-marked (t .header .levels) (t .header .inputs) pos (inkIn (t .inks)) several .0
+      (counted-two (t .header .inputs) (marksOfTable t) (leavesOfTable t) leaves< some)
 
   -- "A table with no tree gets count 0": exactly when no gate list is a net that computes it
   pub none-counted : (countOfTable t ≡ 0) ↔ (HasTree t → ⊥)
@@ -58,16 +83,18 @@ module _ (t : Table) (kept : KeptTable t) where
   few-inputs : t .header .inputs ≤ 12
   few-inputs = omega (arith, kept-size (t .header) (kept .header) .inputs-most)
 
-  -- at most (2n − 3)!!, which is below 2 to the 64
-  pub table-bound : countOfTable t ≤ treesOn (t .header .inputs)
+  -- at most (2k − 3)!! for k leaves, ..
+  pub leaves-bound : countOfTable t ≤ treesOn (size (t .header .inputs) (leavesOfTable t))
   unfolding countOfTable treeCount
-  table-bound =
-      rw (size-whole (t .header .inputs)) at
-      (count-bound (t .header .inputs) (marksOfTable t) few-inputs (wholeGroup (t .header .inputs)) (whole-below (t .header .inputs)))
+  leaves-bound = count-bound (t .header .inputs) (marksOfTable t) few-inputs (leavesOfTable t) leaves<
+
+  -- .. so at most (2n − 3)!!, which is below 2 to the 64
+  pub table-bound : countOfTable t ≤ treesOn (t .header .inputs)
+  table-bound = le-trans leaves-bound (trees-more (size (t .header .inputs) (leavesOfTable t)) (t .header .inputs) (size-le (t .header .inputs) (leavesOfTable t)))
 
   pub table-fits : countOfTable t < 2 ^ 64
   unfolding countOfTable treeCount
-  table-fits = count-fits (t .header .inputs) (marksOfTable t) few-inputs (wholeGroup (t .header .inputs))
+  table-fits = count-fits (t .header .inputs) (marksOfTable t) few-inputs (leavesOfTable t)
 
   -- ---- the net of a number
 
@@ -84,6 +111,11 @@ module _ (t : Table) (kept : KeptTable t) where
       let has = family-computes (t .header .levels) (t .header .inputs) pos several (inkIn (t .inks)) inks-below r h .1 in
       λ i. record { header = t .header; inks = table-is (t .header .levels) (t .header .inputs) (familyNet r t .gates) (t .inks) (kept .count) has i }
 
+  -- "a family numbers the wirings on just these" leaves (document 02, K12)
+  pub family-on-leaves : (r : ℕ) → r < countOfTable t → UsesJust (t .header .inputs) (familyNet r t .gates) (leavesOfTable t)
+  unfolding countOfTable familyNet
+  family-on-leaves r h = family-leaves (t .header .levels) (t .header .inputs) pos several (inkIn (t .inks)) r h
+
   -- "number 0 is the settled net"
   pub first-settled : 0 < countOfTable t → familyNet 0 t ≡ settledNet t
   unfolding countOfTable familyNet settledNet
@@ -94,7 +126,9 @@ module _ (t : Table) (kept : KeptTable t) where
   -- all sheets of the family are equally long, ..
   pub numbers-long : (a b : ℕ) → a < countOfTable t → b < countOfTable t → length (printedNet (familyNet a t)) ≡ length (printedNet (familyNet b t))
   unfolding familyNet
-  numbers-long a b h k = equally-long (familyNet a t) (familyNet b t) (family-kept a h) (family-kept b k) refl
+  numbers-long a b h k =
+      equally-long (familyNet a t) (familyNet b t) (family-kept a h) (family-kept b k) refl
+      (same-inputs (t .header .inputs) (familyNet a t .gates) (familyNet b t .gates) (leavesOfTable t) (family-on-leaves a h) (family-on-leaves b k))
 
   -- .. and so as long as the settled net's
   pub family-as-long : (r : ℕ) → r < countOfTable t → length (printedNet (familyNet r t)) ≡ length (printedNet (settledNet t))
@@ -110,16 +144,22 @@ module _ (t : Table) (kept : KeptTable t) where
   unfolding countOfTable familyNet
   numbers-apart a b h k same = family-differ (t .header .levels) (t .header .inputs) pos several (inkIn (t .inks)) a b h k same
 
-  -- .. and each net that has the table is one wiring with that of just one number
+  -- .. each net on the leaves that has the table is one wiring with that of just one number, ..
   pub record NumberOf (gates : List Gate) : Type 0 where
     pub number : ℕ
     pub below : number < countOfTable t
     pub same : SameWiring (t .header .inputs) gates (familyNet number t .gates)
     pub only : (r : ℕ) → r < countOfTable t → SameWiring (t .header .inputs) gates (familyNet r t .gates) → r ≡ number
 
-  pub number-of : (gates : List Gate) → IsNet (t .header .levels) (t .header .inputs) gates
+  pub number-of : (gates : List Gate) → IsNet (t .header .levels) (t .header .inputs) gates → UsesJust (t .header .inputs) gates (leavesOfTable t)
       → Computes (t .header .levels) (t .header .inputs) gates (inkIn (t .inks)) → NumberOf gates
   unfolding countOfTable familyNet
-  number-of gates net has =
-      let is = every-wiring (t .header .levels) (t .header .inputs) pos several (inkIn (t .inks)) gates net has in
+  number-of gates net uses has =
+      let is = every-wiring (t .header .levels) (t .header .inputs) pos several (inkIn (t .inks)) gates net uses has in
       record { number = is .number; below = is .below; same = is .same; only = is .only }
+
+  -- .. and no net on other leaves is
+  pub numbers-on-leaves : (gates : List Gate) → IsNet (t .header .levels) (t .header .inputs) gates → (r : ℕ) → r < countOfTable t
+      → SameWiring (t .header .inputs) gates (familyNet r t .gates) → UsesJust (t .header .inputs) gates (leavesOfTable t)
+  unfolding countOfTable familyNet
+  numbers-on-leaves = only-leaves (t .header .levels) (t .header .inputs) pos several (inkIn (t .inks)) inks-below

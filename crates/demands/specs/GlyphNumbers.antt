@@ -21,7 +21,7 @@ use Rattle.readback.specs.Numbers.{netNumbers, net-refusal}
 use Rattle.demands.specs.Numbers.{Gives, accepts, by-answer, refuses}
 
 abbrev pub glyphNumbers : List ℕ
-glyphNumbers = 1 ∷ 2 ∷ 3 ∷ 4 ∷ 6 ∷ 7 ∷ 8 ∷ 24 ∷ 25 ∷ 15 ∷ []
+glyphNumbers = 1 ∷ 2 ∷ 3 ∷ 4 ∷ 6 ∷ 7 ∷ 8 ∷ 26 ∷ 24 ∷ 25 ∷ 15 ∷ []
 
 -- "New numbers: 24 .. 25 .. before 15"
 judged-numbers : (m n width height : ℕ) (picture : List ℕ) (offsets : List ℤ) (output : List ℕ) → Gives glyphNumbers (glyphJudged m n width height picture offsets output)
@@ -46,7 +46,7 @@ glyph-numbers s width height picture offsets output =
 -- ---- an output of 64 · 64 bytes, which include/sitgurp.h calls enough for every picture
 
 abbrev pub glyphAmpleNumbers : List ℕ
-glyphAmpleNumbers = 1 ∷ 2 ∷ 3 ∷ 4 ∷ 6 ∷ 7 ∷ 8 ∷ 24 ∷ 25 ∷ []
+glyphAmpleNumbers = 1 ∷ 2 ∷ 3 ∷ 4 ∷ 6 ∷ 7 ∷ 8 ∷ 26 ∷ 24 ∷ 25 ∷ []
 
 judged-ample : (m n width height : ℕ) (picture : List ℕ) (offsets : List ℤ) (output : List ℕ) → mostSide * mostSide ≤ length output
     → Gives glyphAmpleNumbers (glyphJudged m n width height picture offsets output)

@@ -11,7 +11,7 @@ use Rattle.rules.specs.Printed.{printedNet}
 use Rattle.rules.specs.Answers.{Named, netNamed, tableNamed, neither}
 use Rattle.rules.specs.Reading.{readNet, readTable}
 use Rattle.rules.specs.Checking.{sameHeader}
-use Rattle.rules.specs.Keeping.{Keeping, rewritten, turnedAway, KeptWiring, keptNet, roomyBefore, keptInto, keepCall}
+use Rattle.rules.specs.Keeping.{Keeping, rewritten, turnedAway, KeptWiring, keptNet, roomyBefore, leavesOut, keptInto, keepCall}
 use Rattle.laws.specs.Distinct.{In}
 use Rattle.laws.specs.Tests.{by-test}
 use Rattle.readback.specs.Numbers.{netNumbers, tableNumbers, net-refusal, table-refusal}
@@ -44,8 +44,9 @@ keep-numbers s r cells output =
     (λ net _. by-answer KeptTurns (readTable r) _ _
     (λ t _. by-test KeptTurns (sameHeader (net .header) (t .header)) _ _
     (by-test KeptTurns (ltb (length cells) (length (t .inks))) _ _ (turns neither 13 _ refl)
+    (by-test KeptTurns (leavesOut net t) _ _ (turns neither 23 0 refl)
     (by-test KeptTurns (ltb (roomyBefore net t) (length (net .gates))) _ _ (turns neither 23 _ refl)
-    (by-test KeptTurns (ltb (length output) (length (printedNet (keptNet net t)))) _ _ (turns neither 15 _ refl) (fine _ _))))
+    (by-test KeptTurns (ltb (length output) (length (printedNet (keptNet net t)))) _ _ (turns neither 15 _ refl) (fine _ _)))))
     (turns neither 12 0 refl))
     (λ number place e. turns tableNamed number place (table-refusal r number place e)))
     (λ number place e. turns netNamed number place (net-refusal s number place e))

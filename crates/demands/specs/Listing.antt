@@ -1,6 +1,6 @@
 -- Document 01, listing: "one gate line at each turn, as the part of the sheet that holds it without its line feed", and "after the
--- last line .. none is left". On an accepted sheet the lines given at the turns 0 to n − 2, each with its line feed, are what
--- stands after the first four lines, and every later turn gives none.
+-- last line .. none is left". On an accepted sheet there are as many turns as gates, "from 1 to n − 1" (document 02, K12): the lines given at
+-- them, each with its line feed, are what stands after the first four lines, and every later turn gives none.
 -- Assumes nothing.
 use Prim.Native.Nat.{ℕ, zero, suc, _+_, _-_, _≤_, _<_}
 use mathlib.Core.Path.{_≡_, refl, sym, ap, ap₂, _∙_}
@@ -21,7 +21,6 @@ use Rattle.laws.specs.Concat.{concat-append}
 use Rattle.readback.specs.ReadBack.{net-accepted}
 use Rattle.readback.specs.Lines.{fed, linesOf, lines-first, headLines, fourLines, four-fed, four-unbroken, netLines}
 use Rattle.readback.specs.GateLines.{partOf, lineAt, sheet-lines, gate-count, gate-bytes}
-use Rattle.trees.specs.NetTables.{inputs-several}
 
 -- what a turn gives of the sheet, with its line feed
 unfoldable pub givenBy : List ℕ → Answer Turn → List ℕ
@@ -45,23 +44,27 @@ module _ (s : List ℕ) (net : Net) (reads : readNet s ≡ accepted net) where
   kept : KeptNet net
   kept = net-accepted s net reads .1
 
-  -- the turns up to n − 2 give those parts, ..
-  pub turn-line : (k : ℕ) → k < net .header .inputs - 1 → listing s k ≡ accepted (gateAt (lineAt s (4 + k)))
+  -- the turns up to the last gate's give those parts, ..
+  pub turn-line : (k : ℕ) → k < length (net .gates) → listing s k ≡ accepted (gateAt (lineAt s (4 + k)))
   unfolding listing onward turnOf lineAt
-  turn-line k h = rw (reads, listing, lt-ltb k (length (net .gates)) (omega (arith, gate-count s net reads)), turnOf)
+  turn-line k h = rw (reads, listing, lt-ltb k (length (net .gates)) h, turnOf)
 
   -- .. of which there is at least one, ..
   pub first-given : listing s 0 ≡ accepted (gateAt (lineAt s 4))
-  first-given = turn-line 0 (omega (arith, inputs-several (net .header .inputs) (kept .header .inputs)))
+  first-given = turn-line 0 (gate-count s net reads .0)
 
   -- .. and every later one gives none
-  pub turn-none : (k : ℕ) → net .header .inputs - 1 ≤ k → listing s k ≡ accepted noneLeft
+  pub turn-none : (k : ℕ) → length (net .gates) ≤ k → listing s k ≡ accepted noneLeft
   unfolding listing onward turnOf
-  turn-none k h = rw (reads, listing, le-ltb k (length (net .gates)) (omega (arith, gate-count s net reads)), turnOf)
+  turn-none k h = rw (reads, listing, le-ltb k (length (net .gates)) h, turnOf)
+
+  -- .. so after n − 1 turns, whatever the net
+  pub turn-past : (k : ℕ) → net .header .inputs - 1 ≤ k → listing s k ≡ accepted noneLeft
+  turn-past k h = turn-none k (omega (arith, gate-count s net reads))
 
   given : (k : ℕ) (d : Gate) → k < length (net .gates) → givenBy s (listing s k) ≡ printedGate names (getD (net .gates) k d)
   unfolding givenBy
-  given k d h = rw (turn-line k (omega (arith, gate-count s net reads))) (gate-bytes s net reads k d h)
+  given k d h = rw (turn-line k h) (gate-bytes s net reads k d h)
 
   first-four : linesOf 4 s ≡ firstLines (net .header) names ++ line (text "left" ∷ text "right" ∷ text "table" ∷ [])
   unfolding netLines fourLines headLines
@@ -70,10 +73,10 @@ module _ (s : List ℕ) (net : Net) (reads : readNet s ≡ accepted net) where
       (lines-first (fourLines (net .header)) _ (four-unbroken (net .header) (kept .header)))
 
   -- the first four lines and all lines given, each with its line feed, are the sheet
-  pub listed-whole : linesOf 4 s ++ concatMap (λ k. givenBy s (listing s k)) (range 0 (net .header .inputs - 1)) ≡ s
+  pub listed-whole : linesOf 4 s ++ concatMap (λ k. givenBy s (listing s k)) (range 0 (length (net .gates))) ≡ s
   unfolding printedNet
   listed-whole =
       ap₂ _++_ first-four
-      (ap (λ (n : ℕ). concatMap (λ k. givenBy s (listing s k)) (range 0 n)) (sym (gate-count s net reads))
-      ∙ places (λ k. givenBy s (listing s k)) (printedGate names) (record { left = 0; right = 0; digits = [] }) 0 (net .gates) (λ k h. ap (λ (k : ℕ). givenBy s (listing s k)) (zero-add k) ∙ given k _ h))
+      (places (λ k. givenBy s (listing s k)) (printedGate names) (record { left = 0; right = 0; digits = [] }) 0 (net .gates)
+      (λ k h. ap (λ (k : ℕ). givenBy s (listing s k)) (zero-add k) ∙ given k _ h))
       ∙ sym (net-accepted s net reads .0)

@@ -1,7 +1,7 @@
 -- Demand 3, making: "For every accepted table sheet, making refuses the table as having no tree exactly when no fanout-free tree of
--- two-input gates, each input at just one leaf, computes it, whatever the tree's wiring and gate tables. Otherwise making writes the
--- very sheet that settling writes from every accepted net sheet with that table, the same levels and the same input names in the
--- same order."
+-- two-input gates .. computes it, whatever the tree's wiring and gate tables", and whatever its leaves: "inputs may stay unused" (document 02, K12). On
+-- which leaves one stands is in `LeafTrees`. "Otherwise making writes the very sheet that settling writes from every accepted net sheet with that
+-- table, the same levels and the same input names in the same order."
 -- Assumes nothing.
 use Prim.Native.Nat.{ℕ, _^_, _≤_, _<_}
 use mathlib.Core.Path.{_≡_, refl, sym, ap, _∙_, subst, subst⁻¹}
@@ -15,6 +15,7 @@ use Rattle.rules.specs.Limits.{mostSettled}
 use Rattle.rules.specs.Sheets.{Net, Table}
 use Rattle.rules.specs.Printed.{printedNet}
 use Rattle.rules.specs.Marks.{marksLength, storedMarks, noTreePlace}
+use Rattle.rules.specs.Leaves.{leavesOf}
 use Rattle.rules.specs.Kept.{KeptNet, KeptTable}
 use Rattle.rules.specs.Answers.{accepted, refused, inkIn, written}
 use Rattle.rules.specs.Settling.{Made, settledNet, writtenSheet, afterMarks, roomFor, madeInto, settleCall, makeCall}
@@ -31,7 +32,11 @@ use Rattle.demands.specs.Numbers.{by-answer, not-given}
 use Rattle.laws.specs.Tests.{by-test}
 use Rattle.demands.specs.SettlingNumbers.{sheet-numbers}
 
--- some gate list, whatever its wiring and digits, is a net of the table's levels and inputs and computes its inks
+-- "just the inputs that matter .. if fewer than two do, the first-listed others make up two" (document 02, K12): a table's leaves, as a group
+abbrev pub leavesOfTable : Table → ℕ
+leavesOfTable t = leavesOf (t .header .levels) (t .header .inputs) (inkIn (t .inks))
+
+-- some gate list, whatever its leaves, its wiring and its digits, is a net of the table's levels and inputs and computes its inks
 abbrev pub HasTree : Table → Type 0
 HasTree t = TreeExists (t .header .levels) (t .header .inputs) (inkIn (t .inks))
 

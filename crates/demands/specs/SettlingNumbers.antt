@@ -21,7 +21,7 @@ use Rattle.demands.specs.Numbers.{Gives, accepts, by-answer, not-given, 
 use Rattle.laws.specs.Tests.{by-test}
 
 abbrev pub settleNumbers : List ℕ
-settleNumbers = 1 ∷ 2 ∷ 3 ∷ 4 ∷ 6 ∷ 7 ∷ 8 ∷ 13 ∷ 14 ∷ 15 ∷ []
+settleNumbers = 1 ∷ 2 ∷ 3 ∷ 4 ∷ 6 ∷ 7 ∷ 8 ∷ 26 ∷ 13 ∷ 14 ∷ 15 ∷ []
 
 abbrev pub makeNumbers : List ℕ
 makeNumbers = 1 ∷ 2 ∷ 3 ∷ 4 ∷ 5 ∷ 6 ∷ 13 ∷ 14 ∷ 16 ∷ 15 ∷ []

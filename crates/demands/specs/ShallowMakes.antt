@@ -23,7 +23,7 @@ use Rattle.laws.specs.ShallowSettling.{make-shallow-accepted}
 use Rattle.readback.specs.ReadBack.{net-accepted, net-read-back, table-accepted}
 use Rattle.readback.specs.Length.{net-length}
 use Rattle.trees.specs.Trees.{Tree, wiringIn, Computes}
-use Rattle.trees.specs.Layers.{depth}
+use Rattle.trees.specs.Depths.{depth}
 use Rattle.trees.specs.ShallowTables.{shallow-kept, shallow-has-table, shallow-least-gates, shallow-least-tree, shallow-least-net}
 use Rattle.demands.specs.Settles.{LongFor, table-path}
 use Rattle.demands.specs.Makes.{HasTree, two-tree}

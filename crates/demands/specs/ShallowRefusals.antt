@@ -1,6 +1,6 @@
 -- Document 02: a making and a settling that "are otherwise as document 01 has them". They answer what making and settling answer, but for the
 -- count of layers, and leave the same cells and marks; so they refuse exactly when those do, with the same number and place, and change no other
--- buffer. For 15 too: all net sheets of one header are equally long.
+-- buffer. For 15 too: net sheets of one header and the same leaves are equally long.
 -- Assumes nothing.
 use Prim.Native.Nat.{ℕ}
 use mathlib.Core.Path.{_≡_, refl, ap}

@@ -20,7 +20,7 @@ use Rattle.laws.specs.ShallowSettling.{settle-shallow-accepted, make-shallow-ac
 use Rattle.readback.specs.ReadBack.{net-accepted, net-read-back, table-accepted}
 use Rattle.readback.specs.Length.{net-length}
 use Rattle.trees.specs.Trees.{Tree, wiringIn, Computes}
-use Rattle.trees.specs.Layers.{depth}
+use Rattle.trees.specs.Depths.{depth}
 use Rattle.trees.specs.NetTables.{kept-table, net-whole-two}
 use Rattle.trees.specs.ShallowTables.{shallow-kept, shallow-has-table, shallow-least-gates, shallow-least-tree, shallow-least-net}
 use Rattle.demands.specs.FirstLines.{threeLines, three-lines, same-lines}

@@ -15,7 +15,7 @@ use Rattle.laws.specs.Tests.{by-test}
 use Rattle.laws.specs.Distinct.{wider}
 
 abbrev pub writeTableNumbers : List ℕ
-writeTableNumbers = 1 ∷ 2 ∷ 3 ∷ 4 ∷ 6 ∷ 7 ∷ 8 ∷ 15 ∷ []
+writeTableNumbers = 1 ∷ 2 ∷ 3 ∷ 4 ∷ 6 ∷ 7 ∷ 8 ∷ 26 ∷ 15 ∷ []
 
 pub write-table-numbers : (s output : List ℕ) → Gives writeTableNumbers (writeTableCall s output .answer)
 unfolding writeTableCall any all

@@ -1,6 +1,6 @@
 -- The demands over Section I's trees themselves, at assignments. Demand 2: "The table of a net is Section I's value on every assignment".
--- Demand 3: "making refuses the table as having no tree exactly when no fanout-free tree of two-input gates, each input at just one
--- leaf, computes it, whatever the tree's wiring and gate tables."
+-- Demand 3: "making refuses the table as having no tree exactly when no fanout-free tree of two-input gates .. computes it, whatever the
+-- tree's wiring and gate tables", and whatever its leaves: "inputs may stay unused" (document 02, K12). On which leaves one stands is in `LeafTrees`.
 -- Assumes nothing.
 use Prim.Native.Nat.{ℕ, _^_, _≤_, _<_}
 use mathlib.Core.Path.{_≡_, sym, _∙_}
@@ -16,15 +16,15 @@ use Rattle.rules.specs.Settling.{makeCall}
 use Rattle.laws.specs.Assignments.{each-assignment}
 use Rattle.trees.specs.Trees.{Tree, treeValue}
 use Rattle.trees.specs.Uniqueness.{table-at}
-use Rattle.trees.specs.TreeExistence.{WholeTree, SomeTree, treeValueAt, tree-at-levels, trees-are-nets, net-is-whole-tree}
+use Rattle.trees.specs.TreeExistence.{GateTree, SomeTree, treeValueAt, tree-at-levels, trees-are-nets, net-is-gate-tree}
 use Rattle.readback.specs.ReadBack.{net-accepted, table-accepted}
-use Rattle.trees.specs.NetTables.{levels-pos, inputs-several}
+use Rattle.trees.specs.NetTables.{levels-pos}
 use Rattle.demands.specs.Makes.{make-refuses}
 use Rattle.demands.specs.Assignments.{Given, inkAt}
 
--- a tree over all inputs of the table, of its levels
+-- a tree with a gate, of the table's levels, over some of its inputs, none of them at two leaves
 abbrev pub TreeFor : Table → Tree → Type 0
-TreeFor t tree = WholeTree (t .header .levels) (t .header .inputs) tree
+TreeFor t tree = GateTree (t .header .levels) (t .header .inputs) tree
 
 -- the tree's value is the table's ink at every assignment
 abbrev pub TreeAgrees : Tree → Table → Type 0
@@ -42,7 +42,7 @@ agrees-all t kept tree is =
     at : (p : ℕ) → treeValueAt (t .header .levels) tree (levelsAt (t .header .levels) (t .header .inputs) p) ≡ treeValue (t .header .levels) (t .header .inputs) tree p
     at = tree-at-levels (t .header .levels) (t .header .inputs) tree (is .once)
 
--- some tree, whatever its wiring and its digits, computes the table
+-- some tree, whatever its leaves, its wiring and its digits, computes the table
 abbrev pub ComputedByTree : Table → Type 0
 ComputedByTree t = (tree : Tree) × TreeFor t tree × TreeAgrees tree t
 
@@ -51,7 +51,7 @@ pub table-is-tree-value : (s : List ℕ) (net : Net) → readNet s ≡ accepted 
 unfolding tableOfNet
 table-is-tree-value s net reads =
     let kept = net-accepted s net reads .1 in
-    let tree = net-is-whole-tree (net .header .levels) (net .header .inputs) (inputs-several (net .header .inputs) (kept .header .inputs)) (net .gates) (kept .gates) in (
+    let tree = net-is-gate-tree (net .header .levels) (net .header .inputs) (net .gates) (kept .gates) in (
       tree .0,
       tree .1,
       agrees-all (tableOfNet net) (kept .header) (tree .0) (tree .1) .0
@@ -64,11 +64,8 @@ pub make-refuses-trees : (s : List ℕ) (t : Table) → readTable s ≡ accepted
     → ((place : ℕ) × (makeCall s cells marks output .answer ≡ refused 16 place)) ↔ (ComputedByTree t → ⊥)
 make-refuses-trees s t reads cells marks output cells-fit marks-fit =
     Iff·trans (make-refuses s t reads cells marks output cells-fit marks-fit)
-    (Iff·not (Iff·trans (Iff·symm (trees-are-nets (t .header .levels) (t .header .inputs) several (inkIn (t .inks)))) at-all))
+    (Iff·not (Iff·trans (Iff·symm (trees-are-nets (t .header .levels) (t .header .inputs) (inkIn (t .inks)))) at-all))
   where
-    several : 1 < t .header .inputs
-    several = inputs-several (t .header .inputs) (table-accepted s t reads .1 .header .inputs)
-
     at-all : SomeTree (t .header .levels) (t .header .inputs) (inkIn (t .inks)) ↔ ComputedByTree t
     at-all = (
       λ some. (some .0, some .1, agrees-all t (table-accepted s t reads .1 .header) (some .0) (some .1) .0 (some .2)),

@@ -1,14 +1,13 @@
 -- That every earlier gate is used, as the test that reading makes (`earlierUsed`) and as the rule that a net keeps (`EarlierUsed`).
 -- Assumes nothing.
-use Prim.Native.Nat.{ℕ, suc, _+_, _-_, _<_}
+use Prim.Native.Nat.{ℕ, _-_}
 use mathlib.Core.Path.{_≡_}
 use mathlib.Core.Bool.{true}
 use mathlib.Core.List.{List}
 use native.Mathlib.Omega.{arith}
 use lib.ListN.{length}
-use lib.Dec.{eqb}
-use Rattle.rules.specs.Lists.{range, any}
-use Rattle.rules.specs.Sheets.{Gate, usedBy, earlierUsed}
+use Rattle.rules.specs.Lists.{range}
+use Rattle.rules.specs.Sheets.{Gate, earlierUsed}
 use Rattle.rules.specs.Kept.{EarlierUsed}
 use Rattle.laws.specs.Tests.{all-mem, mem-all}
 use Rattle.laws.specs.Ranges.{range-mem, mem-range}

@@ -1,12 +1,12 @@
 -- A text that is cut, and one that goes on. What a reader has read stays read when bytes are added behind it. What turns it back at the text's end is
--- 1. What turns it back before the end stays, however the text goes on, once the text is so long that no field which might yet become good
+-- 1, or, of a short text, the number that is judged last. What turns it back before the end stays, however the text goes on, once the text is so long that no field which might yet become good
 -- reaches its end. Said once for readers; the laws here put such readers together.
 -- Assumes nothing.
 use Prim.Native.Nat.{ℕ, suc, _+_, _≤_, _<_}
 use mathlib.Core.Path.{_≡_, refl, sym, _∙_, ap}
 use mathlib.Core.Bool.{Bool, true, false}
 use mathlib.Core.List.{List, [], _∷_, _++_, append-nil}
-use native.Mathlib.Nat.{le-trans}
+use native.Mathlib.Nat.{le-trans, lt-of-not-le}
 use native.Mathlib.Omega.{arith}
 use lib.ListN.{length, length-append}
 use lib.Dec.{eqb}
@@ -25,21 +25,23 @@ pub record Went {A : Type 0} (r : Reader A) (s : List ℕ) (at : ℕ) (a : A) (r
 abbrev pub Goes : {A : Type 0} → Reader A → Type 0
 Goes {A} r = (s : List ℕ) (at : ℕ) (a : A) (rest : List ℕ) (place : ℕ) → r s at ≡ read a rest place → Went r s at a rest place
 
--- what was turned back: with 1 at the end, or before it, and then alike however a text of `b` bytes or more goes on
-pub data Turned {A : Type 0} (r : Reader A) (b : ℕ) (s : List ℕ) (at number place : ℕ) : Type 0 where
-  at-end : number ≡ 1 → place ≡ at + length s → Turned r b s at number place
-  before : place < at + length s → (b ≤ length s → (t : List ℕ) → r (s ++ t) at ≡ turnedBack number place) → Turned r b s at number place
+-- what was turned back: with 1 at the end, or, of a text of fewer than `b` bytes, with `late` there; or before it, and then alike however a text of `b` bytes or
+-- more goes on
+pub data Turned {A : Type 0} (late : ℕ) (r : Reader A) (b : ℕ) (s : List ℕ) (at number place : ℕ) : Type 0 where
+  at-end : number ≡ 1 → place ≡ at + length s → Turned late r b s at number place
+  late-end : number ≡ late → length s < b → place ≡ at + length s → Turned late r b s at number place
+  before : place < at + length s → (b ≤ length s → (t : List ℕ) → r (s ++ t) at ≡ turnedBack number place) → Turned late r b s at number place
 
-abbrev pub Firm : {A : Type 0} → ℕ → Reader A → Type 0
-Firm b r = (s : List ℕ) (at number place : ℕ) → r s at ≡ turnedBack number place → Turned r b s at number place
+abbrev pub Firm : {A : Type 0} → ℕ → ℕ → Reader A → Type 0
+Firm late b r = (s : List ℕ) (at number place : ℕ) → r s at ≡ turnedBack number place → Turned late r b s at number place
 
--- what was read was all, and any byte behind it is 1 there
+-- what was read was all, and any byte behind it is 1 there, where the value is one with which the text may not go on
 pub record Shut {A : Type 0} (r : Reader A) (s : List ℕ) (at : ℕ) (rest : List ℕ) : Type 0 where
   pub none : rest ≡ []
   pub after : (b : ℕ) (t : List ℕ) → r (s ++ b ∷ t) at ≡ turnedBack 1 (at + length s)
 
-abbrev pub Shuts : {A : Type 0} → Reader A → Type 0
-Shuts {A} r = (s : List ℕ) (at : ℕ) (a : A) (rest : List ℕ) (place : ℕ) → r s at ≡ read a rest place → Shut r s at rest
+abbrev pub Shuts : {A : Type 0} → (A → Type 0) → Reader A → Type 0
+Shuts {A} Whole r = (s : List ℕ) (at : ℕ) (a : A) (rest : List ℕ) (place : ℕ) → r s at ≡ read a rest place → Whole a → Shut r s at rest
 
 -- at most `w` bytes are read
 abbrev pub Takes : {A : Type 0} → ℕ → Reader A → Type 0
@@ -54,7 +56,7 @@ module _ {A : Type 0} (a : A) where
     more = λ t. (cc);
   }
 
-  pub firm-give : (b : ℕ) → Firm b (give a)
+  pub firm-give : {late : ℕ} (b : ℕ) → Firm late b (give a)
   firm-give b s at number place e = absurd (not-read number place a s at (sym e))
 
   pub takes-give : (w : ℕ) → Takes w (give a)
@@ -75,22 +77,25 @@ module _ {A B : Type 0} {r : Reader A} (next : A → Reader B) where
       go (turnedBack number p) d e = absurd (not-read number p b rest place e)
 
   -- The second reader is firm from `c` bytes on, and the first leaves it so many of `b` or more.
-  pub firm-then : (b c : ℕ) → Goes r → Firm b r
-      → ((s : List ℕ) (at : ℕ) (a : A) (rest : List ℕ) (place : ℕ) → r s at ≡ read a rest place → Firm c (next a) × (b ≤ length s → c ≤ length rest))
-      → Firm b (r >>= next)
+  pub firm-then : {late : ℕ} (b c : ℕ) → Goes r → Firm late b r
+      → ((s : List ℕ) (at : ℕ) (a : A) (rest : List ℕ) (place : ℕ) → r s at ≡ read a rest place → Firm late c (next a) × (b ≤ length s → c ≤ length rest))
+      → Firm late b (r >>= next)
   unfolding then
-  firm-then b c goes first nexts s at number place e = go (r s at) refl e
+  firm-then {late} b c goes first nexts s at number place e = go (r s at) refl e
     where
-      at-once : Turned r b s at number place → Turned (r >>= next) b s at number place
+      at-once : Turned late r b s at number place → Turned late (r >>= next) b s at number place
       at-once (at-end one end) = at-end one end
+      at-once (late-end is short end) = late-end is short end
       at-once (before within stays) = before within (λ long t. rw (stays long t) refl)
 
       second : (a : A) (middle : List ℕ) (p : ℕ) → Went r s at a middle p → (b ≤ length s → c ≤ length middle)
-          → Turned (next a) c middle p number place → Turned (r >>= next) b s at number place
+          → Turned late (next a) c middle p number place → Turned late (r >>= next) b s at number place
       second a middle p f left (at-end one end) = at-end one (omega (arith, f .ends))
+      second a middle p f left (late-end is short end) =
+          late-end is (lt-of-not-le (λ long. let enough = left long in omega arith)) (omega (arith, f .ends))
       second a middle p f left (before within stays) = before (omega (arith, f .ends)) (λ long t. rw (f .more t) (stays (left long) t))
 
-      go : (u : Read A) → r s at ≡ u → then u next ≡ turnedBack number place → Turned (r >>= next) b s at number place
+      go : (u : Read A) → r s at ≡ u → then u next ≡ turnedBack number place → Turned late (r >>= next) b s at number place
       go (read a middle p) d e =
           let (firm, left) = nexts s at a middle p d in
           second a middle p (goes s at a middle p d) left (firm middle p number place e)
@@ -105,15 +110,15 @@ module _ {A B : Type 0} {r : Reader A} (next : A → Reader B) where
       go (read a middle p) d e = omega (arith, first s at a middle p d, nexts s at a middle p d middle p b rest place e)
       go (turnedBack number p) d e = absurd (not-read number p b rest place e)
 
-  pub shuts-then : Goes r → ((a : A) → Shuts (next a)) → Shuts (r >>= next)
+  pub shuts-then : {Whole : B → Type 0} → Goes r → ((a : A) → Shuts Whole (next a)) → Shuts Whole (r >>= next)
   unfolding then
-  shuts-then first nexts s at b rest place e = go (r s at) refl e
+  shuts-then first nexts s at b rest place e is = go (r s at) refl e
     where
       both : (a : A) (middle : List ℕ) (p : ℕ) → Went r s at a middle p → Shut (next a) middle p rest → Shut (r >>= next) s at rest
       both a middle p f g = record { none = g .none; after = λ c t. rw (f .more (c ∷ t)) (g .after c t ∙ ap (turnedBack 1) (f .ends)) }
 
       go : (u : Read A) → r s at ≡ u → then u next ≡ read b rest place → Shut (r >>= next) s at rest
-      go (read a middle p) d e = both a middle p (first s at a middle p d) (nexts a middle p b rest place e)
+      go (read a middle p) d e = both a middle p (first s at a middle p d) (nexts a middle p b rest place e is)
       go (turnedBack number p) d e = absurd (not-read number p b rest place e)
 
 -- at most so many bytes, and so at most more
@@ -121,11 +126,12 @@ pub takes-more : {A : Type 0} {r : Reader A} (w v : ℕ) → w ≤ v → Takes w
 takes-more w v h takes s at a rest place e = omega (arith, takes s at a rest place e)
 
 -- firm from some bytes on, and so from more
-pub firm-more : {A : Type 0} {r : Reader A} (b c : ℕ) → b ≤ c → Firm b r → Firm c r
-firm-more {A} {r} b c h firm s at number place e = go (firm s at number place e)
+pub firm-more : {A : Type 0} {r : Reader A} {late : ℕ} (b c : ℕ) → b ≤ c → Firm late b r → Firm late c r
+firm-more {A} {r} {late} b c h firm s at number place e = go (firm s at number place e)
   where
-    go : Turned r b s at number place → Turned r c s at number place
+    go : Turned late r b s at number place → Turned late r c s at number place
     go (at-end one end) = at-end one end
+    go (late-end is short end) = late-end is (omega arith) end
     go (before within stays) = before within (λ long. stays (le-trans h long))
 
 -- ---- a field
@@ -189,16 +195,16 @@ module _ {A : Type 0} (judge : Judge A) (due : ℕ) where
       let (i, _, _) = field-read judge due (run s) (past s) at a rest place e in
       omega (arith, short (run s) a (field-good s at a rest place e), ap length i, ap length (run-past s) ∙ length-append (run s) (past s))
 
-  pub firm-field : (b : ℕ) → Stays b judge → Firm b (field judge due)
+  pub firm-field : {late : ℕ} (b : ℕ) → Stays b judge → Firm late b (field judge due)
   unfolding fieldIn fieldOfIn afterFieldIn separator
-  firm-field b stays s at number place e = go (run s) refl (past s) refl e
+  firm-field {late} b stays s at number place e = go (run s) refl (past s) refl e
     where
       parts : length s ≡ length (run s) + length (past s)
       parts = ap length (run-past s) ∙ length-append (run s) (past s)
 
       -- refused for the field alone, which a separator ends: so it is with more behind
       alone : (c : ℕ) (rest : List ℕ) → past s ≡ c ∷ rest → place < at + length s
-          → ((q : List ℕ) → fieldOf judge due (run s) (c ∷ q) at ≡ turnedBack number place) → Turned (field judge due) b s at number place
+          → ((q : List ℕ) → fieldOf judge due (run s) (c ∷ q) at ≡ turnedBack number place) → Turned late (field judge due) b s at number place
       alone c rest d within same = before within (λ long t. let (i, j) = run-more s t c rest d in rw (i, j) (same (rest ++ t)))
 
       -- the field is all of the text
@@ -206,14 +212,14 @@ module _ {A : Type 0} (judge : Judge A) (due : ℕ) where
       whole d = sym (run-past s ∙ ap (λ p. run s ++ p) d ∙ append-nil (run s))
 
       -- no field
-      none : run s ≡ [] → (p : List ℕ) → past s ≡ p → fieldOf judge due [] p at ≡ turnedBack number place → Turned (field judge due) b s at number place
+      none : run s ≡ [] → (p : List ℕ) → past s ≡ p → fieldOf judge due [] p at ≡ turnedBack number place → Turned late (field judge due) b s at number place
       none d [] f e = at-end (cc) (let here : place ≡ at = cc in omega (arith, ap length d, ap length f, parts))
       none d (c ∷ rest) f e =
           alone c rest f (let here : place ≡ at = cc in omega (arith, ap length d, ap length f, parts)) (λ q. rw d e)
 
       -- a field that is bad
       refused : (c : ℕ) (w : List ℕ) → run s ≡ c ∷ w → (k : ℕ) → judge (c ∷ w) ≡ bad k → _≡_ {A = Read A} (turnedBack k at) (turnedBack number place)
-          → (p : List ℕ) → past s ≡ p → Turned (field judge due) b s at number place
+          → (p : List ℕ) → past s ≡ p → Turned late (field judge due) b s at number place
       refused c w d k j e [] f =
           let here : place ≡ at = cc in
           let all : s ≡ c ∷ w = sym (whole f) ∙ d in
@@ -224,7 +230,7 @@ module _ {A : Type 0} (judge : Judge A) (due : ℕ) where
 
       -- a field that is good, and the byte after it
       after : (c : ℕ) (w : List ℕ) → run s ≡ c ∷ w → (a : A) → judge (c ∷ w) ≡ good a → (p : List ℕ) → past s ≡ p
-          → separator a due p (at + suc (length w)) ≡ turnedBack number place → Turned (field judge due) b s at number place
+          → separator a due p (at + suc (length w)) ≡ turnedBack number place → Turned late (field judge due) b s at number place
       after c w d a j [] f e =
           at-end (cc) (let there : place ≡ at + suc (length w) = cc in omega (arith, ap length d, ap length f, parts))
       after c w d a j (x ∷ rest) f e =
@@ -232,18 +238,18 @@ module _ {A : Type 0} (judge : Judge A) (due : ℕ) where
           alone x rest f (omega (arith, there, ap length d, ap length f, parts)) (λ q. rw (d, j) (same (x ∷ q) refl))
 
       verdict : (c : ℕ) (w : List ℕ) → run s ≡ c ∷ w → (u : Judged A) → judge (c ∷ w) ≡ u → (p : List ℕ) → past s ≡ p
-          → afterField u due p at (at + suc (length w)) ≡ turnedBack number place → Turned (field judge due) b s at number place
+          → afterField u due p at (at + suc (length w)) ≡ turnedBack number place → Turned late (field judge due) b s at number place
       verdict c w d (bad k) j p f e = refused c w d k j e p f
       verdict c w d (good a) j p f e = after c w d a j p f e
 
-      go : (w : List ℕ) → run s ≡ w → (p : List ℕ) → past s ≡ p → fieldOf judge due w p at ≡ turnedBack number place → Turned (field judge due) b s at number place
+      go : (w : List ℕ) → run s ≡ w → (p : List ℕ) → past s ≡ p → fieldOf judge due w p at ≡ turnedBack number place → Turned late (field judge due) b s at number place
       go [] d p f e = none d p f e
       go (c ∷ w) d p f e = verdict c w d (judge (c ∷ w)) refl p f e
 
 -- a narrow field, and a reader after it that is firm from `b` bytes on, or takes at most so many
 module _ {A B : Type 0} (judge : Judge A) (due l : ℕ) (narrow : Narrow l judge) (b : ℕ) (next : A → Reader B) where
-  pub firm-step : ((s : List ℕ) (at : ℕ) (a : A) (rest : List ℕ) (place : ℕ) → field judge due s at ≡ read a rest place → Firm b (next a))
-      → Firm (suc l + b) (field judge due >>= next)
+  pub firm-step : {late : ℕ} → ((s : List ℕ) (at : ℕ) (a : A) (rest : List ℕ) (place : ℕ) → field judge due s at ≡ read a rest place → Firm late b (next a))
+      → Firm late (suc l + b) (field judge due >>= next)
   firm-step nexts =
       firm-then next (suc l + b) b (goes-field judge due)
       (firm-more (suc l) (suc l + b) (omega arith) (firm-field judge due (suc l) (narrow-stays l narrow)))
@@ -256,12 +262,12 @@ module _ {A B : Type 0} (judge : Judge A) (due l : ℕ) (narrow : Narrow l judge
 -- ---- the end of a sheet, and the value then given
 
 module _ {A : Type 0} (a : A) where
-  pub firm-end : Firm 0 (closed >>= λ _. give a)
+  pub firm-end : {late : ℕ} → Firm late 0 (closed >>= λ _. give a)
   unfolding closed then
   firm-end [] at number place e = absurd (not-read number place a [] at (sym e))
   firm-end (b ∷ s) at number place e = before (let here : place ≡ at = cc in omega arith) (λ long t. e)
 
-  pub shuts-end : Shuts (closed >>= λ _. give a)
+  pub shuts-end : (Whole : A → Type 0) → Shuts Whole (closed >>= λ _. give a)
   unfolding closed then
-  shuts-end [] at b rest place e = record { none = (cc); after = λ c t. ap (turnedBack 1) (omega arith) }
-  shuts-end (c ∷ s) at b rest place e = absurd (not-read 1 at b rest place e)
+  shuts-end Whole [] at b rest place e is = record { none = (cc); after = λ c t. ap (turnedBack 1) (omega arith) }
+  shuts-end Whole (c ∷ s) at b rest place e is = absurd (not-read 1 at b rest place e)

@@ -29,12 +29,12 @@ pub record FieldAlike (t s : List ℕ) : Type 0 where
   pub same-start : StartAlike t s
 
 -- what begins as nothing does is nothing
-none-alike : (t : List ℕ) → StartAlike t [] → t ≡ []
+pub none-alike : (t : List ℕ) → StartAlike t [] → t ≡ []
 none-alike [] e = refl
 none-alike (b ∷ t) e = absurd (let z : _≡_ {A = ℕ} 0 1 = cc in omega arith)
 
 -- what begins alike begins alike behind any bytes
-behind-alike : (w t s : List ℕ) → StartAlike t s → StartAlike (w ++ t) (w ++ s)
+pub behind-alike : (w t s : List ℕ) → StartAlike t s → StartAlike (w ++ t) (w ++ s)
 behind-alike [] t s h = h
 behind-alike (b ∷ w) t s h = refl
 

@@ -1,7 +1,7 @@
 -- The lines of a sheet as document 01's lister counts them: where line k begins and how long it is. In an accepted net sheet the gate lines
 -- are the lines after the first four, each within the sheet with its line feed, and after the last the sheet ends.
 -- Assumes nothing.
-use Prim.Native.Nat.{ℕ, zero, suc, _+_, _-_, _<_}
+use Prim.Native.Nat.{ℕ, zero, suc, _+_, _-_, _≤_, _<_}
 use mathlib.Core.Path.{_≡_, refl, sym, ap, ap₂, _∙_, subst⁻¹}
 use mathlib.Core.Bool.{true}
 use mathlib.Core.List.{List, [], _∷_, _++_, append-assoc, append-nil}
@@ -144,9 +144,9 @@ module _ (s : List ℕ) (net : Net) (reads : readNet s ≡ accepted net) where
   unfolding netLines fourLines headLines
   net-at k d h = rw (four-more k) (map-at (gateBody (net .header .names)) (net .gates) k d [] h)
 
-  -- "n − 1 gate lines"
-  pub gate-count : length (net .gates) ≡ net .header .inputs - 1
-  gate-count = omega (arith, kept .gates .count)
+  -- "from 1 to n − 1 gate lines" (document 02, K12)
+  pub gate-count : (0 < length (net .gates)) × (length (net .gates) ≤ net .header .inputs - 1)
+  gate-count = (kept .gates .some, omega (arith, kept .gates .count))
 
   -- the part that a turn gives lies within the sheet, with its line feed, ..
   pub gate-inside : (k : ℕ) → k < length (net .gates) → lineAt s (4 + k) .start + lineAt s (4 + k) .count < length s

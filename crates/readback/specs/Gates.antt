@@ -1,23 +1,25 @@
 -- Gate lines: each refers back, to what no earlier line refers to.
 -- Assumes nothing.
-use Prim.Native.Nat.{ℕ, zero, suc, _+_, _<_}
+use Prim.Native.Nat.{ℕ, zero, suc, _+_, _≤_, _<_}
 use mathlib.Core.Path.{_≡_, refl, sym, _∙_, ap}
 use mathlib.Core.Bool.{false}
-use mathlib.Core.Logic.{_↔_}
+use mathlib.Core.Logic.{_↔_, _⊎_, inl, inr, ⊎-elim}
 use mathlib.Core.List.{List, [], _∷_, _++_, map, append-assoc, append-nil}
 use native.Mathlib.Omega.{arith}
 use lib.ListN.{length, length-append}
+use lib.Seq.{append-snoc}
 use lib.Dec.{eqb}
 use Rattle.rules.specs.Lists.{any, concatMap}
 use Rattle.rules.specs.Text.{space, newline, digitByte}
-use Rattle.rules.specs.Sheets.{Gate, referenceText, usedBy, gateLine, gateLines}
+use Rattle.rules.specs.Fields.{read, Reader, give}
+use Rattle.rules.specs.Sheets.{Gate, referenceText, usedBy, gateLine, orEnd, gateLines}
 use Rattle.rules.specs.Printed.{line, printedGate}
 use Rattle.rules.specs.Kept.{GoodNames, GateTable, Tables, RefersBack, Distinct}
 use Rattle.laws.specs.Tests.{none-iff}
 use Rattle.laws.specs.Same.{eqb-comm}
-use Rattle.readback.specs.Spells.{Spells, spells-give, spells-then, spells-as}
-use Rattle.readback.specs.Collects.{Collects, collects-none, collects-more}
-use Rattle.readback.specs.Fields.{parts-space, parts-newline, spells-field}
+use Rattle.readback.specs.Spells.{SpellsBetween, Any, Spells, spells-give, spells-then, spells-as}
+use Rattle.readback.specs.Fields.{parts-space, parts-newline, spells-field, Ended}
+use Rattle.readback.specs.Ends.{spells-or-end}
 use Rattle.readback.specs.Judges.{judges-digits}
 use Rattle.laws.specs.Fresh.{Fresh, fresh-last}
 use Rattle.readback.specs.References.{judges-reference}
@@ -135,11 +137,80 @@ module _ (m : ℕ) (positive : 0 < m) (names : List (List ℕ)) (good-names : Go
   one-gate earlier g gates = rw (refs-last earlier g, used-last earlier g)
       (λ (a, b). gates-to m _ (usedBy earlier) g gates a b, gates-from m (length names + length earlier) (usedBy earlier) g gates)
 
-  pub spells-gates : (count : ℕ) (earlier : List Gate)
-      → Collects (gateLines m names count earlier) earlier count (Gates earlier) (concatMap (printedGate names))
-  unfolding gateLines concatMap usedBy
-  spells-gates zero earlier = collects-none earlier (Gates earlier) (concatMap (printedGate names))
-      (record { back = tt; once = tt; fresh = tt; tables = tt }) refl
-  spells-gates (suc count) earlier = collects-more _ earlier count (One earlier) (λ g. Gates (earlier ++ (g ∷ []))) (Gates earlier)
-      (printedGate names) (concatMap (printedGate names)) (concatMap (printedGate names)) (spells-gate earlier)
-      (λ g. spells-gates count (earlier ++ (g ∷ []))) (one-gate earlier) (λ g gates l. refl)
+  -- a printed gate is not empty
+  gate-some : (g : Gate) (gates : List Gate) → 0 < length (concatMap (printedGate names) (g ∷ gates))
+  unfolding concatMap printedGate line
+  gate-some g gates = simp length-append (omega arith)
+
+  -- Gate lines from here on, before the sheet's end: what `r` reads is printed as those of `X`
+  abbrev ReadsGates : Reader (List Gate) → List Gate → (List Gate → Type 0) → Type 0
+  ReadsGates r earlier Rule = SpellsBetween Ended Any r ((gates : List Gate) × Rule gates) (λ x. earlier ++ x .0) (λ x. concatMap (printedGate names) (x .0))
+
+  -- up to `count` gates after the earlier ones
+  abbrev Rest : ℕ → List Gate → List Gate → Type 0
+  Rest count earlier gates = (length gates ≤ count) × Gates earlier gates
+
+  -- the same, one at least
+  abbrev More : ℕ → List Gate → List Gate → Type 0
+  More count earlier gates = (0 < length gates) × Rest count earlier gates
+
+  -- one gate, then the sheet's end or further gates
+  spells-more : (count : ℕ) → ((earlier : List Gate) → ReadsGates (orEnd earlier (gateLines m names count earlier)) earlier (Rest count earlier))
+      → (earlier : List Gate) → ReadsGates (gateLines m names (suc count) earlier) earlier (More (suc count) earlier)
+  unfolding gateLines concatMap
+  spells-more count later earlier = spells-as (spells-then _ (spells-gate earlier) (λ (g, _). later (earlier ++ (g ∷ []))))
+      (λ ((g, a), (gates, (few, b))). ((g ∷ gates, (omega arith, (omega arith, one-gate earlier g gates .0 (a, b)))), append-snoc earlier g gates, refl))
+      from
+    where
+      from : (y : (gates : List Gate) × More (suc count) earlier gates)
+          → (x : (x : (g : Gate) × One earlier g) × ((gates : List Gate) × Rest count (earlier ++ (x .0 ∷ [])) gates))
+          × (earlier ++ y .0 ≡ earlier ++ (x .0 .0 ∷ []) ++ x .1 .0)
+          × (concatMap (printedGate names) (y .0) ≡ printedGate names (x .0 .0) ++ concatMap (printedGate names) (x .1 .0))
+      from ([], (some, (few, b))) = absurd (omega arith)
+      from (g ∷ gates, (some, (few, b))) =
+          let (a, c) = one-gate earlier g gates .1 b in
+          (((g, a), (gates, (omega arith, c))), sym (append-snoc earlier g gates), refl)
+
+  -- no gate keeps the rules
+  no-gates : (earlier : List Gate) → Gates earlier []
+  unfolding usedBy
+  no-gates earlier = record { back = tt; once = tt; fresh = tt; tables = tt }
+
+  -- the sheet's end, or further gates
+  spells-rest : (count : ℕ) (earlier : List Gate) → ReadsGates (orEnd earlier (gateLines m names count earlier)) earlier (Rest count earlier)
+  unfolding gateLines orEnd concatMap
+  spells-rest zero earlier = record { back = back; only = only }
+    where
+      back : (y : (gates : List Gate) × Rest 0 earlier gates) (rest : List ℕ) (at : ℕ) → Ended rest
+          → (place : ℕ) × (orEnd earlier (give earlier) (concatMap (printedGate names) (y .0) ++ rest) at ≡ read (earlier ++ y .0) rest place)
+      back ([], (few, b)) rest at h = (at, rw (h, append-nil))
+      back (g ∷ gates, (few, b)) rest at h = absurd (omega arith)
+
+      only : (s : List ℕ) (at : ℕ) (a : List Gate) (rest : List ℕ) (place : ℕ) → orEnd earlier (give earlier) s at ≡ read a rest place
+          → (y : (gates : List Gate) × Rest 0 earlier gates) × (a ≡ earlier ++ y .0) × (s ≡ concatMap (printedGate names) (y .0) ++ rest) × Any rest
+      only [] at a rest place e = (([], (omega arith, no-gates earlier)), (cc (append-nil earlier)), (cc), tt)
+      only (b ∷ s) at a rest place e = (([], (omega arith, no-gates earlier)), (cc (append-nil earlier)), (cc), tt)
+  spells-rest (suc count) earlier = spells-as (spells-or-end earlier _ (spells-more count (spells-rest count) earlier) some) to from
+    where
+      some : (x : (gates : List Gate) × More (suc count) earlier gates) → 0 < length (concatMap (printedGate names) (x .0))
+      some ([], (h, k)) = absurd (omega arith)
+      some (g ∷ gates, (h, k)) = gate-some g gates
+
+      to : (x : Unit {0} ⊎ ((gates : List Gate) × More (suc count) earlier gates))
+          → (y : (gates : List Gate) × Rest (suc count) earlier gates)
+          × (⊎-elim (λ _. earlier) (λ x. earlier ++ x .0) x ≡ earlier ++ y .0)
+          × (⊎-elim (λ _. []) (λ x. concatMap (printedGate names) (x .0)) x ≡ concatMap (printedGate names) (y .0))
+      to (inl _) = (([], (omega arith, no-gates earlier)), sym (append-nil earlier), refl)
+      to (inr (gates, (h, k))) = ((gates, k), refl, refl)
+
+      from : (y : (gates : List Gate) × Rest (suc count) earlier gates)
+          → (x : Unit {0} ⊎ ((gates : List Gate) × More (suc count) earlier gates))
+          × (earlier ++ y .0 ≡ ⊎-elim (λ _. earlier) (λ x. earlier ++ x .0) x)
+          × (concatMap (printedGate names) (y .0) ≡ ⊎-elim (λ _. []) (λ x. concatMap (printedGate names) (x .0)) x)
+      from ([], k) = (inl tt, append-nil earlier, refl)
+      from (g ∷ gates, k) = (inr (g ∷ gates, (omega arith, k)), refl, refl)
+
+  -- from 1 to `count` gate lines
+  pub spells-gates : (count : ℕ) → 0 < count → ReadsGates (gateLines m names count []) [] (More count [])
+  spells-gates zero some = absurd (omega arith)
+  spells-gates (suc count) some = spells-more count (spells-rest count) []

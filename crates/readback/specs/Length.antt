@@ -4,7 +4,7 @@ use Prim.Native.Nat.{ℕ, suc, _+_, _-_, _*_, _≤_, _<_}
 use mathlib.Core.Path.{_≡_, refl}
 use mathlib.Core.Bool.{Bool, true, not, _||_}
 use mathlib.Core.List.{List, [], _∷_}
-use native.Mathlib.Nat.{le-trans}
+use native.Mathlib.Nat.{le-trans, mul-le-mul-right}
 use native.Mathlib.Omega.{arith}
 use lib.ListN.{length, length-append, length-map, getD}
 use lib.Dec.{leb}
@@ -79,8 +79,8 @@ sheet-length net k =
     let c = names-length (h .names) (k .header .names) (omega arith) in
     let d = gates-length (h .names) (k .header .names) (h .levels) (h .inputs) (net .gates)
     (k .gates .rules .back) (omega arith) (k .gates .rules .tables) in
-    let e : h .inputs - 1 ≡ length (net .gates) = omega arith in
-    simp (length-append, e) (omega arith)
+    let e : length (net .gates) * (19 + h .levels * h .levels) ≤ (h .inputs - 1) * (19 + h .levels * h .levels) = mul-le-mul-right (19 + h .levels * h .levels) (omega (arith, k .gates .count)) in
+    simp length-append (omega arith)
 
 -- there are too many cells, or the bound is small
 boundTest : ℕ → ℕ → Bool

@@ -2,7 +2,7 @@
 -- `TableLength`), with which numbers (`Among`, `Numbers`), where and by which bytes (`Fronts`, `Refused`) a sheet is refused, and what one comes to that
 -- is cut (`Cuts`, `CutSheets`). The way to the first: what
 -- a reader reads is said once for both directions (`Spells`, `Collects`); then field by field (`Fields`, `Decimals`, `Judges`, `References`),
--- line by line (`Names`, `Header`, `Gates`), sheet by sheet (`NetSheets`, `TableSheets`). `Lines` and `GateLines` take
+-- line by line (`Names`, `Header`, `Ends`, `Gates`), sheet by sheet (`NetSheets`, `TableSheets`). `Lines` and `GateLines` take
 -- an accepted sheet as lines. `LooseFields`, `LooseSheets`, `LooseTables` and `LoosePlaces` have
 -- the same of loose table sheets, `ArrivalSheets` and `ArrivalRefusals` of arrival sheets.
 -- Assumes nothing.
@@ -14,6 +14,7 @@ pub mod Judges
 pub mod Names
 pub mod References
 pub mod Header
+pub mod Ends
 pub mod Gates
 pub mod NetSheets
 pub mod TableSheets
@@ -22,6 +23,7 @@ pub mod Numbers
 pub mod Fronts
 pub mod Cuts
 pub mod Refused
+pub mod Unused
 pub mod ReadBack
 pub mod Length
 pub mod TableLength

@@ -1,4 +1,4 @@
--- The numbers with which a sheet is turned back: a net sheet with 1, 2, 3, 4, 6, 7 or 8, a table sheet with 1 to 6, a loose one with these and 20.
+-- The numbers with which a sheet is turned back: a net sheet with 1, 2, 3, 4, 6, 7, 8 or 26, a table sheet with 1 to 6, a loose one with these and 20.
 -- Assumes nothing.
 use Prim.Native.Nat.{ℕ, zero, suc, _+_, _-_, _*_, _^_}
 use mathlib.Core.Path.{_≡_, refl, sym}
@@ -11,15 +11,17 @@ use Rattle.rules.specs.Lists.{all, any, same}
 use Rattle.rules.specs.Text.{space, newline, digitByte, isDigit}
 use Rattle.rules.specs.Limits.{levelsFit, cellsFit}
 use Rattle.rules.specs.Fields.{Read, read, turnedBack, Judged, bad, judged, strict, loose, Layout, theWord}
-use Rattle.rules.specs.Sheets.{Gate, levelsField, inputsOf, inputsField, isName, nameField, nameFieldsIn, headerLinesIn, referenceOf, referenceField, digitsField, usedBy, gateLine, gateLines, netSheet, levelsAt, levelField, inkField, levelFields, rowLines, tableSheet}
+use Rattle.rules.specs.Sheets.{Gate, Net, levelsField, inputsOf, inputsField, isName, nameField, nameFieldsIn, headerLinesIn, referenceOf, referenceField, digitsField, usedBy, gateLine, gateLines, netSheet, levelsAt, levelField, inkField, levelFields, rowLines, tableSheet}
 use Rattle.rules.specs.LooseSheet.{Row, anyLevel, indexFields, isOf, notGiven, rowFrom, looseRows, looseSheet, readLoose}
 use Rattle.rules.specs.Reading.{readNet, readTable}
 use Rattle.readback.specs.Spells.{not-read}
 use Rattle.laws.specs.Distinct.{In}
 use Rattle.readback.specs.Among.{Among, AmongJudge, Refuses, named-bad, named-turned, test-bad, among-give, among-then, among-field, among-field-in, among-word, among-closed, among-answer}
+use Rattle.readback.specs.Ends.{among-or-end, among-used}
+use Rattle.readback.specs.NetSheets.{netToEnd, judgedLast, net-whole}
 
 abbrev pub netNumbers : List ℕ
-netNumbers = 1 ∷ 2 ∷ 3 ∷ 4 ∷ 6 ∷ 7 ∷ 8 ∷ []
+netNumbers = 1 ∷ 2 ∷ 3 ∷ 4 ∷ 6 ∷ 7 ∷ 8 ∷ 26 ∷ []
 
 abbrev pub tableNumbers : List ℕ
 tableNumbers = 1 ∷ 2 ∷ 3 ∷ 4 ∷ 5 ∷ 6 ∷ []
@@ -27,7 +29,7 @@ tableNumbers = 1 ∷ 2 ∷ 3 ∷ 4 ∷ 5 ∷ 6 ∷ []
 abbrev pub looseNumbers : List ℕ
 looseNumbers = 1 ∷ 2 ∷ 3 ∷ 4 ∷ 5 ∷ 6 ∷ 20 ∷ []
 
--- The numbers that both kinds of sheet have are the section's; 7 and 8 are a net sheet's, and 5 a table sheet's.
+-- The numbers that both kinds of sheet have are the section's; 7, 8 and 26 are a net sheet's, and 5 a table sheet's.
 module _ (numbers : List ℕ) (one : In 1 numbers) (two : In 2 numbers) (three : In 3 numbers) (four : In 4 numbers) (six : In 6 numbers) where
   -- ---- the judges
 
@@ -100,17 +102,26 @@ module _ (numbers : List ℕ) (one : In 1 numbers) (two : In 2 numbers) (three :
   among-gates : In 7 numbers → In 8 numbers → (m : ℕ) (names : List (List ℕ)) (count : ℕ) (earlier : List Gate) → Among numbers (gateLines m names count earlier)
   unfolding gateLines
   among-gates seven eight m names zero earlier = among-give numbers one earlier
-  among-gates seven eight m names (suc count) earlier = among-then numbers one _ _ (among-gate seven eight m names earlier) (λ g. among-gates seven eight m names count (earlier ++ (g ∷ [])))
+  among-gates seven eight m names (suc count) earlier = among-then numbers one _ _ (among-gate seven eight m names earlier) (λ g. among-or-end _ _ numbers (among-gates seven eight m names count (earlier ++ (g ∷ []))))
 
-  among-net : In 7 numbers → In 8 numbers → Among numbers netSheet
-  unfolding netSheet
-  among-net seven eight =
+  -- a net sheet to its end, ..
+  pub among-to-end : In 7 numbers → In 8 numbers → Among numbers netToEnd
+  unfolding netToEnd
+  among-to-end seven eight =
       among-then numbers one _ _ (among-header strict newline) (λ h.
       among-then numbers one _ _ (among-field numbers one (theWord "left") space (among-word numbers one "left")) (λ _.
       among-then numbers one _ _ (among-field numbers one (theWord "right") space (among-word numbers one "right")) (λ _.
       among-then numbers one _ _ (among-field numbers one (theWord "table") newline (among-word numbers one "table")) (λ _.
       among-then numbers one _ _ (among-gates seven eight (h .levels) (h .names) (h .inputs - 1) []) (λ gates.
       among-then numbers one _ _ (among-closed numbers one) (λ _. among-give numbers one _))))))
+
+  -- .. and what is judged there
+  among-last : In 26 numbers → (net : Net) → Among numbers (judgedLast net)
+  unfolding judgedLast
+  among-last late net = among-then numbers one _ _ (among-used (net .header .inputs) (net .gates) numbers late) (λ _. among-give numbers one net)
+
+  among-net : In 7 numbers → In 8 numbers → In 26 numbers → Among numbers netSheet
+  among-net seven eight late = rw net-whole (among-then numbers one netToEnd judgedLast (among-to-end seven eight) (among-last late))
 
   among-row : In 5 numbers → (levels : List ℕ) → Among numbers (levelFields levels)
   unfolding levelFields
@@ -177,7 +188,7 @@ module _ (numbers : List ℕ) (one : In 1 numbers) (two : In 2 numbers) (three :
 
 pub net-refusal : Refuses netNumbers readNet
 unfolding readNet any
-net-refusal = among-answer netNumbers netSheet (among-net netNumbers refl refl refl refl refl refl refl)
+net-refusal = among-answer netNumbers netSheet (among-net netNumbers refl refl refl refl refl refl refl refl)
 
 pub table-refusal : Refuses tableNumbers readTable
 unfolding readTable any

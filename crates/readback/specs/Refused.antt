@@ -9,10 +9,12 @@ use native.Mathlib.Omega.{arith}
 use lib.ListN.{length, take, drop}
 use Rattle.rules.specs.Text.{space, newline}
 use Rattle.rules.specs.Fields.{Read, read, turnedBack, Reader, run, theWord}
-use Rattle.rules.specs.Sheets.{Gate, levelsField, inputsField, nameField, nameFields, nameFieldsIn, headerLines, headerLinesIn, referenceField, digitsField, usedBy, gateLine, gateLines, netSheet, levelsAt, levelField, inkField, levelFields, rowLines, tableSheet}
+use Rattle.rules.specs.Sheets.{Gate, Net, levelsField, inputsField, nameField, nameFields, nameFieldsIn, headerLines, headerLinesIn, referenceField, digitsField, usedBy, gateLine, gateLines, netSheet, levelsAt, levelField, inkField, levelFields, rowLines, tableSheet}
 use Rattle.rules.specs.Answers.{Answer, refused}
 use Rattle.rules.specs.Reading.{answered, readNet, readTable}
 use Rattle.readback.specs.Fronts.{FromFront, front-give, front-then, front-field, front-closed, turned-place, fieldEnd, turned-alike, turned-through}
+use Rattle.readback.specs.Ends.{front-or-end, front-used}
+use Rattle.readback.specs.NetSheets.{netToEnd, judgedLast, net-whole}
 
 -- ---- the readers of sheets judge from the front
 
@@ -41,17 +43,26 @@ front-gate m names earlier =
 front-gates : (m : ℕ) (names : List (List ℕ)) (count : ℕ) (earlier : List Gate) → FromFront (gateLines m names count earlier)
 unfolding gateLines
 front-gates m names zero earlier = front-give earlier
-front-gates m names (suc count) earlier = front-then _ (front-gate m names earlier) (λ g. front-gates m names count (earlier ++ (g ∷ [])))
+front-gates m names (suc count) earlier = front-then _ (front-gate m names earlier) (λ g. front-or-end _ _ (front-gates m names count (earlier ++ (g ∷ []))))
 
-front-net : FromFront netSheet
-unfolding netSheet
-front-net =
+-- a net sheet to its end, ..
+pub front-to-end : FromFront netToEnd
+unfolding netToEnd
+front-to-end =
     front-then _ (front-header newline) (λ h.
     front-then _ (front-field (theWord "left") space) (λ _.
     front-then _ (front-field (theWord "right") space) (λ _.
     front-then _ (front-field (theWord "table") newline) (λ _.
     front-then _ (front-gates (h .levels) (h .names) (h .inputs - 1) []) (λ gates.
     front-then _ front-closed (λ _. front-give _))))))
+
+-- .. and what is judged there
+front-last : (net : Net) → FromFront (judgedLast net)
+unfolding judgedLast
+front-last net = front-then _ (front-used (net .header .inputs) (net .gates)) (λ _. front-give net)
+
+pub front-net : FromFront netSheet
+front-net = rw net-whole (front-then judgedLast front-to-end front-last)
 
 front-levels : (levels : List ℕ) → FromFront (levelFields levels)
 unfolding levelFields
@@ -94,7 +105,7 @@ JudgesField call =
 
 module _ {A : Type 0} {r : Reader A} (front : FromFront r) where
   -- a refusal is the reader's
-  turned : (s : List ℕ) (number place : ℕ) → answered (r s 0) ≡ refused number place → r s 0 ≡ turnedBack number place
+  pub turned : (s : List ℕ) (number place : ℕ) → answered (r s 0) ≡ refused number place → r s 0 ≡ turnedBack number place
   unfolding answered
   turned s number place e = go (r s 0) refl e
     where

@@ -7,7 +7,8 @@
 -- nets (`Layers`, `Shallow`, `ShallowSettling`, `Shallower`, with `ShallowCases`), every wiring of a table (`Family`, `FamilyCalls`, with
 -- `FamilyCases`), the comparison of two assignments (`Differences`, with `DifferenceCases`), arrival times (`ArrivalSheet`, `Arrivals`, with
 -- `ArrivalCases`), loose table sheets (`LooseSheet`, `Tidying`, with `LooseCases`), marking as a job (`Jobs`, with `JobCases`), a wiring kept
--- (`Keeping`, with `KeepingCases`) and whole glyphs (`Glyphs`, with `GlyphCases`).
+-- (`Keeping`, with `KeepingCases`) whole glyphs (`Glyphs`, with
+-- `GlyphCases`), and inputs that never matter (`Leaves`, with `LeafCases`).
 -- `Evaluation` lets all of it compute.
 -- Assumes nothing.
 pub mod Lists
@@ -60,5 +61,6 @@ pub mod JobCases
 pub mod KeepingCases
 pub mod RenamingCases
 pub mod GlyphCases
+pub mod LeafCases
 pub mod Refusals
 pub mod Orders

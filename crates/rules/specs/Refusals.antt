@@ -1,4 +1,4 @@
--- The examples of docs/REFUSALS.md as one theorem, `refusals-hold`: every refusal, 1 to 25, by calls that give it, with its number, its
+-- The examples of docs/REFUSALS.md as one theorem, `refusals-hold`: every refusal, 1 to 26, by calls that give it, with its number, its
 -- place, and what each buffer lent to the call holds afterwards. They compute, so that a reader who believes nothing sees each number
 -- come out. The document's examples are these and no others (rust/sitgurp/tests/refusals.rs).
 -- Assumes nothing.
@@ -313,8 +313,8 @@ refusals =
     "levels inputs/2 4/a b c d ink/0 0 0 0 0/0 0 0 1 1/0 0 1 0 0/0 0 1 1 1/0 1 0 0 0/0 1 0 1 1/0 1 1 0 1/0 1 1 1 0/1 0 0 0 0/1 0 0 1 1/1 0 1 0 1/1 0 1 1 0/1 1 0 0 1/1 1 0 1 0/1 1 1 0 1/1 1 1 1 0/"
     16 4 70 16 7 "0101011001101010" (0x28 ∷ 0x42 ∷ 0x02 ∷ 0x40 ∷ [])
     -- 17: three trees, 0 to 2; a number past them, whatever the output; no tree, and so none of number 0
-    ∷ tree "levels inputs/2 3/a b c ink/0 0 0 0/0 0 1 0/0 1 0 0/0 1 1 0/1 0 0 0/1 0 1 0/1 1 0 0/1 1 1 0/" 3 8 3 60 17 3 "00000000" (0xa8 ∷ 0xaa ∷ 9 ∷ [])
-    ∷ tree "levels inputs/2 3/a b c ink/0 0 0 0/0 0 1 0/0 1 0 0/0 1 1 0/1 0 0 0/1 0 1 0/1 1 0 0/1 1 1 0/" 1000000007 9 2 0 17 1000000007 "000000009" (0xa8 ∷ 0xaa ∷ [])
+    ∷ tree "levels inputs/2 3/a b c ink/0 0 0 0/0 0 1 1/0 1 0 1/0 1 1 0/1 0 0 1/1 0 1 0/1 1 0 0/1 1 1 1/" 3 8 3 60 17 3 "01101001" (0xa8 ∷ 0xaa ∷ 9 ∷ [])
+    ∷ tree "levels inputs/2 3/a b c ink/0 0 0 0/0 0 1 1/0 1 0 1/0 1 1 0/1 0 0 1/1 0 1 0/1 1 0 0/1 1 1 1/" 1000000007 9 2 0 17 1000000007 "011010019" (0xa8 ∷ 0xaa ∷ [])
     ∷ tree "levels inputs/2 3/a b c ink/0 0 0 0/0 0 1 0/0 1 0 0/0 1 1 1/1 0 0 0/1 0 1 1/1 1 0 1/1 1 1 1/" 0 8 2 0 17 0 "00010111" (0x28 ∷ 0x42 ∷ [])
     -- 18: a name that is not the next input's
     ∷ arrival "name from to/b 0 0/" 18 13
@@ -336,6 +336,8 @@ refusals =
     -- 23: three classes of a and b, whatever the output; of a, b and c, at the second gate
     ∷ keep "levels inputs/2 3/a b c/left right table/a b 0001/1 c 0111/" "levels inputs/2 3/a b c ink/0 0 0 0/0 0 1 0/0 1 0 0/0 1 1 1/1 0 0 0/1 0 1 1/1 1 0 1/1 1 1 1/" 9 0 23 1 "000101119"
     ∷ keep "levels inputs/2 4/a b c d/left right table/a b 0110/c 1 0001/2 d 0001/" "levels inputs/2 4/a b c d ink/0 0 0 0 0/0 0 0 1 0/0 0 1 0 0/0 0 1 1 1/0 1 0 0 0/0 1 0 1 1/0 1 1 0 1/0 1 1 1 1/1 0 0 0 0/1 0 0 1 1/1 0 1 0 1/1 0 1 1 1/1 1 0 0 0/1 1 0 1 0/1 1 1 0 0/1 1 1 1 1/" 16 80 23 2 "0001011101110001"
+    -- .. and an input that matters left out, at place 0, before the gates
+    ∷ keep "levels inputs/2 3/a b c/left right table/a b 0001/" "levels inputs/2 3/a b c ink/0 0 0 0/0 0 1 0/0 1 0 0/0 1 1 1/1 0 0 0/1 0 1 1/1 1 0 1/1 1 1 1/" 8 60 23 0 "00010111"
     -- 24: a side of 0; of 65; the number of cells; a cell's level
     ∷ glyph "levels inputs/2 2/a b/left right table/a b 0110/" "" "0 0 -1 0" 0 2 4 24 0
     ∷ glyph "levels inputs/2 2/a b/left right table/a b 0110/" "00000000000000000000000000000000000000000000000000000000000000000" "0 0 -1 0" 65 1 65 24 0
@@ -346,6 +348,8 @@ refusals =
     ∷ glyph "levels inputs/2 2/a b/left right table/a b 0110/" "01 11" "0 0 -1 0 0" 2 2 4 25 0
     ∷ glyph "levels inputs/2 2/a b/left right table/a b 0110/" "01 11" "0 0 -3 0" 2 2 4 25 0
     ∷ glyph "levels inputs/2 2/a b/left right table/a b 0110/" "01 11" "0 0 0 3" 2 2 4 25 0
+    -- 26: an earlier gate that is never used
+    ∷ net "levels inputs/2 4/a b c d/left right table/a b 0001/c d 0110/" 26 61
     ∷ []
 
 pub refusals-hold : AllCome refusals
@@ -360,5 +364,5 @@ refusals-hold =
     and refl and refl and refl and refl and refl and refl and refl and refl and refl and refl and refl and refl and refl and refl and refl
     and refl and refl and refl and arrivals-back refl and arrivals-back refl and arrivals-back refl and arrivals-back refl
     and arrivals-back refl and arrivals-back refl and loose-back refl and loose-back refl and refl and refl and refl and refl and refl
-    and refl and refl and refl and refl and refl and refl and refl and refl and refl
+    and refl and refl and refl and refl and refl and refl and refl and refl and refl and refl and net-back refl
     and none

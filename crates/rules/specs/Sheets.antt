@@ -113,6 +113,14 @@ gateLine m names earlier = do
   digits ← field (digitsField m) newline
   give (record { left = left; right = right; digits = digits })
 
+-- "inputs may stay unused, earlier gates may not" (document 02, K12)
+unfoldable pub earlierUsed : ℕ → List Gate → Bool
+earlierUsed n gates = all (λ k. any (eqb (n + k)) (usedBy gates)) (range 0 (length gates - 1))
+
+-- "26, an earlier gate is never used, place the sheet's length, judged last in the net sheet" (document 02, K12): nothing is left to read here
+unfoldable pub allUsed : ℕ → List Gate → Reader (Unit {0})
+allUsed n gates s at = elim (earlierUsed n gates) [ true ↦ read tt s at | false ↦ turnedBack 26 at ]
+
 -- the sheet's end here, or more of it
 unfoldable pub orEnd : {A : Type 0} → A → Reader A → Reader A
 orEnd a more [] at = read a [] at
@@ -123,14 +131,6 @@ unfoldable pub gateLines : ℕ → List (List ℕ) → ℕ → List Gate → Rea
 gateLines m names zero earlier = give earlier
 gateLines m names (suc count) earlier =
     gateLine m names earlier >>= λ g. orEnd (earlier ++ (g ∷ [])) (gateLines m names count (earlier ++ (g ∷ [])))
-
--- "inputs may stay unused, earlier gates may not" (document 02, K12)
-unfoldable pub earlierUsed : ℕ → List Gate → Bool
-earlierUsed n gates = all (λ k. any (eqb (n + k)) (usedBy gates)) (range 0 (length gates - 1))
-
--- "26, an earlier gate is never used, place the sheet's length, judged last in the net sheet" (document 02, K12): nothing is left to read here
-unfoldable pub allUsed : ℕ → List Gate → Reader (Unit {0})
-allUsed n gates s at = elim (earlierUsed n gates) [ true ↦ read tt s at | false ↦ turnedBack 26 at ]
 
 -- what a net sheet is read as
 pub record Net : Type 0 where
