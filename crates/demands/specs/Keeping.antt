@@ -1,11 +1,12 @@
--- Document 02, K10, said of the call. "Past 12 and 13 it is refused with 23 exactly when no filling of that wiring computes the table": no digits whatever. Otherwise
+-- Document 02, K10, said of the call. "Past 12 and 13 it is refused with 23 exactly when no filling of that wiring computes the table": no digits whatever. "A kept
+-- wiring that leaves out an input that matters is refused with 23 at place 0, before its gates are judged." (K12) Otherwise
 -- the sheet written is an accepted net with the given wiring and exactly the table, and the set is exactly the gates that changed. Keeping again
 -- changes nothing; keeping the wiring of the settled net gives making's very sheet; every sheet of a family is what keeping makes of its own wiring.
 -- Assumes nothing.
 use Prim.Native.Nat.{ℕ, suc, _-_, _^_, _≤_, _<_}
 use mathlib.Core.Path.{_≡_, refl, sym, ap, ap₂, _∙_, subst, subst⁻¹}
-use mathlib.Core.Logic.{_↔_, _≢_}
-use mathlib.Core.Bool.{Bool, true, false}
+use mathlib.Core.Logic.{_↔_, _≢_, _⊎_, inl, inr, ⊎-elim}
+use mathlib.Core.Bool.{Bool, true, false, true≢false}
 use mathlib.Core.List.{List}
 use native.Mathlib.Nat.{lt-of-not-le}
 use native.Mathlib.Decide.{decLe}
@@ -22,20 +23,20 @@ use Rattle.rules.specs.Reading.{readNet, readTable, tableOfNet}
 use Rattle.rules.specs.Checking.{sameHeader}
 use Rattle.rules.specs.Settling.{settledNet, makeCall}
 use Rattle.rules.specs.FamilyCalls.{familyNet, familyTreeCall}
-use Rattle.rules.specs.Keeping.{gateLinks, keptNet, roomyBefore, tableAt, changedGates, Keeping, rewritten, turnedAway, KeptWiring, keptInto, keepCall}
+use Rattle.rules.specs.Keeping.{gateLinks, keptNet, roomyBefore, leavesOut, tableAt, changedGates, Keeping, rewritten, turnedAway, KeptWiring, keptInto, keepCall}
 use Rattle.laws.specs.Answers.{written-front}
-use Rattle.laws.specs.Keeping.{keep-net-refused, keep-table-refused, keep-accepted, keep-12, keep-13, keep-23, keep-15, keep-written}
+use Rattle.laws.specs.Keeping.{keep-net-refused, keep-table-refused, keep-accepted, keep-12, keep-13, keep-23-0, keep-23, keep-15, keep-written}
 use Rattle.readback.specs.ReadBack.{net-accepted, net-read-back, table-accepted}
 use Rattle.readback.specs.Length.{net-length}
 use Rattle.trees.specs.EquallyLong.{equally-long}
-use Rattle.trees.specs.KeptWirings.{roomy-before, crowded-at}
+use Rattle.trees.specs.KeptWirings.{UsesMattering, leaves-out-none, roomy-before, crowded-at}
 use Rattle.trees.specs.ChangedGates.{changed-below, changed-exactly, none-changed}
-use Rattle.trees.specs.NetTables.{levels-pos, inputs-several}
+use Rattle.trees.specs.NetTables.{levels-pos}
 use Rattle.demands.specs.Settles.{sheetOf}
 use Rattle.demands.specs.Makes.{made-sheet}
 use Rattle.demands.specs.FamilySheets.{tree-sheet}
 use Rattle.demands.specs.Checks.{same-header, header-same}
-use Rattle.demands.specs.KeptNets.{FillingFor, Roomy, crowded-exactly, kept-filling, kept-keeps, kept-has-table, kept-wiring, own-roomy, filling-roomy, kept-header, kept-twice, settled-header, settled-kept, family-header, family-kept-own, refilled, kept-by-wiring}
+use Rattle.demands.specs.KeptNets.{FillingFor, Roomy, LeftOut, left-out, kept-inputs, crowded-exactly, kept-filling, kept-keeps, kept-has-table, kept-wiring, own-roomy, filling-roomy, kept-header, kept-twice, settled-header, settled-kept, family-header, family-kept-own, refilled, kept-by-wiring}
 
 -- two answers that differ
 rewritten-not : (count changed : ℕ) (named : Named) (number place : ℕ) → _≡_ {A = Keeping} (rewritten count changed) (turnedAway named number place) → ⊥
@@ -91,9 +92,12 @@ module _ (s r cells : List ℕ) (past : Past s r cells) where
   abbrev pub sheetFor : List ℕ
   sheetFor = printedNet (keptNet net t)
 
-  -- the call there ends in one of three ways
+  -- the call there ends in one of four ways
   pub data PastEnds (output : List ℕ) : Type 0 where
-    ends-23 : roomyBefore net t < length (net .gates)
+    ends-23-0 : leavesOut net t ≡ true
+        → keepCall s r cells output ≡ record { answer = turnedAway neither 23 0; cells = written cells (t .inks); output = output }
+        → PastEnds output
+    ends-23 : leavesOut net t ≡ false → roomyBefore net t < length (net .gates)
         → keepCall s r cells output ≡ record { answer = turnedAway neither 23 (suc (roomyBefore net t)); cells = written cells (t .inks); output = output }
         → PastEnds output
     ends-15 : Roomy net t → length output < length sheetFor
@@ -109,12 +113,16 @@ module _ (s r cells : List ℕ) (past : Past s r cells) where
         → PastEnds output
 
   pub past-ends : (output : List ℕ) → PastEnds output
-  past-ends output = go (decLe (length (net .gates)) (roomyBefore net t)) (decLe (length sheetFor) (length output))
+  past-ends output = go (leavesOut net t) refl (decLe (length (net .gates)) (roomyBefore net t)) (decLe (length sheetFor) (length output))
     where
-      go : Dec (length (net .gates) ≤ roomyBefore net t) → Dec (length sheetFor ≤ length output) → PastEnds output
-      go (no crowded) _ = ends-23 (lt-of-not-le crowded) (judged output ∙ keep-23 net t cells output same cells-long (lt-of-not-le crowded))
-      go (yes roomy) (no short) = ends-15 roomy (lt-of-not-le short) (judged output ∙ keep-15 net t cells output same cells-long roomy (lt-of-not-le short))
-      go (yes roomy) (yes fits) = ends-written roomy fits (judged output ∙ keep-written net t cells output same cells-long roomy fits)
+      go : (out : Bool) → leavesOut net t ≡ out → Dec (length (net .gates) ≤ roomyBefore net t) → Dec (length sheetFor ≤ length output) → PastEnds output
+      go true out _ _ = ends-23-0 out (judged output ∙ keep-23-0 net t cells output same cells-long out)
+      go false takes (no crowded) _ =
+          ends-23 takes (lt-of-not-le crowded) (judged output ∙ keep-23 net t cells output same cells-long takes (lt-of-not-le crowded))
+      go false takes (yes roomy) (no short) =
+          ends-15 (takes, roomy) (lt-of-not-le short) (judged output ∙ keep-15 net t cells output same cells-long takes roomy (lt-of-not-le short))
+      go false takes (yes roomy) (yes fits) =
+          ends-written (takes, roomy) fits (judged output ∙ keep-written net t cells output same cells-long takes roomy fits)
 
   -- "Past 12 and 13 it is refused with 23 exactly when no filling of that wiring computes the table.": no gate lines with the same left and right, whatever
   -- their tables, and whatever the output
@@ -122,59 +130,78 @@ module _ (s r cells : List ℕ) (past : Past s r cells) where
       → ((place : ℕ) × (keepCall s r cells output .answer ≡ turnedAway neither 23 place)) ↔ ((filling : List Gate) → FillingFor net t filling → ⊥)
   refuses-23 output = go (past-ends output)
     where
-      exactly : (roomyBefore net t < length (net .gates)) ↔ ((filling : List Gate) → FillingFor net t filling → ⊥)
+      exactly : ((leavesOut net t ≡ true) ⊎ (roomyBefore net t < length (net .gates))) ↔ ((filling : List Gate) → FillingFor net t filling → ⊥)
       exactly = crowded-exactly net t kept-net kept-t (past .header)
+
+      not-roomy : Roomy net t → ((filling : List Gate) → FillingFor net t filling → ⊥) → ⊥
+      not-roomy roomy none = ⊎-elim (λ out. true≢false (sym out ∙ roomy .0)) (λ crowded. omega (arith, roomy .1)) (exactly .1 none)
 
       go : PastEnds output
           → ((place : ℕ) × (keepCall s r cells output .answer ≡ turnedAway neither 23 place)) ↔ ((filling : List Gate) → FillingFor net t filling → ⊥)
-      go (ends-23 crowded e) = (λ _. exactly .0 crowded, λ none. (suc (roomyBefore net t), answered e))
+      go (ends-23-0 out e) = (λ _. exactly .0 (inl out), λ none. (0, answered e))
+      go (ends-23 takes crowded e) = (λ _. exactly .0 (inr crowded), λ none. (suc (roomyBefore net t), answered e))
       go (ends-15 roomy short e) = (
         λ is. absurd (omega (arith, turned-number neither neither 15 23 _ (is .0) (sym (answered e) ∙ is .1))),
-        λ none. absurd (omega (arith, exactly .1 none)),
+        λ none. absurd (not-roomy roomy none),
       )
       go (ends-written roomy fits e) = (
         λ is. absurd (rewritten-not _ _ neither 23 (is .0) (sym (answered e) ∙ is .1)),
-        λ none. absurd (omega (arith, exactly .1 none)),
+        λ none. absurd (not-roomy roomy none),
       )
+
+  -- "A kept wiring that leaves out an input that matters is refused with 23 at place 0, before its gates are judged.": whatever the output, and "leaves the
+  -- cells written", the output untouched, ..
+  pub refuses-23-0 : LeftOut net t → (output : List ℕ)
+      → keepCall s r cells output ≡ record { answer = turnedAway neither 23 0; cells = written cells (t .inks); output = output }
+  refuses-23-0 is output = judged output ∙ keep-23-0 net t cells output same cells-long (left-out net t .1 is)
+
+  -- .. and at place 0 no other is
+  pub place-0 : (output : List ℕ) → (keepCall s r cells output .answer ≡ turnedAway neither 23 0) ↔ LeftOut net t
+  place-0 output = (λ d. left-out net t .0 (go d (past-ends output)), λ is. answered (refuses-23-0 is output))
+    where
+      go : keepCall s r cells output .answer ≡ turnedAway neither 23 0 → PastEnds output → leavesOut net t ≡ true
+      go d (ends-23-0 out e) = out
+      go d (ends-23 takes crowded e) = absurd (omega (arith, turned-place neither neither 23 23 _ 0 (sym (answered e) ∙ d)))
+      go d (ends-15 roomy short e) = absurd (omega (arith, turned-number neither neither 15 23 _ 0 (sym (answered e) ∙ d)))
+      go d (ends-written roomy fits e) = absurd (rewritten-not _ _ neither 23 0 (sym (answered e) ∙ d))
 
   -- how many classes the group of gate k has
   abbrev pub classesAt : ℕ → ℕ
   classesAt k = multiplicity (net .header .levels) (net .header .inputs) (inkIn (t .inks)) (getD (gateGroups (net .header .inputs) (net .gates)) (k - 1) 0)
 
-  -- "place the number of the first gate whose group has more than m classes": that gate has, no gate before it has; and what 23 leaves
+  -- "place the number of the first gate whose group has more than m classes", past place 0: every input that matters is used; that gate has, no gate
+  -- before it has; and what 23 leaves
   pub record FirstCrowded (output : List ℕ) (place : ℕ) : Type 0 where
-    pub from-one : 0 < place
+    pub uses : UsesMattering (net .header .levels) (net .header .inputs) (inkIn (t .inks)) (net .gates)
     pub gate : place ≤ length (net .gates)
     pub crowded : net .header .levels < classesAt place
     pub before : (k : ℕ) → 0 < k → k < place → classesAt k ≤ net .header .levels
     -- "leaves the cells written", the output untouched
     pub leaves : keepCall s r cells output ≡ record { answer = turnedAway neither 23 place; cells = written cells (t .inks); output = output }
 
-  pub place-23 : (output : List ℕ) (place : ℕ) → keepCall s r cells output .answer ≡ turnedAway neither 23 place → FirstCrowded output place
+  pub place-23 : (output : List ℕ) (place : ℕ) → 0 < place → keepCall s r cells output .answer ≡ turnedAway neither 23 place → FirstCrowded output place
   unfolding roomyBefore
-  place-23 output place d = go (past-ends output)
+  place-23 output place some d = go (past-ends output)
     where
       pos : 0 < net .header .levels
       pos = levels-pos (net .header .levels) (kept-net .header .levels)
 
-      several : 1 < net .header .inputs
-      several = inputs-several (net .header .inputs) (kept-net .header .inputs)
-
-      first : roomyBefore net t < length (net .gates) → keepCall s r cells output ≡ record { answer = turnedAway neither 23 (suc (roomyBefore net t)); cells = written cells (t .inks); output = output }
+      first : leavesOut net t ≡ false → roomyBefore net t < length (net .gates) → keepCall s r cells output ≡ record { answer = turnedAway neither 23 (suc (roomyBefore net t)); cells = written cells (t .inks); output = output }
           → FirstCrowded output (suc (roomyBefore net t))
-      first crowded e = record {
-        from-one = omega arith;
+      first takes crowded e = record {
+        uses = leaves-out-none net t .0 takes;
         gate = crowded;
         crowded = subst (λ (k : ℕ). net .header .levels < multiplicity (net .header .levels) (net .header .inputs) (inkIn (t .inks)) (getD (gateGroups (net .header .inputs) (net .gates)) k 0))
             (let z : roomyBefore net t ≡ suc (roomyBefore net t) - 1 = omega arith in z)
-            (crowded-at (net .header .levels) (net .header .inputs) pos several (inkIn (t .inks)) (net .gates) (kept-net .gates) crowded);
+            (crowded-at (net .header .levels) (net .header .inputs) pos (inkIn (t .inks)) (net .gates) (kept-net .gates) crowded);
         before = λ k some h.
-            roomy-before (net .header .levels) (net .header .inputs) pos several (inkIn (t .inks)) (net .gates) (kept-net .gates) (k - 1) (omega arith);
+            roomy-before (net .header .levels) (net .header .inputs) pos (inkIn (t .inks)) (net .gates) (kept-net .gates) (k - 1) (omega arith);
         leaves = e;
       }
 
       go : PastEnds output → FirstCrowded output place
-      go (ends-23 crowded e) = subst (FirstCrowded output) (turned-place neither neither 23 23 _ place (sym (answered e) ∙ d)) (first crowded e)
+      go (ends-23-0 out e) = absurd (omega (arith, turned-place neither neither 23 23 0 place (sym (answered e) ∙ d)))
+      go (ends-23 takes crowded e) = subst (FirstCrowded output) (turned-place neither neither 23 23 _ place (sym (answered e) ∙ d)) (first takes crowded e)
       go (ends-15 roomy short e) = absurd (omega (arith, turned-number neither neither 15 23 _ place (sym (answered e) ∙ d)))
       go (ends-written roomy fits e) = absurd (rewritten-not _ _ neither 23 place (sym (answered e) ∙ d))
 
@@ -191,8 +218,10 @@ module _ (s r cells : List ℕ) (past : Past s r cells) where
 
     -- .. as long as the sheet handed in, ..
     pub kept-as-long : length sheetFor ≡ length s
+    unfolding keptNet
     kept-as-long =
         equally-long (keptNet net t) net (kept-keeps net t kept-net kept-t (past .header) roomy) kept-net (kept-header net t)
+        (kept-inputs net t kept-net kept-t (past .header))
         ∙ ap length (sym (net-accepted s net (past .reads-net) .0))
 
     -- .. and so never over 512 bytes
@@ -208,7 +237,8 @@ module _ (s r cells : List ℕ) (past : Past s r cells) where
         output = written output sheetFor;
       }
   keeps filling fills output fits =
-      judged output ∙ keep-written net t cells output same cells-long (filling-roomy net t kept-net kept-t (past .header) filling fills) fits
+      let (takes, roomy) = filling-roomy net t kept-net kept-t (past .header) filling fills in
+      judged output ∙ keep-written net t cells output same cells-long takes roomy fits
 
 -- ---- a net that is its own filling
 
@@ -219,9 +249,10 @@ own-comes-back : (net : Net) (t : Table) → KeptNet net → KeptTable t → net
     → keepCall (printedNet net) r cells output
     ≡ record { answer = rewritten (length (printedNet net)) 0; cells = written cells (t .inks); output = written output (printedNet net) }
 own-comes-back net t kept kept-t header has own r reads cells output long fits =
+    let (takes, roomy) = own-roomy net t kept kept-t header has in
     keep-accepted (printedNet net) r cells output net (net-read-back net kept) t reads
     ∙ keep-written net t cells output (same-header (net .header) (t .header) header) (subst⁻¹ (λ (k : ℕ). k ≤ length cells) (kept-t .count) long)
-    (own-roomy net t kept kept-t header has) (subst⁻¹ (λ (k : Net). length (printedNet k) ≤ length output) own fits)
+    takes roomy (subst⁻¹ (λ (k : Net). length (printedNet k) ≤ length output) own fits)
     ∙ ap (λ (k : Net). record { answer = rewritten (length (printedNet k)) (changedGates (net .gates) (k .gates)); cells = written cells (t .inks); output = written output (printedNet k) }) own
     ∙ ap (λ (changed : ℕ). record { answer = rewritten (length (printedNet net)) changed; cells = written cells (t .inks); output = written output (printedNet net) })
     (none-changed (net .gates))
@@ -293,7 +324,8 @@ pub rewrites : (s r cells output : List ℕ) (count changed : ℕ) → keepCall 
 rewrites s r cells output count changed d = go (keep-ends s r cells output)
   where
     ended : (past : Past s r cells) → PastEnds s r cells past output → Rewrites s r cells output count changed
-    ended past (ends-23 crowded e) = absurd (rewritten-not count changed neither 23 _ (sym d ∙ answered e))
+    ended past (ends-23-0 out e) = absurd (rewritten-not count changed neither 23 _ (sym d ∙ answered e))
+    ended past (ends-23 takes crowded e) = absurd (rewritten-not count changed neither 23 _ (sym d ∙ answered e))
     ended past (ends-15 roomy short e) = absurd (rewritten-not count changed neither 15 _ (sym d ∙ answered e))
     ended past (ends-written roomy fits e) =
         let own : Net = keptNet (past .net) (past .table) in

@@ -20,7 +20,7 @@ use Rattle.readback.specs.Numbers.{netNumbers, tableNumbers, net-refusal, table
 use Rattle.readback.specs.ReadBack.{table-accepted}
 use Rattle.demands.specs.Checks.{header-same}
 use Rattle.demands.specs.Lengths.{kept-cells}
-use Rattle.demands.specs.Keeping.{Past, PastEnds, ends-23, ends-15, ends-written, past-ends, kept-short}
+use Rattle.demands.specs.Keeping.{Past, PastEnds, ends-23-0, ends-23, ends-15, ends-written, past-ends, kept-short}
 
 -- keeping's numbers without 13 and 15
 abbrev pub keepAmpleNumbers : Named → List ℕ
@@ -41,7 +41,8 @@ module _ (s r cells output : List ℕ) (ample-cells : mostCells ≤ length cells
           subst₂ (λ (w : Named) (j : ℕ). In j (keepAmpleNumbers w)) (let z : named' ≡ named = cc in z) (let z : k ≡ number = cc in z) h
 
       ended : (past : Past s r cells) → PastEnds s r cells past output → In number (keepAmpleNumbers named)
-      ended past (ends-23 crowded d) = turned neither 23 _ refl (answer _ d)
+      ended past (ends-23-0 out d) = turned neither 23 0 refl (answer _ d)
+      ended past (ends-23 takes crowded d) = turned neither 23 _ refl (answer _ d)
       ended past (ends-15 roomy short d) = absurd (omega (arith, kept-short s r cells past roomy))
       ended past (ends-written roomy fits d) = absurd (let a = answer _ d in let z : _≡_ {A = ℕ} 0 1 = cc in omega arith)
 

@@ -1,31 +1,69 @@
--- Document 02, K10, said of nets and tables: when a net's wiring can be filled for a table, and what filling it gives.
+-- Document 02, K10 and K12, said of nets and tables: when a net's wiring can be filled for a table, and what filling it gives.
 -- Assumes nothing.
 use Prim.Native.Nat.{ℕ, _^_, _≤_, _<_}
 use mathlib.Core.Path.{_≡_, refl, sym, ap, _∙_, subst⁻¹}
-use mathlib.Core.Logic.{_↔_}
+use mathlib.Core.Logic.{_↔_, _⊎_, inl, inr, ⊎-elim}
+use mathlib.Core.Bool.{Bool, true, false, not, _&&_, true≢false, and-eq-true-iff}
 use mathlib.Core.List.{List}
-use lib.ListN.{length}
-use Rattle.rules.specs.Sheets.{Header, Gate, Net, Table}
+use native.Mathlib.Omega.{arith}
+use lib.ListN.{length, getD}
+use lib.Dec.{eqb}
+use borrow.Author.Tests.{not-true}
+use Rattle.rules.specs.Lists.{range, any, those, firstPlace}
+use Rattle.rules.specs.Sheets.{Header, Gate, Net, Table, usedBy}
+use Rattle.rules.specs.Leaves.{matters}
 use Rattle.rules.specs.Settled.{settledGates}
 use Rattle.rules.specs.Family.{familyGates}
 use Rattle.rules.specs.Kept.{KeptNet, KeptTable}
 use Rattle.rules.specs.Answers.{inkIn}
+use Rattle.rules.specs.Arrivals.{usedInputs}
 use Rattle.rules.specs.Reading.{tableOfNet}
 use Rattle.rules.specs.Settling.{settledNet}
 use Rattle.rules.specs.FamilyCalls.{familyNet}
-use Rattle.rules.specs.Keeping.{gateLinks, keptGates, keptNet, roomyBefore}
-use Rattle.trees.specs.NetTables.{levels-pos, inputs-several}
+use Rattle.rules.specs.Keeping.{gateLinks, keptGates, keptNet, roomyBefore, leavesOut}
+use Rattle.laws.specs.Tests.{not-false-true}
+use Rattle.laws.specs.FirstPlaces.{first-passing}
+use Rattle.laws.specs.Places.{mem-getD}
+use Rattle.laws.specs.Ranges.{range-mem}
+use Rattle.trees.specs.NetTables.{levels-pos}
 use Rattle.trees.specs.Uniqueness.{table-is, table-at}
-use Rattle.trees.specs.KeptLinks.{same-net, kept-links, kept-by-links, filled-kept, kept-again}
-use Rattle.trees.specs.KeptWirings.{Filling, filling-few, kept-fills, all-roomy, no-filling}
+use Rattle.trees.specs.KeptLinks.{same-used, same-net, kept-links, kept-by-links, filled-kept, kept-again}
+use Rattle.trees.specs.KeptWirings.{Filling, leaves-out-none, filling-uses, filling-few, kept-fills, all-roomy, no-filling}
 
 -- A filling of the net's wiring that computes the table: the same left and right at every gate line, with any gate tables.
 abbrev pub FillingFor : Net → Table → List Gate → Type 0
 FillingFor net t filling = Filling (net .header .levels) (net .header .inputs) (inkIn (t .inks)) (net .gates) filling
 
--- the wiring has room for the table: each gate's group has at most m classes
+-- the wiring has room for the table: it leaves out no input that matters, and each gate's group has at most m classes
 abbrev pub Roomy : Net → Table → Type 0
-Roomy net t = length (net .gates) ≤ roomyBefore net t
+Roomy net t = (leavesOut net t ≡ false) × (length (net .gates) ≤ roomyBefore net t)
+
+-- "A kept wiring that leaves out an input that matters" (document 02, K12): such an input
+pub record LeftOut (net : Net) (t : Table) : Type 0 where
+  pub input : ℕ
+  pub below : input < net .header .inputs
+  pub unused : any (eqb input) (usedBy (net .gates)) ≡ false
+  pub mattering : matters (net .header .levels) (net .header .inputs) (inkIn (t .inks)) input ≡ true
+
+-- it is found by the test
+pub left-out : (net : Net) (t : Table) → (leavesOut net t ≡ true) ↔ LeftOut net t
+unfolding leavesOut
+left-out net t = (
+  λ out.
+      let (k<, passes) = first-passing test 0 (range 0 (net .header .inputs)) out in
+      let i : ℕ = getD (range 0 (net .header .inputs)) (firstPlace test (range 0 (net .header .inputs))) 0 in
+      let (free, is) = and-eq-true-iff _ _ .0 passes in
+      record {
+        input = i;
+        below = omega (arith, range-mem 0 (net .header .inputs) i (mem-getD (range 0 (net .header .inputs)) (firstPlace test (range 0 (net .header .inputs))) 0 k<) .1);
+        unused = not-true (any (eqb i) (usedBy (net .gates))) free;
+        mattering = is;
+      },
+  λ is. not-false-true (leavesOut net t) (λ none. true≢false (sym (leaves-out-none net t .0 none (is .input) (is .below) (is .mattering)) ∙ is .unused)),
+)
+  where
+    test : ℕ → Bool
+    test i = not (any (eqb i) (usedBy (net .gates))) && matters (net .header .levels) (net .header .inputs) (inkIn (t .inks)) i
 
 module _ (net : Net) (t : Table) (kept : KeptNet net) (kept-t : KeptTable t) (header : net .header ≡ t .header) where
   abbrev m : ℕ
@@ -37,9 +75,6 @@ module _ (net : Net) (t : Table) (kept : KeptNet net) (kept-t : KeptTable t) (he
   pos : 0 < m
   pos = levels-pos m (kept .header .levels)
 
-  several : 1 < n
-  several = inputs-several n (kept .header .inputs)
-
   inks-count : length (t .inks) ≡ m ^ n
   inks-count = kept-t .count ∙ ap (λ (h : Header). h .levels ^ h .inputs) (sym header)
 
@@ -48,22 +83,28 @@ module _ (net : Net) (t : Table) (kept : KeptNet net) (kept-t : KeptTable t) (he
       subst⁻¹ (λ (k : Header). inkIn (t .inks) p < k .levels) header (kept-t .below p (subst⁻¹ (λ (k : ℕ). p < k) inks-count h))
 
   -- "exactly when no filling of that wiring computes the table", whatever the digits
-  pub crowded-exactly : (roomyBefore net t < length (net .gates)) ↔ ((filling : List Gate) → FillingFor net t filling → ⊥)
+  pub crowded-exactly : ((leavesOut net t ≡ true) ⊎ (roomyBefore net t < length (net .gates))) ↔ ((filling : List Gate) → FillingFor net t filling → ⊥)
   unfolding roomyBefore
-  crowded-exactly = no-filling m n pos several (inkIn (t .inks)) (net .gates) (kept .gates) inks-below
+  crowded-exactly =
+      let exactly = no-filling m n pos (inkIn (t .inks)) (net .gates) (kept .gates) inks-below in (
+        λ why. exactly .0 (⊎-elim (λ out. inl (λ uses. true≢false (sym out ∙ leaves-out-none net t .1 uses))) inr why),
+        λ none. ⊎-elim (λ out. inl (not-false-true (leavesOut net t) (λ takes. out (leaves-out-none net t .0 takes)))) inr (exactly .1 none),
+      )
 
   pub filling-roomy : (filling : List Gate) → FillingFor net t filling → Roomy net t
   unfolding roomyBefore
-  filling-roomy filling fills =
-      all-roomy m n pos several (inkIn (t .inks)) (net .gates) (kept .gates) .1 (filling-few m n pos several (inkIn (t .inks)) (net .gates) (kept .gates) filling fills)
+  filling-roomy filling fills = (
+    leaves-out-none net t .1 (filling-uses m n pos (inkIn (t .inks)) (net .gates) (kept .gates) filling fills),
+    all-roomy m n pos (inkIn (t .inks)) (net .gates) (kept .gates) .1 (filling-few m n pos (inkIn (t .inks)) (net .gates) (kept .gates) filling fills),
+  )
 
   module _ (roomy : Roomy net t) where
     -- otherwise the class rule's gates are such a filling, ..
     pub kept-filling : FillingFor net t (keptNet net t .gates)
     unfolding roomyBefore keptNet
     kept-filling =
-        kept-fills m n pos several (inkIn (t .inks)) (net .gates) (kept .gates)
-        (all-roomy m n pos several (inkIn (t .inks)) (net .gates) (kept .gates) .0 roomy) inks-below
+        kept-fills m n pos (inkIn (t .inks)) (net .gates) (kept .gates)
+        (all-roomy m n pos (inkIn (t .inks)) (net .gates) (kept .gates) .0 (roomy .1)) (leaves-out-none net t .0 (roomy .0)) inks-below
 
     -- .. with which the net keeps every rule of a net sheet ..
     pub kept-keeps : KeptNet (keptNet net t)
@@ -82,6 +123,11 @@ module _ (net : Net) (t : Table) (kept : KeptNet net) (kept-t : KeptTable t) (he
   pub kept-wiring : gateLinks (keptNet net t .gates) ≡ gateLinks (net .gates)
   unfolding keptNet
   kept-wiring = kept-links m n (inkIn (t .inks)) (net .gates)
+
+  -- so the same inputs are used
+  pub kept-inputs : usedInputs n (keptNet net t .gates) ≡ usedInputs n (net .gates)
+  unfolding usedInputs
+  kept-inputs = ap (λ (used : List ℕ). those (λ i. any (eqb i) used) (range 0 n)) (same-used (net .gates) (keptNet net t .gates) kept-wiring)
 
   -- a net with the table is its own filling, so its wiring has room
   pub own-roomy : tableOfNet net ≡ t → Roomy net t
