@@ -53,6 +53,7 @@ pub mod FamilyWirings
 pub mod GateGroups
 pub mod FamilyNets
 pub mod KeptLinks
+pub mod CarriedValues
 pub mod KeptWirings
 pub mod ChangedGates
 pub mod FamilyBounds
@@ -63,7 +64,6 @@ pub mod TakenOff
 pub mod SameTests
 pub mod Renaming
 pub mod RenamedWirings
-pub mod CarriedValues
-pub mod RenamedGates
 pub mod ButLast
+pub mod RenamedGates
 pub mod RenamedNets
