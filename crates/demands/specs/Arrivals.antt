@@ -1,28 +1,32 @@
--- Document 02, K5: what the call of arrival times answers, and what that says of every arrival inside the ranges.
+-- Document 02, K5: what the call of arrival times answers, and what that says of every arrival inside the ranges. "Arrival times count used inputs only."
+-- (K12): the ranges of the others have no say.
 -- Assumes nothing.
-use Prim.Native.Nat.{ℕ, suc, _+_, _-_, _*_, _≤_, _<_}
+use Prim.Native.Nat.{ℕ, _+_, _-_, _*_, _≤_, _<_}
 use mathlib.Core.Path.{_≡_, refl, sym, ap, _∙_, subst}
-use mathlib.Core.Bool.{false}
+use mathlib.Core.Bool.{true, false}
 use mathlib.Core.List.{List, map}
 use native.Mathlib.Nat.{le-refl, zero-mul, mul-le-mul, mul-le-mul-right}
 use native.Mathlib.Omega.{arith}
 use lib.ListN.{length, getD, length-map, List·getD-map}
+use lib.Dec.{eqb}
 use lib.Ieee.Exact.{HasValue}
+use Rattle.rules.specs.Lists.{any}
 use Rattle.rules.specs.Limits.{mostInputs, mostTime, mostDelay}
-use Rattle.rules.specs.Sheets.{Net}
+use Rattle.rules.specs.Sheets.{Net, usedBy}
 use Rattle.rules.specs.Answers.{Answer, accepted, refused}
 use Rattle.rules.specs.Reading.{readNet}
 use Rattle.rules.specs.Kept.{KeptNet}
 use Rattle.rules.specs.ArrivalSheet.{Arrival, fixed, earliestOf, latestOf, readArrivals, EachKept, KeptArrivals}
-use Rattle.rules.specs.Arrivals.{settlingTime, earliestSettling, latestSettling, Ends, settles, endsOf, arrivalsCall}
+use Rattle.rules.specs.Arrivals.{settlingTime, earliestSettling, latestSettling, Ends, settles, quarter, endsOf, arrivalsCall}
 use Rattle.laws.specs.Quarters.{exactBelow, quarter-exact}
 use Rattle.laws.specs.Arrivals.{arrivals-net-refused, arrivals-refused, arrivals-accepted}
 use Rattle.laws.specs.ArrivalEnds.{arrivalAt, each-order}
 use Rattle.laws.specs.Sizes.{kept-size}
-use Rattle.laws.specs.SettlingTimes.{settles-later, settles-scaled}
+use Rattle.laws.specs.SettlingTimes.{settles-later, settles-same, settles-scaled}
 use Rattle.laws.specs.Times.{times-most}
 use Rattle.readback.specs.ReadBack.{net-accepted}
 use Rattle.readback.specs.ArrivalSheets as sheets
+use Rattle.trees.specs.UsedOnce.{listed-used}
 use Rattle.trees.specs.ArrivalTimes.{settling-last}
 
 -- ---- what an answer is of
@@ -55,10 +59,18 @@ settles-as s r delay ends e = go (readNet s) refl
 
 -- ---- arrivals inside the ranges
 
--- Times in units of which k make a quarter, one for each of n inputs, each inside its input's range.
-pub record Inside (n : ℕ) (arrivals : List Arrival) (k : ℕ) (times : List ℕ) : Type 0 where
-  pub not-before : (i : ℕ) → i < n → earliestOf (arrivalAt arrivals i) * k ≤ getD times i 0
-  pub not-after : (i : ℕ) → i < n → getD times i 0 ≤ latestOf (arrivalAt arrivals i) * k
+-- Times in units of which k make a quarter, each inside its input's range, at the inputs that are meant.
+pub record Inside (Meant : ℕ → Type 0) (arrivals : List Arrival) (k : ℕ) (times : List ℕ) : Type 0 where
+  pub not-before : (i : ℕ) → Meant i → earliestOf (arrivalAt arrivals i) * k ≤ getD times i 0
+  pub not-after : (i : ℕ) → Meant i → getD times i 0 ≤ latestOf (arrivalAt arrivals i) * k
+
+-- every input
+abbrev pub Listed : Net → ℕ → Type 0
+Listed net i = i < net .header .inputs
+
+-- "used inputs only": those that some gate refers to
+abbrev pub Used : Net → ℕ → Type 0
+Used net i = (i < net .header .inputs) × (any (eqb i) (usedBy (net .gates)) ≡ true)
 
 -- a list with each number times k
 scaled : ℕ → List ℕ → List ℕ
@@ -67,6 +79,10 @@ scaled k times = map (λ time. time * k) times
 scaled-at : (k : ℕ) (times : List ℕ) (i : ℕ) → getD (scaled k times) i 0 ≡ getD times i 0 * k
 unfolding scaled
 scaled-at k times i = ap (getD (scaled k times) i) (sym (zero-mul k)) ∙ List·getD-map (λ time. time * k) times i 0
+
+-- the end of an input's range
+end-at : (end : Arrival → ℕ) → end (fixed 0) ≡ 0 → (arrivals : List Arrival) (i : ℕ) → getD (map end arrivals) i 0 ≡ end (arrivalAt arrivals i)
+end-at end none arrivals i = ap (getD (map end arrivals) i) (sym none) ∙ List·getD-map end arrivals i (fixed 0)
 
 module _ (net : Net) (arrivals : List Arrival) (delay : ℕ) where
   abbrev inputs : ℕ
@@ -77,7 +93,7 @@ module _ (net : Net) (arrivals : List Arrival) (delay : ℕ) where
   settledAt k times = settlingTime inputs (net .gates) (delay * k) times
 
   at-end : (end : Arrival → ℕ) → end (fixed 0) ≡ 0 → (k i : ℕ) → getD (scaled k (map end arrivals)) i 0 ≡ end (arrivalAt arrivals i) * k
-  at-end end none k i = scaled-at k (map end arrivals) i ∙ ap (λ (time : ℕ). time * k) (ap (getD (map end arrivals) i) (sym none) ∙ List·getD-map end arrivals i (fixed 0))
+  at-end end none k i = scaled-at k (map end arrivals) i ∙ ap (λ (time : ℕ). time * k) (end-at end none arrivals i)
 
   -- the ends in those units
   earliest-scaled : (k : ℕ) → settledAt k (scaled k (map earliestOf arrivals)) ≡ earliestSettling net arrivals delay * k
@@ -88,12 +104,19 @@ module _ (net : Net) (arrivals : List Arrival) (delay : ℕ) where
   unfolding latestSettling
   latest-scaled k = settles-scaled inputs (net .gates) delay k (map latestOf arrivals) (scaled k (map latestOf arrivals)) (λ i _. scaled-at k (map latestOf arrivals) i)
 
-  -- "For any arrivals inside the ranges it lies within the answer", in quarters (k is 1) and in any finer unit
-  pub settles-within : (k : ℕ) (times : List ℕ) → Inside inputs arrivals k times
+  -- times that are the same at the used inputs settle at the same time
+  pub used-alone : (k : ℕ) (times others : List ℕ) → ((i : ℕ) → Used net i → getD times i 0 ≡ getD others i 0) → settledAt k times ≡ settledAt k others
+  used-alone k times others same =
+      settles-same inputs (net .gates) (delay * k) times others (λ i listed. same i (listed-used inputs (net .gates) i listed))
+
+  -- "For any arrivals inside the ranges it lies within the answer", in quarters (k is 1) and in any finer unit; at the used inputs is enough
+  pub settles-within : (k : ℕ) (times : List ℕ) → Inside (Used net) arrivals k times
       → (earliestSettling net arrivals delay * k ≤ settledAt k times) × (settledAt k times ≤ latestSettling net arrivals delay * k)
   settles-within k times inside = (
-    rw (← earliest-scaled k) (settles-later inputs (net .gates) (delay * k) (scaled k (map earliestOf arrivals)) times (λ i h. rw (at-end earliestOf refl k i) (inside .not-before i h))),
-    rw (← latest-scaled k) (settles-later inputs (net .gates) (delay * k) times (scaled k (map latestOf arrivals)) (λ i h. rw (at-end latestOf refl k i) (inside .not-after i h))),
+    rw (← earliest-scaled k) (settles-later inputs (net .gates) (delay * k) (scaled k (map earliestOf arrivals)) times
+        (λ i h. rw (at-end earliestOf refl k i) (inside .not-before i (listed-used inputs (net .gates) i h)))),
+    rw (← latest-scaled k) (settles-later inputs (net .gates) (delay * k) times (scaled k (map latestOf arrivals))
+        (λ i h. rw (at-end latestOf refl k i) (inside .not-after i (listed-used inputs (net .gates) i h)))),
   )
 
   module _ (kept : EachKept arrivals) where
@@ -101,7 +124,7 @@ module _ (net : Net) (arrivals : List Arrival) (delay : ℕ) where
     in-order k i = mul-le-mul-right k (each-order arrivals kept i .0)
 
     -- ".. and each end is met by some."
-    pub earliest-met : (k : ℕ) → (times : List ℕ) × Inside inputs arrivals k times × (settledAt k times ≡ earliestSettling net arrivals delay * k)
+    pub earliest-met : (k : ℕ) → (times : List ℕ) × Inside (Listed net) arrivals k times × (settledAt k times ≡ earliestSettling net arrivals delay * k)
     earliest-met k = (
       scaled k (map earliestOf arrivals),
       record {
@@ -111,7 +134,7 @@ module _ (net : Net) (arrivals : List Arrival) (delay : ℕ) where
       earliest-scaled k,
     )
 
-    pub latest-met : (k : ℕ) → (times : List ℕ) × Inside inputs arrivals k times × (settledAt k times ≡ latestSettling net arrivals delay * k)
+    pub latest-met : (k : ℕ) → (times : List ℕ) × Inside (Listed net) arrivals k times × (settledAt k times ≡ latestSettling net arrivals delay * k)
     latest-met k = (
       scaled k (map latestOf arrivals),
       record {
@@ -140,12 +163,10 @@ module _ (s r : List ℕ) (net : Net) (arrivals : List Arrival) (reads : readNet
         → settlingTime (net .header .inputs) (net .gates) delay (map end arrivals) < exactBelow
     settling-small end none small =
         let size = kept-size (net .header) (kept-net .header) in
-        let gates : suc (length (net .gates)) ≡ net .header .inputs = kept-net .gates .count in
-        let each : (i : ℕ) → getD (map end arrivals) i 0 ≤ mostTime = λ i. rw (← none, List·getD-map end arrivals i (fixed 0)) (small i) in
+        let each : (i : ℕ) → getD (map end arrivals) i 0 ≤ mostTime = λ i. rw (end-at end none arrivals i) (small i) in
         let bound = times-most delay mostTime (map end arrivals) (net .gates) each (net .header .inputs + length (net .gates) - 1) in
-        let most = mul-le-mul byte (let few : length (net .gates) ≤ mostInputs = omega (arith, size .inputs-most) in few) in
-        let several : 1 < net .header .inputs = omega (arith, size .inputs-least) in
-        rw (settling-last (net .header .levels) (net .header .inputs) (net .gates) several (kept-net .gates) delay (map end arrivals) (length-map arrivals end ∙ many))
+        let most = mul-le-mul byte (let few : length (net .gates) ≤ mostInputs = omega (arith, size .inputs-most, kept-net .gates .count) in few) in
+        rw (settling-last (net .header .levels) (net .header .inputs) (net .gates) (kept-net .gates) delay (map end arrivals) (length-map arrivals end ∙ many))
         (omega (arith, bound, most))
 
     -- "as floats, and it is exact": each end is a quarter of the whole number that the definition gives
@@ -169,10 +190,10 @@ pub record Promised (s r : List ℕ) (delay : ℕ) (ends : Ends) : Type 0 where
   pub latest : ℕ
   pub earliest-value : HasValue (ends .earliest) false earliest 4
   pub latest-value : HasValue (ends .latest) false latest 4
-  pub within : (k : ℕ) (times : List ℕ) → Inside (net .header .inputs) arrivals k times
+  pub within : (k : ℕ) (times : List ℕ) → Inside (Used net) arrivals k times
       → (earliest * k ≤ settlingTime (net .header .inputs) (net .gates) (delay * k) times) × (settlingTime (net .header .inputs) (net .gates) (delay * k) times ≤ latest * k)
-  pub earliest-met : (k : ℕ) → (times : List ℕ) × Inside (net .header .inputs) arrivals k times × (settlingTime (net .header .inputs) (net .gates) (delay * k) times ≡ earliest * k)
-  pub latest-met : (k : ℕ) → (times : List ℕ) × Inside (net .header .inputs) arrivals k times × (settlingTime (net .header .inputs) (net .gates) (delay * k) times ≡ latest * k)
+  pub earliest-met : (k : ℕ) → (times : List ℕ) × Inside (Listed net) arrivals k times × (settlingTime (net .header .inputs) (net .gates) (delay * k) times ≡ earliest * k)
+  pub latest-met : (k : ℕ) → (times : List ℕ) × Inside (Listed net) arrivals k times × (settlingTime (net .header .inputs) (net .gates) (delay * k) times ≡ latest * k)
 
 pub arrivals-hold : (s r : List ℕ) (delay : ℕ) → delay ≤ mostDelay → (ends : Ends) → arrivalsCall s r delay ≡ settles ends → Promised s r delay ends
 arrivals-hold s r delay byte ends e =
@@ -193,3 +214,21 @@ arrivals-hold s r delay byte ends e =
       earliest-met = earliest-met (from .net) (from .arrivals) delay kept;
       latest-met = latest-met (from .net) (from .arrivals) delay kept;
     }
+
+-- ---- the other inputs
+
+-- "Arrival times count used inputs only.": two arrival sheets with the same arrival at every used input are answered alike
+pub used-answer : (s r q : List ℕ) (net : Net) (arrivals others : List Arrival) → readNet s ≡ accepted net
+    → readArrivals (net .header .names) r ≡ accepted arrivals → readArrivals (net .header .names) q ≡ accepted others
+    → ((i : ℕ) → Used net i → arrivalAt arrivals i ≡ arrivalAt others i) → (delay : ℕ) → arrivalsCall s r delay ≡ arrivalsCall s q delay
+unfolding endsOf earliestSettling latestSettling
+used-answer s r q net arrivals others reads arrive arrive-other same delay =
+    arrivals-accepted s r delay net reads arrivals arrive
+    ∙ (λ i. settles (record { earliest = quarter (ends earliestOf refl i); latest = quarter (ends latestOf refl i) }))
+    ∙ sym (arrivals-accepted s q delay net reads others arrive-other)
+  where
+    ends : (end : Arrival → ℕ) → end (fixed 0) ≡ 0
+        → settlingTime (net .header .inputs) (net .gates) delay (map end arrivals) ≡ settlingTime (net .header .inputs) (net .gates) delay (map end others)
+    ends end none =
+        settles-same (net .header .inputs) (net .gates) delay (map end arrivals) (map end others)
+        (λ i listed. end-at end none arrivals i ∙ ap end (same i (listed-used (net .header .inputs) (net .gates) i listed)) ∙ sym (end-at end none others i))
