@@ -50,3 +50,6 @@ pub mod KeptNets
 pub mod Keeping
 pub mod KeepingLengths
 pub mod Glyphs
+pub mod TableLines
+pub mod RenamedSheets
+pub mod Renaming

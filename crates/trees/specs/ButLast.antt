@@ -1,8 +1,8 @@
--- Two gate lists that agree "in left and right throughout and in every table but the last" (document 02, K14), and what follows: they are one wiring with the same
--- layers, every gate but the last has changed in both or in neither, and their sheets are the same bytes but for the last line's table field.
+-- Two gate lists that agree "in left and right throughout and in every table but the last" (document 02, K14), and what follows: they are one wiring, every
+-- gate but the last has changed in both or in neither, and their sheets are the same bytes but for the last line's table field.
 -- Assumes nothing.
 use Prim.Native.Nat.{ℕ, _+_, _-_, _<_}
-use mathlib.Core.Path.{_≡_, refl, sym, _∙_, ap}
+use mathlib.Core.Path.{_≡_, sym, _∙_, ap}
 use mathlib.Core.Logic.{_≢_}
 use mathlib.Core.List.{List, [], _∷_, _++_, map, append-assoc, append-nil}
 use native.Mathlib.Omega.{arith}
@@ -11,7 +11,6 @@ use Rattle.rules.specs.Lists.{concatMap}
 use Rattle.rules.specs.Text.{space, newline, text, digitByte}
 use Rattle.rules.specs.Sheets.{Header, Gate, referenceText}
 use Rattle.rules.specs.Printed.{line, firstLines, printedGate, printedNet}
-use Rattle.rules.specs.Layers.{gateWays, withWays, waysOf, layers}
 use Rattle.rules.specs.Groups.{member}
 use Rattle.rules.specs.Keeping.{gateLinks, tableAt, changedGates}
 use Rattle.laws.specs.Tests.{two-ways}
@@ -30,12 +29,6 @@ pub record ButLast (gates others : List Gate) : Type 0 where
   pub digits : List ℕ
   pub ones : gates ≡ before ++ (last ∷ [])
   pub theirs : others ≡ before ++ (withTable last digits ∷ [])
-
--- the ways to the references of two lists of gates, one after the other
-ways-append : (ways : List (List ℕ)) (xs ys : List Gate) → withWays ways (xs ++ ys) ≡ withWays (withWays ways xs) ys
-unfolding withWays
-ways-append ways [] ys = refl
-ways-append ways (x ∷ xs) ys = ways-append (ways ++ (gateWays ways x ∷ [])) xs ys
 
 module _ (gates others : List Gate) (but : ButLast gates others) where
   abbrev with-last : Gate → List Gate
@@ -58,11 +51,6 @@ module _ (gates others : List Gate) (but : ButLast gates others) where
       let tables : List (List ℕ) = map (λ (g : Gate). g .digits) (but .before) in
       let early' : k - 1 < length tables = rw length-map (omega (arith, ap length (but .ones), length-snoc (but .before) (but .last))) in
       by-last (λ l. tableAt l k) (simp map-append (List·getD-append tables _ [] (k - 1) early' ∙ sym (List·getD-append tables _ [] (k - 1) early')))
-
-  -- one wiring has as many layers
-  pub but-last-layers : (n : ℕ) → layers n others ≡ layers n gates
-  unfolding layers waysOf withWays gateWays
-  but-last-layers n = by-last (layers n) (simp (length-snoc, ways-append))
 
   -- "the gates whose table field differs from the old one": every gate but the last is one in both or in neither
   pub but-last-changed : (old : List Gate) → length old ≡ length gates → (k : ℕ) → k ≢ length gates → member k (changedGates old others) ≡ member k (changedGates old gates)

@@ -1,21 +1,27 @@
 -- Two tables of which one is a renaming of the other's inks have the same wirings, since these are chosen by marks and leaves: the settled one, the shallow one,
 -- and each of the family, which has as many. A given wiring fits both or neither, at the same gate.
 -- Assumes nothing.
-use Prim.Native.Nat.{ℕ, _<_}
-use mathlib.Core.Path.{_≡_, ap, ap₂}
+use Prim.Native.Nat.{ℕ, suc, _+_, _-_, _<_}
+use mathlib.Core.Path.{_≡_, refl, sym, _∙_, ap, ap₂}
 use mathlib.Core.Bool.{Bool, not, _&&_}
-use mathlib.Core.List.{List}
+use mathlib.Core.List.{List, [], _∷_, _++_, map}
+use lib.ListN.{length, getD, length-map}
 use lib.Dec.{eqb, ltb}
 use Rattle.rules.specs.Lists.{range, any}
 use Rattle.rules.specs.Sheets.{Gate, Net, Table, usedBy}
 use Rattle.rules.specs.Leaves.{leavesOf}
 use Rattle.rules.specs.Marks.{marksOf, noTreePlace}
+use Rattle.rules.specs.Wirings.{Wiring, Link, linksOf}
+use Rattle.rules.specs.Filling.{inputGroups, filledFrom, filled}
+use Rattle.rules.specs.Layers.{gateWays, withWays, waysOf, most, layers}
 use Rattle.rules.specs.Settled.{settledWiring}
-use Rattle.rules.specs.Shallow.{shallowWiring}
+use Rattle.rules.specs.Shallow.{shallowWiring, shallowGates}
 use Rattle.rules.specs.Family.{countsOf, treeCount, familyWiring, gateGroups}
-use Rattle.rules.specs.Keeping.{roomyGates, roomyBefore, leavesOut}
+use Rattle.rules.specs.Keeping.{linkOf, roomyGates, roomyBefore, leavesOut}
 use Rattle.rules.specs.Answers.{inkIn}
 use Rattle.laws.specs.Tests.{any-same}
+use Rattle.trees.specs.Fillings.{linkGroup}
+use Rattle.trees.specs.KeptLinks.{filled-keeps}
 use Rattle.trees.specs.SameTests.{place-same}
 use Rattle.trees.specs.Renaming.{SameInks, multiplicity-renamed, marks-renamed, matters-renamed, leaves-renamed}
 
@@ -54,7 +60,36 @@ module _ (m n : ℕ) (pos : 0 < m) (f h : ℕ → ℕ) (same : SameInks m n f h)
   unfolding roomyGates
   roomy-renamed gates = place-same _ _ (gateGroups n gates) (λ g is. ap (ltb m) (multiplicity-renamed m n pos f h same g))
 
--- of a net sheet and two table sheets
+-- ---- layers
+
+-- a wiring has the same ways to its references, whatever table it is filled for
+ways-filled : (m n : ℕ) (f h : ℕ → ℕ) (ways : List (List ℕ)) (groups : List ℕ) (links : List Link)
+    → withWays ways (filledFrom m n f groups links) ≡ withWays ways (filledFrom m n h groups links)
+unfolding withWays gateWays filledFrom
+ways-filled m n f h ways groups [] = refl
+ways-filled m n f h ways groups (l ∷ links) =
+    ways-filled m n f h (ways ++ (map suc (getD ways (l .left) [] ++ getD ways (l .right) []) ∷ [])) (groups ++ (linkGroup groups l ∷ [])) links
+
+-- and so the same layers
+layers-filled : (m n : ℕ) (f h : ℕ → ℕ) (links : List Link) → layers n (filled m n f links) ≡ layers n (filled m n h links)
+unfolding layers waysOf filled
+layers-filled m n f h links =
+    ap₂ (λ (ways : List (List ℕ)) (count : ℕ). most (getD ways (n + count - 1) []))
+    (ways-filled m n f h (map (λ _. 0 ∷ []) (range 0 n)) (inputGroups n) links) (many f ∙ sym (many h))
+  where
+    many : (f : ℕ → ℕ) → length (filled m n f links) ≡ length links
+    many f = sym (length-map (filled m n f links) linkOf) ∙ ap length (filled-keeps m n f links)
+
+-- "Shallow nets keep it too."
+pub shallow-layers-renamed : (m n : ℕ) → 0 < m → (f h : ℕ → ℕ) → SameInks m n f h
+    → layers n (shallowGates m n f (marksOf m n f)) ≡ layers n (shallowGates m n h (marksOf m n h))
+unfolding shallowGates
+shallow-layers-renamed m n pos f h same =
+    layers-filled m n f h (linksOf n 0 (shallowWiring n (marksOf m n f) (leavesOf m n f)))
+    ∙ ap (λ (w : Wiring). layers n (filled m n h (linksOf n 0 w))) (shallow-wiring-renamed m n pos f h same)
+
+-- ---- of a net sheet and two table sheets
+
 module _ (net : Net) (t u : Table) (pos : 0 < net .header .levels) (same : SameInks (net .header .levels) (net .header .inputs) (inkIn (t .inks)) (inkIn (u .inks))) where
   abbrev m : ℕ
   m = net .header .levels
