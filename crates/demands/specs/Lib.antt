@@ -53,3 +53,4 @@ pub mod Glyphs
 pub mod TableLines
 pub mod RenamedSheets
 pub mod Renaming
+pub mod RenamedFamilies

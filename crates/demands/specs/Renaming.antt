@@ -46,7 +46,7 @@ pub record AlikeMade (r : ℕ → ℕ) (n : ℕ) (made other : Made) : Type 0 wh
 
 module _ (r : ℕ → ℕ) (n : ℕ) (stored : List ℕ) (count : length stored ≡ marksLength n) (marks marks' : List ℕ) where
   -- the marks that both left
-  left-marks : take (marksLength n) (written marks stored) ≡ take (marksLength n) (written marks' stored)
+  pub left-marks : take (marksLength n) (written marks stored) ≡ take (marksLength n) (written marks' stored)
   left-marks = rw (← count) (written-front marks stored ∙ sym (written-front marks' stored))
 
   -- both refused
