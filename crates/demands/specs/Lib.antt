@@ -54,3 +54,4 @@ pub mod TableLines
 pub mod RenamedSheets
 pub mod Renaming
 pub mod RenamedFamilies
+pub mod RenamedKeeping

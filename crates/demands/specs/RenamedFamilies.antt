@@ -22,7 +22,7 @@ use Rattle.trees.specs.RenamedNets.{family-renamed}
 use Rattle.demands.specs.Makes.{two-tree}
 use Rattle.demands.specs.FamilyTables.{some-two, family-as-long}
 use Rattle.demands.specs.FamilySheets.{tree-accepted}
-use Rattle.demands.specs.RenamedSheets.{RenamedTables, renamedTable, kept-one, positive, is-renamed, reads-renamed, kept-renamed, inks-below, inks-renamed, same-inks, same-marks, RenamedNets, nets-renamed}
+use Rattle.demands.specs.RenamedSheets.{RenamedTables, renamedTable, kept-one, positive, is-renamed, reads-renamed, kept-other, inks-below, inks-renamed, same-inks, same-marks, RenamedNets, nets-renamed}
 use Rattle.demands.specs.Renaming.{Enough, AlikeMade, left-marks, alike-refused, alike-written, stored-count}
 
 -- what the two count calls come to: the same answer and the same marks
@@ -107,4 +107,4 @@ module _ (r : ℕ → ℕ) (s other : List ℕ) (both : RenamedTables r s other)
           )
           (alike-written r n (storedMarks (marksOfTable t)) (stored-count r s other both) marks marks' _ _ _ _ output output' (number-sheets number less)
           (number-fits t (kept-one r s other both) number less cells marks output enough)
-          (number-fits u (kept-renamed r s other both) number less' cells' marks' output' enough'))
+          (number-fits u (kept-other r s other both) number less' cells' marks' output' enough'))

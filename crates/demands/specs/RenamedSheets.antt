@@ -70,8 +70,8 @@ module _ (r : ℕ → ℕ) (s other : List ℕ) (both : RenamedTables r s other)
   pub reads-renamed : readTable other ≡ accepted u
   reads-renamed = both .reads-other ∙ ap accepted is-renamed
 
-  pub kept-renamed : KeptTable u
-  kept-renamed = table-accepted other u reads-renamed .1
+  pub kept-other : KeptTable u
+  kept-other = table-accepted other u reads-renamed .1
 
   pub inks-below : (p : ℕ) → p < m ^ n → inkIn (t .inks) p < m
   inks-below p h = kept-one .below p (subst⁻¹ (λ (k : ℕ). p < k) (kept-one .count) h)

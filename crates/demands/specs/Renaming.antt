@@ -27,7 +27,7 @@ use Rattle.trees.specs.RenamedNets.{settled-renamed, shallow-renamed}
 use Rattle.trees.specs.ShallowTables.{shallow-kept}
 use Rattle.readback.specs.ReadBack.{net-read-back}
 use Rattle.demands.specs.Makes.{HasTree, two-tree, made-accepted}
-use Rattle.demands.specs.RenamedSheets.{RenamedTables, renamedTable, kept-one, positive, is-renamed, reads-renamed, kept-renamed, inks-below, inks-renamed, same-inks, same-marks, RenamedNets, renamed-long, nets-renamed}
+use Rattle.demands.specs.RenamedSheets.{RenamedTables, renamedTable, kept-one, positive, is-renamed, reads-renamed, kept-other, inks-below, inks-renamed, same-inks, same-marks, RenamedNets, renamed-long, nets-renamed}
 
 -- "given long enough buffers": for the cells, for the marks, and, where there is a tree, for the sheet of the net that is made
 pub record Enough (netFor : Table → Net) (t : Table) (cells marks output : List ℕ) : Type 0 where
@@ -144,14 +144,14 @@ module _ (r : ℕ → ℕ) (s other : List ℕ) (both : RenamedTables r s other)
           )
           (alike-written r n (storedMarks (marksOfTable t)) stored-count marks marks' _ _ _ _ output output' (nets two)
           (enough .output-fits (two-tree t (kept-one r s other both) .1 two))
-          (enough' .output-fits (two-tree u (kept-renamed r s other both) .1 (two-renamed two))))
+          (enough' .output-fits (two-tree u (kept-other r s other both) .1 (two-renamed two))))
 
   -- the two settled sheets
   settled-sheets : WholeTwo t → RenamedNets r (printedNet (settledNet t)) (printedNet (settledNet u))
   unfolding settledNet
   settled-sheets two =
       nets-renamed r (t .header) _ _ (made-accepted s t (both .reads) (two-tree t (kept-one r s other both) .1 two))
-      (made-accepted other u (reads-renamed r s other both) (two-tree u (kept-renamed r s other both) .1 (two-renamed two)))
+      (made-accepted other u (reads-renamed r s other both) (two-tree u (kept-other r s other both) .1 (two-renamed two)))
       (settled-renamed m n (positive r s other both) r (inkIn (t .inks)) (inkIn (u .inks)) (inks-below r s other both) (inks-renamed r s other both) several two)
 
   -- and the two shallow ones
@@ -159,7 +159,7 @@ module _ (r : ℕ → ℕ) (s other : List ℕ) (both : RenamedTables r s other)
   unfolding shallowNet
   shallow-sheets two =
       nets-renamed r (t .header) _ _ (net-read-back (shallowNet t) (shallow-kept t (kept-one r s other both) two))
-      (net-read-back (shallowNet u) (shallow-kept u (kept-renamed r s other both) (two-renamed two)))
+      (net-read-back (shallowNet u) (shallow-kept u (kept-other r s other both) (two-renamed two)))
       (shallow-renamed m n (positive r s other both) r (inkIn (t .inks)) (inkIn (u .inks)) (inks-below r s other both) (inks-renamed r s other both) several two)
 
   module _ (cells marks output cells' marks' output' : List ℕ) where
