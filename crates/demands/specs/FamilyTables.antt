@@ -2,7 +2,7 @@
 -- table and stands on just the table's leaves, its sheet is as long as the settled net's, and number 0 is the settled net. There is a number exactly when
 -- the whole group has mark 2.
 -- Assumes nothing.
-use Prim.Native.Nat.{ℕ, zero, suc, _+_, _*_, _^_, _≤_, _<_}
+use Prim.Native.Nat.{ℕ, zero, suc, _+_, _^_, _≤_, _<_}
 use mathlib.Core.Path.{_≡_, refl, ap, _∙_, subst⁻¹}
 use mathlib.Core.Logic.{_↔_, by-cases}
 use mathlib.Core.List.{List}

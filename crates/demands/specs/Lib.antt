@@ -25,6 +25,7 @@ pub mod Makes
 pub mod Checks
 pub mod Assignments
 pub mod TreeClause
+pub mod LeafTrees
 pub mod ShallowMakes
 pub mod ShallowSettles
 pub mod ShallowerSheets
@@ -50,6 +51,8 @@ pub mod KeptNets
 pub mod Keeping
 pub mod KeepingLengths
 pub mod Glyphs
+pub mod LeafInputs
+pub mod Leaves
 pub mod TableLines
 pub mod RenamedSheets
 pub mod Renaming

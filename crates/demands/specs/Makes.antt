@@ -12,15 +12,16 @@ use lib.ListN.{length}
 use lib.Dec.{ltb}
 use Rattle.rules.specs.Lists.{any}
 use Rattle.rules.specs.Limits.{mostSettled}
-use Rattle.rules.specs.Sheets.{Net, Table}
+use Rattle.rules.specs.Sheets.{Gate, Net, Table}
 use Rattle.rules.specs.Printed.{printedNet}
 use Rattle.rules.specs.Marks.{marksLength, storedMarks, noTreePlace}
 use Rattle.rules.specs.Leaves.{leavesOf}
-use Rattle.rules.specs.Kept.{KeptNet, KeptTable}
+use Rattle.rules.specs.Kept.{IsNet, KeptNet, KeptTable}
 use Rattle.rules.specs.Answers.{accepted, refused, inkIn, written}
 use Rattle.rules.specs.Settling.{Made, settledNet, writtenSheet, afterMarks, roomFor, madeInto, settleCall, makeCall}
 use Rattle.rules.specs.Reading.{readNet, readTable, tableOfNet}
 use Rattle.laws.specs.Settling.{WholeTwo, marksOfTable, make-accepted, into-marked, marked-16, marked-tree}
+use Rattle.trees.specs.Trees.{Computes}
 use Rattle.trees.specs.Existence.{TreeExists, tree-exists, settled-net}
 use Rattle.trees.specs.Uniqueness.{table-is, table-at}
 use Rattle.trees.specs.NetTables.{levels-pos, inputs-several}
@@ -44,6 +45,10 @@ HasTree t = TreeExists (t .header .levels) (t .header .inputs) (inkIn (t .inks))
 abbrev pub HasSheet : Table → Type 0
 HasSheet t = (r : List ℕ) × (net : Net) × (readNet r ≡ accepted net) × (tableOfNet net ≡ t)
 
+-- some gates under the table's header
+abbrev pub netWith : Table → List Gate → Net
+netWith t gates = record { header = t .header; gates = gates }
+
 module _ (t : Table) (kept : KeptTable t) where
   pos : 0 < t .header .levels
   pos = levels-pos (t .header .levels) (kept .header .levels)
@@ -58,16 +63,18 @@ module _ (t : Table) (kept : KeptTable t) where
   pub two-tree : HasTree t ↔ WholeTwo t
   two-tree = tree-exists (t .header .levels) (t .header .inputs) pos several (inkIn (t .inks)) inks-below
 
-  tree-sheet : HasTree t → HasSheet t
+  -- gates that are a net with the table are printed as such a sheet
+  pub gates-sheet : (gates : List Gate) → IsNet (t .header .levels) (t .header .inputs) gates
+      → Computes (t .header .levels) (t .header .inputs) gates (inkIn (t .inks))
+      → (readNet (printedNet (netWith t gates)) ≡ accepted (netWith t gates)) × (tableOfNet (netWith t gates) ≡ t)
   unfolding tableOfNet
-  tree-sheet tree =
-      let net : Net = record { header = t .header; gates = tree .0 } in
-      let kept-net : KeptNet net = record { header = kept .header; gates = tree .1 } in (
-        printedNet net,
-        net,
-        net-read-back net kept-net,
-        λ i. record { header = t .header; inks = table-is (t .header .levels) (t .header .inputs) (tree .0) (t .inks) (kept .count) (tree .2) i },
-      )
+  gates-sheet gates net has = (
+    net-read-back (netWith t gates) (record { header = kept .header; gates = net }),
+    λ i. record { header = t .header; inks = table-is (t .header .levels) (t .header .inputs) gates (t .inks) (kept .count) has i },
+  )
+
+  tree-sheet : HasTree t → HasSheet t
+  tree-sheet tree = let (reads, table) = gates-sheet (tree .0) (tree .1) (tree .2) in (printedNet (netWith t (tree .0)), netWith t (tree .0), reads, table)
 
   -- the net made from a table has exactly that table
   pub made-table : WholeTwo t → tableOfNet (settledNet t) ≡ t
@@ -77,22 +84,23 @@ module _ (t : Table) (kept : KeptTable t) where
       λ i. record { header = t .header; inks = table-is (t .header .levels) (t .header .inputs) (settledNet t .gates) (t .inks) (kept .count) (net .1) i }
 
   -- and keeps every rule of a net
-  made-kept : WholeTwo t → KeptNet (settledNet t)
+  pub made-kept : WholeTwo t → KeptNet (settledNet t)
   unfolding settledNet
   made-kept two = record {
     header = kept .header;
     gates = settled-net (t .header .levels) (t .header .inputs) pos several (inkIn (t .inks)) inks-below two .0;
   }
 
-pub sheet-tree : (t : Table) → HasSheet t → HasTree t
+-- the gates of such a sheet
+pub sheet-gates : (t : Table) (r : List ℕ) (net : Net) → readNet r ≡ accepted net → tableOfNet net ≡ t
+    → IsNet (t .header .levels) (t .header .inputs) (net .gates) × Computes (t .header .levels) (t .header .inputs) (net .gates) (inkIn (t .inks))
 unfolding tableOfNet
-sheet-tree t has =
-    let net : Net = has .1 in
-    subst HasTree (has .3) (
-      net .gates,
-      net-accepted (has .0) net (has .2) .1 .gates,
-      λ p h. sym (table-at (net .header .levels) (net .header .inputs) (net .gates) p h),
-    )
+sheet-gates t r net reads table =
+    subst (λ (u : Table). IsNet (u .header .levels) (u .header .inputs) (net .gates) × Computes (u .header .levels) (u .header .inputs) (net .gates) (inkIn (u .inks)))
+    table (net-accepted r net reads .1 .gates, λ p h. sym (table-at (net .header .levels) (net .header .inputs) (net .gates) p h))
+
+pub sheet-tree : (t : Table) → HasSheet t → HasTree t
+sheet-tree t has = let (net, computes) = sheet-gates t (has .0) (has .1) (has .2) (has .3) in (has .1 .gates, net, computes)
 
 -- ---- what was written
 

@@ -1,7 +1,7 @@
 -- Demand 3, settling: "Every accepted net sheet settles to the settled net that document 01 fixes for its table, a net with its
 -- own first three lines and its own table. For any two accepted net sheets with the same first three lines, whatever their wiring
 -- and gate tables, the two settled sheets are equal in length and in every byte exactly when the two nets compute the same
--- table."
+-- table." (document 02, K12: "equal settling still means equal tables, unused inputs included")
 -- Assumes nothing.
 use Prim.Native.Nat.{ℕ, _^_, _≤_}
 use mathlib.Core.Path.{_≡_, sym, ap, _∙_}
