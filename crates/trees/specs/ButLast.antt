@@ -27,7 +27,7 @@ pub record ButLast (gates others : List Gate) : Type 0 where
   pub before : List Gate
   pub last : Gate
   pub digits : List ℕ
-  pub ones : gates ≡ before ++ (last ∷ [])
+  pub ours : gates ≡ before ++ (last ∷ [])
   pub theirs : others ≡ before ++ (withTable last digits ∷ [])
 
 module _ (gates others : List Gate) (but : ButLast gates others) where
@@ -36,7 +36,7 @@ module _ (gates others : List Gate) (but : ButLast gates others) where
 
   -- what is the same for both forms of the last gate is the same for both lists
   by-last : {A : Type 0} (what : List Gate → A) → what (with-last (withTable (but .last) (but .digits))) ≡ what (with-last (but .last)) → what others ≡ what gates
-  by-last what same = ap what (but .theirs) ∙ same ∙ sym (ap what (but .ones))
+  by-last what same = ap what (but .theirs) ∙ same ∙ sym (ap what (but .ours))
 
   pub but-last-length : length others ≡ length gates
   but-last-length = by-last length (simp length-snoc)
@@ -49,7 +49,7 @@ module _ (gates others : List Gate) (but : ButLast gates others) where
   pub but-last-tables : (k : ℕ) → 0 < k → k < length gates → tableAt others k ≡ tableAt gates k
   but-last-tables k some early =
       let tables : List (List ℕ) = map (λ (g : Gate). g .digits) (but .before) in
-      let early' : k - 1 < length tables = rw length-map (omega (arith, ap length (but .ones), length-snoc (but .before) (but .last))) in
+      let early' : k - 1 < length tables = rw length-map (omega (arith, ap length (but .ours), length-snoc (but .before) (but .last))) in
       by-last (λ l. tableAt l k) (simp map-append (List·getD-append tables _ [] (k - 1) early' ∙ sym (List·getD-append tables _ [] (k - 1) early')))
 
   -- "the gates whose table field differs from the old one": every gate but the last is one in both or in neither
@@ -96,7 +96,7 @@ unfolding sheetFront lineFront
 but-last-printed header gates others but =
     record {
       front = sheetFront header (but .before) (but .last);
-      ours = ap (λ (l : List Gate). printedNet (record { header = header; gates = l })) (but .ones) ∙ sheet-is header (but .before) (but .last);
+      ours = ap (λ (l : List Gate). printedNet (record { header = header; gates = l })) (but .ours) ∙ sheet-is header (but .before) (but .last);
       theirs =
           ap (λ (l : List Gate). printedNet (record { header = header; gates = l })) (but .theirs)
           ∙ sheet-is header (but .before) (withTable (but .last) (but .digits));

@@ -131,7 +131,7 @@ module _ (m n : ℕ) (pos : 0 < m) (r f h : ℕ → ℕ) (below : (p : ℕ) → 
   unfolding filledFrom withGates
   last-renamed groups values l carries may =
       record {
-        lines = record { before = []; last = own; digits = gateDigits m n h true a b; ones = refl; theirs = refl };
+        lines = record { before = []; last = own; digits = gateDigits m n h true a b; ours = refl; theirs = refl };
         count = digits-count m n f true a b;
         count-renamed = digits-count m n h true a b;
         reached = λ p p<. last-reached m n pos r f h below renamed a b (may .2) _ _ p (sym (left p)) (sym (right p));
@@ -169,7 +169,7 @@ module _ (m n : ℕ) (pos : 0 < m) (r f h : ℕ → ℕ) (below : (p : ℕ) → 
           before = line ∷ rest .lines .before;
           last = rest .lines .last;
           digits = rest .lines .digits;
-          ones = more-left m n f groups l k links ∙ ap (λ (gates : List Gate). line ∷ gates) (rest .lines .ones);
+          ours = more-left m n f groups l k links ∙ ap (λ (gates : List Gate). line ∷ gates) (rest .lines .ours);
           theirs =
               more-left m n h groups l k links
               ∙ ap₂ (λ (digits : List ℕ) (gates : List Gate). withTable line digits ∷ gates)
