@@ -53,3 +53,8 @@ pub mod KeepingLengths
 pub mod Glyphs
 pub mod LeafInputs
 pub mod Leaves
+pub mod TableLines
+pub mod RenamedSheets
+pub mod Renaming
+pub mod RenamedFamilies
+pub mod RenamedKeeping

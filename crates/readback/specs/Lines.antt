@@ -75,7 +75,7 @@ body [] = []
 body (w ∷ []) = w
 body (w ∷ v ∷ ws) = w ++ space ∷ body (v ∷ ws)
 
-line-fed : (ws : List (List ℕ)) → line ws ≡ fed (body ws)
+pub line-fed : (ws : List (List ℕ)) → line ws ≡ fed (body ws)
 unfolding line body fed
 line-fed [] = refl
 line-fed (w ∷ []) = refl

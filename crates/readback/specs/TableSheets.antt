@@ -30,7 +30,7 @@ line-more w [] v = refl
 line-more w (x ∷ ws) v = refl
 
 -- a line's words, each with a space after it, then the last
-line-last : (ws : List (List ℕ)) (v : List ℕ) → line (ws ++ (v ∷ [])) ≡ ended space ws ++ (v ++ newline ∷ [])
+pub line-last : (ws : List (List ℕ)) (v : List ℕ) → line (ws ++ (v ∷ [])) ≡ ended space ws ++ (v ++ newline ∷ [])
 line-last [] v = unfold line ended in refl
 line-last (w ∷ ws) v = rw (line-more w ws v, line-last ws v, ← ended-space w ws) (simp append-assoc)
 

@@ -59,6 +59,7 @@ pub mod ArrivalCases
 pub mod LooseCases
 pub mod JobCases
 pub mod KeepingCases
+pub mod RenamingCases
 pub mod GlyphCases
 pub mod LeafCases
 pub mod Refusals

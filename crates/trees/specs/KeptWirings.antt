@@ -7,19 +7,19 @@ use mathlib.Core.Path.{_≡_, refl, sym, ap, _∙_, subst⁻¹}
 use mathlib.Core.Logic.{_↔_, _⊎_, inl, inr, ⊎-elim}
 use mathlib.Core.Bool.{Bool, true, false, not, _&&_, and-eq-true-iff, true≢false}
 use mathlib.Core.List.{List, [], _∷_, _++_, List·Memᴰ}
-use native.Mathlib.Nat.{lt-of-not-le, zero-add}
+use native.Mathlib.Nat.{lt-of-not-le}
 use native.Mathlib.Decide.{decLt, decLe}
 use native.Mathlib.Omega.{arith}
-use lib.ListN.{length, getD, length-map, List·getD-append}
+use lib.ListN.{length, getD, length-map}
 use lib.Seq.{getD-append-seam}
-use lib.Dec.{eqb, ltb, eqb·suc-zero}
+use lib.Dec.{eqb, ltb}
 use borrow.Author.Tests.{ltb-true, ltb-false}
 use Rattle.rules.specs.Lists.{range, any, firstPlace}
-use Rattle.rules.specs.Sheets.{Gate, Net, Table, usedBy, level, levelsAt}
+use Rattle.rules.specs.Sheets.{Gate, Net, Table, usedBy, levelsAt}
 use Rattle.rules.specs.Value.{gateValue, withGates, value}
 use Rattle.rules.specs.Groups.{part, multiplicity}
 use Rattle.rules.specs.Wirings.{Wiring, input, gate, Link}
-use Rattle.rules.specs.Filling.{carried, given, gateDigits, inputGroups, filledFrom, filled}
+use Rattle.rules.specs.Filling.{given, inputGroups, filledFrom, filled}
 use Rattle.rules.specs.Leaves.{matters}
 use Rattle.rules.specs.Family.{gateGroups}
 use Rattle.rules.specs.Answers.{inkIn}
@@ -28,11 +28,10 @@ use Rattle.rules.specs.Kept.{RefersBack, Tables, IsNet}
 use Rattle.laws.specs.Tests.{not-true-false, none-mem}
 use Rattle.laws.specs.FirstPlaces.{before-first, at-first, first-passing}
 use Rattle.laws.specs.Places.{length-snoc, mem-getD}
-use Rattle.laws.specs.Ranges.{mem-range, range-mem, map-range-length, map-range-at}
+use Rattle.laws.specs.Ranges.{mem-range, range-mem}
 use Rattle.trees.specs.Trees.{Tree, wiringIn, EachGate, Computes}
 use Rattle.trees.specs.Classes.{Few}
-use Rattle.trees.specs.Carried.{carried-several, carried-input}
-use Rattle.trees.specs.DigitRule.{Parts, join-several, gate-digit, gate-table}
+use Rattle.trees.specs.DigitRule.{gate-table}
 use Rattle.trees.specs.Wirings.{group-below}
 use Rattle.trees.specs.Homes.{grown-inputs, grown-gates}
 use Rattle.trees.specs.Forest.{treeAt, withTrees, joined, inputTrees, trees-length, inputs-length}
@@ -40,6 +39,7 @@ use Rattle.trees.specs.NetTree.{net-tree, netWiring, netGroup, net-group
 use Rattle.trees.specs.Mattering.{Holding, holding-part}
 use Rattle.trees.specs.Existence.{net-few, net-holds}
 use Rattle.trees.specs.Fillings.{linkGroup, withGroups, inputs-grouped, Fillable}
+use Rattle.trees.specs.CarriedValues.{lineGate, more-left, Carries, inputs-carry, line-value, line-carries}
 use Rattle.trees.specs.GateLinks.{treeGroup, groupsIn, group-at, groups-joined, inputs-in, gates-fillable}
 use Rattle.trees.specs.NormalWirings.{Joins, joins-cases, joins-none}
 use Rattle.trees.specs.GateGroups.{net-joins}
@@ -71,84 +71,23 @@ module _ (m n : ℕ) (pos : 0 < m) (f : ℕ → ℕ) where
       (gate-table m n pos f _ _ (may .2) inks _, filled-tables (groups ++ (linkGroup groups l ∷ [])) links (may .3) inks)
 
   module _ (p : ℕ) where
-    -- the value at each reference is what its wire carries
-    record Carries (groups values : List ℕ) : Type 0 where
-      count : length values ≡ length groups
-      each : (r : ℕ) → r < length groups → getD values r 0 ≡ carried m n f (getD groups r 0) p
-
-    -- before the first gate it is the inputs' levels
-    inputs-carry : Carries (inputGroups n) (levelsAt m n p)
-    unfolding levelsAt
-    inputs-carry =
-        let long : length (inputGroups n) ≡ n = inputs-grouped n .0 ∙ (let z : n + 0 ≡ n = omega arith in z) in
-        record {
-          count = map-range-length _ 0 n ∙ sym long;
-          each = λ r h. let r< : r < n = omega arith in
-              map-range-at (level m n p) 0 n r 0 r< ∙ ap (level m n p) (zero-add r) ∙ sym (rw (inputs-grouped n .1 r r<) (carried-input m n f r r< p));
-        }
-
-    -- the gate of a link has the value that it has to give
-    link-value : (groups values : List ℕ) (l : Link) (last : Bool) → Carries groups values → l .left < length groups → l .right < length groups
-        → Parts m n f (getD groups (l .left) 0) (getD groups (l .right) 0)
-        → gateValue m values (record { left = l .left; right = l .right; digits = gateDigits m n f last (getD groups (l .left) 0) (getD groups (l .right) 0) })
-        ≡ given m n f last (linkGroup groups l) p
-    unfolding gateValue
-    link-value groups values l last carries l< r< parts =
-        rw (carries .each (l .left) l<, carries .each (l .right) r<)
-        (gate-digit m n pos f (getD groups (l .left) 0) (getD groups (l .right) 0) parts last p)
-
-    -- a gate below the last gives what its wire carries
-    gate-carries : (a b : ℕ) → Parts m n f a b → given m n f false (a + b) p ≡ carried m n f (a + b) p
-    unfolding given
-    gate-carries a b parts = sym (carried-several m n f (a + b) (join-several m n pos f a b parts) p)
-
-    -- one gate more
-    carries-snoc : (groups values : List ℕ) (g v : ℕ) → Carries groups values → v ≡ carried m n f g p → Carries (groups ++ (g ∷ [])) (values ++ (v ∷ []))
-    carries-snoc groups values g v carries is =
-        record {
-          count = omega (arith, length-snoc groups g, length-snoc values v, carries .count);
-          each = λ r h. go r h (decLt r (length groups));
-        }
-      where
-        go : (r : ℕ) → r < length (groups ++ (g ∷ [])) → Dec (r < length groups) → getD (values ++ (v ∷ [])) r 0 ≡ carried m n f (getD (groups ++ (g ∷ [])) r 0) p
-        go r h (yes k) =
-            List·getD-append values (v ∷ []) 0 r (omega (arith, carries .count)) ∙ carries .each r k
-            ∙ ap (λ (x : ℕ). carried m n f x p) (sym (List·getD-append groups (g ∷ []) 0 r k))
-        go r h (no k) =
-            let last : r ≡ length groups = omega (arith, length-snoc groups g) in
-            let same : r ≡ length values = last ∙ sym (carries .count) in
-            ap (λ (i : ℕ). getD (values ++ (v ∷ [])) i 0) same ∙ getD-append-seam values v [] 0 ∙ is
-            ∙ ap (λ (x : ℕ). carried m n f x p) (sym (ap (λ (i : ℕ). getD (groups ++ (g ∷ [])) i 0) last ∙ getD-append-seam groups g [] 0))
-
-    -- a gate that is not the last
-    more-left : (groups : List ℕ) (l k : Link) (links : List Link) → filledFrom m n f groups (l ∷ k ∷ links)
-        ≡ record { left = l .left; right = l .right; digits = gateDigits m n f false (getD groups (l .left) 0) (getD groups (l .right) 0) }
-        ∷ filledFrom m n f (groups ++ (linkGroup groups l ∷ [])) (k ∷ links)
-    unfolding filledFrom
-    more-left groups l k links =
-        ap (λ (last : Bool). record { left = l .left; right = l .right; digits = gateDigits m n f last (getD groups (l .left) 0) (getD groups (l .right) 0) }
-        ∷ filledFrom m n f (groups ++ (linkGroup groups l ∷ [])) (k ∷ links)) (eqb·suc-zero (length links))
-
     -- the last gate of some links gives the ink
-    last-gives : (groups values : List ℕ) (l : Link) (links : List Link) → Carries groups values → Fillable m n f groups (l ∷ links)
+    last-gives : (groups values : List ℕ) (l : Link) (links : List Link) → Carries m n pos f p groups values → Fillable m n f groups (l ∷ links)
         → getD (withGates m values (filledFrom m n f groups (l ∷ links))) (length groups + length links) 0
         ≡ given m n f true (getD (withGroups groups (l ∷ links)) (length groups + length links) 0) p
     unfolding filledFrom withGates withGroups
     last-gives groups values l [] carries may =
         let at : length groups + 0 ≡ length values = omega (arith, carries .count) in
         let own : length groups + 0 ≡ length groups = omega arith in
-        let v : ℕ = gateValue m values (record { left = l .left; right = l .right; digits = gateDigits m n f true (getD groups (l .left) 0) (getD groups (l .right) 0) }) in
+        let v : ℕ = gateValue m values (lineGate m n f true groups l) in
         ap (λ (i : ℕ). getD (values ++ (v ∷ [])) i 0) at ∙ getD-append-seam values v [] 0
-        ∙ link-value groups values l true carries (may .0) (may .1) (may .2)
+        ∙ line-value m n pos f p groups values l true carries (may .0) (may .1) (may .2)
         ∙ ap (λ (x : ℕ). given m n f true x p) (sym (ap (λ (i : ℕ). getD (groups ++ (linkGroup groups l ∷ [])) i 0) own ∙ getD-append-seam groups (linkGroup groups l) [] 0))
     last-gives groups values l (k ∷ links) carries may =
-        let parts = may .2 in
-        let v : ℕ = gateValue m values (record { left = l .left; right = l .right; digits = gateDigits m n f false (getD groups (l .left) 0) (getD groups (l .right) 0) }) in
-        let is : v ≡ carried m n f (linkGroup groups l) p =
-        link-value groups values l false carries (may .0) (may .1) parts ∙ gate-carries (getD groups (l .left) 0) (getD groups (l .right) 0) parts in
-        let next = carries-snoc groups values (linkGroup groups l) v carries is in
+        let next = line-carries m n pos f p groups values l carries (may .0) (may .1) (may .2) in
         let on : length groups + suc (length links) ≡ length (groups ++ (linkGroup groups l ∷ [])) + length links = omega (arith, length-snoc groups (linkGroup groups l)) in
-        rw (more-left groups l k links, on) (last-gives (groups ++ (linkGroup groups l ∷ [])) (values ++ (v ∷ [])) k links next (may .3))
+        rw (more-left m n f groups l k links, on)
+        (last-gives (groups ++ (linkGroup groups l ∷ [])) (values ++ (gateValue m values (lineGate m n f false groups l) ∷ [])) k links next (may .3))
 
     -- the value of a wiring's filling is what its last gate has to give
     filled-gives : (links : List Link) → 0 < length links → Fillable m n f (inputGroups n) links
@@ -159,7 +98,7 @@ module _ (m n : ℕ) (pos : 0 < m) (f : ℕ → ℕ) where
         let count = sym (length-map (filled m n f (l ∷ links)) linkOf) ∙ ap length (filled-keeps m n f (l ∷ links)) in
         let at : n + length (filled m n f (l ∷ links)) - 1 ≡ length (inputGroups n) + length links = omega (arith, inputs-grouped n .0) in
         let own : n + suc (length links) - 1 ≡ length (inputGroups n) + length links = omega (arith, inputs-grouped n .0) in
-        rw (at, own) (last-gives (inputGroups n) (levelsAt m n p) l links inputs-carry may)
+        rw (at, own) (last-gives (inputGroups n) (levelsAt m n p) l links (inputs-carry m n pos f p) may)
 
 -- ---- the last gate's group
 

@@ -54,6 +54,7 @@ pub mod FamilyWirings
 pub mod GateGroups
 pub mod FamilyNets
 pub mod KeptLinks
+pub mod CarriedValues
 pub mod KeptWirings
 pub mod ChangedGates
 pub mod FamilyBounds
@@ -61,3 +62,9 @@ pub mod Covers
 pub mod Reps
 pub mod Told
 pub mod TakenOff
+pub mod SameTests
+pub mod Renaming
+pub mod RenamedWirings
+pub mod ButLast
+pub mod RenamedGates
+pub mod RenamedNets
