@@ -13,7 +13,6 @@ use Rattle.rules.specs.Text.{text, decimal}
 use Rattle.rules.specs.Lists.{range}
 use Rattle.rules.specs.Sheets.{Header, Table, levelsAt}
 use Rattle.rules.specs.Printed.{printedTable}
-use Rattle.rules.specs.Kept.{KeptTable}
 use Rattle.rules.specs.Answers.{Answer, accepted, refused, written}
 use Rattle.rules.specs.Reading.{readTable}
 use Rattle.rules.specs.LooseSheet.{Row, LooseTable, readLoose, inkNamed, tableOfLoose, looseFields, KeptLoose, IsLoose}
@@ -25,7 +24,7 @@ use Rattle.laws.specs.Tidying.{tidy-accepted, tidied-sheet, tidied-written}
 use Rattle.readback.specs.Decimals.{decimal-injective}
 use Rattle.readback.specs.ReadBack.{table-accepted, table-read-back}
 use Rattle.readback.specs.LooseSheets.{loose-sheets}
-use Rattle.readback.specs.LooseTables.{indices, ink-of-row, row-of, all-named, ink-at, index-named, loose-kept, inOrder, strict-loose, strict-table}
+use Rattle.readback.specs.LooseTables.{indices, ink-of-row, row-of, all-named, ink-at, index-named, loose-kept, inOrder, strict-read, strict-same}
 use Rattle.demands.specs.Settles.{sheetIn}
 
 -- the sheet that tidying wrote: "A call that writes a sheet answers its length, and the sheet is that many bytes from the front of the output."
@@ -41,18 +40,12 @@ pub record LongTable (t : Table) (cells output : List ℕ) : Type 0 where
 
 -- "A strict sheet comes back unchanged": an accepted table sheet is an accepted loose one, and the call writes it again
 module _ (s : List ℕ) (t : Table) (reads : readTable s ≡ accepted t) where
-  kept-table : KeptTable t
-  kept-table = table-accepted s t reads .1
-
-  pub strict-read : readLoose s ≡ accepted (inOrder t)
-  strict-read = ap readLoose (table-accepted s t reads .0) ∙ loose-sheets (printedTable t) (inOrder t) .1 (strict-loose t kept-table)
-
   pub strict-unchanged : (cells output : List ℕ) → t .header .levels ^ t .header .inputs ≤ length cells → length s ≤ length output
       → tidyCall s cells output ≡ record { answer = accepted (length s); cells = written cells (t .inks); output = written output s }
   strict-unchanged cells output room fits =
       let is : s ≡ printedTable t = table-accepted s t reads .0 in
-      tidy-accepted s cells output (inOrder t) strict-read
-      ∙ rw (strict-table t kept-table) (tidied-sheet t cells output room ∙ tidied-written (printedTable t) (written cells (t .inks)) output (rw is at fits))
+      tidy-accepted s cells output (inOrder t) (strict-read s t reads)
+      ∙ rw (strict-same s t reads) (tidied-sheet t cells output room ∙ tidied-written (printedTable t) (written cells (t .inks)) output (rw is at fits))
       ∙ (λ q. record { answer = accepted (length (sym is q)); cells = written cells (t .inks); output = written output (sym is q) })
 
 -- ---- every loose sheet

@@ -17,11 +17,15 @@ use Rattle.rules.specs.Text.{space, newline, text, decimal}
 use Rattle.rules.specs.Sheets.{Header, Table, levelsAt}
 use Rattle.rules.specs.Printed.{line, firstLines, printedRow, printedRows, printedTable}
 use Rattle.rules.specs.Kept.{Distinct, KeptTable}
-use Rattle.rules.specs.LooseSheet.{Row, LooseTable, isOf, inkOf, inkNamed, tableOfLoose, blanks, LooseLine, LooseLines, rowFields, looseFields, EachRow, KeptLoose, IsLoose}
+use Rattle.rules.specs.Answers.{accepted}
+use Rattle.rules.specs.Reading.{readTable}
+use Rattle.rules.specs.LooseSheet.{Row, LooseTable, isOf, inkOf, inkNamed, tableOfLoose, blanks, LooseLine, LooseLines, rowFields, looseFields, EachRow, KeptLoose, IsLoose, readLoose}
 use Rattle.laws.specs.Sizes.{levels-fit}
 use Rattle.laws.specs.Counts.{times-range}
 use Rattle.laws.specs.Distinct.{In, NotIn, not-in-cons, times-distinct, all-stand}
 use Rattle.laws.specs.Ranges.{range-length, map-range-length, map-range-at}
+use Rattle.readback.specs.ReadBack.{table-accepted}
+use Rattle.readback.specs.LooseSheets.{loose-sheets}
 
 -- ---- the ink of the row that names an assignment
 
@@ -206,3 +210,11 @@ module _ (t : Table) (kept : KeptTable t) where
       let i< : i < count = omega (arith, map-range-length (inkNamed (rowsFrom 0 (t .inks))) 0 count) in
       map-range-at (inkNamed (rowsFrom 0 (t .inks))) 0 count i 0 i< ∙ rows-ink 0 (t .inks) i (omega (arith, kept .count))) in
       (λ q. record { header = t .header; inks = same q })
+
+-- an accepted table sheet is the sheet of its table, so it is an accepted loose one, of that table
+module _ (s : List ℕ) (t : Table) (reads : readTable s ≡ accepted t) where
+  pub strict-read : readLoose s ≡ accepted (inOrder t)
+  strict-read = ap readLoose (table-accepted s t reads .0) ∙ loose-sheets (printedTable t) (inOrder t) .1 (strict-loose t (table-accepted s t reads .1))
+
+  pub strict-same : tableOfLoose (inOrder t) ≡ t
+  strict-same = strict-table t (table-accepted s t reads .1)

@@ -2,6 +2,7 @@
 -- Assumes nothing.
 use Prim.Native.Nat.{ℕ, _+_, _-_, _^_, _≤_, _<_}
 use mathlib.Core.Path.{_≡_, refl, sym, ap, _∙_, subst}
+use mathlib.Core.Bool.{Bool, true, false, false≢true}
 use mathlib.Core.List.{List}
 use native.Mathlib.Nat.{sub-zero}
 use native.Mathlib.Omega.{arith}
@@ -11,21 +12,25 @@ use Rattle.rules.specs.Limits.{mostCells}
 use Rattle.rules.specs.Sheets.{Table}
 use Rattle.rules.specs.Printed.{printedTable}
 use Rattle.rules.specs.Answers.{accepted, refused, written}
+use Rattle.rules.specs.Reading.{readTable}
 use Rattle.rules.specs.LooseSheet.{LooseTable, readLoose, tableOfLoose}
 use Rattle.rules.specs.Tidying.{Tidied, tidiedSheet, tidiedInto, tidyCall}
 use Rattle.laws.specs.Bounds.{Below, below-at}
 use Rattle.laws.specs.Tidying.{tidy-accepted, tidied-13, tidied-sheet, tidied-15, tidied-written}
+use Rattle.readback.specs.ReadBack.{table-accepted}
+use Rattle.readback.specs.LooseTables.{inOrder, strict-read, strict-same}
 use Rattle.nets.specs.Forms.{headerOf, tableIn}
 use Rattle.nets.specs.declared.forms.Header.{Header}
 use Rattle.fields.specs.Header.{HeaderHeld}
 use Rattle.answers.specs.Answers.{answerOf, outcomeAs}
 use Rattle.answers.specs.declared.answer.Answer.{Answer}
 use Rattle.answers.specs.declared.outcome.Outcome.the-variants.{Accepted, Refused}
-use Rattle.table_reading.specs.Answers.{inksIn}
+use Rattle.table_reading.specs.Answers.{TableReads, inksIn}
+use Rattle.table_reading.specs.declared.sheet.TableRead.{TableRead}
 use Rattle.loose_reading.specs.Answers.{LooseReads, looseIn}
 use Rattle.loose_reading.specs.declared.sheet.LooseRead.{LooseRead}
 use Rattle.lines.specs.Put.{Put, Wrote, put-wrote}
-use Rattle.accepted.specs.Taken.{held-size, names-inside}
+use Rattle.accepted.specs.Taken.{held-size, names-inside, table-taken}
 use Rattle.table_printing.specs.Lengths.{Measures}
 use Rattle.table_printing.specs.Tables.{TableInside}
 
@@ -41,6 +46,14 @@ pub record LooseTaken (s : List ℕ) (h : Header) (cells : List ℕ) : Type 0 wh
   pub header : HeaderHeld s h
   pub below : Below (h .levels) (inksIn cells h)
   pub room : mostCells ≤ length cells
+
+-- the sheet is the table sheet of its own header and inks, if it is said to be strict
+abbrev pub Itself : Bool → List ℕ → Header → List ℕ → Type 0
+Itself strict s h inks = strict ≡ true → s ≡ printedTable (tableIn s h inks)
+
+-- nothing is said of a sheet that is not
+pub not-itself : (s : List ℕ) (h : Header) (inks : List ℕ) → Itself false s h inks
+not-itself s h inks e = absurd (false≢true e)
 
 -- ---- what reading answers
 
@@ -60,6 +73,28 @@ module _ (s cells : List ℕ) (r : LooseRead) (read : LooseReads s cells r) wher
 
   pub loose-refused : (number place : ℕ) → r .outcome ≡ Refused number place → readLoose s ≡ refused number place
   loose-refused number place e = sym (read .answer) ∙ ap (outcomeAs (looseIn s (r .header) (read .rows))) e
+
+-- the same of a strict sheet, which is an accepted loose one
+module _ (s cells : List ℕ) (r : TableRead) (read : TableReads s cells r) (e : r .outcome ≡ Accepted) where
+  abbrev t : Table
+  t = tableIn s (r .header) (inksIn cells (r .header))
+
+  reads : readTable s ≡ accepted t
+  reads = table-taken s cells r read e .reads
+
+  pub strict-taken : mostCells ≤ length cells → LooseTaken s (r .header) cells
+  strict-taken room =
+      record {
+        table = inOrder t;
+        reads = strict-read s t reads;
+        tidied = strict-same s t reads;
+        header = read .held e .header;
+        below = read .held e .inks;
+        room = room;
+      }
+
+  pub strict-itself : Itself true s (r .header) (inksIn cells (r .header))
+  strict-itself _ = table-accepted s t reads .0
 
 -- ---- the cells
 
@@ -82,6 +117,9 @@ module _ (s : List ℕ) (h : Header) (inks : List ℕ) (taken : LooseTaken s h i
         levels = size .levels-most;
         digits = λ k l. omega (arith, size .levels-most, below-at (h .levels) (take (count - 0) inks) (subst (Below (h .levels)) (sym front) (taken .below)) k l);
       }
+
+  pub front-itself : (strict : Bool) → Itself strict s h (inksIn inks h) → Itself strict s h (take (count - 0) inks)
+  front-itself strict is-itself e = is-itself e ∙ ap (λ (xs : List ℕ). printedTable (tableIn s h xs)) (sym front)
 
   module _ (cells output : List ℕ) where
     -- the call, from the table on
@@ -125,3 +163,13 @@ module _ (s : List ℕ) (h : Header) (inks : List ℕ) (inside : TableInside s h
     output-written filled answer wrote cells =
         (λ i. record { answer = accepted (wrote .length i); cells = cells; output = wrote .text i })
         ∙ sym (tidied-written (printedTable (tableIn s h inks)) cells output output-long)
+
+    -- a strict sheet is copied
+    module _ (is : s ≡ printedTable (tableIn s h inks)) where
+      pub itself-fits : length s ≤ length output
+      itself-fits = rw is output-long
+
+      pub itself-written : (filled : List ℕ) (answer : ℕ) → Put output 0 s filled answer → (cells : List ℕ)
+          → record { answer = accepted answer; cells = cells; output = filled } ≡ tidiedSheet (printedTable (tableIn s h inks)) cells output
+      itself-written filled answer put =
+          output-written filled answer (subst (λ (t : List ℕ). Wrote output t filled answer) is (put-wrote itself-fits put))

@@ -8,7 +8,8 @@ ghost use Rattle.rules.specs.Printed.{printedTable};
 ghost use Rattle.rules.specs.Tidying.{tidiedSheet, tidyCall};
 ghost use Rattle.nets.specs.Forms.{tableIn};
 ghost use Rattle.table_printing.specs.Tables.{TableInside};
-ghost use Rattle.tidying.specs.Tidying.{LooseTaken, tidiedOf};
+ghost use Rattle.table_reading.specs.Answers.{inksIn};
+ghost use Rattle.tidying.specs.Tidying.{LooseTaken, Itself, tidiedOf};
 use answers::answer::Answer;
 use answers::outcome::Outcome;
 use lines::put::copy;
@@ -18,10 +19,11 @@ use radix::limits::MOST_CELLS;
 use radix::powers::power;
 use table_printing::lengths::table_length;
 use table_printing::table::print_table;
+use table_reading::sheet::read_table;
 
-// Refusal 15, or the table sheet of the header's names and the inks, and its length.
-fn write_sheet(s: &[u8], header: Header, inks: &[u8], out: &mut [u8]) -> Answer
-    requires { ⌜ TableInside (now s) header (now inks) × (length (now inks) ≤ mostCells) ⌝ }
+// Refusal 15, or the table sheet of the header's names and the inks, and its length. A sheet that is `strict` is that sheet itself.
+fn write_sheet(s: &[u8], header: Header, inks: &[u8], strict: bool, out: &mut [u8]) -> Answer
+    requires { ⌜ TableInside (now s) header (now inks) × (length (now inks) ≤ mostCells) × Itself strict (now s) header (now inks) ⌝ }
     ensures { λ r. ⌜ ((cells : List ℕ) → tidiedOf r cells (now (out .exit)) ≡ tidiedSheet (printedTable (tableIn (now (s .entry)) header (now (inks .entry)))) cells (now (out .entry))) ⌝ }
 {
     let need = table_length(header, inks.len());
@@ -31,12 +33,22 @@ fn write_sheet(s: &[u8], header: Header, inks: &[u8], out: &mut [u8]) -> Answer
             place: need,
         };
     }
+    if strict {
+        return Answer::Accepted(copy(s, out, 0));
+    }
     Answer::Accepted(print_table(s, header, inks, out))
 }
 
 // Refusal 13, or the inks of an accepted sheet, which stand at the front of `inks`, in the cells buffer, and then the table sheet.
-fn tidy_accepted(s: &[u8], header: Header, inks: &[u8], cells: &mut [u8], out: &mut [u8]) -> Answer
-    requires { ⌜ LooseTaken (now s) header (now inks) ⌝ }
+fn tidy_accepted(
+    s: &[u8],
+    header: Header,
+    inks: &[u8],
+    strict: bool,
+    cells: &mut [u8],
+    out: &mut [u8],
+) -> Answer
+    requires { ⌜ LooseTaken (now s) header (now inks) × Itself strict (now s) header (inksIn (now inks) header) ⌝ }
     ensures { λ r. ⌜ tidiedOf r (now (cells .exit)) (now (out .exit)) ≡ tidyCall (now (s .entry)) (now (cells .entry)) (now (out .entry)) ⌝ }
 {
     let count = power(header.levels, header.inputs);
@@ -48,12 +60,11 @@ fn tidy_accepted(s: &[u8], header: Header, inks: &[u8], cells: &mut [u8], out: &
     }
     let table = &inks[0..count];
     copy(table, cells, 0);
-    write_sheet(s, header, table, out)
+    write_sheet(s, header, table, strict, out)
 }
 
-// Puts the inks of a loose table sheet in the cells buffer, in index order, writes its table sheet to the front of `out`, and answers the length. Any
-// bytes may come in.
-pub fn tidy(sheet: &[u8], cells: &mut [u8], out: &mut [u8]) -> Answer
+// A sheet that is not laid strictly.
+fn tidy_loose(sheet: &[u8], cells: &mut [u8], out: &mut [u8]) -> Answer
     ensures { λ r. ⌜ tidiedOf r (now (cells .exit)) (now (out .exit)) ≡ tidyCall (now (sheet .entry)) (now (cells .entry)) (now (out .entry)) ⌝ }
 {
     let mut inks = [0u8; MOST_CELLS];
@@ -62,6 +73,24 @@ pub fn tidy(sheet: &[u8], cells: &mut [u8], out: &mut [u8]) -> Answer
     let header = read.header;
     match outcome {
         Outcome::Refused { number, place } => Answer::Refused { number, place },
-        Outcome::Accepted => tidy_accepted(sheet, header, &inks, cells, out),
+        Outcome::Accepted => tidy_accepted(sheet, header, &inks, false, cells, out),
+    }
+}
+
+// Puts the inks of a loose table sheet in the cells buffer, in index order, writes its table sheet to the front of `out`, and answers the length. Any
+// bytes may come in. It is first read as a table sheet, which is quicker: a sheet that is laid so comes back as it is.
+pub fn tidy(sheet: &[u8], cells: &mut [u8], out: &mut [u8]) -> Answer
+    ensures { λ r. ⌜ tidiedOf r (now (cells .exit)) (now (out .exit)) ≡ tidyCall (now (sheet .entry)) (now (cells .entry)) (now (out .entry)) ⌝ }
+{
+    let mut inks = [0u8; MOST_CELLS];
+    let read = read_table(sheet, &mut inks);
+    let outcome = read.outcome;
+    let header = read.header;
+    match outcome {
+        Outcome::Refused {
+            number: _,
+            place: _,
+        } => tidy_loose(sheet, cells, out),
+        Outcome::Accepted => tidy_accepted(sheet, header, &inks, true, cells, out),
     }
 }

@@ -1,32 +1,32 @@
--- `tidying::tidy::tidy` meets its contract: the sheet read, then tidied.
+-- `tidying::tidy::tidy` meets its contract: the sheet read strictly, or else loosely.
 -- Assumes nothing.
 use Prim.Native.Nat.{ℕ}
-use mathlib.Core.Path.{sym}
 use native.Mathlib.Omega.{arith}
 use lib.ListN.{length-replicate}
 use Rattle.rules.specs.Limits.{mostCells}
-use Rattle.laws.specs.Tidying.{tidy-refused}
-use Rattle.loose_reading.specs.Rows.{zeros-blank}
-use Rattle.tidying.specs.Tidying.{loose-taken, loose-refused}
+use Rattle.tidying.specs.Tidying.{strict-taken, strict-itself}
 use borrow.Author.Needs.{needs}
 use Rattle.tidying.proofs.tidy.tidy.Statement.{statement}
 use Rattle.tidying.proofs.tidy.tidy.Tie as tie
 
 -- the sheet's read, from where its outcome is told
-abbrev at-read : tie.After-header → tie.After-read-loose
-at-read c = c .before .before
+abbrev at-read : tie.After-enum-told2 → tie.After-read-table
+at-read c = c .before .before .before .before
 
-slice-aggregate-read-loose : tie.Need-slice-aggregate-read-loose
-slice-aggregate-read-loose c = search needs
+slice-aggregate-read-table : tie.Need-slice-aggregate-read-table
+slice-aggregate-read-table c = search needs
 
-read-loose-requires : tie.Need-read-loose-requires
-read-loose-requires c κs = (omega (arith, length-replicate {A = ℕ} mostCells 0), zeros-blank mostCells)
-
-enum-known-outcome : tie.Need-enum-known-outcome
-enum-known-outcome c = search needs
+read-table-requires : tie.Need-read-table-requires
+read-table-requires c κs = search needs
 
 enum-told : tie.Need-enum-told
 enum-told c = search needs
+
+tidy-loose-requires : tie.Need-tidy-loose-requires
+tidy-loose-requires c κs = search needs
+
+enum-told-2 : tie.Need-enum-told-2
+enum-told-2 c = search needs
 
 slice-aggregate-tidy-accepted : tie.Need-slice-aggregate-tidy-accepted
 slice-aggregate-tidy-accepted c = search needs
@@ -34,17 +34,24 @@ slice-aggregate-tidy-accepted c = search needs
 tidy-accepted-requires : tie.Need-tidy-accepted-requires
 tidy-accepted-requires c κs =
     let told = c .before .before .before in
-    let did = at-read (told .before .before) .read-loose in
-    loose-taken _ _ _ (did .ensures) (omega (arith, did .kept .1 .0, length-replicate {A = ℕ} mostCells 0)) (told .enum-told .given .1)
-
-returns : tie.Need-returns
-returns c = sym (tidy-refused _ _ _ _ _ (loose-refused _ _ _ (at-read (c .before .before .before) .read-loose .ensures) _ _ (c .before .outcome .given .1)))
+    let did = at-read told .read-table in
+    let is = told .enum-told2 .given .1 in
+    (strict-taken _ _ _ (did .ensures) is (omega (arith, did .kept .1 .0, length-replicate {A = ℕ} mostCells 0)), strict-itself _ _ _ (did .ensures) is)
 
 same-length : tie.Need-same-length
 same-length c = search needs
 
 same-length-2 : tie.Need-same-length-2
 same-length-2 c = search needs
+
+returns : tie.Need-returns
+returns c = search needs
+
+same-length-3 : tie.Need-same-length-3
+same-length-3 c = search needs
+
+same-length-4 : tie.Need-same-length-4
+same-length-4 c = search needs
 
 returns-2 : tie.Need-returns-2
 returns-2 c = search needs
@@ -53,13 +60,16 @@ pub tidy-spec : {M : Type 1} → statement M
 tidy-spec =
     tie.close
     (tie.spec
-    slice-aggregate-read-loose
-    read-loose-requires
-    enum-known-outcome
+    slice-aggregate-read-table
+    read-table-requires
     enum-told
+    tidy-loose-requires
+    enum-told-2
     slice-aggregate-tidy-accepted
     tidy-accepted-requires
-    returns
     same-length
     same-length-2
+    returns
+    same-length-3
+    same-length-4
     returns-2)

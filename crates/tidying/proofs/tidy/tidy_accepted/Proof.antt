@@ -2,7 +2,7 @@
 -- Assumes nothing.
 use native.Mathlib.Omega.{arith}
 use Rattle.accepted.specs.Taken.{held-size}
-use Rattle.tidying.specs.Tidying.{count-most, front-length, front-inside, cells-short, cells-written}
+use Rattle.tidying.specs.Tidying.{count-most, front-length, front-inside, front-itself, cells-short, cells-written}
 use borrow.Author.Needs.{needs}
 use Rattle.tidying.proofs.tidy.tidy_accepted.Statement.{statement}
 use Rattle.tidying.proofs.tidy.tidy_accepted.Tie as tie
@@ -19,11 +19,11 @@ at-copy c = c .before .before .before
 
 power-requires : tie.Need-power-requires
 power-requires c κs =
-    let size = held-size _ _ (c .before .before .before .before .pre .header) in
+    let size = held-size _ _ (c .before .before .before .before .pre .0 .header) in
     (size .levels-most, omega (arith, size .inputs-most))
 
 returns : tie.Need-returns
-returns c = cells-short _ _ _ (at-start (c .before) .pre) _ (c .before .power .ensures) _ _ (c .if1 .taken)
+returns c = cells-short _ _ _ (at-start (c .before) .pre .0) _ (c .before .power .ensures) _ _ (c .if1 .taken)
 
 sub-table : tie.Need-sub-table
 sub-table c = search needs
@@ -33,7 +33,7 @@ part-table-start c = search needs
 
 part-table-end : tie.Need-part-table-end
 part-table-end c =
-    let taken = at-start (c .before) .pre in
+    let taken = at-start (c .before) .pre .0 in
     omega (arith, count-most _ _ _ taken _ (c .before .power .ensures), taken .room)
 
 copy-requires : tie.Need-copy-requires
@@ -42,9 +42,9 @@ copy-requires c κs = search needs
 write-sheet-requires : tie.Need-write-sheet-requires
 write-sheet-requires c κs =
     let power = at-fits (at-copy c) .before in
-    let taken = at-start power .pre in
+    let (taken, itself) = at-start power .pre in
     let is = power .power .ensures in
-    (front-inside _ _ _ taken _ is, omega (arith, front-length _ _ _ taken _ is, count-most _ _ _ taken _ is))
+    (front-inside _ _ _ taken _ is, omega (arith, front-length _ _ _ taken _ is, count-most _ _ _ taken _ is), front-itself _ _ _ taken _ is (at-start power .args .strict) itself)
 
 same-length : tie.Need-same-length
 same-length c = search needs
@@ -58,7 +58,7 @@ returns-2 c =
     let copy = at-copy (write .before) in
     let fits = at-fits copy in
     let start = at-start (fits .before) in
-    cells-written _ _ _ (start .pre) _ (fits .before .power .ensures) (start .args .cells .now) (start .args .out .now) (fits .if1 .left) _ _ (copy .copy .ensures) (write .write-sheet .result) _ (write .write-sheet .ensures)
+    cells-written _ _ _ (start .pre .0) _ (fits .before .power .ensures) (start .args .cells .now) (start .args .out .now) (fits .if1 .left) _ _ (copy .copy .ensures) (write .write-sheet .result) _ (write .write-sheet .ensures)
 
 pub tidy-accepted-spec : {M : Type 1} → statement M
 tidy-accepted-spec =
