@@ -8,10 +8,12 @@ use native.Mathlib.Omega.{arith}
 use lib.ListN.{length, take}
 use Rattle.rules.specs.Limits.{mostCells}
 use Rattle.rules.specs.Sheets.{Gate}
-use Rattle.rules.specs.Kept.{KeptNet, KeptTable, IsNet}
+use Rattle.rules.specs.Kept.{KeptNet, KeptTable, FullTable, IsNet}
 use Rattle.rules.specs.Value.{tableOf}
 use Rattle.rules.specs.Answers.{accepted, refused}
 use Rattle.rules.specs.Reading.{readNet, readTable, tableOfNet}
+use Rattle.rules.specs.OpenCells.{full, fullTable, readFull}
+use Rattle.laws.specs.OpenCells.{read-full, read-accepted, table-full}
 use Rattle.laws.specs.Sizes.{Size, sized}
 use Rattle.trees.specs.Uniqueness.{table-length}
 use Rattle.nets.specs.declared.forms.Header.{Header}
@@ -25,10 +27,11 @@ use Rattle.answers.specs.declared.outcome.Outcome.the-variants.{Accepted, Refus
 use Rattle.net_reading.specs.Answers.{NetReads}
 use Rattle.net_reading.specs.declared.net.NetRead.{NetRead}
 use Rattle.table_reading.specs.Answers.{TableReads, inksIn}
+use Rattle.table_reading.specs.Full.{FullReads}
 use Rattle.table_reading.specs.declared.sheet.TableRead.{TableRead}
 use Rattle.lines.specs.Names.{NamesInside}
 use Rattle.readback.specs.ReadBack.{net-accepted, table-accepted}
-use Rattle.trees.specs.NetTables.{kept-table}
+use Rattle.trees.specs.NetTables.{kept-table, net-full}
 
 -- the header and the net of an accepted net sheet
 pub record NetTaken (s : List ℕ) (h : Header) (net : Net) : Type 0 where
@@ -42,10 +45,16 @@ pub record TableTaken (s : List ℕ) (h : Header) (cells : List ℕ) : Type 0 wh
   pub reads : readTable s ≡ accepted (tableIn s h (inksIn cells h))
   pub header : HeaderHeld s h
 
--- the table that the header's names in the sheet s and the inks make keeps the rules, and the names are in the sheet
+-- the same of a sheet of a full table
+pub record FullTaken (s : List ℕ) (h : Header) (cells : List ℕ) : Type 0 where
+  pub reads : readFull s ≡ accepted (tableIn s h (inksIn cells h))
+  pub header : HeaderHeld s h
+
+-- the table that the header's names in the sheet s and the inks make keeps the rules and is full, and the names are in the sheet
 pub record Given (s : List ℕ) (h : Header) (inks : List ℕ) : Type 0 where
   pub names : NamesInside s h
   pub kept : KeptTable (tableIn s h inks)
+  pub full : FullTable (tableIn s h inks)
 
 -- ---- what reading answers
 
@@ -69,6 +78,18 @@ module _ (s cells : List ℕ) (r : TableRead) (read : TableReads s cells r) wher
 
   pub table-refused : (number place : ℕ) → r .outcome ≡ Refused number place → readTable s ≡ refused number place
   table-refused number place e = sym (read .answer) ∙ ap (outcomeAs (tableIn s (r .header) (inksIn cells (r .header)))) e
+
+module _ (s cells : List ℕ) (r : TableRead) (read : FullReads s cells r) where
+  pub full-taken : r .outcome ≡ Accepted → FullTaken s (r .header) cells
+  full-taken e = record { reads = sym (read .answer) ∙ ap (outcomeAs (tableIn s (r .header) (inksIn cells (r .header)))) e; header = read .held e .header }
+
+  pub full-refused : (number place : ℕ) → r .outcome ≡ Refused number place → readFull s ≡ refused number place
+  full-refused number place e = sym (read .answer) ∙ ap (outcomeAs (tableIn s (r .header) (inksIn cells (r .header)))) e
+
+-- a table sheet whose cells are judged full
+pub taken-full : (s : List ℕ) (h : Header) (cells : List ℕ) → TableTaken s h cells → full (h .levels) (inksIn cells h) ≡ accepted tt → FullTaken s h cells
+unfolding fullTable headerOf
+taken-full s h cells taken on = record { reads = read-full s (tableIn s h (inksIn cells h)) (taken .reads) on; header = taken .header }
 
 -- ---- what the calls ask
 
@@ -121,16 +142,27 @@ module _ (s : List ℕ) (h : Header) (net : Net) (taken : NetTaken s h net) wher
     front-table = ap (tableIn s h) front
 
     pub front-given : Given s h (take (count - 0) after)
-    front-given = record { names = names-inside s h (taken .header); kept = subst⁻¹ KeptTable front-table (kept-table (netIn s h net) kept) }
+    front-given =
+        record {
+          names = names-inside s h (taken .header);
+          kept = subst⁻¹ KeptTable front-table (kept-table (netIn s h net) kept);
+          full = subst⁻¹ FullTable front-table (net-full (netIn s h net) kept);
+        }
 
 -- a table, at the front of its buffer
-module _ (s : List ℕ) (h : Header) (cells : List ℕ) (taken : TableTaken s h cells) (count : ℕ) (is : count ≡ h .levels ^ h .inputs) where
+module _ (s : List ℕ) (h : Header) (cells : List ℕ) (count : ℕ) (is : count ≡ h .levels ^ h .inputs) where
   pub inks-front : take (count - 0) cells ≡ inksIn cells h
   inks-front = ap (λ (k : ℕ). take k cells) (sub-zero count ∙ is)
 
   pub inks-table : tableIn s h (take (count - 0) cells) ≡ tableIn s h (inksIn cells h)
   inks-table = ap (tableIn s h) inks-front
 
-  pub inks-given : Given s h (take (count - 0) cells)
-  inks-given =
-      record { names = names-inside s h (taken .header); kept = subst⁻¹ KeptTable inks-table (table-accepted s (tableIn s h (inksIn cells h)) (taken .reads) .1) }
+  pub inks-kept : TableTaken s h cells → KeptTable (tableIn s h (take (count - 0) cells))
+  inks-kept taken = subst⁻¹ KeptTable inks-table (table-accepted s (tableIn s h (inksIn cells h)) (taken .reads) .1)
+
+  pub inks-given : FullTaken s h cells → Given s h (take (count - 0) cells)
+  inks-given taken =
+      let t = tableIn s h (inksIn cells h) in
+      let (reads, on) = read-accepted s t (taken .reads) in
+      let keeps = table-accepted s t reads .1 in
+      record { names = names-inside s h (taken .header); kept = subst⁻¹ KeptTable inks-table keeps; full = subst⁻¹ FullTable inks-table (table-full t keeps on) }

@@ -19,5 +19,5 @@ abbrev pub checkedOf : Verdict → List ℕ → Checked
 checkedOf r cells = record { answer = verdictOf r; cells = cells }
 
 -- a net's table held against a table sheet's inks, which are put in the cells buffer whether they agree or not
-abbrev pub comparedInto : List ℕ → List ℕ → List ℕ → Checked
-comparedInto table inks cells = record { answer = checking.compared table inks; cells = answers.written cells inks }
+abbrev pub comparedInto : ℕ → List ℕ → List ℕ → List ℕ → Checked
+comparedInto m table inks cells = record { answer = checking.compared m table inks; cells = answers.written cells inks }

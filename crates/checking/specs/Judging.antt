@@ -17,7 +17,7 @@ use Rattle.nets.specs.Forms.{headerOf, tableIn, netIn}
 use Rattle.nets.specs.Evaluating.{Tabled}
 use Rattle.table_reading.specs.Answers.{inksIn}
 use Rattle.checking.specs.Answers.{comparedInto}
-use Rattle.accepted.specs.Taken.{NetTaken, TableTaken, front, inks-front, inks-given}
+use Rattle.accepted.specs.Taken.{NetTaken, TableTaken, front, inks-front, inks-kept}
 
 -- sheets with the same header have as many cells
 same-cells : (s : List ℕ) (h : Header) (t : List ℕ) (k : Header) → sameHeader (headerOf s h) (headerOf t k) ≡ true
@@ -46,7 +46,7 @@ module _ (s : List ℕ) (h : Header) (net : Net) (taken : NetTaken s h net) (t :
 
       inks-length : length (inksIn inks k) ≡ count
       unfolding headerOf
-      inks-length = ap length (sym (inks-front t k inks other count count-is)) ∙ inks-given t k inks other count count-is .kept .count ∙ sym count-is
+      inks-length = ap length (sym (inks-front t k inks count count-is)) ∙ inks-kept t k inks count count-is other .count ∙ sym count-is
 
       -- the buffer holds all inks
       pub inks-long : count ≤ length inks
@@ -58,8 +58,9 @@ module _ (s : List ℕ) (h : Header) (net : Net) (taken : NetTaken s h net) (t :
           ∙ sym (both-accepted ∙ check-13 (netIn s h net) (tableIn t k (inksIn inks k)) cells agreed (subst⁻¹ (λ (n : ℕ). length cells < n) inks-length short))
 
       pub cells-long : count ≤ length cells → (before after : List ℕ) (all : ℕ) → Tabled net before after all → (r : Checked)
-          → r ≡ comparedInto (take (count - 0) after) (take (count - 0) inks) cells → r ≡ checkCall s t cells
+          → r ≡ comparedInto (k .levels) (take (count - 0) after) (take (count - 0) inks) cells → r ≡ checkCall s t cells
+      unfolding headerOf
       cells-long long before after all did r e =
           let fits : length (inksIn inks k) ≤ length cells = omega (arith, inks-length) in
-          e ∙ ap₂ (λ (xs ys : List ℕ). comparedInto xs ys cells) (front s h net taken before after all count did is) (inks-front t k inks other count count-is)
+          e ∙ ap₂ (λ (xs ys : List ℕ). comparedInto (k .levels) xs ys cells) (front s h net taken before after all count did is) (inks-front t k inks count count-is)
           ∙ sym (both-accepted ∙ check-compared (netIn s h net) (tableIn t k (inksIn inks k)) cells agreed fits)

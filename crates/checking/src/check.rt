@@ -48,7 +48,7 @@ fn check_accepted(
     }
     let mut table = [0u8; MOST_CELLS];
     values::table(net, &mut table);
-    compare_into(&table[0..count], &inks[0..count], cells)
+    compare_into(&table[0..count], &inks[0..count], cells, other.levels)
 }
 
 // The accepted net sheet s against the table sheet t.

@@ -17,8 +17,8 @@ use Rattle.rules.specs.Printed.{printedNet}
 use Rattle.rules.specs.Groups.{wholeGroup}
 use Rattle.rules.specs.Marks.{markIn, marksOf, marksLength, storedMarks, noTreePlace}
 use Rattle.rules.specs.Answers.{Answer, accepted, inkIn, onward, refused, written}
-use Rattle.rules.specs.Reading.{readNet, readTable, tableOfNet}
-use Rattle.rules.specs.BareCells.{bareCells}
+use Rattle.rules.specs.Reading.{readNet, tableOfNet}
+use Rattle.rules.specs.OpenCells.{fullCells, readFull}
 use Rattle.rules.specs.Marking.{Marked, markingCall}
 use Rattle.rules.specs.Settling.{Made, settledNet, writtenSheet, afterMarks, madeInto, settleCall, makeCall}
 use Rattle.rules.specs.ShallowSettling.{LayeredMade, layered, layeredInto, netLayers, shallowNet, withLayers, settleShallowCall, makeShallowCall}
@@ -193,9 +193,9 @@ module _ (netFor : Table → Net) (t : Table) (cells marks output : List ℕ) wh
           ∙ sym (by-rest fourToByte (makes netFor) t cells marks output h k)
 
 module _ (sheet cells marks output : List ℕ) where
-  pub make-is : makeCall sheet cells marks output ≡ callBy fourToByte (makes settledNet) (readTable sheet) cells marks output
+  pub make-is : makeCall sheet cells marks output ≡ callBy fourToByte (makes settledNet) (readFull sheet) cells marks output
   unfolding makeCall callBy
-  make-is = go (readTable sheet)
+  make-is = go (readFull sheet)
     where
       go : (a : Answer Table) → elim a as (λ _. Made) [
         | refused number place ↦ record { answer = refused number place; cells = cells; marks = marks; output = output }
@@ -216,9 +216,9 @@ module _ (sheet cells marks output : List ℕ) where
       go (accepted net) = into-is settledNet (tableOfNet net) cells marks output
 
   -- the shallow ones carry the layers of the net besides, which do not depend on marks in a buffer at all
-  pub make-shallow-is : makeShallowCall sheet cells marks output ≡ withShallow (readTable sheet) (callBy fourToByte (makes shallowNet) (readTable sheet) cells marks output)
+  pub make-shallow-is : makeShallowCall sheet cells marks output ≡ withShallow (readFull sheet) (callBy fourToByte (makes shallowNet) (readFull sheet) cells marks output)
   unfolding makeShallowCall callBy withShallow withLayers layered onward layeredInto
-  make-shallow-is = go (readTable sheet)
+  make-shallow-is = go (readFull sheet)
     where
       go : (a : Answer Table) → elim a as (λ _. LayeredMade) [
         | refused number place ↦ record { answer = refused number place; cells = cells; marks = marks; output = output }
@@ -240,9 +240,9 @@ module _ (sheet cells marks output : List ℕ) where
       go (accepted net) = ap (withLayers (netLayers (shallowNet (tableOfNet net)))) (into-is shallowNet (tableOfNet net) cells marks output)
 
   -- the family's
-  pub family-tree-is : (number : ℕ) → familyTreeCall sheet number cells marks output ≡ callBy fourToByte (numbers number) (readTable sheet) cells marks output
+  pub family-tree-is : (number : ℕ) → familyTreeCall sheet number cells marks output ≡ callBy fourToByte (numbers number) (readFull sheet) cells marks output
   unfolding familyTreeCall callBy afterCount numbers
-  family-tree-is number = go (readTable sheet)
+  family-tree-is number = go (readFull sheet)
     where
       after : (t : Table) → afterCount number t cells marks output ≡ numbers number t (written cells (t .inks)) (written marks (storedMarks (marksOfTable t))) output
       after t = refl
@@ -266,9 +266,9 @@ module _ (sheet cells marks output : List ℕ) where
 
 -- the count call has no output
 module _ (sheet cells marks : List ℕ) where
-  pub family-count-is : familyCountCall sheet cells marks ≡ withoutOutput (callBy fourToByte counts (readTable sheet) cells marks [])
+  pub family-count-is : familyCountCall sheet cells marks ≡ withoutOutput (callBy fourToByte counts (readFull sheet) cells marks [])
   unfolding familyCountCall callBy withoutOutput counts
-  family-count-is = go (readTable sheet)
+  family-count-is = go (readFull sheet)
     where
       into : (t : Table) → Dec (t .header .levels ^ t .header .inputs ≤ length cells) → Dec (marksLength (t .header .inputs) ≤ length marks)
           → countedInto t cells marks ≡ withoutOutput (intoBy fourToByte counts t cells marks [])
@@ -288,11 +288,11 @@ module _ (sheet cells marks : List ℕ) where
 -- ---- as before: packed, and one byte each
 
 module _ (sheet cells marks other output : List ℕ) where
-  pub make-as-before : BothLong fourToByte byteEach (readTable sheet) marks other
-      → Alike (makeCall sheet cells marks output) (callBy byteEach (makes settledNet) (readTable sheet) cells other output)
+  pub make-as-before : BothLong fourToByte byteEach (readFull sheet) marks other
+      → Alike (makeCall sheet cells marks output) (callBy byteEach (makes settledNet) (readFull sheet) cells other output)
   make-as-before long =
-      subst⁻¹ (λ (made : Made). Alike made (callBy byteEach (makes settledNet) (readTable sheet) cells other output)) (make-is sheet cells marks output)
-      (stores-alike fourToByte byteEach (makes settledNet) (makes-alike settledNet) (readTable sheet) cells marks other output long)
+      subst⁻¹ (λ (made : Made). Alike made (callBy byteEach (makes settledNet) (readFull sheet) cells other output)) (make-is sheet cells marks output)
+      (stores-alike fourToByte byteEach (makes settledNet) (makes-alike settledNet) (readFull sheet) cells marks other output long)
 
   pub settle-as-before : BothLong fourToByte byteEach (readAsTable sheet) marks other
       → Alike (settleCall sheet cells marks output) (callBy byteEach (makes settledNet) (readAsTable sheet) cells other output)
@@ -305,7 +305,7 @@ module _ (sheet cells marks other output : List ℕ) where
 -- "writes the marks buffer and answers the whole group's mark", by any way to store
 unfoldable pub markingBy : Store → ℕ → ℕ → List ℕ → List ℕ → Marked
 markingBy s m n cells buffer =
-    elim (bareCells m n cells) [
+    elim (fullCells m n cells) [
       | refused number place ↦ record { answer = refused number place; marks = buffer }
       | accepted _ ↦ elim (ltb (length buffer) (s .need n)) [
         | true ↦ record { answer = refused 14 (s .need n); marks = buffer }
@@ -322,11 +322,11 @@ module _ (m n : ℕ) (cells buffer : List ℕ) where
 
 -- what it comes to
 module _ (s : Store) (m n : ℕ) (cells buffer : List ℕ) where
-  by-bare : (number place : ℕ) → bareCells m n cells ≡ refused number place → markingBy s m n cells buffer ≡ record { answer = refused number place; marks = buffer }
+  by-bare : (number place : ℕ) → fullCells m n cells ≡ refused number place → markingBy s m n cells buffer ≡ record { answer = refused number place; marks = buffer }
   unfolding markingBy
   by-bare number place e = rw (e, markingBy)
 
-  by-marks : bareCells m n cells ≡ accepted tt → s .need n ≤ length buffer
+  by-marks : fullCells m n cells ≡ accepted tt → s .need n ≤ length buffer
       → markingBy s m n cells buffer
       ≡ record { answer = accepted (markIn (marksOf m n (inkIn cells)) (wholeGroup n)); marks = written buffer (s .bytes (marksOf m n (inkIn cells))) }
   unfolding markingBy
@@ -335,11 +335,11 @@ module _ (s : Store) (m n : ℕ) (cells buffer : List ℕ) where
 -- its answer is the same by any two ways
 pub marking-alike : (s s' : Store) (m n : ℕ) (cells buffer other : List ℕ) → s .need n ≤ length buffer → s' .need n ≤ length other
     → markingBy s m n cells buffer .answer ≡ markingBy s' m n cells other .answer
-marking-alike s s' m n cells buffer other h k = go (bareCells m n cells) refl
+marking-alike s s' m n cells buffer other h k = go (fullCells m n cells) refl
   where
     answered : {a b : Marked} → a ≡ b → a .answer ≡ b .answer
     answered e i = e i .answer
 
-    go : (a : Answer (Unit {0})) → bareCells m n cells ≡ a → markingBy s m n cells buffer .answer ≡ markingBy s' m n cells other .answer
+    go : (a : Answer (Unit {0})) → fullCells m n cells ≡ a → markingBy s m n cells buffer .answer ≡ markingBy s' m n cells other .answer
     go (refused number place) e = answered (by-bare s m n cells buffer number place e) ∙ sym (answered (by-bare s' m n cells other number place e))
     go (accepted _) e = answered (by-marks s m n cells buffer e h) ∙ sym (answered (by-marks s' m n cells other e k))

@@ -13,12 +13,14 @@ use Rattle.rules.specs.Kept.{KeptHeader, IsNet}
 use Rattle.rules.specs.Answers.{accepted, refused, inkIn}
 use Rattle.rules.specs.Checking.{agree, checkCall}
 use Rattle.rules.specs.Reading.{readNet, readTable, tableOfNet}
+use Rattle.rules.specs.OpenCells.{readFull}
 use Rattle.rules.specs.Settling.{makeCall}
 use Rattle.laws.specs.Assignments.{Assignment, indexOf, each-assignment}
 use Rattle.trees.specs.Trees.{Computes}
 use Rattle.trees.specs.Uniqueness.{table-at}
 use Rattle.readback.specs.ReadBack.{net-accepted, table-accepted}
 use Rattle.trees.specs.NetTables.{levels-pos}
+use Rattle.demands.specs.FullSheets.{full-accepted}
 use Rattle.demands.specs.Checks.{check-agrees}
 use Rattle.demands.specs.Makes.{make-refuses}
 
@@ -54,15 +56,23 @@ table-at-assignment s net reads =
     computes-all (tableOfNet net) (net-accepted s net reads .1 .header) (net .gates) .0
     (λ p h. sym (table-at (net .header .levels) (net .header .inputs) (net .gates) p h))
 
--- Demand 2, "the check of a net against a table says yes exactly when they agree on every assignment"
+-- .. at every assignment that is not open
+abbrev pub AgreesWhereShut : List Gate → Table → Type 0
+AgreesWhereShut gates t =
+    (ls : List ℕ) → Given (t .header) ls → (inkAt t ls ≡ t .header .levels → ⊥) → valueAt (t .header .levels) (t .header .inputs) gates ls ≡ inkAt t ls
+
+-- Demand 2, "the check of a net against a table says yes exactly when they agree on every assignment", now of "the assignments that aren't open" (document 02, K13)
 pub check-agrees-assignments : (s r : List ℕ) (net : Net) (t : Table) → readNet s ≡ accepted net → readTable r ≡ accepted t
     → net .header ≡ t .header → (cells : List ℕ) → t .header .levels ^ t .header .inputs ≤ length cells
-    → (checkCall s r cells .answer ≡ agree) ↔ AgreesOnAll (net .gates) t
+    → (checkCall s r cells .answer ≡ agree) ↔ AgreesWhereShut (net .gates) t
+unfolding valueAt inkAt value
 check-agrees-assignments s r net t reads-net reads-table header cells long =
     Iff·trans
-    (subst (λ (h : Header). (checkCall s r cells .answer ≡ agree) ↔ ((p : ℕ) → p < t .header .levels ^ t .header .inputs → value (h .levels) (h .inputs) (net .gates) p ≡ inkIn (t .inks) p))
+    (subst (λ (h : Header). (checkCall s r cells .answer ≡ agree)
+    ↔ ((p : ℕ) → p < t .header .levels ^ t .header .inputs → (inkIn (t .inks) p ≡ t .header .levels → ⊥) → value (h .levels) (h .inputs) (net .gates) p ≡ inkIn (t .inks) p))
     header (check-agrees s r net t reads-net reads-table header cells long))
-    (computes-all t (table-accepted r t reads-table .1 .header) (net .gates))
+    (each-assignment (t .header .levels) (t .header .inputs) (levels-pos (t .header .levels) (table-accepted r t reads-table .1 .header .levels))
+    (λ ls p. (inkIn (t .inks) p ≡ t .header .levels → ⊥) → valueAt (t .header .levels) (t .header .inputs) (net .gates) ls ≡ inkIn (t .inks) p))
 
 -- some net of the table's levels and inputs has, at every assignment, the ink of that assignment's row
 abbrev pub HasTreeOnAll : Table → Type 0
@@ -70,7 +80,7 @@ HasTreeOnAll t = (gates : List Gate) × IsNet (t .header .levels) (t .header .in
 
 -- Demand 3, "making refuses the table as having no tree exactly when no fanout-free tree .. computes it": no net, whatever its wiring
 -- and its digits, has at every assignment the ink of that assignment's row.
-pub make-refuses-assignments : (s : List ℕ) (t : Table) → readTable s ≡ accepted t
+pub make-refuses-assignments : (s : List ℕ) (t : Table) → readFull s ≡ accepted t
     → (cells marks output : List ℕ) → t .header .levels ^ t .header .inputs ≤ length cells → marksLength (t .header .inputs) ≤ length marks
     → ((place : ℕ) × (makeCall s cells marks output .answer ≡ refused 16 place)) ↔ (HasTreeOnAll t → ⊥)
 make-refuses-assignments s t reads cells marks output cells-fit marks-fit =
@@ -78,4 +88,4 @@ make-refuses-assignments s t reads cells marks output cells-fit marks-fit =
     (Iff·not (λ tree. (tree .0, tree .1, all (tree .0) .0 (tree .2)), λ tree. (tree .0, tree .1, all (tree .0) .1 (tree .2))))
   where
     all : (gates : List Gate) → Computes (t .header .levels) (t .header .inputs) gates (inkIn (t .inks)) ↔ AgreesOnAll gates t
-    all = computes-all t (table-accepted s t reads .1 .header)
+    all = computes-all t (full-accepted s t reads .1 .header)

@@ -2,7 +2,7 @@
 -- Assumes nothing.
 use Prim.Native.Nat.{ℕ}
 use mathlib.Core.Path.{_≡_, refl, subst₂}
-use mathlib.Core.Bool.{not}
+use mathlib.Core.Bool.{not, _&&_}
 use mathlib.Core.List.{List, [], _∷_}
 use native.Mathlib.Omega.{arith}
 use lib.ListN.{length, getD}
@@ -10,6 +10,7 @@ use lib.Dec.{eqb, ltb}
 use Rattle.rules.specs.Lists.{range, any, firstPlace}
 use Rattle.rules.specs.Answers.{Named, netNamed, tableNamed, neither}
 use Rattle.rules.specs.Reading.{readNet, readTable}
+use Rattle.rules.specs.OpenCells.{isOpen}
 use Rattle.rules.specs.Checking.{Verdict, turnedDown, sameHeader, compared, Checked, checkedInto, checkCall}
 use Rattle.laws.specs.Distinct.{In}
 use Rattle.readback.specs.Numbers.{netNumbers, tableNumbers, net-refusal, table-refusal}
@@ -33,10 +34,10 @@ turns : (named : Named) (k at : ℕ) → In k (checkNumbers named) → TurnsDown
 turns named k at h named' number place e =
     subst₂ (λ (w : Named) (j : ℕ). In j (checkNumbers w)) (let z : named ≡ named' = cc in z) (let z : k ≡ number = cc in z) h
 
-compared-fine : (xs ys : List ℕ) → TurnsDown (compared xs ys)
+compared-fine : (m : ℕ) (xs ys : List ℕ) → TurnsDown (compared m xs ys)
 unfolding compared
-compared-fine xs ys =
-    by-test TurnsDown (ltb (firstPlace (λ p. not (eqb (getD xs p 0) (getD ys p 0))) (range 0 (length xs))) (length xs)) _ _
+compared-fine m xs ys =
+    by-test TurnsDown (ltb (firstPlace (λ p. not (isOpen m (getD ys p 0)) && not (eqb (getD xs p 0) (getD ys p 0))) (range 0 (length xs))) (length xs)) _ _
     (λ named number place e. absurd (let z : _≡_ {A = ℕ} 0 1 = cc in omega arith))
     (λ named number place e. absurd (let z : _≡_ {A = ℕ} 0 1 = cc in omega arith))
 
@@ -46,7 +47,7 @@ check-numbers s r cells =
     by-answer CheckedTurns (readNet s) _ _
     (λ net _. by-answer CheckedTurns (readTable r) _ _
     (λ t _. by-test CheckedTurns (sameHeader (net .header) (t .header)) _ _
-    (by-test CheckedTurns (ltb (length cells) (length (t .inks))) _ _ (turns neither 13 _ refl) (compared-fine _ (t .inks)))
+    (by-test CheckedTurns (ltb (length cells) (length (t .inks))) _ _ (turns neither 13 _ refl) (compared-fine _ _ (t .inks)))
     (turns neither 12 0 refl))
     (λ number place e. turns tableNamed number place (table-refusal r number place e)))
     (λ number place e. turns netNamed number place (net-refusal s number place e))

@@ -1,5 +1,5 @@
 -- Demand 2, checking and table writing: "the check of a net against a table says yes exactly when they agree on every
--- assignment"; the table sheet written from a net sheet is accepted, and checks against it.
+-- assignment", now of "the assignments that aren't open" (document 02, K13); the table sheet written from a net sheet is accepted, and checks against it.
 -- Assumes nothing.
 use Prim.Native.Nat.{ℕ, _^_, _≤_, _<_}
 use mathlib.Core.Path.{_≡_, refl, sym, ap, _∙_, ap₂, subst, subst⁻¹}
@@ -68,7 +68,7 @@ header-same h k e =
 module _ (s r : List ℕ) (net : Net) (t : Table) (reads-net : readNet s ≡ accepted net) (reads-table : readTable r ≡ accepted t) (header : net .header ≡ t .header)
     (cells : List ℕ) (long : t .header .levels ^ t .header .inputs ≤ length cells) where
   -- the inks are compared, and stand in the cells buffer whether they agree or not
-  pub checked : checkCall s r cells ≡ record { answer = compared (tableOfNet net .inks) (t .inks); cells = written cells (t .inks) }
+  pub checked : checkCall s r cells ≡ record { answer = compared (t .header .levels) (tableOfNet net .inks) (t .inks); cells = written cells (t .inks) }
   checked =
       check-accepted s r cells net reads-net t reads-table
       ∙ (check-compared net t cells (same-header (net .header) (t .header) header)
@@ -85,47 +85,52 @@ module _ (s r : List ℕ) (net : Net) (t : Table) (reads-net : readNet s ≡ acc
       sym (table-at (net .header .levels) (net .header .inputs) (net .gates) p
       (subst (λ (k : ℕ). p < k) (table-length (net .header .levels) (net .header .inputs) (net .gates)) h))
 
-  answer-is : checkCall s r cells .answer ≡ compared (tableOfNet net .inks) (t .inks)
+  answer-is : checkCall s r cells .answer ≡ compared (t .header .levels) (tableOfNet net .inks) (t .inks)
   answer-is = ap (λ (c : Checked). c .answer) checked
 
-  -- the check says yes exactly when the net's value is the table's ink at every assignment
-  pub check-agrees : (checkCall s r cells .answer ≡ agree)
-      ↔ ((p : ℕ) → p < t .header .levels ^ t .header .inputs → value (net .header .levels) (net .header .inputs) (net .gates) p ≡ inkIn (t .inks) p)
-  check-agrees = go (comparison (tableOfNet net .inks) (t .inks))
+  -- the net's value is the table's ink at an index, or its cell there is open
+  abbrev AgreeThere : ℕ → Type 0
+  AgreeThere p = (inkIn (t .inks) p ≡ t .header .levels → ⊥) → value (net .header .levels) (net .header .inputs) (net .gates) p ≡ inkIn (t .inks) p
+
+  -- the check says yes exactly when the net's value is the table's ink at every assignment that is not open
+  pub check-agrees : (checkCall s r cells .answer ≡ agree) ↔ ((p : ℕ) → p < t .header .levels ^ t .header .inputs → AgreeThere p)
+  check-agrees = go (comparison (t .header .levels) (tableOfNet net .inks) (t .inks))
     where
-      go : Compared (tableOfNet net .inks) (t .inks)
-          → (checkCall s r cells .answer ≡ agree)
-          ↔ ((p : ℕ) → p < t .header .levels ^ t .header .inputs → value (net .header .levels) (net .header .inputs) (net .gates) p ≡ inkIn (t .inks) p)
+      go : Compared (t .header .levels) (tableOfNet net .inks) (t .inks)
+          → (checkCall s r cells .answer ≡ agree) ↔ ((p : ℕ) → p < t .header .levels ^ t .header .inputs → AgreeThere p)
       go (all-agree e h) = (
-        λ _ p l. let l' : p < length (tableOfNet net .inks) = omega (arith, inks-length) in value-at p l' ∙ h p l',
+        λ _ p l shut. let l' : p < length (tableOfNet net .inks) = omega (arith, inks-length) in value-at p l' ∙ h p l' shut,
         λ _. answer-is ∙ e,
       )
-      go (first-differs k e l unlike earlier) = (
+      go (first-differs k e l shut unlike earlier) = (
         λ a. absurd (agree-differ k (sym a ∙ answer-is ∙ e)),
-        λ h. absurd (unlike (sym (value-at k l) ∙ h k (omega (arith, inks-length)))),
+        λ h. absurd (unlike (sym (value-at k l) ∙ h k (omega (arith, inks-length)) shut)),
       )
 
-  -- and otherwise the lowest index at which they differ
+  -- and otherwise the lowest index, not open, at which they differ
   pub check-differs : (k : ℕ) → checkCall s r cells .answer ≡ differ k
       → (k < t .header .levels ^ t .header .inputs)
+      × (inkIn (t .inks) k ≡ t .header .levels → ⊥)
       × (value (net .header .levels) (net .header .inputs) (net .gates) k ≡ inkIn (t .inks) k → ⊥)
-      × ((p : ℕ) → p < k → value (net .header .levels) (net .header .inputs) (net .gates) p ≡ inkIn (t .inks) p)
-  check-differs k d = go (comparison (tableOfNet net .inks) (t .inks))
+      × ((p : ℕ) → p < k → AgreeThere p)
+  check-differs k d = go (comparison (t .header .levels) (tableOfNet net .inks) (t .inks))
     where
-      go : Compared (tableOfNet net .inks) (t .inks)
+      go : Compared (t .header .levels) (tableOfNet net .inks) (t .inks)
           → (k < t .header .levels ^ t .header .inputs)
+          × (inkIn (t .inks) k ≡ t .header .levels → ⊥)
           × (value (net .header .levels) (net .header .inputs) (net .gates) k ≡ inkIn (t .inks) k → ⊥)
-          × ((p : ℕ) → p < k → value (net .header .levels) (net .header .inputs) (net .gates) p ≡ inkIn (t .inks) p)
+          × ((p : ℕ) → p < k → AgreeThere p)
       go (all-agree e h) = absurd (agree-differ k (sym e ∙ sym answer-is ∙ d))
-      go (first-differs j e l unlike earlier) =
+      go (first-differs j e l shut unlike earlier) =
           let same : j ≡ k = differ-same j k (sym e ∙ sym answer-is ∙ d) in (
             omega (arith, inks-length),
+            subst (λ (i : ℕ). inkIn (t .inks) i ≡ t .header .levels → ⊥) same shut,
             subst (λ (i : ℕ). value (net .header .levels) (net .header .inputs) (net .gates) i ≡ inkIn (t .inks) i → ⊥) same (λ q. unlike (sym (value-at j l) ∙ q)),
-            λ p b. let c : p < j = omega arith in value-at p (omega arith) ∙ earlier p c,
+            λ p b shut. let c : p < j = omega arith in value-at p (omega arith) ∙ earlier p c shut,
           )
 
 -- What a yes of the check says: two accepted sheets with the same levels, inputs and names, a cells buffer of their length, and
--- agreement on every assignment.
+-- agreement on every assignment that is not open.
 pub record Agreeing (s r cells : List ℕ) : Type 0 where
   pub net : Net
   pub table : Table
@@ -133,7 +138,8 @@ pub record Agreeing (s r cells : List ℕ) : Type 0 where
   reads-table : readTable r ≡ accepted table
   pub header : net .header ≡ table .header
   pub long : table .header .levels ^ table .header .inputs ≤ length cells
-  pub agrees : (p : ℕ) → p < table .header .levels ^ table .header .inputs → value (net .header .levels) (net .header .inputs) (net .gates) p ≡ inkIn (table .inks) p
+  pub agrees : (p : ℕ) → p < table .header .levels ^ table .header .inputs → (inkIn (table .inks) p ≡ table .header .levels → ⊥)
+      → value (net .header .levels) (net .header .inputs) (net .gates) p ≡ inkIn (table .inks) p
 
 -- The check says yes exactly then, whatever the bytes of the two sheets and of the buffer.
 module _ (s r cells : List ℕ) where
@@ -190,7 +196,7 @@ module _ (s : List ℕ) (net : Net) (reads : readNet s ≡ accepted net) where
   unfolding tableOfNet
   printed-checks cells long =
       check-agrees s (printedTable (tableOfNet net)) net (tableOfNet net) reads printed-accepted refl cells long .1
-      (λ p h. sym (table-at (net .header .levels) (net .header .inputs) (net .gates) p h))
+      (λ p h _. sym (table-at (net .header .levels) (net .header .inputs) (net .gates) p h))
 
   -- it is what table writing writes, where the output is long enough, ..
   pub writes-table : (output : List ℕ) → length (printedTable (tableOfNet net)) ≤ length output

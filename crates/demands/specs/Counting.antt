@@ -10,10 +10,10 @@ use borrow.Author.Tests.{leb-false}
 use lib.Dec.{eqb, leb}
 use Rattle.rules.specs.Groups.{multiplicity}
 use Rattle.rules.specs.Answers.{Answer, accepted, refused, inkIn, onward}
-use Rattle.rules.specs.BareCells.{bareCells}
+use Rattle.rules.specs.OpenCells.{fullCells}
 use Rattle.rules.specs.Multiplicity.{multiplicityCall}
 use Rattle.laws.specs.Answers.{accepted-inj, not-refused}
-use Rattle.laws.specs.BareCells.{bare-accepted}
+use Rattle.laws.specs.OpenCells.{cells-sized}
 use Rattle.laws.specs.Sizes.{sized}
 use Rattle.laws.specs.Tests.{or-false-iff}
 use Rattle.paper.specs.Decompositions.{SimpleBy, values-needed}
@@ -26,21 +26,21 @@ module _ (m n : ℕ) (cells : List ℕ) (g k : ℕ) where
   -- Document 02, K1: "The multiplicity call gives the true number of classes, however large."
   pub counted-fewest : multiplicityCall m n cells g ≡ accepted k → (multiplicity m n (inkIn cells) g ≡ k) × FewestValues
   unfolding multiplicityCall onward
-  counted-fewest e = judged (bareCells m n cells) refl e
+  counted-fewest e = judged (fullCells m n cells) refl e
     where
       group : Bool → Answer ℕ
       group t = elim t [ true ↦ refused 11 0 | false ↦ accepted (multiplicity m n (inkIn cells) g) ]
 
-      tested : accepted tt ≡ bareCells m n cells → (t : Bool) → (eqb g 0 || leb (2 ^ n) g) ≡ t → group t ≡ accepted k
+      tested : accepted tt ≡ fullCells m n cells → (t : Bool) → (eqb g 0 || leb (2 ^ n) g) ≡ t → group t ≡ accepted k
           → (multiplicity m n (inkIn cells) g ≡ k) × FewestValues
       tested b true h e = absurd (not-refused k 11 0 (sym e))
       tested b false h e =
           let is : multiplicity m n (inkIn cells) g ≡ k = accepted-inj _ _ e in
-          let size = sized m n (bare-accepted m n cells b .0) in
+          let size = sized m n (cells-sized m n cells b .0) in
           let below : g < 2 ^ n = leb-false (2 ^ n) g (or-false-iff (eqb g 0) (leb (2 ^ n) g) .0 h .1) in
           (is, λ j. subst (λ (c : ℕ). SimpleBy j m n (inkIn cells) g ↔ (c ≤ j)) is (values-needed j m n (omega (arith, size .levels-least)) (inkIn cells) g below))
 
-      judged : (a : Answer (Unit {0})) → bareCells m n cells ≡ a → onward a (λ _. group (eqb g 0 || leb (2 ^ n) g)) ≡ accepted k
+      judged : (a : Answer (Unit {0})) → fullCells m n cells ≡ a → onward a (λ _. group (eqb g 0 || leb (2 ^ n) g)) ≡ accepted k
           → (multiplicity m n (inkIn cells) g ≡ k) × FewestValues
       judged (accepted _) b e = tested (sym b) (eqb g 0 || leb (2 ^ n) g) refl e
       judged (refused number place) b e = absurd (not-refused k number place (sym e))

@@ -11,17 +11,17 @@ use Rattle.rules.specs.Sheets.{Table}
 use Rattle.rules.specs.Groups.{size}
 use Rattle.rules.specs.Marks.{marksLength}
 use Rattle.rules.specs.Answers.{accepted, refused}
-use Rattle.rules.specs.Reading.{readTable}
 use Rattle.rules.specs.Settling.{makeCall}
 use Rattle.rules.specs.FamilyCalls.{countOfTable, familyCountCall}
 use Rattle.laws.specs.Answers.{accepted-inj, not-refused}
-use Rattle.readback.specs.ReadBack.{table-accepted}
 use Rattle.trees.specs.FamilyBounds.{treesOn}
 use Rattle.demands.specs.Numbers.{not-given, refuses}
 use Rattle.demands.specs.Makes.{leavesOfTable, HasTree, HasSheet, make-refuses, make-refuses-sheets}
 use Rattle.demands.specs.FamilyOutcomes.{made-answer, counted-answer, judgedNumbers, Judged, turned-back, goes-on, on-with, judge, marked-leaves, marked-numbers}
 use Rattle.demands.specs.FamilyNumbers.{family-count-numbers}
 use Rattle.demands.specs.FamilyTables.{none-counted, leaves-bound, table-bound, table-fits}
+use Rattle.rules.specs.OpenCells.{readFull}
+use Rattle.demands.specs.FullSheets.{full-accepted}
 
 -- ---- beside making, whatever the sheet and the buffers
 
@@ -76,7 +76,7 @@ module _ (s cells marks : List ℕ) where
           λ (place, e). absurd (not-given {A = ℕ} judgedNumbers (refused k at) (refuses judgedNumbers k at (is .listed)) 16 place refl (sym (made-answer (is .makes output)) ∙ e)),
         )
         go (goes-on t is) =
-            let none = none-counted t (table-accepted s t (is .reads) .1) in
+            let none = none-counted t (full-accepted s t (is .reads) .1) in
             let refused-16 = make-refuses s t (is .reads) cells marks output (is .cells-fit) (is .marks-fit) in (
               λ e. refused-16 .1 (none .0 (accepted-inj (countOfTable t) 0 (sym (counted-answer (is .counts)) ∙ e))),
               λ r. counted-answer (is .counts) ∙ ap accepted (none .1 (refused-16 .0 r)),
@@ -89,18 +89,18 @@ module _ (s cells marks : List ℕ) where
       go : Judged s cells marks → count < 2 ^ 64
       go (turned-back k at is) = absurd (not-refused count k at (sym e ∙ counted-answer (is .counts)))
       go (goes-on t is) =
-          rw (accepted-inj (countOfTable t) count (sym (counted-answer (is .counts)) ∙ e)) at (table-fits t (table-accepted s t (is .reads) .1))
+          rw (accepted-inj (countOfTable t) count (sym (counted-answer (is .counts)) ∙ e)) at (table-fits t (full-accepted s t (is .reads) .1))
 
 -- ---- an accepted table sheet
 
-module _ (s : List ℕ) (t : Table) (reads : readTable s ≡ accepted t) where
+module _ (s : List ℕ) (t : Table) (reads : readFull s ≡ accepted t) where
   -- there are at most (2k − 3)!! trees for k leaves, ..
   pub count-leaves-most : countOfTable t ≤ treesOn (size (t .header .inputs) (leavesOfTable t))
-  count-leaves-most = leaves-bound t (table-accepted s t reads .1)
+  count-leaves-most = leaves-bound t (full-accepted s t reads .1)
 
   -- .. and so at most (2n − 3)!!
   pub count-most : countOfTable t ≤ treesOn (t .header .inputs)
-  count-most = table-bound t (table-accepted s t reads .1)
+  count-most = table-bound t (full-accepted s t reads .1)
 
   -- with room for the cells and the marks
   module _ (cells marks : List ℕ) (cells-fit : t .header .levels ^ t .header .inputs ≤ length cells) (marks-fit : marksLength (t .header .inputs) ≤ length marks) where

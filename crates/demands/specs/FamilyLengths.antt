@@ -11,64 +11,63 @@ use Rattle.rules.specs.Limits.{mostCells}
 use Rattle.rules.specs.Sheets.{Table}
 use Rattle.rules.specs.Printed.{printedNet}
 use Rattle.rules.specs.Answers.{Answer, accepted, refused}
-use Rattle.rules.specs.Reading.{readTable}
 use Rattle.rules.specs.Settling.{Made}
 use Rattle.rules.specs.FamilyCalls.{countOfTable, Counted, familyNet, familyCountCall, familyTreeCall}
 use Rattle.laws.specs.Answers.{not-refused}
 use Rattle.laws.specs.Distinct.{In, wider}
 use Rattle.laws.specs.FamilyCalls.{family-count-refused, family-tree-refused}
-use Rattle.readback.specs.Numbers.{tableNumbers, table-refusal}
-use Rattle.readback.specs.ReadBack.{table-accepted}
 use Rattle.demands.specs.Numbers.{Gives, refuses}
 use Rattle.demands.specs.Settles.{Long}
 use Rattle.demands.specs.Lengths.{mostMarks, kept-cells, kept-marks, Ample, no-refusal}
 use Rattle.demands.specs.FamilyOutcomes.{made-answer, counted-answer, GoesOn, on-with, Numbered, refuses-all, no-number, has-tree, numbered}
 use Rattle.demands.specs.FamilyTables.{family-as-long}
 use Rattle.demands.specs.FamilySheets.{writes-tree, tree-short}
+use Rattle.rules.specs.OpenCells.{readFull}
+use Rattle.demands.specs.FullSheets.{fullNumbers, full-accepted, full-refusal}
 
 -- enough for the cells and the marks of every accepted table sheet
-ample-on : (s cells marks : List ℕ) → mostCells ≤ length cells → mostMarks ≤ length marks → (t : Table) → readTable s ≡ accepted t → GoesOn s cells marks t
+ample-on : (s cells marks : List ℕ) → mostCells ≤ length cells → mostMarks ≤ length marks → (t : Table) → readFull s ≡ accepted t → GoesOn s cells marks t
 ample-on s cells marks cells-most marks-most t reads =
-    let kept = table-accepted s t reads .1 .header in
+    let kept = full-accepted s t reads .1 .header in
     on-with s cells marks t reads (le-trans (kept-cells (t .header) kept) cells-most) (le-trans (kept-marks (t .header) kept) marks-most)
 
 pub family-count-ample-numbers : (s cells marks : List ℕ) → mostCells ≤ length cells → mostMarks ≤ length marks
-    → Gives tableNumbers (familyCountCall s cells marks .answer)
-family-count-ample-numbers s cells marks cells-most marks-most number place e = go (readTable s) refl
+    → Gives fullNumbers (familyCountCall s cells marks .answer)
+family-count-ample-numbers s cells marks cells-most marks-most number place e = go (readFull s) refl
   where
     answer : (made : Counted) → familyCountCall s cells marks ≡ made → made .answer ≡ refused number place
     answer made d = sym (counted-answer d) ∙ e
 
-    go : (a : Answer Table) → readTable s ≡ a → In number tableNumbers
+    go : (a : Answer Table) → readFull s ≡ a → In number fullNumbers
     go (accepted t) d = absurd (not-refused (countOfTable t) number place (answer _ (ample-on s cells marks cells-most marks-most t d .counts)))
-    go (refused k at) d = refuses tableNumbers k at (table-refusal s k at d) number place (answer _ (family-count-refused s cells marks k at d))
+    go (refused k at) d = refuses fullNumbers k at (full-refusal s k at d) number place (answer _ (family-count-refused s cells marks k at d))
 
 -- the sheet's numbers and 17
 abbrev pub tableOrNumber : List ℕ
-tableOrNumber = 1 ∷ 2 ∷ 3 ∷ 4 ∷ 5 ∷ 6 ∷ 17 ∷ []
+tableOrNumber = 1 ∷ 2 ∷ 3 ∷ 4 ∷ 5 ∷ 6 ∷ 27 ∷ 17 ∷ []
 
 module _ (s : List ℕ) (r : ℕ) (cells marks output : List ℕ) (ample : Ample cells marks output) where
   -- they are long enough for each number below the count, ..
-  pub family-tree-ample : (t : Table) → readTable s ≡ accepted t → r < countOfTable t → Long t cells marks output
+  pub family-tree-ample : (t : Table) → readFull s ≡ accepted t → r < countOfTable t → Long t cells marks output
   family-tree-ample t reads below =
       let on = ample-on s cells marks (ample .cells-most) (ample .marks-most) t reads in
       record {
         cells-fit = on .cells-fit;
         marks-fit = on .marks-fit;
-        output-fits = rw (family-as-long t (table-accepted s t reads .1) r below) at (le-trans (tree-short s t reads r below) (ample .output-most));
+        output-fits = rw (family-as-long t (full-accepted s t reads .1) r below) at (le-trans (tree-short s t reads r below) (ample .output-most));
       }
 
   -- .. and each other number is refused with 17
   pub family-tree-ample-numbers : Gives tableOrNumber (familyTreeCall s r cells marks output .answer)
   unfolding any all
-  family-tree-ample-numbers number place e = go (readTable s) refl (numbered s r cells marks output)
+  family-tree-ample-numbers number place e = go (readFull s) refl (numbered s r cells marks output)
     where
       answer : (made : Made) → familyTreeCall s r cells marks output ≡ made → made .answer ≡ refused number place
       answer made d = sym (made-answer d) ∙ e
 
-      go : (a : Answer Table) → readTable s ≡ a → Numbered s r cells marks output → In number tableOrNumber
+      go : (a : Answer Table) → readFull s ≡ a → Numbered s r cells marks output → In number tableOrNumber
       go (refused k at) d _ =
-          refuses tableOrNumber k at (wider tableNumbers tableOrNumber refl k (table-refusal s k at d)) number place (answer _ (family-tree-refused s r cells marks output k at d))
+          refuses tableOrNumber k at (wider fullNumbers tableOrNumber refl k (full-refusal s k at d)) number place (answer _ (family-tree-refused s r cells marks output k at d))
       go (accepted t) d (no-number u is large made) = refuses tableOrNumber 17 r refl number place (answer _ made)
       go (accepted t) d (has-tree u is small made) =
           absurd (no-refusal (familyTreeCall s r cells marks output) (printedNet (familyNet r u)) number place

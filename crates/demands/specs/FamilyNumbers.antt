@@ -16,7 +16,7 @@ use Rattle.demands.specs.FamilyOutcomes.{made-answer, counted-answer, ju
 
 -- those, 17 and 15
 abbrev pub familyTreeNumbers : List ℕ
-familyTreeNumbers = 1 ∷ 2 ∷ 3 ∷ 4 ∷ 5 ∷ 6 ∷ 13 ∷ 14 ∷ 17 ∷ 15 ∷ []
+familyTreeNumbers = 1 ∷ 2 ∷ 3 ∷ 4 ∷ 5 ∷ 6 ∷ 27 ∷ 13 ∷ 14 ∷ 17 ∷ 15 ∷ []
 
 module _ (s cells marks : List ℕ) where
   -- the count: the sheet's, 13 and 14

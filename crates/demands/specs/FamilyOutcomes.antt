@@ -13,16 +13,16 @@ use Rattle.rules.specs.Sheets.{Table}
 use Rattle.rules.specs.Printed.{printedNet}
 use Rattle.rules.specs.Marks.{marksLength, storedMarks}
 use Rattle.rules.specs.Answers.{Answer, accepted, refused, written}
-use Rattle.rules.specs.Reading.{readTable}
 use Rattle.rules.specs.Settling.{Made, settledNet, writtenSheet, afterMarks, roomFor, makeCall}
 use Rattle.rules.specs.FamilyCalls.{countOfTable, familyNet, Counted, familyCountCall, afterCount, familyTreeCall}
 use Rattle.laws.specs.Tests.{by-test}
 use Rattle.laws.specs.Distinct.{In, NotIn, not-in-cons, wider}
 use Rattle.laws.specs.Settling.{WholeTwo, marksOfTable, room-fits, into-refused, into-marked, marked-16, marked-tree, make-refused, make-accepted}
 use Rattle.laws.specs.FamilyCalls.{counted-refused, counted-marked, numbered-refused, numbered-marked, count-17, count-tree, family-count-refused, family-count-accepted, family-tree-refused, family-tree-accepted}
-use Rattle.readback.specs.Numbers.{tableNumbers, table-refusal}
+use Rattle.demands.specs.FullSheets.{fullNumbers, full-refusal}
 use Rattle.demands.specs.Numbers.{not-given, refuses}
 use Rattle.demands.specs.SettlingNumbers.{sheet-numbers, room-numbers}
+use Rattle.rules.specs.OpenCells.{readFull}
 
 -- what comes to the same answers the same
 pub made-answer : {made other : Made} → made ≡ other → made .answer ≡ other .answer
@@ -33,7 +33,7 @@ counted-answer e = ap (λ (c : Counted). c .answer) e
 
 -- the table sheet's, 13 and 14
 abbrev pub judgedNumbers : List ℕ
-judgedNumbers = 1 ∷ 2 ∷ 3 ∷ 4 ∷ 5 ∷ 6 ∷ 13 ∷ 14 ∷ []
+judgedNumbers = 1 ∷ 2 ∷ 3 ∷ 4 ∷ 5 ∷ 6 ∷ 27 ∷ 13 ∷ 14 ∷ []
 
 module _ (s cells marks : List ℕ) where
   -- all three refuse alike
@@ -46,7 +46,7 @@ module _ (s cells marks : List ℕ) where
 
   -- each goes on
   pub record GoesOn (t : Table) : Type 0 where
-    pub reads : readTable s ≡ accepted t
+    pub reads : readFull s ≡ accepted t
     pub cells-fit : t .header .levels ^ t .header .inputs ≤ length cells
     pub marks-fit : marksLength (t .header .inputs) ≤ length marks
     pub counts : familyCountCall s cells marks
@@ -61,7 +61,7 @@ pub data Judged (s cells marks : List ℕ) : Type 0 where
 
 module _ (s cells marks : List ℕ) where
   -- an accepted table sheet, and room
-  pub on-with : (t : Table) → readTable s ≡ accepted t → t .header .levels ^ t .header .inputs ≤ length cells → marksLength (t .header .inputs) ≤ length marks
+  pub on-with : (t : Table) → readFull s ≡ accepted t → t .header .levels ^ t .header .inputs ≤ length cells → marksLength (t .header .inputs) ≤ length marks
       → GoesOn s cells marks t
   on-with t reads cells-fit marks-fit = record {
     reads = reads;
@@ -75,9 +75,9 @@ module _ (s cells marks : List ℕ) where
   -- any sheet and any buffers
   pub judge : Judged s cells marks
   unfolding any all
-  judge = sheet (readTable s) refl
+  judge = sheet (readFull s) refl
     where
-      room : (t : Table) → readTable s ≡ accepted t → (a : Answer (Unit {0})) → roomFor t cells marks ≡ a → Judged s cells marks
+      room : (t : Table) → readFull s ≡ accepted t → (a : Answer (Unit {0})) → roomFor t cells marks ≡ a → Judged s cells marks
       room t e (refused number need) d = turned-back number need (record {
         listed = room-numbers t cells marks judgedNumbers refl refl number need d;
         counts = family-count-accepted s cells marks t e ∙ counted-refused t cells marks number need d;
@@ -86,9 +86,9 @@ module _ (s cells marks : List ℕ) where
       })
       room t e (accepted _) d = let fits = room-fits t cells marks d in goes-on t (on-with t e (fits .0) (fits .1))
 
-      sheet : (a : Answer Table) → readTable s ≡ a → Judged s cells marks
+      sheet : (a : Answer Table) → readFull s ≡ a → Judged s cells marks
       sheet (refused number place) e = turned-back number place (record {
-        listed = wider tableNumbers judgedNumbers refl number (table-refusal s number place e);
+        listed = wider fullNumbers judgedNumbers refl number (full-refusal s number place e);
         counts = family-count-refused s cells marks number place e;
         numbers = λ r output. family-tree-refused s r cells marks output number place e;
         makes = λ output. make-refused s cells marks output number place e;

@@ -12,13 +12,11 @@ use Rattle.rules.specs.Groups.{size}
 use Rattle.rules.specs.Wirings.{Wiring, input, gate, groupOf, linksOf}
 use Rattle.rules.specs.Filling.{filled}
 use Rattle.rules.specs.Family.{treeCount, familyGates}
-use Rattle.rules.specs.Kept.{KeptTable}
 use Rattle.rules.specs.Answers.{accepted, inkIn}
-use Rattle.rules.specs.Reading.{readNet, readTable}
+use Rattle.rules.specs.Reading.{readNet}
 use Rattle.rules.specs.FamilyCalls.{countOfTable, familyNet, familyTreeCall}
 use Rattle.laws.specs.Answers.{accepted-inj}
 use Rattle.laws.specs.Settling.{marksOfTable}
-use Rattle.readback.specs.ReadBack.{table-accepted}
 use Rattle.trees.specs.Trees.{wiringIn, WiringOf, fill}
 use Rattle.trees.specs.Members.{size-single, size-le}
 use Rattle.trees.specs.NetTree.{UsesJust}
@@ -34,6 +32,8 @@ use Rattle.demands.specs.FamilyTables.{family-on-leaves}
 use Rattle.demands.specs.FamilySheets.{tree-written, tree-sheet}
 use Rattle.demands.specs.FamilyTreeClause.{lastTree}
 use Rattle.demands.specs.FamilyOrder.{Earlier, in-order}
+use Rattle.rules.specs.OpenCells.{readFull}
+use Rattle.demands.specs.FullSheets.{FullKept, full-accepted}
 
 -- a wiring of a group of two or more is that of its links, filled
 filled-wiring : (m n : ℕ) (f : ℕ → ℕ) (g : ℕ) → 1 < size n g → (w : Wiring) → WiringOf n g w → wiringIn (lastTree n (filled m n f (linksOf n 0 w))) ≡ w
@@ -59,7 +59,7 @@ pub record InFamily (t : Table) (net : Net) : Type 0 where
   -- "Gate tables follow the settled net's rule", and the gate lines its order: A's, then B's, then the group's own
   pub by-rule : net .gates ≡ filled (t .header .levels) (t .header .inputs) (inkIn (t .inks)) (linksOf (t .header .inputs) 0 (wiringOfNet net))
 
-module _ (t : Table) (kept : KeptTable t) where
+module _ (t : Table) (kept : FullKept t) where
   pos : 0 < t .header .levels
   pos = levels-pos (t .header .levels) (kept .header .levels)
 
@@ -98,9 +98,9 @@ module _ (t : Table) (kept : KeptTable t) where
       (in-order (t .header .inputs) (marksOfTable t) (t .header .inputs) (leavesOfTable t) a b leaves<
       (size-le (t .header .inputs) (leavesOfTable t)) less h)
 
-module _ (s : List ℕ) (t : Table) (reads : readTable s ≡ accepted t) where
-  kept-table : KeptTable t
-  kept-table = table-accepted s t reads .1
+module _ (s : List ℕ) (t : Table) (reads : readFull s ≡ accepted t) where
+  kept-table : FullKept t
+  kept-table = full-accepted s t reads .1
 
   -- the net of a sheet that is written
   the-net : (r : ℕ) (cells marks output sheet : List ℕ) → sheetOf (familyTreeCall s r cells marks output) ≡ accepted sheet

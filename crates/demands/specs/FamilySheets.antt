@@ -13,16 +13,16 @@ use Rattle.rules.specs.Sheets.{Gate, Net, Table}
 use Rattle.rules.specs.Printed.{firstLines, printedNet}
 use Rattle.rules.specs.Marks.{storedMarks}
 use Rattle.rules.specs.Family.{SameWiring}
-use Rattle.rules.specs.Kept.{IsNet, KeptTable}
+use Rattle.rules.specs.Kept.{IsNet}
 use Rattle.rules.specs.Answers.{accepted, inkIn, written}
-use Rattle.rules.specs.Reading.{readNet, readTable, tableOfNet}
+use Rattle.rules.specs.Reading.{readNet, tableOfNet}
 use Rattle.rules.specs.Settling.{writtenSheet}
 use Rattle.rules.specs.FamilyCalls.{countOfTable, familyNet, familyTreeCall}
 use Rattle.laws.specs.Answers.{accepted-inj, not-refused, written-front}
 use Rattle.laws.specs.Settling.{marksOfTable, sheet-written}
 use Rattle.laws.specs.Tests.{by-test}
 use Rattle.laws.specs.FamilyCalls.{count-tree}
-use Rattle.readback.specs.ReadBack.{net-accepted, net-read-back, table-accepted}
+use Rattle.readback.specs.ReadBack.{net-accepted, net-read-back}
 use Rattle.readback.specs.Length.{net-length}
 use Rattle.trees.specs.Trees.{Computes}
 use Rattle.trees.specs.NetTree.{UsesJust}
@@ -32,6 +32,8 @@ use Rattle.demands.specs.Settles.{sheetIn, sheetOf, Long}
 use Rattle.demands.specs.Makes.{leavesOfTable}
 use Rattle.demands.specs.FamilyOutcomes.{on-with, Numbered, refuses-all, no-number, has-tree, numbered}
 use Rattle.demands.specs.FamilyTables.{family-kept, family-has-table, family-on-leaves, numbers-long, family-as-long, numbers-apart, number-of, numbers-on-leaves}
+use Rattle.rules.specs.OpenCells.{readFull}
+use Rattle.demands.specs.FullSheets.{FullKept, full-accepted}
 
 -- a sheet that is written is the one that was to be
 front-written : (sheet cells marks output found : List ℕ) → sheetOf (writtenSheet sheet cells marks output) ≡ accepted found → sheet ≡ found
@@ -46,9 +48,9 @@ pub record OneWiring (n : ℕ) (gates : List Gate) (sheet : List ℕ) : Type 0 w
   pub reads : readNet sheet ≡ accepted net
   pub same : SameWiring n gates (net .gates)
 
-module _ (s : List ℕ) (t : Table) (reads : readTable s ≡ accepted t) where
-  kept : KeptTable t
-  kept = table-accepted s t reads .1
+module _ (s : List ℕ) (t : Table) (reads : readFull s ≡ accepted t) where
+  kept : FullKept t
+  kept = full-accepted s t reads .1
 
   -- ---- the sheet of a number
 

@@ -14,7 +14,7 @@ use Rattle.rules.specs.Sheets.{Gate, Net, Table}
 use Rattle.rules.specs.Printed.{printedNet}
 use Rattle.rules.specs.Groups.{size}
 use Rattle.rules.specs.Family.{treeCount, SameWiring}
-use Rattle.rules.specs.Kept.{IsNet, KeptNet, KeptTable}
+use Rattle.rules.specs.Kept.{IsNet, KeptNet}
 use Rattle.rules.specs.Answers.{inkIn}
 use Rattle.rules.specs.Reading.{tableOfNet}
 use Rattle.rules.specs.Settling.{settledNet}
@@ -35,6 +35,7 @@ use Rattle.trees.specs.FamilyWirings.{two-counted}
 use Rattle.trees.specs.FamilyBounds.{treesOn, count-bound, count-fits}
 use Rattle.trees.specs.FamilyNets.{family-computes, family-leaves, family-differ, every-wiring, only-leaves, family-settled, no-family}
 use Rattle.demands.specs.Makes.{leavesOfTable, HasTree}
+use Rattle.demands.specs.FullSheets.{FullKept}
 
 -- more inputs have no fewer trees
 trees-suc : (k : ℕ) → treesOn k ≤ treesOn (suc k)
@@ -47,7 +48,7 @@ trees-more j zero h = let z : j ≡ 0 = omega arith in rw z (le-refl _)
 trees-more j (suc k) h =
     by-cases (decLe j k) (λ before. le-trans (trees-more j k before) (trees-suc k)) (λ last. let z : j ≡ suc k = omega arith in rw z (le-refl _))
 
-module _ (t : Table) (kept : KeptTable t) where
+module _ (t : Table) (kept : FullKept t) where
   pos : 0 < t .header .levels
   pos = levels-pos (t .header .levels) (kept .header .levels)
 

@@ -12,12 +12,11 @@ use Rattle.rules.specs.Sheets.{Gate, Net, Table}
 use Rattle.rules.specs.Value.{value}
 use Rattle.rules.specs.Wirings.{groupOf, gatesIn}
 use Rattle.rules.specs.Family.{SameWiring}
-use Rattle.rules.specs.Kept.{IsNet, KeptTable}
+use Rattle.rules.specs.Kept.{IsNet}
 use Rattle.rules.specs.Answers.{accepted, inkIn}
-use Rattle.rules.specs.Reading.{readNet, readTable}
+use Rattle.rules.specs.Reading.{readNet}
 use Rattle.rules.specs.FamilyCalls.{familyNet, familyTreeCall}
 use Rattle.laws.specs.Answers.{accepted-inj}
-use Rattle.readback.specs.ReadBack.{table-accepted}
 use Rattle.trees.specs.Trees.{Tree, leaf, node, wiringIn, treeValue}
 use Rattle.trees.specs.Forest.{treeAt, withTrees, inputTrees}
 use Rattle.trees.specs.NetTree.{net-tree, net-group, UsesJust}
@@ -33,6 +32,8 @@ use Rattle.demands.specs.Makes.{leavesOfTable}
 use Rattle.demands.specs.TreeClause.{TreeFor, TreeAgrees, agrees-all}
 use Rattle.demands.specs.FamilyTables.{family-kept, family-on-leaves}
 use Rattle.demands.specs.FamilySheets.{OneWiring, tree-written, tree-sheet, one-wiring, UnderOneNumber, every-gates}
+use Rattle.rules.specs.OpenCells.{readFull}
+use Rattle.demands.specs.FullSheets.{FullKept, full-accepted}
 
 -- the tree that a gate list is: that of its last gate
 abbrev pub lastTree : ℕ → List Gate → Tree
@@ -65,9 +66,9 @@ module _ (m n : ℕ) where
     lines-tree n digits a b (is .once),
   )
 
-module _ (s : List ℕ) (t : Table) (reads : readTable s ≡ accepted t) where
-  kept : KeptTable t
-  kept = table-accepted s t reads .1
+module _ (s : List ℕ) (t : Table) (reads : readFull s ≡ accepted t) where
+  kept : FullKept t
+  kept = full-accepted s t reads .1
 
   -- a sheet that is written is one wiring with some gates exactly when the trees differ only in which side is left
   shows-tree : (gates : List Gate) → IsNet (t .header .levels) (t .header .inputs) gates → (r : ℕ) (cells marks output sheet : List ℕ)

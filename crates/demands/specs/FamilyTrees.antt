@@ -11,7 +11,6 @@ use Rattle.rules.specs.Lists.{any}
 use Rattle.rules.specs.Sheets.{Net, Table}
 use Rattle.rules.specs.Printed.{printedNet}
 use Rattle.rules.specs.Marks.{storedMarks}
-use Rattle.rules.specs.Kept.{KeptTable}
 use Rattle.rules.specs.Answers.{Answer, accepted, refused, written}
 use Rattle.rules.specs.Settling.{settledNet, writtenSheet, makeCall}
 use Rattle.rules.specs.FamilyCalls.{countOfTable, familyNet, familyCountCall, familyTreeCall}
@@ -19,12 +18,12 @@ use Rattle.laws.specs.Answers.{accepted-inj, not-refused}
 use Rattle.laws.specs.Distinct.{NotIn}
 use Rattle.laws.specs.Settling.{marksOfTable, marked-16, marked-tree}
 use Rattle.laws.specs.ButSheet.{ButSheet, but-none, sheets-but}
-use Rattle.readback.specs.ReadBack.{table-accepted}
 use Rattle.demands.specs.Numbers.{not-given, refuses}
 use Rattle.demands.specs.SettlingNumbers.{sheet-numbers}
 use Rattle.demands.specs.Makes.{HasTree, make-refuses, two-tree}
 use Rattle.demands.specs.FamilyOutcomes.{made-answer, counted-answer, judgedNumbers, TurnedBack, GoesOn, marked-leaves, sheet-leaves, Numbered, refuses-all, no-number, has-tree, numbered}
 use Rattle.demands.specs.FamilyTables.{none-counted, two-some, some-two, first-settled, family-as-long}
+use Rattle.demands.specs.FullSheets.{FullKept, full-accepted}
 
 -- a refusal's place
 same-place : (number a b : ℕ) → _≡_ {A = Answer ℕ} (refused number a) (refused number b) → a ≡ b
@@ -37,8 +36,8 @@ not-judged s cells marks k at is number place other = not-given judgedNumbers (r
 
 -- what holds of any sheet and any buffers
 module _ (s cells marks output : List ℕ) where
-  kept-on : (t : Table) → GoesOn s cells marks t → KeptTable t
-  kept-on t is = table-accepted s t (is .reads) .1
+  kept-on : (t : Table) → GoesOn s cells marks t → FullKept t
+  kept-on t is = full-accepted s t (is .reads) .1
 
   module _ (r : ℕ) where
     -- the cells and the marks are left as making leaves them

@@ -13,7 +13,7 @@ use lib.IntN.{ℤ, pos, _+ℤ_}
 use lib.Arith.{digits-lt}
 use Rattle.rules.specs.Lists.{range, concatMap}
 use Rattle.rules.specs.Sheets.{Net, Table}
-use Rattle.rules.specs.Kept.{KeptNet, KeptTable}
+use Rattle.rules.specs.Kept.{KeptNet}
 use Rattle.rules.specs.Printed.{printedNet}
 use Rattle.rules.specs.Marks.{marksLength, storedMarks}
 use Rattle.rules.specs.Answers.{Answer, accepted, refused, written}
@@ -30,7 +30,8 @@ use Rattle.laws.specs.Ranges.{map-range-same, map-range-all}
 use Rattle.laws.specs.Sizes.{kept-size}
 use Rattle.laws.specs.Settling.{marksOfTable, settle-refused, settle-accepted, into-13, into-14, into-marked, marked-tree, sheet-15}
 use Rattle.readback.specs.ReadBack.{net-accepted}
-use Rattle.trees.specs.NetTables.{kept-table, net-whole-two}
+use Rattle.trees.specs.NetTables.{net-whole-two}
+use Rattle.demands.specs.FullSheets.{FullKept, net-kept}
 use Rattle.demands.specs.Settles.{sheetIn, sheetOf, settles, settled-accepted, settled-own-table}
 
 -- ---- "Each cell of the new picture is the net's value with input i read from the old cell at its offset"
@@ -112,9 +113,9 @@ module _ (net : Net) (kept : KeptNet net) where
   pub new-below : (width height : ℕ) (picture : List ℕ) (offsets : List ℤ) → IsPicture (net .header .levels) width height picture
       → (x y : ℕ) → newCell net width height picture offsets x y < net .header .levels
   unfolding tableOfNet
-  new-below width height picture offsets is x y = rw (cell-from width height picture offsets is x y) (below (kept-table net kept))
+  new-below width height picture offsets is x y = rw (cell-from width height picture offsets is x y) (below (net-kept net kept))
     where
-      below : KeptTable (tableOfNet net) → cellFrom (tableOfNet net) width height picture offsets x y < net .header .levels
+      below : FullKept (tableOfNet net) → cellFrom (tableOfNet net) width height picture offsets x y < net .header .levels
       below table =
           let read = levelsRead (net .header .inputs) width height picture offsets x y in
           table .below (indexOf (net .header .levels) read)

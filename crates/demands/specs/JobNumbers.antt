@@ -1,5 +1,5 @@
--- The numbers with which a job's calls may refuse, whatever the job: opening with a table sheet's, a step with 21, an asking with 11, finishing with 9, 10,
--- 22 and then making's; and that a refusal hands back the job as it was.
+-- The numbers with which a job's calls may refuse, whatever the job: opening with those of a sheet of a full table, a step with 21, an asking with 11,
+-- finishing with 9, 10, 27, 22 and then making's; and that a refusal hands back the job as it was.
 -- Assumes nothing.
 use Prim.Native.Nat.{ℕ, _^_, _≤_}
 use mathlib.Core.Path.{_≡_, refl, sym, ap, _∙_}
@@ -10,25 +10,25 @@ use native.Mathlib.Decide.{decLe}
 use lib.Dec.{eqb, leb, ltb}
 use Rattle.rules.specs.Lists.{any}
 use Rattle.rules.specs.Answers.{refused}
-use Rattle.rules.specs.Reading.{readTable}
+use Rattle.rules.specs.OpenCells.{readFull}
 use Rattle.rules.specs.Settling.{Made, settledNet}
 use Rattle.rules.specs.Jobs.{Job, groupsOf, Opened, openJob, Stepped, stepJob, askJob, mayFinish, finishJob}
 use Rattle.laws.specs.Answers.{not-refused}
 use Rattle.laws.specs.Jobs.{step-done, step-on}
 use Rattle.laws.specs.Tests.{by-test}
-use Rattle.readback.specs.Numbers.{tableNumbers, table-refusal}
-use Rattle.demands.specs.Numbers.{Gives, accepts, by-answer, by-onward, bare-numbers, refuses}
+use Rattle.demands.specs.FullSheets.{fullNumbers, full-refusal}
+use Rattle.demands.specs.Numbers.{Gives, accepts, by-answer, by-onward, cells-numbers, refuses}
 use Rattle.demands.specs.SettlingNumbers.{into-numbers}
 
--- 9, 10 and 22, and then making's
+-- 9, 10, 27 and 22, and then making's
 abbrev pub finishNumbers : List ℕ
-finishNumbers = 9 ∷ 10 ∷ 22 ∷ 13 ∷ 14 ∷ 16 ∷ 15 ∷ []
+finishNumbers = 9 ∷ 10 ∷ 27 ∷ 22 ∷ 13 ∷ 14 ∷ 16 ∷ 15 ∷ []
 
-pub open-numbers : (s : List ℕ) → Gives tableNumbers (openJob s .answer)
+pub open-numbers : (s : List ℕ) → Gives fullNumbers (openJob s .answer)
 unfolding openJob
 open-numbers s =
-    by-answer (λ (o : Opened). Gives tableNumbers (o .answer)) (readTable s) _ _ (λ _ _. accepts tableNumbers tt)
-    (λ number place e. refuses tableNumbers number place (table-refusal s number place e))
+    by-answer (λ (o : Opened). Gives fullNumbers (o .answer)) (readFull s) _ _ (λ _ _. accepts fullNumbers tt)
+    (λ number place e. refuses fullNumbers number place (full-refusal s number place e))
 
 module _ (job : Job) where
   pub step-numbers : Gives (21 ∷ []) (stepJob job .answer)
@@ -52,7 +52,7 @@ module _ (job : Job) where
   may-numbers : Gives finishNumbers (mayFinish job)
   unfolding mayFinish any
   may-numbers =
-      by-onward finishNumbers _ _ (bare-numbers _ _ _ finishNumbers refl refl)
+      by-onward finishNumbers _ _ (cells-numbers _ _ _ finishNumbers refl refl refl)
       (λ _. by-test (Gives finishNumbers) (ltb (job .passed) (groupsOf job)) _ _ (refuses finishNumbers 22 _ refl) (accepts finishNumbers tt))
 
   pub finish-numbers : (cells marks output : List ℕ) → Gives finishNumbers (finishJob job cells marks output .made .answer)

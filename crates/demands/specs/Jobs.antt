@@ -13,20 +13,20 @@ use Rattle.rules.specs.Limits.{levelsFit, sizeFits}
 use Rattle.rules.specs.Sheets.{Table}
 use Rattle.rules.specs.Marks.{markIn}
 use Rattle.rules.specs.Answers.{accepted, refused}
-use Rattle.rules.specs.Reading.{readTable}
-use Rattle.rules.specs.BareCells.{bareCells}
 use Rattle.rules.specs.Settling.{madeInto, settledNet, makeCall}
 use Rattle.rules.specs.Jobs.{Job, noTable, newJob, emptyJob, groupsOf, Opened, openJob, Stepped, stepJob, further, Asked, askJob, final, notReached, Finished, finishJob, mayFinish, Move, step, ask, moved, afterMoves}
 use Rattle.laws.specs.Jobs.{open-refused, open-accepted, step-done, step-on, ask-empty, ask-over, ask-passed, ask-ahead, may-refused, may-22, may-on, finish-refused, finish-on}
-use Rattle.laws.specs.BareCells.{bare-kept, bare-size}
+use Rattle.laws.specs.BareCells.{bare-size}
+use Rattle.laws.specs.OpenCells.{cells-kept, cells-refused}
 use Rattle.laws.specs.Settling.{marksOfTable, make-accepted}
 use Rattle.trees.specs.NetTables.{levels-pos}
-use Rattle.readback.specs.ReadBack.{table-accepted}
 use Rattle.demands.specs.JobMoves.{stepsIn, Done, moves-table, moves-passed, moves-all, moves-steps, Along, moves-along, all-marked}
+use Rattle.rules.specs.OpenCells.{fullCells, readFull}
+use Rattle.demands.specs.FullSheets.{full-accepted, keeps}
 
 -- ---- a job on an accepted sheet, after any list of steps and askings
 
-module _ (s : List ℕ) (t : Table) (reads : readTable s ≡ accepted t) (moves : List Move) where
+module _ (s : List ℕ) (t : Table) (reads : readFull s ≡ accepted t) (moves : List Move) where
   -- the job
   abbrev pub jobAfter : Job
   jobAfter = afterMoves moves (openJob s .job)
@@ -42,7 +42,7 @@ module _ (s : List ℕ) (t : Table) (reads : readTable s ≡ accepted t) (moves 
   new-after = ap (afterMoves moves) opened
 
   pos : 0 < t .header .levels
-  pos = levels-pos (t .header .levels) (table-accepted s t reads .1 .header .levels)
+  pos = levels-pos (t .header .levels) (full-accepted s t reads .1 .header .levels)
 
   -- "keeps its own copy of names, cells"
   pub keeps-table : jobAfter .table ≡ t
@@ -122,9 +122,9 @@ module _ (s : List ℕ) (t : Table) (reads : readTable s ≡ accepted t) (moves 
 
   -- ---- finishing
 
-  own-cells : bareCells (jobAfter .table .header .levels) (jobAfter .table .header .inputs) (jobAfter .table .inks) ≡ accepted tt
+  own-cells : fullCells (jobAfter .table .header .levels) (jobAfter .table .header .inputs) (jobAfter .table .inks) ≡ accepted tt
   own-cells =
-      ap (λ (t : Table). bareCells (t .header .levels) (t .header .inputs) (t .inks)) keeps-table ∙ bare-kept t (table-accepted s t reads .1)
+      ap (λ (t : Table). fullCells (t .header .levels) (t .header .inputs) (t .inks)) keeps-table ∙ cells-kept t (keeps t (full-accepted s t reads .1)) (full-accepted s t reads .1 .below)
 
   module _ (cells marks output : List ℕ) where
     -- "finishing writes what making writes", and hands back the job, which may be finished again
@@ -170,7 +170,7 @@ module _ (job : Job) where
 
 -- ---- "A sheet that is turned back opens an empty job beside its refusal"
 
-pub turned-back : (s : List ℕ) (number place : ℕ) → readTable s ≡ refused number place → openJob s ≡ record { job = emptyJob; answer = refused number place }
+pub turned-back : (s : List ℕ) (number place : ℕ) → readFull s ≡ refused number place → openJob s ≡ record { job = emptyJob; answer = refused number place }
 turned-back = open-refused
 
 -- "no inputs, no groups, already done; asking it gives 11 at 0, and finishing it 9 at 0"
@@ -185,9 +185,9 @@ pub record Empty : Type 0 where
       ≡ record { job = emptyJob; made = record { answer = refused 9 0; cells = cells; marks = marks; output = output } }
   pub moving : (moves : List Move) → afterMoves moves emptyJob ≡ emptyJob
 
-empty-size : bareCells 0 0 [] ≡ refused 9 0
+empty-size : fullCells 0 0 [] ≡ refused 9 0
 unfolding sizeFits levelsFit
-empty-size = sym (bare-size 0 0 [] refl)
+empty-size = sym (cells-refused 0 0 [] 9 0 (bare-size 0 0 [] refl))
 
 empty-step : stepJob emptyJob ≡ record { job = emptyJob; answer = refused 21 0 }
 unfolding emptyJob newJob noTable groupsOf

@@ -17,16 +17,19 @@ use Rattle.rules.specs.Sheets.{Gate, Net, Table}
 use Rattle.rules.specs.Printed.{printedNet}
 use Rattle.rules.specs.Groups.{member, multiplicity}
 use Rattle.rules.specs.Family.{gateGroups}
-use Rattle.rules.specs.Kept.{KeptNet, KeptTable}
+use Rattle.rules.specs.Kept.{KeptNet}
 use Rattle.rules.specs.Answers.{Answer, accepted, refused, Named, netNamed, tableNamed, neither, inkIn, written}
 use Rattle.rules.specs.Reading.{readNet, readTable, tableOfNet}
+use Rattle.rules.specs.OpenCells.{fullTable, readFull}
 use Rattle.rules.specs.Checking.{sameHeader}
 use Rattle.rules.specs.Settling.{settledNet, makeCall}
 use Rattle.rules.specs.FamilyCalls.{familyNet, familyTreeCall}
 use Rattle.rules.specs.Keeping.{gateLinks, keptNet, roomyBefore, leavesOut, tableAt, changedGates, Keeping, rewritten, turnedAway, KeptWiring, keptInto, keepCall}
 use Rattle.laws.specs.Answers.{written-front}
-use Rattle.laws.specs.Keeping.{keep-net-refused, keep-table-refused, keep-accepted, keep-12, keep-13, keep-23-0, keep-23, keep-15, keep-written}
+use Rattle.laws.specs.Keeping.{keep-net-refused, keep-table-refused, keep-accepted, keep-12, keep-27, keep-13, keep-23-0, keep-23, keep-15, keep-written}
+use Rattle.laws.specs.OpenCells.{read-full, read-accepted}
 use Rattle.readback.specs.ReadBack.{net-accepted, net-read-back, table-accepted}
+use Rattle.demands.specs.FullSheets.{FullKept, full-accepted}
 use Rattle.readback.specs.Length.{net-length}
 use Rattle.trees.specs.EquallyLong.{equally-long}
 use Rattle.trees.specs.KeptWirings.{UsesMattering, leaves-out-none, roomy-before, crowded-at}
@@ -55,14 +58,14 @@ same-answer e = (cc, cc)
 answered : {made kept : KeptWiring} → made ≡ kept → made .answer ≡ kept .answer
 answered e = ap (λ (k : KeptWiring). k .answer) e
 
--- ---- past 12 and 13
+-- ---- past 12, 27 and 13
 
--- both sheets accepted, with the same levels, inputs and names, and room for the cells
+-- both sheets accepted, with the same levels, inputs and names, a full table, and room for the cells
 pub record Past (s r cells : List ℕ) : Type 0 where
   pub net : Net
   pub table : Table
   pub reads-net : readNet s ≡ accepted net
-  pub reads-table : readTable r ≡ accepted table
+  pub reads-table : readFull r ≡ accepted table
   pub header : net .header ≡ table .header
   pub long : table .header .levels ^ table .header .inputs ≤ length cells
 
@@ -76,8 +79,12 @@ module _ (s r cells : List ℕ) (past : Past s r cells) where
   kept-net : KeptNet net
   kept-net = net-accepted s net (past .reads-net) .1
 
-  kept-t : KeptTable t
-  kept-t = table-accepted r t (past .reads-table) .1
+  kept-t : FullKept t
+  kept-t = full-accepted r t (past .reads-table) .1
+
+  -- it is read, and judged full
+  full-t : (readTable r ≡ accepted t) × (fullTable t ≡ accepted tt)
+  full-t = read-accepted r t (past .reads-table)
 
   cells-long : length (t .inks) ≤ length cells
   cells-long = subst⁻¹ (λ (k : ℕ). k ≤ length cells) (kept-t .count) (past .long)
@@ -86,7 +93,7 @@ module _ (s r cells : List ℕ) (past : Past s r cells) where
   same = same-header (net .header) (t .header) (past .header)
 
   judged : (output : List ℕ) → keepCall s r cells output ≡ keptInto net t cells output
-  judged output = keep-accepted s r cells output net (past .reads-net) t (past .reads-table)
+  judged output = keep-accepted s r cells output net (past .reads-net) t (full-t .0)
 
   -- the sheet that is to be written
   abbrev pub sheetFor : List ℕ
@@ -116,13 +123,13 @@ module _ (s r cells : List ℕ) (past : Past s r cells) where
   past-ends output = go (leavesOut net t) refl (decLe (length (net .gates)) (roomyBefore net t)) (decLe (length sheetFor) (length output))
     where
       go : (out : Bool) → leavesOut net t ≡ out → Dec (length (net .gates) ≤ roomyBefore net t) → Dec (length sheetFor ≤ length output) → PastEnds output
-      go true out _ _ = ends-23-0 out (judged output ∙ keep-23-0 net t cells output same cells-long out)
+      go true out _ _ = ends-23-0 out (judged output ∙ keep-23-0 net t cells output same (full-t .1) cells-long out)
       go false takes (no crowded) _ =
-          ends-23 takes (lt-of-not-le crowded) (judged output ∙ keep-23 net t cells output same cells-long takes (lt-of-not-le crowded))
+          ends-23 takes (lt-of-not-le crowded) (judged output ∙ keep-23 net t cells output same (full-t .1) cells-long takes (lt-of-not-le crowded))
       go false takes (yes roomy) (no short) =
-          ends-15 (takes, roomy) (lt-of-not-le short) (judged output ∙ keep-15 net t cells output same cells-long takes roomy (lt-of-not-le short))
+          ends-15 (takes, roomy) (lt-of-not-le short) (judged output ∙ keep-15 net t cells output same (full-t .1) cells-long takes roomy (lt-of-not-le short))
       go false takes (yes roomy) (yes fits) =
-          ends-written (takes, roomy) fits (judged output ∙ keep-written net t cells output same cells-long takes roomy fits)
+          ends-written (takes, roomy) fits (judged output ∙ keep-written net t cells output same (full-t .1) cells-long takes roomy fits)
 
   -- "Past 12 and 13 it is refused with 23 exactly when no filling of that wiring computes the table.": no gate lines with the same left and right, whatever
   -- their tables, and whatever the output
@@ -238,20 +245,20 @@ module _ (s r cells : List ℕ) (past : Past s r cells) where
       }
   keeps filling fills output fits =
       let (takes, roomy) = filling-roomy net t kept-net kept-t (past .header) filling fills in
-      judged output ∙ keep-written net t cells output same cells-long takes roomy fits
+      judged output ∙ keep-written net t cells output same (full-t .1) cells-long takes roomy fits
 
 -- ---- a net that is its own filling
 
 -- its sheet comes back unchanged, with the empty set
-own-comes-back : (net : Net) (t : Table) → KeptNet net → KeptTable t → net .header ≡ t .header → tableOfNet net ≡ t → keptNet net t ≡ net
-    → (r : List ℕ) → readTable r ≡ accepted t → (cells output : List ℕ) → t .header .levels ^ t .header .inputs ≤ length cells
+own-comes-back : (net : Net) (t : Table) → KeptNet net → FullKept t → net .header ≡ t .header → tableOfNet net ≡ t → keptNet net t ≡ net
+    → (r : List ℕ) → readFull r ≡ accepted t → (cells output : List ℕ) → t .header .levels ^ t .header .inputs ≤ length cells
     → length (printedNet net) ≤ length output
     → keepCall (printedNet net) r cells output
     ≡ record { answer = rewritten (length (printedNet net)) 0; cells = written cells (t .inks); output = written output (printedNet net) }
 own-comes-back net t kept kept-t header has own r reads cells output long fits =
     let (takes, roomy) = own-roomy net t kept kept-t header has in
-    keep-accepted (printedNet net) r cells output net (net-read-back net kept) t reads
-    ∙ keep-written net t cells output (same-header (net .header) (t .header) header) (subst⁻¹ (λ (k : ℕ). k ≤ length cells) (kept-t .count) long)
+    keep-accepted (printedNet net) r cells output net (net-read-back net kept) t (read-accepted r t reads .0)
+    ∙ keep-written net t cells output (same-header (net .header) (t .header) header) (read-accepted r t reads .1) (subst⁻¹ (λ (k : ℕ). k ≤ length cells) (kept-t .count) long)
     takes roomy (subst⁻¹ (λ (k : Net). length (printedNet k) ≤ length output) own fits)
     ∙ ap (λ (k : Net). record { answer = rewritten (length (printedNet k)) (changedGates (net .gates) (k .gates)); cells = written cells (t .inks); output = written output (printedNet k) }) own
     ∙ ap (λ (changed : ℕ). record { answer = rewritten (length (printedNet net)) changed; cells = written cells (t .inks); output = written output (printedNet net) })
@@ -262,12 +269,12 @@ pub record ComesBack (sheet r : List ℕ) (t : Table) : Type 0 where
   pub unchanged : (cells output : List ℕ) → t .header .levels ^ t .header .inputs ≤ length cells → length sheet ≤ length output
       → keepCall sheet r cells output ≡ record { answer = rewritten (length sheet) 0; cells = written cells (t .inks); output = written output sheet }
 
-comes-back : (sheet r : List ℕ) (net : Net) (t : Table) → readNet sheet ≡ accepted net → readTable r ≡ accepted t → net .header ≡ t .header → tableOfNet net ≡ t
+comes-back : (sheet r : List ℕ) (net : Net) (t : Table) → readNet sheet ≡ accepted net → readFull r ≡ accepted t → net .header ≡ t .header → tableOfNet net ≡ t
     → keptNet net t ≡ net → ComesBack sheet r t
 comes-back sheet r net t reads-net reads header has own =
     let (printed, kept) = net-accepted sheet net reads-net in
     subst⁻¹ (λ (b : List ℕ). ComesBack b r t) printed
-    (record { unchanged = own-comes-back net t kept (table-accepted r t reads .1) header has own r reads })
+    (record { unchanged = own-comes-back net t kept (full-accepted r t reads .1) header has own r reads })
 
 -- ---- whatever the sheets and the buffers
 
@@ -283,20 +290,22 @@ keep-ends s r cells output = go (readNet s) refl (readTable r) refl
     go : (a : Answer Net) → readNet s ≡ a → (b : Answer Table) → readTable r ≡ b → KeepEnds s r cells output
     go (refused number place) d b e = ends-before netNamed number place (keep-net-refused s r cells output number place d)
     go (accepted net) d (refused number place) e = ends-before tableNamed number place (keep-table-refused s r cells output net d number place e)
-    go (accepted net) d (accepted t) e = both (sameHeader (net .header) (t .header)) refl (decLe (length (t .inks)) (length cells))
+    go (accepted net) d (accepted t) e = both (sameHeader (net .header) (t .header)) refl (fullTable t) refl (decLe (length (t .inks)) (length cells))
       where
         on : keepCall s r cells output ≡ keptInto net t cells output
         on = keep-accepted s r cells output net d t e
 
-        both : (same : Bool) → sameHeader (net .header) (t .header) ≡ same → Dec (length (t .inks) ≤ length cells) → KeepEnds s r cells output
-        both false h fits = ends-before neither 12 0 (on ∙ keep-12 net t cells output h)
-        both true h (no short) = ends-before neither 13 (length (t .inks)) (on ∙ keep-13 net t cells output h (lt-of-not-le short))
-        both true h (yes fits) =
+        both : (same : Bool) → sameHeader (net .header) (t .header) ≡ same → (a : Answer (Unit {0})) → fullTable t ≡ a → Dec (length (t .inks) ≤ length cells)
+            → KeepEnds s r cells output
+        both false h a f fits = ends-before neither 12 0 (on ∙ keep-12 net t cells output h)
+        both true h (refused number place) f fits = ends-before tableNamed number place (on ∙ keep-27 net t cells output h number place f)
+        both true h (accepted _) f (no short) = ends-before neither 13 (length (t .inks)) (on ∙ keep-13 net t cells output h f (lt-of-not-le short))
+        both true h (accepted _) f (yes fits) =
             goes-past (record {
               net = net;
               table = t;
               reads-net = d;
-              reads-table = e;
+              reads-table = read-full r t e f;
               header = header-same (net .header) (t .header) h;
               long = subst (λ (k : ℕ). k ≤ length cells) (table-accepted r t e .1 .count) fits;
             })
@@ -354,7 +363,7 @@ rewrites s r cells output count changed d = go (keep-ends s r cells output)
 
 -- ---- the settled net and the family
 
-module _ (r : List ℕ) (t : Table) (reads : readTable r ≡ accepted t) where
+module _ (r : List ℕ) (t : Table) (reads : readFull r ≡ accepted t) where
   -- the settled net's sheet, as making writes it, is what keeping makes of its own wiring, ..
   pub settled-comes-back : (cells marks output sheet : List ℕ) → sheetOf (makeCall r cells marks output) ≡ accepted sheet → ComesBack sheet r t
   settled-comes-back cells marks output sheet e =
@@ -377,7 +386,7 @@ module _ (r : List ℕ) (t : Table) (reads : readTable r ≡ accepted t) where
   keep-as-making cells marks output made e s net reads-net header wiring cells' output' long fits =
       let (reads-made, has) = made-sheet r t reads cells marks output made e in
       let (printed, kept-made) = net-accepted made (settledNet t) reads-made in
-      let kept-t = table-accepted r t reads .1 in
+      let kept-t = full-accepted r t reads .1 in
       let kept-net = net-accepted s net reads-net .1 in
       let is : keptNet net t ≡ settledNet t = kept-by-wiring (settledNet t) net t (header ∙ sym (settled-header t)) wiring ∙ settled-kept t in
       let own = kept-filling (settledNet t) t kept-made kept-t (settled-header t) (own-roomy (settledNet t) t kept-made kept-t (settled-header t) has) in

@@ -1,4 +1,4 @@
--- With the buffers of which include/sitgurp.h says that they always suffice, keeping a wiring refuses with the numbers of its two sheets, 12 and 23 only.
+-- With the buffers of which include/sitgurp.h says that they always suffice, keeping a wiring refuses with the numbers of its two sheets, 27, 12 and 23 only.
 -- Assumes nothing.
 use Prim.Native.Nat.{ℕ, _^_, _≤_}
 use mathlib.Core.Path.{_≡_, refl, sym, ap, _∙_, subst₂}
@@ -7,17 +7,21 @@ use mathlib.Core.List.{List, [], _∷_}
 use native.Mathlib.Nat.{le-trans}
 use native.Mathlib.Omega.{arith}
 use lib.ListN.{length}
-use Rattle.rules.specs.Lists.{any}
+use Rattle.rules.specs.Lists.{all, any}
 use Rattle.rules.specs.Limits.{mostCells, mostSettled}
 use Rattle.rules.specs.Sheets.{Net, Table}
 use Rattle.rules.specs.Answers.{Answer, accepted, refused, Named, netNamed, tableNamed, neither}
 use Rattle.rules.specs.Reading.{readNet, readTable}
+use Rattle.rules.specs.OpenCells.{fullTable}
 use Rattle.rules.specs.Checking.{sameHeader}
 use Rattle.rules.specs.Keeping.{Keeping, turnedAway, KeptWiring, keepCall}
-use Rattle.laws.specs.Distinct.{In}
-use Rattle.laws.specs.Keeping.{keep-net-refused, keep-table-refused, keep-accepted, keep-12}
+use Rattle.laws.specs.Distinct.{In, wider}
+use Rattle.laws.specs.OpenCells.{read-full}
+use Rattle.laws.specs.Keeping.{keep-net-refused, keep-table-refused, keep-accepted, keep-12, keep-27}
 use Rattle.readback.specs.Numbers.{netNumbers, tableNumbers, net-refusal, table-refusal}
 use Rattle.readback.specs.ReadBack.{table-accepted}
+use Rattle.demands.specs.FullSheets.{fullNumbers}
+use Rattle.demands.specs.Numbers.{full-numbers}
 use Rattle.demands.specs.Checks.{header-same}
 use Rattle.demands.specs.Lengths.{kept-cells}
 use Rattle.demands.specs.Keeping.{Past, PastEnds, ends-23-0, ends-23, ends-15, ends-written, past-ends, kept-short}
@@ -25,12 +29,12 @@ use Rattle.demands.specs.Keeping.{Past, PastEnds, ends-23-0, ends-23, en
 -- keeping's numbers without 13 and 15
 abbrev pub keepAmpleNumbers : Named → List ℕ
 keepAmpleNumbers netNamed = netNumbers
-keepAmpleNumbers tableNamed = tableNumbers
+keepAmpleNumbers tableNamed = fullNumbers
 keepAmpleNumbers neither = 12 ∷ 23 ∷ []
 
 module _ (s r cells output : List ℕ) (ample-cells : mostCells ≤ length cells) (ample-output : mostSettled ≤ length output) where
   pub keep-ample-numbers : (named : Named) (number place : ℕ) → keepCall s r cells output .answer ≡ turnedAway named number place → In number (keepAmpleNumbers named)
-  unfolding any
+  unfolding any all fullTable
   keep-ample-numbers named number place e = go (readNet s) refl (readTable r) refl
     where
       answer : (made : KeptWiring) → keepCall s r cells output ≡ made → made .answer ≡ turnedAway named number place
@@ -48,15 +52,18 @@ module _ (s r cells output : List ℕ) (ample-cells : mostCells ≤ length cells
 
       go : (a : Answer Net) → readNet s ≡ a → (b : Answer Table) → readTable r ≡ b → In number (keepAmpleNumbers named)
       go (refused k at) d b f = turned netNamed k at (net-refusal s k at d) (answer _ (keep-net-refused s r cells output k at d))
-      go (accepted net) d (refused k at) f = turned tableNamed k at (table-refusal r k at f) (answer _ (keep-table-refused s r cells output net d k at f))
-      go (accepted net) d (accepted t) f = headers (sameHeader (net .header) (t .header)) refl
+      go (accepted net) d (refused k at) f = turned tableNamed k at (wider tableNumbers fullNumbers refl k (table-refusal r k at f)) (answer _ (keep-table-refused s r cells output net d k at f))
+      go (accepted net) d (accepted t) f = headers (sameHeader (net .header) (t .header)) refl (fullTable t) refl
         where
           fits : t .header .levels ^ t .header .inputs ≤ length cells
           fits = le-trans (kept-cells (t .header) (table-accepted r t f .1 .header)) ample-cells
 
-          headers : (same : Bool) → sameHeader (net .header) (t .header) ≡ same → In number (keepAmpleNumbers named)
-          headers false h = turned neither 12 0 refl (answer _ (keep-accepted s r cells output net d t f ∙ keep-12 net t cells output h))
-          headers true h =
+          headers : (same : Bool) → sameHeader (net .header) (t .header) ≡ same → (a : Answer (Unit {0})) → fullTable t ≡ a → In number (keepAmpleNumbers named)
+          headers false h a o = turned neither 12 0 refl (answer _ (keep-accepted s r cells output net d t f ∙ keep-12 net t cells output h))
+          headers true h (refused k at) o =
+              turned tableNamed k at (full-numbers (t .header .levels) (t .inks) fullNumbers refl k at o)
+              (answer _ (keep-accepted s r cells output net d t f ∙ keep-27 net t cells output h k at o))
+          headers true h (accepted _) o =
               let past : Past s r cells =
-              record { net = net; table = t; reads-net = d; reads-table = f; header = header-same (net .header) (t .header) h; long = fits } in
+              record { net = net; table = t; reads-net = d; reads-table = read-full r t f o; header = header-same (net .header) (t .header) h; long = fits } in
               ended past (past-ends s r cells past output)

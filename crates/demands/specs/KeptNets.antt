@@ -14,7 +14,8 @@ use Rattle.rules.specs.Sheets.{Header, Gate, Net, Table, usedBy}
 use Rattle.rules.specs.Leaves.{matters}
 use Rattle.rules.specs.Settled.{settledGates}
 use Rattle.rules.specs.Family.{familyGates}
-use Rattle.rules.specs.Kept.{KeptNet, KeptTable}
+use Rattle.rules.specs.Kept.{KeptNet}
+use Rattle.demands.specs.FullSheets.{FullKept}
 use Rattle.rules.specs.Answers.{inkIn}
 use Rattle.rules.specs.Arrivals.{usedInputs}
 use Rattle.rules.specs.Reading.{tableOfNet}
@@ -65,7 +66,7 @@ left-out net t = (
     test : ℕ → Bool
     test i = not (any (eqb i) (usedBy (net .gates))) && matters (net .header .levels) (net .header .inputs) (inkIn (t .inks)) i
 
-module _ (net : Net) (t : Table) (kept : KeptNet net) (kept-t : KeptTable t) (header : net .header ≡ t .header) where
+module _ (net : Net) (t : Table) (kept : KeptNet net) (kept-t : FullKept t) (header : net .header ≡ t .header) where
   abbrev m : ℕ
   m = net .header .levels
 

@@ -19,7 +19,7 @@ use Rattle.rules.specs.Groups.{wholeGroup}
 use Rattle.rules.specs.Kept.{KeptHeader}
 use Rattle.rules.specs.Answers.{Answer, accepted, refused, inkIn, written, Named, netNamed, tableNamed, neither}
 use Rattle.rules.specs.Reading.{readNet, readTable, tableOfNet}
-use Rattle.rules.specs.BareCells.{bareCells}
+use Rattle.rules.specs.OpenCells.{fullCells, readFull}
 use Rattle.rules.specs.Marking.{Marked, markingCall}
 use Rattle.rules.specs.Settling.{Made, settleCall, makeCall}
 use Rattle.rules.specs.Checking.{turnedDown, sameHeader, compared, Checked, checkedInto, checkCall}
@@ -36,9 +36,10 @@ use Rattle.readback.specs.TableLength.{table-length}
 use Rattle.demands.specs.Settles.{sheetIn, sheetOf, Long, settles, settled-short}
 use Rattle.laws.specs.Answers.{not-refused}
 use Rattle.trees.specs.NetTables.{kept-table}
-use Rattle.demands.specs.Numbers.{Gives, refuses, bare-numbers}
+use Rattle.demands.specs.FullSheets.{fullNumbers, full-accepted, full-refusal}
+use Rattle.demands.specs.Numbers.{Gives, refuses, cells-numbers}
 use Rattle.demands.specs.Makes.{Making, no-tree, some-tree, made-short, make-either}
-use Rattle.laws.specs.BareCells.{bare-accepted}
+use Rattle.laws.specs.OpenCells.{cells-sized}
 
 -- ---- what is needed
 
@@ -97,7 +98,7 @@ no-refusal made sheet number place e d = not-refused sheet number place (sym e �
 
 -- making's numbers without 13, 14 and 15
 abbrev pub tableOrTree : List ℕ
-tableOrTree = 1 ∷ 2 ∷ 3 ∷ 4 ∷ 5 ∷ 6 ∷ 16 ∷ []
+tableOrTree = 1 ∷ 2 ∷ 3 ∷ 4 ∷ 5 ∷ 6 ∷ 27 ∷ 16 ∷ []
 
 module _ (s cells marks output : List ℕ) (ample : Ample cells marks output) where
   -- they are long enough for every accepted net sheet, ..
@@ -111,10 +112,10 @@ module _ (s cells marks output : List ℕ) (ample : Ample cells marks output) wh
         output-fits = le-trans (settled-short s net reads) (ample .output-most);
       }
 
-  -- .. and for every accepted table sheet
-  pub make-ample : (t : Table) → readTable s ≡ accepted t → Making t (makeCall s cells marks output)
+  -- .. and for every accepted sheet of a full table
+  pub make-ample : (t : Table) → readFull s ≡ accepted t → Making t (makeCall s cells marks output)
   make-ample t reads =
-      let kept = table-accepted s t reads .1 .header in
+      let kept = full-accepted s t reads .1 .header in
       make-either s t reads cells marks output (le-trans (kept-cells (t .header) kept) (ample .cells-most)) (le-trans (kept-marks (t .header) kept) (ample .marks-most))
       (λ tree. le-trans (made-short s t reads tree) (ample .output-most))
 
@@ -131,16 +132,16 @@ module _ (s cells marks output : List ℕ) (ample : Ample cells marks output) wh
   -- .. and making with those and 16
   pub make-ample-numbers : Gives tableOrTree (makeCall s cells marks output .answer)
   unfolding any all
-  make-ample-numbers number place e = go (readTable s) refl
+  make-ample-numbers number place e = go (readFull s) refl
     where
       made : (t : Table) → Making t (makeCall s cells marks output) → In number tableOrTree
       made t (no-tree _ answer) = refuses tableOrTree 16 _ refl number place (sym answer ∙ e)
       made t (some-tree _ sheet) = absurd (no-refusal (makeCall s cells marks output) _ number place sheet e)
 
-      go : (a : Answer Table) → readTable s ≡ a → In number tableOrTree
+      go : (a : Answer Table) → readFull s ≡ a → In number tableOrTree
       go (accepted t) d = made t (make-ample t d)
       go (refused k at) d =
-          refuses tableOrTree k at (wider tableNumbers tableOrTree refl k (table-refusal s k at d)) number place
+          refuses tableOrTree k at (wider fullNumbers tableOrTree refl k (full-refusal s k at d)) number place
           (sym (ap (λ (made : Made). made .answer) (make-refused s cells marks output k at d)) ∙ e)
 
 -- table writing refuses with the numbers of its sheet alone
@@ -176,9 +177,9 @@ module _ (s r cells : List ℕ) (ample : mostCells ≤ length cells) where
       turned named' k at h d =
           subst₂ (λ (w : Named) (j : ℕ). In j (checkAmpleNumbers w)) (let z : named' ≡ named = cc in z) (let z : k ≡ number = cc in z) h
 
-      inks : (xs ys : List ℕ) → Compared xs ys → compared xs ys ≡ turnedDown named number place → ⊥
-      inks xs ys (all-agree a _) d = let z : _≡_ {A = ℕ} 0 1 = cc in omega arith
-      inks xs ys (first-differs k a _ _ _) d = let z : _≡_ {A = ℕ} 0 1 = cc in omega arith
+      inks : (m : ℕ) (xs ys : List ℕ) → Compared m xs ys → compared m xs ys ≡ turnedDown named number place → ⊥
+      inks m xs ys (all-agree a _) d = let z : _≡_ {A = ℕ} 0 1 = cc in omega arith
+      inks m xs ys (first-differs k a _ _ _ _) d = let z : _≡_ {A = ℕ} 0 1 = cc in omega arith
 
       go : (a : Answer Net) → readNet s ≡ a → (b : Answer Table) → readTable r ≡ b → In number (checkAmpleNumbers named)
       go (refused k at) d b f = turned netNamed k at (net-refusal s k at d) (answer _ (check-net-refused s r cells k at d))
@@ -195,30 +196,30 @@ module _ (s r cells : List ℕ) (ample : mostCells ≤ length cells) where
 
           headers : (same : Bool) → sameHeader (net .header) (t .header) ≡ same → In number (checkAmpleNumbers named)
           headers false h = turned neither 12 0 refl (answer _ (both ∙ check-12 net t cells h))
-          headers true h = absurd (inks _ (t .inks) (comparison _ (t .inks)) (answer _ (both ∙ check-compared net t cells h fits)))
+          headers true h = absurd (inks _ _ (t .inks) (comparison _ _ (t .inks)) (answer _ (both ∙ check-compared net t cells h fits)))
 
 -- ---- marking
 
 -- marking's numbers without 14
 abbrev pub bareNumbers : List ℕ
-bareNumbers = 9 ∷ 10 ∷ []
+bareNumbers = 9 ∷ 10 ∷ 27 ∷ []
 
 module _ (m n : ℕ) (cells marks : List ℕ) (ample : mostMarks ≤ length marks) where
-  marks-refused : (k at : ℕ) → bareCells m n cells ≡ refused k at → markingCall m n cells marks ≡ record { answer = refused k at; marks = marks }
+  marks-refused : (k at : ℕ) → fullCells m n cells ≡ refused k at → markingCall m n cells marks ≡ record { answer = refused k at; marks = marks }
   unfolding markingCall
   marks-refused k at d = rw (d, markingCall)
 
-  marks-written : bareCells m n cells ≡ accepted tt
+  marks-written : fullCells m n cells ≡ accepted tt
       → markingCall m n cells marks
       ≡ record { answer = accepted (markIn (marksOf m n (inkIn cells)) (wholeGroup n)); marks = written marks (storedMarks (marksOf m n (inkIn cells))) }
   unfolding markingCall
-  marks-written d = rw (d, le-ltb (length marks) (marksLength n) (le-trans (size-marks m n (sized m n (bare-accepted m n cells (sym d) .0))) ample), markingCall)
+  marks-written d = rw (d, le-ltb (length marks) (marksLength n) (le-trans (size-marks m n (sized m n (cells-sized m n cells (sym d) .0))) ample), markingCall)
 
   -- marking refuses with the numbers of its cells alone
   pub marking-ample-numbers : Gives bareNumbers (markingCall m n cells marks .answer)
   unfolding markingCall any
-  marking-ample-numbers number place e = go (bareCells m n cells) refl
+  marking-ample-numbers number place e = go (fullCells m n cells) refl
     where
-      go : (a : Answer (Unit {0})) → bareCells m n cells ≡ a → In number bareNumbers
+      go : (a : Answer (Unit {0})) → fullCells m n cells ≡ a → In number bareNumbers
       go (accepted _) d = absurd (not-refused _ number place (sym (ap (λ (made : Marked). made .answer) (marks-written d)) ∙ e))
-      go (refused k at) d = refuses bareNumbers k at (bare-numbers m n cells bareNumbers refl refl k at d) number place (sym (ap (λ (made : Marked). made .answer) (marks-refused k at d)) ∙ e)
+      go (refused k at) d = refuses bareNumbers k at (cells-numbers m n cells bareNumbers refl refl refl k at d) number place (sym (ap (λ (made : Marked). made .answer) (marks-refused k at d)) ∙ e)

@@ -1,6 +1,7 @@
 -- The user's demands as theorems about the definitions of the calls. docs/PROMISES.md quotes each sentence beside its theorem.
 -- Assumes nothing.
 pub mod FirstLines
+pub mod FullSheets
 pub mod Listing
 pub mod Settles
 pub mod Numbers
@@ -51,6 +52,7 @@ pub mod KeptNets
 pub mod Keeping
 pub mod KeepingLengths
 pub mod Glyphs
+pub mod OpenCells
 pub mod LeafInputs
 pub mod Leaves
 pub mod TableLines

@@ -12,11 +12,14 @@ use Rattle.rules.specs.Limits.{mostRead}
 use Rattle.rules.specs.Sheets.{Net, Table}
 use Rattle.rules.specs.Answers.{accepted, refused}
 use Rattle.rules.specs.Settling.{makeCall}
+use Rattle.rules.specs.Kept.{FullTable}
 use Rattle.rules.specs.Reading.{readNet, readTable}
 use Rattle.rules.specs.Programs.{settleProgram, makeProgram}
+use Rattle.laws.specs.OpenCells.{read-refused}
 use Rattle.readback.specs.ReadBack.{table-accepted}
 use Rattle.readback.specs.TableLength.{table-longer, table-within}
 use Rattle.readback.specs.CutSheets.{table-cut, net-cut, not-ended, accepted-longer}
+use Rattle.demands.specs.FullSheets.{full-sheet}
 use Rattle.demands.specs.Makes.{Making}
 use Rattle.demands.specs.Lengths.{Ample, make-ample}
 use Rattle.demands.specs.Programs.{refusalLines, program-settle-refused, program-make-refused}
@@ -25,7 +28,7 @@ module _ (input : List ℕ) where
   -- "a sheet without an earlier fault that hasn't ended by then": of a table sheet, ..
   pub make-unended : mostRead ≤ length input → ((number place : ℕ) → readTable input ≡ refused number place → mostRead ≤ place)
       → ((t : Table) → readTable (take mostRead input) ≡ accepted t → ⊥) → makeProgram input ≡ refusalLines 1 mostRead
-  make-unended within faultless going = program-make-refused input 1 mostRead (not-ended table-cut input mostRead (omega arith) within faultless going)
+  make-unended within faultless going = program-make-refused input 1 mostRead (read-refused _ 1 mostRead (not-ended table-cut input mostRead (omega arith) within faultless going))
 
   -- .. and of a net sheet
   pub settle-unended : mostRead ≤ length input → ((number place : ℕ) → readNet input ≡ refused number place → mostRead ≤ place)
@@ -35,15 +38,15 @@ module _ (input : List ℕ) where
   module _ (t : Table) (reads : readTable input ≡ accepted t) where
     -- an accepted sheet that is longer is refused so, ..
     pub make-longer : mostRead < length input → makeProgram input ≡ refusalLines 1 mostRead
-    make-longer longer = program-make-refused input 1 mostRead (accepted-longer table-cut input mostRead (omega arith) longer t reads)
+    make-longer longer = program-make-refused input 1 mostRead (read-refused _ 1 mostRead (accepted-longer table-cut input mostRead (omega arith) longer t reads))
 
-    -- .. "the library takes it": every accepted sheet of 2 with 12, with buffers of the lengths that always suffice, ..
-    pub long-sheet : t .header .levels ≡ 2 → t .header .inputs ≡ 12 → (cells marks output : List ℕ) → Ample cells marks output
+    -- .. "the library takes it": every accepted sheet of a full table of 2 with 12, with buffers of the lengths that always suffice, ..
+    pub long-sheet : FullTable t → t .header .levels ≡ 2 → t .header .inputs ≡ 12 → (cells marks output : List ℕ) → Ample cells marks output
         → Making t (makeCall input cells marks output) × (makeProgram input ≡ refusalLines 1 mostRead)
-    long-sheet two twelve cells marks output ample =
+    long-sheet full two twelve cells marks output ample =
         let (e, kept) = table-accepted input t reads in
         let long : mostRead < length input = rw e (table-longer t kept two twelve) in
-        (make-ample input cells marks output ample t reads, make-longer long)
+        (make-ample input cells marks output ample t (full-sheet input t .1 (reads, full)), make-longer long)
 
     -- .. and every other accepted sheet is read whole
     pub read-whole : (take mostRead input ≡ input) ⊎ ((t .header .levels ≡ 2) × (t .header .inputs ≡ 12))

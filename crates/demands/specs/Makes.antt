@@ -1,7 +1,7 @@
 -- Demand 3, making: "For every accepted table sheet, making refuses the table as having no tree exactly when no fanout-free tree of
 -- two-input gates .. computes it, whatever the tree's wiring and gate tables", and whatever its leaves: "inputs may stay unused" (document 02, K12). On
 -- which leaves one stands is in `LeafTrees`. "Otherwise making writes the very sheet that settling writes from every accepted net sheet with that
--- table, the same levels and the same input names in the same order."
+-- table, the same levels and the same input names in the same order." "Demand 3 now speaks of full tables" (document 02, K13).
 -- Assumes nothing.
 use Prim.Native.Nat.{ℕ, _^_, _≤_, _<_}
 use mathlib.Core.Path.{_≡_, refl, sym, ap, _∙_, subst, subst⁻¹}
@@ -16,22 +16,24 @@ use Rattle.rules.specs.Sheets.{Gate, Net, Table}
 use Rattle.rules.specs.Printed.{printedNet}
 use Rattle.rules.specs.Marks.{marksLength, storedMarks, noTreePlace}
 use Rattle.rules.specs.Leaves.{leavesOf}
-use Rattle.rules.specs.Kept.{IsNet, KeptNet, KeptTable}
+use Rattle.rules.specs.Kept.{IsNet, KeptNet}
 use Rattle.rules.specs.Answers.{accepted, refused, inkIn, written}
 use Rattle.rules.specs.Settling.{Made, settledNet, writtenSheet, afterMarks, roomFor, madeInto, settleCall, makeCall}
-use Rattle.rules.specs.Reading.{readNet, readTable, tableOfNet}
+use Rattle.rules.specs.Reading.{readNet, tableOfNet}
 use Rattle.laws.specs.Settling.{WholeTwo, marksOfTable, make-accepted, into-marked, marked-16, marked-tree}
 use Rattle.trees.specs.Trees.{Computes}
 use Rattle.trees.specs.Existence.{TreeExists, tree-exists, settled-net}
 use Rattle.trees.specs.Uniqueness.{table-is, table-at}
 use Rattle.trees.specs.NetTables.{levels-pos, inputs-several}
 use Rattle.readback.specs.Length.{net-length}
-use Rattle.readback.specs.ReadBack.{net-read-back, net-accepted, table-accepted}
+use Rattle.readback.specs.ReadBack.{net-read-back, net-accepted}
 use Rattle.demands.specs.Settles.{sheetIn, sheetOf, Long, net-written, settles, table-path}
 use Rattle.laws.specs.Answers.{accepted-inj, not-refused, written-front}
 use Rattle.demands.specs.Numbers.{by-answer, not-given}
 use Rattle.laws.specs.Tests.{by-test}
 use Rattle.demands.specs.SettlingNumbers.{sheet-numbers}
+use Rattle.rules.specs.OpenCells.{readFull}
+use Rattle.demands.specs.FullSheets.{FullKept, full-accepted}
 
 -- "just the inputs that matter .. if fewer than two do, the first-listed others make up two" (document 02, K12): a table's leaves, as a group
 abbrev pub leavesOfTable : Table → ℕ
@@ -49,7 +51,7 @@ HasSheet t = (r : List ℕ) × (net : Net) × (readNet r ≡ accepted net) × (t
 abbrev pub netWith : Table → List Gate → Net
 netWith t gates = record { header = t .header; gates = gates }
 
-module _ (t : Table) (kept : KeptTable t) where
+module _ (t : Table) (kept : FullKept t) where
   pos : 0 < t .header .levels
   pos = levels-pos (t .header .levels) (kept .header .levels)
 
@@ -120,16 +122,16 @@ into-accepted netFor t cells marks output sheet =
         (by-test Wrote (ltb (length output) (length (printedNet (netFor t)))) _ _ (λ e. absurd (not-refused sheet 15 _ (sym e)))
         (λ e. (two, sym (written-front output (printedNet (netFor t))) ∙ accepted-inj _ sheet e)))
 
--- the two ways in which making ends on an accepted table sheet with long buffers
+-- the two ways in which making ends on an accepted sheet of a full table with long buffers
 pub data Making (t : Table) (made : Made) : Type 0 where
   no-tree : (HasTree t → ⊥) → made .answer ≡ refused 16 (noTreePlace (t .header .inputs) (marksOfTable t)) → Making t made
   some-tree : HasTree t → sheetOf made ≡ accepted (printedNet (settledNet t)) → Making t made
 
 -- ---- the demand
 
-module _ (s : List ℕ) (t : Table) (reads : readTable s ≡ accepted t) where
-  kept : KeptTable t
-  kept = table-accepted s t reads .1
+module _ (s : List ℕ) (t : Table) (reads : readFull s ≡ accepted t) where
+  kept : FullKept t
+  kept = full-accepted s t reads .1
 
   -- Making refuses the table with 16 exactly when no gate list, whatever its wiring and its tables, is a net that computes it, ..
   pub make-refuses : (cells marks output : List ℕ) → t .header .levels ^ t .header .inputs ≤ length cells → marksLength (t .header .inputs) ≤ length marks

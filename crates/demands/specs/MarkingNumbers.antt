@@ -7,18 +7,18 @@ use lib.ListN.{length}
 use lib.Dec.{ltb}
 use Rattle.rules.specs.Lists.{any}
 use Rattle.rules.specs.Marks.{marksLength}
-use Rattle.rules.specs.BareCells.{bareCells}
+use Rattle.rules.specs.OpenCells.{fullCells}
 use Rattle.rules.specs.Marking.{Marked, markingCall}
-use Rattle.demands.specs.Numbers.{Gives, accepts, bare-numbers, by-answer, refuses}
+use Rattle.demands.specs.Numbers.{Gives, accepts, cells-numbers, by-answer, refuses}
 use Rattle.laws.specs.Tests.{by-test}
 
 abbrev pub markingNumbers : List ℕ
-markingNumbers = 9 ∷ 10 ∷ 14 ∷ []
+markingNumbers = 9 ∷ 10 ∷ 27 ∷ 14 ∷ []
 
 pub marking-numbers : (m n : ℕ) (cells marks : List ℕ) → Gives markingNumbers (markingCall m n cells marks .answer)
 unfolding markingCall any
 marking-numbers m n cells marks =
-    by-answer (λ (made : Marked). Gives markingNumbers (made .answer)) (bareCells m n cells) _ _
+    by-answer (λ (made : Marked). Gives markingNumbers (made .answer)) (fullCells m n cells) _ _
     (λ _ _. by-test (λ (made : Marked). Gives markingNumbers (made .answer)) (ltb (length marks) (marksLength n)) _ _
     (refuses markingNumbers 14 _ refl) (accepts markingNumbers _))
-    (λ number place e. refuses markingNumbers number place (bare-numbers m n cells markingNumbers refl refl number place e))
+    (λ number place e. refuses markingNumbers number place (cells-numbers m n cells markingNumbers refl refl refl number place e))

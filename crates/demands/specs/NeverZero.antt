@@ -21,7 +21,8 @@ use Rattle.rules.specs.Jobs.{Job, openJob, stepJob, askJob, finishJob}
 use Rattle.rules.specs.Keeping.{turnedAway, keepCall}
 use Rattle.rules.specs.Glyphs.{glyphCall}
 use Rattle.laws.specs.Distinct.{In}
-use Rattle.readback.specs.Numbers.{netNumbers, tableNumbers}
+use Rattle.readback.specs.Numbers.{netNumbers}
+use Rattle.demands.specs.FullSheets.{fullNumbers}
 use Rattle.demands.specs.Numbers.{not-given}
 use Rattle.demands.specs.MultiplicityNumbers.{multiplicity-numbers, multiplicityNumbers}
 use Rattle.demands.specs.MarkingNumbers.{marking-numbers, markingNumbers}
@@ -76,7 +77,7 @@ never-0 place = (
   λ s k. not-given netNumbers _ (listing-numbers s k) 0 place refl,
   λ s r delay e. true≢false (sym (arrivals-numbers s r delay .net 0 place e)),
   λ s r delay e. true≢false (sym (arrivals-numbers s r delay .arrivals 0 place e)),
-  λ s. not-given tableNumbers _ (open-numbers s) 0 place refl,
+  λ s. not-given fullNumbers _ (open-numbers s) 0 place refl,
   λ job. not-given (21 ∷ []) _ (step-numbers job) 0 place refl,
   λ job g. not-given (11 ∷ []) _ (ask-numbers job g) 0 place refl,
   λ job cells marks output. not-given finishNumbers _ (finish-numbers job cells marks output) 0 place refl,

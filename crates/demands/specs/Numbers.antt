@@ -6,11 +6,12 @@ use mathlib.Core.Path.{_≡_, refl, sym, _∙_, subst}
 use mathlib.Core.Bool.{_&&_, true≢false}
 use mathlib.Core.List.{List}
 use lib.ListN.{length}
-use lib.Dec.{eqb, ltb}
-use Rattle.rules.specs.Lists.{all}
+use lib.Dec.{eqb, leb}
+use Rattle.rules.specs.Lists.{all, any}
 use Rattle.rules.specs.Limits.{sizeFits}
 use Rattle.rules.specs.Answers.{Answer, accepted, refused, onward}
 use Rattle.rules.specs.BareCells.{bareCells}
+use Rattle.rules.specs.OpenCells.{isOpen, full, fullCells}
 use Rattle.laws.specs.Distinct.{In, NotIn}
 use Rattle.laws.specs.Answers.{not-refused}
 use Rattle.laws.specs.Tests.{by-test}
@@ -45,5 +46,15 @@ pub bare-numbers : (m n : ℕ) (cells : List ℕ) (numbers : List ℕ) → In 9 
 unfolding bareCells
 bare-numbers m n cells numbers nine ten =
     by-test (Gives numbers) (sizeFits m n && eqb (length cells) (m ^ n)) _ _
-    (by-test (Gives numbers) (all (λ c. ltb c m) cells) _ _ (accepts numbers tt) (refuses numbers 10 _ ten))
+    (by-test (Gives numbers) (all (λ c. leb c m) cells) _ _ (accepts numbers tt) (refuses numbers 10 _ ten))
     (refuses numbers 9 0 nine)
+
+-- .. and 27 where the cells are to be full
+pub full-numbers : (m : ℕ) (cells : List ℕ) (numbers : List ℕ) → In 27 numbers → Gives numbers (full m cells)
+unfolding full
+full-numbers m cells numbers open27 = by-test (Gives numbers) (any (isOpen m) cells) _ _ (refuses numbers 27 _ open27) (accepts numbers tt)
+
+pub cells-numbers : (m n : ℕ) (cells : List ℕ) (numbers : List ℕ) → In 9 numbers → In 10 numbers → In 27 numbers → Gives numbers (fullCells m n cells)
+unfolding fullCells
+cells-numbers m n cells numbers nine ten open27 =
+    by-onward numbers (bareCells m n cells) (λ _. full m cells) (bare-numbers m n cells numbers nine ten) (λ _. full-numbers m cells numbers open27)

@@ -13,7 +13,8 @@ use Rattle.rules.specs.Printed.{line, printedNet}
 use Rattle.rules.specs.Marks.{marksLength, noTreePlace}
 use Rattle.rules.specs.Answers.{Answer, accepted, refused}
 use Rattle.rules.specs.Settling.{Made, settledNet, settleCall, makeCall}
-use Rattle.rules.specs.Reading.{readNet, readTable, tableOfNet}
+use Rattle.rules.specs.Reading.{readNet, tableOfNet}
+use Rattle.rules.specs.OpenCells.{readFull}
 use Rattle.rules.specs.Programs.{programOutput, zeros, settleProgram, makeProgram}
 use Rattle.laws.specs.Settling.{marksOfTable, settle-refused, make-refused}
 use Rattle.readback.specs.Numbers.{netNumbers}
@@ -70,8 +71,8 @@ module _ (input : List ℕ) where
   unfolding settleProgram
   program-settle-refused number place e = prints-refusal (settleRun input) number place (ap (λ (made : Made). made .answer) (settle-refused (take mostRead input) _ _ _ number place e))
 
-  -- the making program prints the settled sheet of an accepted table sheet with a tree, ..
-  pub program-makes : (t : Table) → readTable (take mostRead input) ≡ accepted t → HasTree t → makeProgram input ≡ printedNet (settledNet t)
+  -- the making program prints the settled sheet of an accepted sheet of a full table with a tree, ..
+  pub program-makes : (t : Table) → readFull (take mostRead input) ≡ accepted t → HasTree t → makeProgram input ≡ printedNet (settledNet t)
   unfolding makeProgram
   program-makes t reads tree = go (make-ample (take mostRead input) _ _ _ zeros-ample t reads)
     where
@@ -80,7 +81,7 @@ module _ (input : List ℕ) where
       go (some-tree has sheet) = prints-sheet (makeRun input) _ sheet
 
   -- .. 16 and its place where there is no tree, ..
-  pub program-no-tree : (t : Table) → readTable (take mostRead input) ≡ accepted t → (HasTree t → ⊥)
+  pub program-no-tree : (t : Table) → readFull (take mostRead input) ≡ accepted t → (HasTree t → ⊥)
       → makeProgram input ≡ refusalLines 16 (noTreePlace (t .header .inputs) (marksOfTable t))
   unfolding makeProgram
   program-no-tree t reads none = go (make-ample (take mostRead input) _ _ _ zeros-ample t reads)
@@ -90,7 +91,7 @@ module _ (input : List ℕ) where
       go (some-tree has sheet) = absurd (none has)
 
   -- .. and the refusal of any other sheet
-  pub program-make-refused : (number place : ℕ) → readTable (take mostRead input) ≡ refused number place → makeProgram input ≡ refusalLines number place
+  pub program-make-refused : (number place : ℕ) → readFull (take mostRead input) ≡ refused number place → makeProgram input ≡ refusalLines number place
   unfolding makeProgram
   program-make-refused number place e = prints-refusal (makeRun input) number place (ap (λ (made : Made). made .answer) (make-refused (take mostRead input) _ _ _ number place e))
 

@@ -10,13 +10,15 @@ use Rattle.rules.specs.Lists.{all, any}
 use Rattle.rules.specs.Sheets.{Net, Table}
 use Rattle.rules.specs.Marks.{marksLength}
 use Rattle.rules.specs.Answers.{refused}
-use Rattle.rules.specs.Reading.{readNet, readTable, tableOfNet}
+use Rattle.rules.specs.Reading.{readNet, tableOfNet}
+use Rattle.rules.specs.OpenCells.{readFull}
 use Rattle.rules.specs.Settling.{Made, settledNet, writtenSheet, afterMarks, roomFor, madeInto, settleCall, makeCall}
 use Rattle.laws.specs.Distinct.{In, wider}
 use Rattle.laws.specs.Settling.{WholeTwo, marked-16, marked-tree}
-use Rattle.readback.specs.Numbers.{netNumbers, tableNumbers, net-refusal, table-refusal}
+use Rattle.readback.specs.Numbers.{netNumbers, net-refusal}
 use Rattle.readback.specs.ReadBack.{net-accepted}
 use Rattle.trees.specs.NetTables.{net-whole-two}
+use Rattle.demands.specs.FullSheets.{fullNumbers, full-refusal}
 use Rattle.demands.specs.Numbers.{Gives, accepts, by-answer, not-given, refuses}
 use Rattle.laws.specs.Tests.{by-test}
 
@@ -24,7 +26,7 @@ abbrev pub settleNumbers : List ℕ
 settleNumbers = 1 ∷ 2 ∷ 3 ∷ 4 ∷ 6 ∷ 7 ∷ 8 ∷ 26 ∷ 13 ∷ 14 ∷ 15 ∷ []
 
 abbrev pub makeNumbers : List ℕ
-makeNumbers = 1 ∷ 2 ∷ 3 ∷ 4 ∷ 5 ∷ 6 ∷ 13 ∷ 14 ∷ 16 ∷ 15 ∷ []
+makeNumbers = 1 ∷ 2 ∷ 3 ∷ 4 ∷ 5 ∷ 6 ∷ 27 ∷ 13 ∷ 14 ∷ 16 ∷ 15 ∷ []
 
 abbrev MadeGives : List ℕ → Made → Type 0
 MadeGives numbers made = Gives numbers (made .answer)
@@ -65,9 +67,9 @@ module _ (s cells marks output : List ℕ) where
   pub make-numbers : Gives makeNumbers (makeCall s cells marks output .answer)
   unfolding makeCall any all
   make-numbers =
-      by-answer (MadeGives makeNumbers) (readTable s) _ _
+      by-answer (MadeGives makeNumbers) (readFull s) _ _
       (λ t _. into-numbers settledNet makeNumbers refl refl refl t (λ _. refl) cells marks output)
-      (λ number place e. refuses makeNumbers number place (wider tableNumbers makeNumbers refl number (table-refusal s number place e)))
+      (λ number place e. refuses makeNumbers number place (wider fullNumbers makeNumbers refl number (full-refusal s number place e)))
 
   -- "Settling never gives 16."
   pub settle-never-16 : (place : ℕ) → settleCall s cells marks output .answer ≡ refused 16 place → ⊥

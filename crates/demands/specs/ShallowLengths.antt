@@ -5,26 +5,26 @@ use mathlib.Core.List.{List}
 use Prim.Native.Nat.{ℕ}
 use Rattle.rules.specs.Sheets.{Table}
 use Rattle.rules.specs.Answers.{accepted}
-use Rattle.rules.specs.Reading.{readTable}
 use Rattle.rules.specs.ShallowSettling.{shallowNet, settleShallowCall, makeShallowCall}
 use Rattle.readback.specs.Numbers.{netNumbers}
-use Rattle.readback.specs.ReadBack.{table-accepted}
 use Rattle.trees.specs.ShallowTables.{shallow-as-long}
 use Rattle.demands.specs.Numbers.{Gives}
 use Rattle.demands.specs.Settles.{LongFor, Long}
 use Rattle.demands.specs.Makes.{HasTree, two-tree}
 use Rattle.demands.specs.Lengths.{Ample, tableOrTree, settle-ample-numbers, make-ample-numbers}
 use Rattle.demands.specs.ShallowRefusals.{settle-shallow-refuses, make-shallow-refuses}
+use Rattle.rules.specs.OpenCells.{readFull}
+use Rattle.demands.specs.FullSheets.{full-accepted, keeps}
 
 -- buffers that are long enough for the settled sheet of a table are for its shallow sheet
-pub same-room : (s : List ℕ) (t : Table) → readTable s ≡ accepted t → HasTree t
+pub same-room : (s : List ℕ) (t : Table) → readFull s ≡ accepted t → HasTree t
     → (cells marks output : List ℕ) → Long t cells marks output → LongFor shallowNet t cells marks output
 same-room s t reads tree cells marks output long =
-    let kept = table-accepted s t reads .1 in
+    let kept = full-accepted s t reads .1 in
     record {
       cells-fit = long .cells-fit;
       marks-fit = long .marks-fit;
-      output-fits = rw (shallow-as-long t kept (two-tree t kept .0 tree)) (long .output-fits);
+      output-fits = rw (shallow-as-long t (keeps t kept) (kept .below) (two-tree t kept .0 tree)) (long .output-fits);
     }
 
 -- with buffers that always suffice neither refuses with 13, 14 or 15

@@ -12,15 +12,15 @@ use Rattle.rules.specs.Sheets.{Gate, Net, Table}
 use Rattle.rules.specs.Printed.{printedNet}
 use Rattle.rules.specs.Layers.{layers}
 use Rattle.rules.specs.Marks.{marksLength, storedMarks}
-use Rattle.rules.specs.Kept.{IsNet, KeptTable}
+use Rattle.rules.specs.Kept.{IsNet}
 use Rattle.rules.specs.Answers.{accepted, refused, inkIn, onward, written}
-use Rattle.rules.specs.Reading.{readNet, readTable, tableOfNet}
+use Rattle.rules.specs.Reading.{readNet, tableOfNet}
 use Rattle.rules.specs.Settling.{Made, madeInto}
 use Rattle.rules.specs.ShallowSettling.{Layered, LayeredMade, layered, withLayers, layeredInto, shallowNet, netLayers, makeShallowCall}
 use Rattle.laws.specs.Answers.{accepted-inj, not-refused, written-front}
 use Rattle.laws.specs.Settling.{WholeTwo, marksOfTable, into-13, into-14, into-marked, marked-16, marked-tree, sheet-15, sheet-written}
 use Rattle.laws.specs.ShallowSettling.{make-shallow-accepted}
-use Rattle.readback.specs.ReadBack.{net-accepted, net-read-back, table-accepted}
+use Rattle.readback.specs.ReadBack.{net-accepted, net-read-back}
 use Rattle.readback.specs.Length.{net-length}
 use Rattle.trees.specs.Trees.{Tree, wiringIn, Computes}
 use Rattle.trees.specs.Depths.{depth}
@@ -28,6 +28,8 @@ use Rattle.trees.specs.ShallowTables.{shallow-kept, shallow-has-table, shallow-
 use Rattle.demands.specs.Settles.{LongFor, table-path}
 use Rattle.demands.specs.Makes.{HasTree, two-tree}
 use Rattle.demands.specs.TreeClause.{TreeFor, TreeAgrees, agrees-all}
+use Rattle.rules.specs.OpenCells.{readFull}
+use Rattle.demands.specs.FullSheets.{FullKept, full-accepted, keeps}
 
 -- ---- what is answered and written, whatever net is made of a table
 
@@ -80,12 +82,12 @@ pub record ShallowOf (t : Table) (made : LayeredMade) : Type 0 where
   pub reads : readNet (printedNet (shallowNet t)) ≡ accepted (shallowNet t)
   pub table : tableOfNet (shallowNet t) ≡ t
 
-module _ (t : Table) (kept : KeptTable t) (cells marks output : List ℕ) where
+module _ (t : Table) (kept : FullKept t) (cells marks output : List ℕ) where
   pub shallow-into : WholeTwo t → LongFor shallowNet t cells marks output → ShallowOf t (layeredInto shallowNet t cells marks output)
   shallow-into two long = record {
     wrote = layered-written shallowNet t cells marks output two long;
-    reads = net-read-back (shallowNet t) (shallow-kept t kept two);
-    table = shallow-has-table t kept two;
+    reads = net-read-back (shallowNet t) (shallow-kept t (keeps t kept) (kept .below) two);
+    table = shallow-has-table t (keeps t kept) (kept .below) two;
   }
 
   -- whatever the buffers, of an accepted answer
@@ -101,9 +103,9 @@ answered-layers t made of a e = sym (ap (λ (a : Layered). a .layers) (accepted-
 
 -- ---- making
 
-module _ (s : List ℕ) (t : Table) (reads : readTable s ≡ accepted t) where
-  kept : KeptTable t
-  kept = table-accepted s t reads .1
+module _ (s : List ℕ) (t : Table) (reads : readFull s ≡ accepted t) where
+  kept : FullKept t
+  kept = full-accepted s t reads .1
 
   -- shallow making of a table with a tree, ..
   pub makes-shallow : (cells marks output : List ℕ) → HasTree t → LongFor shallowNet t cells marks output → ShallowOf t (makeShallowCall s cells marks output)
@@ -112,7 +114,7 @@ module _ (s : List ℕ) (t : Table) (reads : readTable s ≡ accepted t) where
 
   -- .. never over 512 bytes, ..
   pub shallow-made-short : HasTree t → length (printedNet (shallowNet t)) ≤ mostSettled
-  shallow-made-short tree = net-length (shallowNet t) (shallow-kept t kept (two-tree t kept .0 tree))
+  shallow-made-short tree = net-length (shallowNet t) (shallow-kept t (keeps t kept) (kept .below) (two-tree t kept .0 tree))
 
   -- .. and, whatever the buffers, wherever it is accepted
   module _ (cells marks output : List ℕ) (a : Layered) (answers : makeShallowCall s cells marks output .answer ≡ accepted a) where
@@ -138,9 +140,9 @@ module _ (s : List ℕ) (t : Table) (reads : readTable s ≡ accepted t) where
     -- .. every gate list, ..
     pub made-shallowest-gates : (gates : List Gate) → IsNet (t .header .levels) (t .header .inputs) gates
         → Computes (t .header .levels) (t .header .inputs) gates (inkIn (t .inks)) → a .layers ≤ layers (t .header .inputs) gates
-    made-shallowest-gates gates net has = rw count (shallow-least-gates t kept (done .0) gates net has)
+    made-shallowest-gates gates net has = rw count (shallow-least-gates t (keeps t kept) (kept .below) (done .0) gates net has)
 
     -- .. and every one of Section I's trees
     pub made-shallowest-trees : (tree : Tree) → TreeFor t tree → TreeAgrees tree t → a .layers ≤ depth (wiringIn tree)
     made-shallowest-trees tree is agrees =
-        rw count (shallow-least-tree t kept (done .0) tree is (agrees-all t (kept .header) tree is .1 agrees))
+        rw count (shallow-least-tree t (keeps t kept) (kept .below) (done .0) tree is (agrees-all t (kept .header) tree is .1 agrees))

@@ -7,20 +7,20 @@ use mathlib.Core.Path.{_≡_, refl, ap}
 use mathlib.Core.Logic.{_↔_}
 use mathlib.Core.List.{List}
 use Rattle.rules.specs.Sheets.{Net, Table}
-use Rattle.rules.specs.Kept.{KeptTable}
 use Rattle.rules.specs.Answers.{Answer, accepted, refused, onward}
-use Rattle.rules.specs.Reading.{readNet, readTable, tableOfNet}
+use Rattle.rules.specs.Reading.{readNet, tableOfNet}
 use Rattle.rules.specs.Settling.{Made, settledNet, madeInto, settleCall, makeCall}
 use Rattle.rules.specs.ShallowSettling.{Layered, LayeredMade, withLayers, layeredInto, shallowNet, netLayers, settleShallowCall, makeShallowCall}
 use Rattle.laws.specs.Answers.{not-refused}
 use Rattle.laws.specs.Settling.{settle-refused, settle-accepted, make-refused, make-accepted}
 use Rattle.laws.specs.ShallowSettling.{plain, plain-layered, settle-shallow-refused, settle-shallow-accepted, make-shallow-refused, make-shallow-accepted}
 use Rattle.laws.specs.ButSheet.{ButSheet, but-none, into-but}
-use Rattle.readback.specs.ReadBack.{net-accepted, table-accepted}
-use Rattle.trees.specs.NetTables.{kept-table}
+use Rattle.readback.specs.ReadBack.{net-accepted}
 use Rattle.trees.specs.ShallowTables.{shallow-as-long}
 use Rattle.demands.specs.Numbers.{Gives}
 use Rattle.demands.specs.SettlingNumbers.{settleNumbers, makeNumbers, settle-numbers, make-numbers, settle-never-16}
+use Rattle.rules.specs.OpenCells.{readFull}
+use Rattle.demands.specs.FullSheets.{FullKept, full-accepted, net-kept, keeps}
 
 -- what a call came to, without the count of layers
 unfoldable pub plainMade : LayeredMade → Made
@@ -43,22 +43,22 @@ plain-refuses (accepted a) number place = (λ e. absurd (not-refused a number pl
 plain-refuses (refused k at) number place = (λ e. ap plain e, λ e. cc)
 
 -- from a table
-from-table : (t : Table) → KeptTable t → (cells marks output : List ℕ)
+from-table : (t : Table) → FullKept t → (cells marks output : List ℕ)
     → ButSheet (plainMade (layeredInto shallowNet t cells marks output)) (madeInto settledNet t cells marks output)
 from-table t kept cells marks output =
-    rw plain-into (into-but shallowNet settledNet t cells marks output (shallow-as-long t kept))
+    rw plain-into (into-but shallowNet settledNet t cells marks output (shallow-as-long t (keeps t kept) (kept .below)))
 
 module _ (s cells marks output : List ℕ) where
   -- shallow making comes to what making does, but for the sheet, ..
   pub make-but-sheet : ButSheet (plainMade (makeShallowCall s cells marks output)) (makeCall s cells marks output)
   unfolding plainMade plain onward
-  make-but-sheet = go (readTable s) refl
+  make-but-sheet = go (readFull s) refl
     where
-      go : (a : Answer Table) → readTable s ≡ a → ButSheet (plainMade (makeShallowCall s cells marks output)) (makeCall s cells marks output)
+      go : (a : Answer Table) → readFull s ≡ a → ButSheet (plainMade (makeShallowCall s cells marks output)) (makeCall s cells marks output)
       go (refused number place) e =
           rw (make-shallow-refused s cells marks output number place e, make-refused s cells marks output number place e) (but-none _)
       go (accepted t) e =
-          rw (make-shallow-accepted s cells marks output t e, make-accepted s cells marks output t e) (from-table t (table-accepted s t e .1) cells marks output)
+          rw (make-shallow-accepted s cells marks output t e, make-accepted s cells marks output t e) (from-table t (full-accepted s t e .1) cells marks output)
 
   -- .. and shallow settling to what settling does
   pub settle-but-sheet : ButSheet (plainMade (settleShallowCall s cells marks output)) (settleCall s cells marks output)
@@ -70,7 +70,7 @@ module _ (s cells marks output : List ℕ) where
           rw (settle-shallow-refused s cells marks output number place e, settle-refused s cells marks output number place e) (but-none _)
       go (accepted net) e =
           rw (settle-shallow-accepted s cells marks output net e, settle-accepted s cells marks output net e)
-          (from-table (tableOfNet net) (kept-table net (net-accepted s net e .1)) cells marks output)
+          (from-table (tableOfNet net) (net-kept net (net-accepted s net e .1)) cells marks output)
 
   -- So shallow making refuses exactly when making does, with the same number and place, ..
   pub make-shallow-refuses : (number place : ℕ)

@@ -13,18 +13,20 @@ use Rattle.rules.specs.Printed.{printedNet}
 use Rattle.rules.specs.Layers.{layers}
 use Rattle.rules.specs.Kept.{IsNet, KeptNet}
 use Rattle.rules.specs.Answers.{Answer, accepted, inkIn}
-use Rattle.rules.specs.Reading.{readNet, readTable, tableOfNet}
+use Rattle.rules.specs.Reading.{readNet, tableOfNet}
+use Rattle.rules.specs.OpenCells.{readFull}
 use Rattle.rules.specs.ShallowSettling.{Layered, LayeredMade, shallowNet, netLayers, settleShallowCall, makeShallowCall}
 use Rattle.laws.specs.Answers.{accepted-inj}
 use Rattle.laws.specs.ShallowSettling.{settle-shallow-accepted, make-shallow-accepted}
-use Rattle.readback.specs.ReadBack.{net-accepted, net-read-back, table-accepted}
+use Rattle.readback.specs.ReadBack.{net-accepted, net-read-back}
 use Rattle.readback.specs.Length.{net-length}
 use Rattle.trees.specs.Trees.{Tree, wiringIn, Computes}
 use Rattle.trees.specs.Depths.{depth}
-use Rattle.trees.specs.NetTables.{kept-table, net-whole-two}
+use Rattle.trees.specs.NetTables.{kept-table, net-full, net-whole-two}
 use Rattle.trees.specs.ShallowTables.{shallow-kept, shallow-has-table, shallow-least-gates, shallow-least-tree, shallow-least-net}
 use Rattle.demands.specs.FirstLines.{threeLines, three-lines, same-lines}
 use Rattle.demands.specs.Settles.{sheetOf, LongFor, net-written, table-path}
+use Rattle.demands.specs.FullSheets.{full-accepted, net-kept}
 use Rattle.demands.specs.Makes.{two-tree, sheet-tree}
 use Rattle.demands.specs.TreeClause.{TreeFor, TreeAgrees, agrees-all}
 use Rattle.demands.specs.ShallowRefusals.{plainMade, plain-into}
@@ -45,25 +47,25 @@ module _ (s : List ℕ) (net : Net) (reads : readNet s ≡ accepted net) where
       → ShallowOf (tableOfNet net) (settleShallowCall s cells marks output)
   settles-shallow cells marks output long =
       rw (settle-shallow-accepted s cells marks output net reads)
-      (shallow-into (tableOfNet net) (kept-table net kept-net) cells marks output (net-whole-two net kept-net) long)
+      (shallow-into (tableOfNet net) (net-kept net kept-net) cells marks output (net-whole-two net kept-net) long)
 
   -- .. with its own first three lines, ..
   pub shallow-own-lines : threeLines (printedNet (shallowNet (tableOfNet net))) ≡ threeLines s
   unfolding shallowNet tableOfNet
   shallow-own-lines =
-      three-lines (shallowNet (tableOfNet net)) (shallow-kept (tableOfNet net) (kept-table net kept-net) (net-whole-two net kept-net))
+      three-lines (shallowNet (tableOfNet net)) (shallow-kept (tableOfNet net) (kept-table net kept-net) (net-full net kept-net) (net-whole-two net kept-net))
       ∙ sym (ap threeLines (net-accepted s net reads .0) ∙ three-lines net kept-net)
 
   -- .. never over 512 bytes, ..
   pub shallow-short : length (printedNet (shallowNet (tableOfNet net))) ≤ mostSettled
-  shallow-short = net-length (shallowNet (tableOfNet net)) (shallow-kept (tableOfNet net) (kept-table net kept-net) (net-whole-two net kept-net))
+  shallow-short = net-length (shallowNet (tableOfNet net)) (shallow-kept (tableOfNet net) (kept-table net kept-net) (net-full net kept-net) (net-whole-two net kept-net))
 
   -- .. and, whatever the buffers, wherever it is accepted
   module _ (cells marks output : List ℕ) (a : Layered) (answers : settleShallowCall s cells marks output .answer ≡ accepted a) where
     pub settled-shallow : ShallowOf (tableOfNet net) (settleShallowCall s cells marks output)
     settled-shallow =
         let same = settle-shallow-accepted s cells marks output net reads in
-        rw same (shallow-accepted (tableOfNet net) (kept-table net kept-net) cells marks output a (sym (ap (λ (made : LayeredMade). made .answer) same) ∙ answers) .1)
+        rw same (shallow-accepted (tableOfNet net) (net-kept net kept-net) cells marks output a (sym (ap (λ (made : LayeredMade). made .answer) same) ∙ answers) .1)
 
     count : a .layers ≡ netLayers (shallowNet (tableOfNet net))
     count = answered-layers (tableOfNet net) (settleShallowCall s cells marks output) settled-shallow a answers
@@ -80,14 +82,14 @@ module _ (s : List ℕ) (net : Net) (reads : readNet s ≡ accepted net) where
         → Computes (net .header .levels) (net .header .inputs) gates (inkIn (tableOfNet net .inks)) → a .layers ≤ layers (net .header .inputs) gates
     unfolding tableOfNet
     settled-shallowest-gates gates is has =
-        rw count (shallow-least-gates (tableOfNet net) (kept-table net kept-net) (net-whole-two net kept-net) gates is has)
+        rw count (shallow-least-gates (tableOfNet net) (kept-table net kept-net) (net-full net kept-net) (net-whole-two net kept-net) gates is has)
 
     -- .. and every one of Section I's trees
     pub settled-shallowest-trees : (tree : Tree) → TreeFor (tableOfNet net) tree → TreeAgrees tree (tableOfNet net) → a .layers ≤ depth (wiringIn tree)
     unfolding tableOfNet
     settled-shallowest-trees tree is agrees =
         rw count
-        (shallow-least-tree (tableOfNet net) (kept-table net kept-net) (net-whole-two net kept-net) tree is
+        (shallow-least-tree (tableOfNet net) (kept-table net kept-net) (net-full net kept-net) (net-whole-two net kept-net) tree is
         (agrees-all (tableOfNet net) (kept-net .header) tree is .1 agrees))
 
   -- the sheet, as one answer
@@ -104,13 +106,13 @@ module _ (s : List ℕ) (net : Net) (reads : readNet s ≡ accepted net) where
 says-table : (net : Net) → KeptNet net → (other : Net) → KeptNet other
     → printedNet (shallowNet (tableOfNet net)) ≡ printedNet (shallowNet (tableOfNet other)) → tableOfNet net ≡ tableOfNet other
 says-table net kept other kept' e =
-    sym (shallow-has-table (tableOfNet net) (kept-table net kept) (net-whole-two net kept))
+    sym (shallow-has-table (tableOfNet net) (kept-table net kept) (net-full net kept) (net-whole-two net kept))
     ∙ ap tableOfNet
     (accepted-inj (shallowNet (tableOfNet net)) (shallowNet (tableOfNet other))
-    (sym (net-read-back (shallowNet (tableOfNet net)) (shallow-kept (tableOfNet net) (kept-table net kept) (net-whole-two net kept)))
+    (sym (net-read-back (shallowNet (tableOfNet net)) (shallow-kept (tableOfNet net) (kept-table net kept) (net-full net kept) (net-whole-two net kept)))
     ∙ ap readNet e
-    ∙ net-read-back (shallowNet (tableOfNet other)) (shallow-kept (tableOfNet other) (kept-table other kept') (net-whole-two other kept'))))
-    ∙ shallow-has-table (tableOfNet other) (kept-table other kept') (net-whole-two other kept')
+    ∙ net-read-back (shallowNet (tableOfNet other)) (shallow-kept (tableOfNet other) (kept-table other kept') (net-full other kept') (net-whole-two other kept'))))
+    ∙ shallow-has-table (tableOfNet other) (kept-table other kept') (net-full other kept') (net-whole-two other kept')
 
 -- Two accepted net sheets have the same shallow sheet exactly when their first three lines and their tables are the same.
 pub shallow-alike : (s r : List ℕ) (net other : Net) → readNet s ≡ accepted net → readNet r ≡ accepted other
@@ -134,14 +136,14 @@ shallow-alike s r net other reads reads-other cells marks output cells' marks' o
     )
 
 -- Shallow making writes the very sheet that shallow settling writes from every accepted net sheet with that table and header.
-pub make-as-settle-shallow : (s : List ℕ) (t : Table) → readTable s ≡ accepted t
+pub make-as-settle-shallow : (s : List ℕ) (t : Table) → readFull s ≡ accepted t
     → (r : List ℕ) (net : Net) → readNet r ≡ accepted net → net .header ≡ t .header → tableOfNet net .inks ≡ t .inks
     → (cells marks output cells' marks' output' : List ℕ) → LongFor shallowNet t cells marks output → LongFor shallowNet (tableOfNet net) cells' marks' output'
     → shallowSheetOf (makeShallowCall s cells marks output) ≡ shallowSheetOf (settleShallowCall r cells' marks' output')
 unfolding tableOfNet
 make-as-settle-shallow s t reads r net reads-net header inks cells marks output cells' marks' output' long long' =
     let same : tableOfNet net ≡ t = table-path (tableOfNet net) t header inks in
-    let two = two-tree t (table-accepted s t reads .1) .0 (sheet-tree t (r, net, reads-net, same)) in
+    let two = two-tree t (full-accepted s t reads .1) .0 (sheet-tree t (r, net, reads-net, same)) in
     ap shallowSheetOf (make-shallow-accepted s cells marks output t reads)
     ∙ ap sheetOf (plain-into shallowNet t cells marks output)
     ∙ net-written shallowNet t cells marks output two long

@@ -11,16 +11,18 @@ use Rattle.rules.specs.Sheets.{Net, Table, levelsAt}
 use Rattle.rules.specs.Marks.{marksLength}
 use Rattle.rules.specs.Kept.{KeptHeader}
 use Rattle.rules.specs.Answers.{accepted, refused, inkIn}
-use Rattle.rules.specs.Reading.{readNet, readTable, tableOfNet}
+use Rattle.rules.specs.Reading.{readNet, tableOfNet}
 use Rattle.rules.specs.Settling.{makeCall}
 use Rattle.laws.specs.Assignments.{each-assignment}
 use Rattle.trees.specs.Trees.{Tree, treeValue}
 use Rattle.trees.specs.Uniqueness.{table-at}
 use Rattle.trees.specs.TreeExistence.{GateTree, SomeTree, treeValueAt, tree-at-levels, trees-are-nets, net-is-gate-tree}
-use Rattle.readback.specs.ReadBack.{net-accepted, table-accepted}
+use Rattle.readback.specs.ReadBack.{net-accepted}
 use Rattle.trees.specs.NetTables.{levels-pos}
 use Rattle.demands.specs.Makes.{make-refuses}
 use Rattle.demands.specs.Assignments.{Given, inkAt}
+use Rattle.rules.specs.OpenCells.{readFull}
+use Rattle.demands.specs.FullSheets.{full-accepted}
 
 -- a tree with a gate, of the table's levels, over some of its inputs, none of them at two leaves
 abbrev pub TreeFor : Table → Tree → Type 0
@@ -59,7 +61,7 @@ table-is-tree-value s net reads =
     )
 
 -- Demand 3: making refuses with 16 exactly when no such tree computes the table.
-pub make-refuses-trees : (s : List ℕ) (t : Table) → readTable s ≡ accepted t
+pub make-refuses-trees : (s : List ℕ) (t : Table) → readFull s ≡ accepted t
     → (cells marks output : List ℕ) → t .header .levels ^ t .header .inputs ≤ length cells → marksLength (t .header .inputs) ≤ length marks
     → ((place : ℕ) × (makeCall s cells marks output .answer ≡ refused 16 place)) ↔ (ComputedByTree t → ⊥)
 make-refuses-trees s t reads cells marks output cells-fit marks-fit =
@@ -68,6 +70,6 @@ make-refuses-trees s t reads cells marks output cells-fit marks-fit =
   where
     at-all : SomeTree (t .header .levels) (t .header .inputs) (inkIn (t .inks)) ↔ ComputedByTree t
     at-all = (
-      λ some. (some .0, some .1, agrees-all t (table-accepted s t reads .1 .header) (some .0) (some .1) .0 (some .2)),
-      λ some. (some .0, some .1, agrees-all t (table-accepted s t reads .1 .header) (some .0) (some .1) .1 (some .2)),
+      λ some. (some .0, some .1, agrees-all t (full-accepted s t reads .1 .header) (some .0) (some .1) .0 (some .2)),
+      λ some. (some .0, some .1, agrees-all t (full-accepted s t reads .1 .header) (some .0) (some .1) .1 (some .2)),
     )

@@ -16,7 +16,7 @@ use Rattle.nets.specs.declared.forms.Net as own
 use Rattle.nets.specs.Forms.{headerOf, netIn, tableIn}
 use Rattle.answers.specs.declared.answer.Answer.{Answer}
 use Rattle.answers.specs.Answers.{answerOf, madeOf}
-use Rattle.accepted.specs.Taken.{TableTaken, Given, inks-table}
+use Rattle.accepted.specs.Taken.{FullTaken, Given, inks-table}
 use Rattle.filling.specs.MadeNet.{NetOf}
 use Rattle.synthesis.specs.Outcomes.{net-is}
 use Rattle.families.specs.Marked.{MarkedCount}
@@ -67,11 +67,11 @@ module _ (s : List ℕ) (h : Header) (inks cells marks : List ℕ) (r : ℕ) (ce
 
 -- ---- an accepted sheet, and its inks at the front of their buffer
 
-module _ (s : List ℕ) (h : Header) (inks : List ℕ) (taken : TableTaken s h inks) (count : ℕ) (is : count ≡ h .levels ^ h .inputs) (cells marks : List ℕ) where
+module _ (s : List ℕ) (h : Header) (inks : List ℕ) (taken : FullTaken s h inks) (count : ℕ) (is : count ≡ h .levels ^ h .inputs) (cells marks : List ℕ) where
   pub table-counted : countedInto (tableIn s h (take (count - 0) inks)) cells marks ≡ familyCountCall s cells marks
   table-counted =
-      ap (λ t. countedInto t cells marks) (inks-table s h inks taken count is) ∙ sym (family-count-accepted s cells marks _ (taken .reads))
+      ap (λ t. countedInto t cells marks) (inks-table s h inks count is) ∙ sym (family-count-accepted s cells marks _ (taken .reads))
 
   pub table-numbered : (order : ℕ) (output : List ℕ) → numberedInto order (tableIn s h (take (count - 0) inks)) cells marks output ≡ familyTreeCall s order cells marks output
   table-numbered order output =
-      ap (λ t. numberedInto order t cells marks output) (inks-table s h inks taken count is) ∙ sym (family-tree-accepted s order cells marks output _ (taken .reads))
+      ap (λ t. numberedInto order t cells marks output) (inks-table s h inks count is) ∙ sym (family-tree-accepted s order cells marks output _ (taken .reads))

@@ -16,7 +16,7 @@ use nets::forms::Header;
 use radix::limits;
 use radix::powers;
 use synthesis::room::room;
-use table_reading::sheet;
+use table_reading::full;
 
 // Refusals 13 and 14, or the cells, the marks and the count. `inks` is the table, and `header` has its levels and inputs.
 fn count_into(header: Header, inks: &[u8], cells: &mut [u8], marks: &mut [u8]) -> Answer
@@ -49,7 +49,7 @@ pub fn family_count(s: &[u8], cells: &mut [u8], marks: &mut [u8]) -> Answer
     ensures { λ r. ⌜ countedOf r (now (cells .exit)) (now (marks .exit)) ≡ familyCountCall (now (s .entry)) (now (cells .entry)) (now (marks .entry)) ⌝ }
 {
     let mut inks = [0u8; limits::MOST_CELLS];
-    let read = sheet::read_table(s, &mut inks);
+    let read = full::read_full(s, &mut inks);
     let outcome = read.outcome;
     let header = read.header;
     match outcome {

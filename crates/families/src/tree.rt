@@ -17,7 +17,7 @@ use nets::forms::Header;
 use radix::limits;
 use radix::powers;
 use synthesis::room::room;
-use table_reading::sheet;
+use table_reading::full;
 
 // The cells and the marks, and then refusal 17, refusal 15 or the sheet.
 fn tree_marked(
@@ -82,7 +82,7 @@ pub fn family_tree(
         ≡ familyTreeCall (now (s .entry)) order (now (cells .entry)) (now (marks .entry)) (now (out .entry)) ⌝ }
 {
     let mut inks = [0u8; limits::MOST_CELLS];
-    let read = sheet::read_table(s, &mut inks);
+    let read = full::read_full(s, &mut inks);
     let outcome = read.outcome;
     let header = read.header;
     match outcome {

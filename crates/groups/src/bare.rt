@@ -1,21 +1,22 @@
-// Bare cells: m, n and one byte a cell in index order. Any numbers and bytes may come in.
+// Bare cells of a full table: m, n and one byte a cell in index order. Any numbers and bytes may come in.
 ghost use mathlib.Core.Path.{_≡_};
 ghost use mathlib.Core.Bool.{not};
-ghost use lib.Dec.{ltb};
+ghost use lib.Dec.{leb};
 ghost use Rattle.rules.specs.Lists.{firstPlace};
-ghost use Rattle.rules.specs.BareCells.{bareCells};
+ghost use Rattle.rules.specs.OpenCells.{fullCells};
 ghost use Rattle.answers.specs.Answers.{outcomeAs};
 use crate::inks;
+use answers::full::judge_full;
 use answers::outcome::Outcome;
 use radix::powers;
 
-// The index of the first cell that is not below m, or the number of cells.
+// The index of the first cell that is above m, or the number of cells.
 fn first_over(m: usize, cells: &[u8]) -> usize
-    ensures { λ r. ⌜ r ≡ firstPlace (λ c. not (ltb c m)) (now (cells .entry)) ⌝ }
+    ensures { λ r. ⌜ r ≡ firstPlace (λ c. not (leb c m)) (now (cells .entry)) ⌝ }
 {
     let mut k: usize = 0;
     while k < cells.len() {
-        if m <= cells[k] as usize {
+        if m < cells[k] as usize {
             return k;
         }
         k += 1;
@@ -23,9 +24,9 @@ fn first_over(m: usize, cells: &[u8]) -> usize
     k
 }
 
-// Refusals 9 and 10.
-pub fn bare_cells(m: usize, n: usize, cells: &[u8]) -> Outcome
-    ensures { λ r. ⌜ outcomeAs tt r ≡ bareCells m n (now (cells .entry)) ⌝ }
+// Refusals 9, 10 and 27.
+pub fn full_cells(m: usize, n: usize, cells: &[u8]) -> Outcome
+    ensures { λ r. ⌜ outcomeAs tt r ≡ fullCells m n (now (cells .entry)) ⌝ }
 {
     if !powers::size_fits(m, n) {
         return Outcome::Refused {
@@ -49,6 +50,6 @@ pub fn bare_cells(m: usize, n: usize, cells: &[u8]) -> Outcome
             place: k,
         }
     } else {
-        Outcome::Accepted
+        judge_full(m, cells)
     }
 }

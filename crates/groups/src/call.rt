@@ -52,7 +52,7 @@ fn group_answer(m: usize, n: usize, cells: &[u8], group: usize) -> Answer
 pub fn multiplicity(m: usize, n: usize, cells: &[u8], group: usize) -> Answer
     ensures { λ r. ⌜ answerOf r ≡ multiplicityCall m n (now (cells .entry)) group ⌝ }
 {
-    let judged = bare::bare_cells(m, n, cells);
+    let judged = bare::full_cells(m, n, cells);
     match judged {
         Outcome::Refused { number, place } => Answer::Refused { number, place },
         Outcome::Accepted => group_answer(m, n, cells, group),

@@ -5,8 +5,9 @@ use mathlib.Core.Path.{_≡_, sym, ap, _∙_}
 use mathlib.Core.List.{List}
 use Rattle.rules.specs.Sheets.{Table}
 use Rattle.rules.specs.Answers.{accepted, refused}
-use Rattle.rules.specs.Reading.{readTable}
+use Rattle.rules.specs.OpenCells.{readFull}
 use Rattle.rules.specs.Jobs.{openJob, Opened, stepJob, Stepped, further, askJob, finishJob}
+use Rattle.laws.specs.OpenCells.{read-accepted}
 use Rattle.laws.specs.Jobs.{open-refused, open-accepted, step-done, step-on}
 use Rattle.readback.specs.ReadBack.{table-accepted}
 use Rattle.answers.specs.declared.outcome.Outcome.the-variants.{Accepted, Refused}
@@ -44,7 +45,7 @@ pub record FinishDone (job : Job) (cells marks output : List ℕ) (r : own-finis
 -- ---- opening
 
 module _ (s : List ℕ) (job : Job) where
-  pub opened-none : job ≡ noBytes → (number place : ℕ) → readTable s ≡ refused number place
+  pub opened-none : job ≡ noBytes → (number place : ℕ) → readFull s ≡ refused number place
       → OpenDone s (record { job = job; outcome = Refused number place })
   unfolding openedBytes
   opened-none is number place e =
@@ -54,12 +55,12 @@ module _ (s : List ℕ) (job : Job) where
         outcome = sym (ap (λ (o : Opened). o .answer) (open-refused s number place e));
       }
 
-  pub opened-new : (t : Table) → job ≡ newBytes t → readTable s ≡ accepted t → OpenDone s (record { job = job; outcome = Accepted })
+  pub opened-new : (t : Table) → job ≡ newBytes t → readFull s ≡ accepted t → OpenDone s (record { job = job; outcome = Accepted })
   unfolding openedBytes
   opened-new t is e =
       record {
         bytes = is ∙ sym (rw (e, openedBytes));
-        job = ap jobOf is ∙ new-job t (table-accepted s t e .1) ∙ sym (ap (λ (o : Opened). o .job) (open-accepted s t e));
+        job = ap jobOf is ∙ new-job t (table-accepted s t (read-accepted s t e .0) .1) ∙ sym (ap (λ (o : Opened). o .job) (open-accepted s t e));
         outcome = sym (ap (λ (o : Opened). o .answer) (open-accepted s t e));
       }
 

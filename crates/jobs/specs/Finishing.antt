@@ -11,12 +11,12 @@ use Rattle.rules.specs.Sheets.{Table}
 use Rattle.rules.specs.Kept.{KeptTable}
 use Rattle.rules.specs.Answers as answers
 use Rattle.rules.specs.Answers.{accepted, refused}
-use Rattle.rules.specs.BareCells.{bareCells}
+use Rattle.rules.specs.OpenCells.{fullCells}
 use Rattle.rules.specs.Settling.{Made, settledNet, madeInto}
 use Rattle.rules.specs.Jobs.{Job, noTable, groupsOf, mayFinish, Finished, finishJob}
 use Rattle.laws.specs.Answers.{not-refused}
-use Rattle.laws.specs.BareCells.{bare-size, bare-accepted, bare-inks}
-use Rattle.laws.specs.Bounds.{inks-below}
+use Rattle.laws.specs.BareCells.{bare-size}
+use Rattle.laws.specs.OpenCells.{cells-refused, cells-sized, cells-below}
 use Rattle.laws.specs.Jobs.{may-refused, may-22, may-on, finish-refused, finish-on}
 use Rattle.nets.specs.declared.forms.Header.{Header}
 use Rattle.nets.specs.Forms.{headerOf, tableIn}
@@ -25,16 +25,16 @@ use Rattle.jobs.specs.Forms.{Fronted, tableFrom, jobIn, front-job, front
 
 -- ---- a job with no table
 
-no-size : bareCells 0 0 [] ≡ refused 9 0
+no-size : fullCells 0 0 [] ≡ refused 9 0
 unfolding sizeFits levelsFit
-no-size = sym (bare-size 0 0 [] refl)
+no-size = sym (cells-refused 0 0 [] 9 0 (bare-size 0 0 [] refl))
 
 pub finish-none : (lines own marks : List ℕ) (passed : ℕ) → tableFrom lines own ≡ noTable → (cells buffer output : List ℕ)
     → record { answer = refused 9 0; cells = cells; marks = buffer; output = output } ≡ finishJob (jobIn lines own marks passed) cells buffer output .made
 unfolding jobIn noTable
 finish-none lines own marks passed none cells buffer output =
     sym (ap (λ (f : Finished). f .made) (finish-refused (jobIn lines own marks passed) cells buffer output 9 0
-    (may-refused (jobIn lines own marks passed) 9 0 (ap (λ (t : Table). bareCells (t .header .levels) (t .header .inputs) (t .inks)) none ∙ no-size))))
+    (may-refused (jobIn lines own marks passed) 9 0 (ap (λ (t : Table). fullCells (t .header .levels) (t .header .inputs) (t .inks)) none ∙ no-size))))
 
 -- ---- a job on a table
 
@@ -43,12 +43,12 @@ module _ (lines : List ℕ) (h : Header) (is : Fronted lines h) (inks : List ℕ
   abbrev pub jobWith : List ℕ → Job
   jobWith marks = record { table = tableIn lines h inks; marks = marks; passed = passed }
 
-  pub may-not : (number place : ℕ) → refused number place ≡ bareCells (h .levels) (h .inputs) inks → (marks : List ℕ)
+  pub may-not : (number place : ℕ) → refused number place ≡ fullCells (h .levels) (h .inputs) inks → (marks : List ℕ)
       → refused number place ≡ mayFinish (jobWith marks)
   unfolding headerOf
   may-not number place e marks = sym (may-refused (jobWith marks) number place (sym e))
 
-  module _ (good : accepted tt ≡ bareCells (h .levels) (h .inputs) inks) (groups : ℕ) (all : groups ≡ 2 ^ h .inputs - 1) (marks : List ℕ) where
+  module _ (good : accepted tt ≡ fullCells (h .levels) (h .inputs) inks) (groups : ℕ) (all : groups ≡ 2 ^ h .inputs - 1) (marks : List ℕ) where
     pub may-not-yet : passed < groups → refused 22 (groups - passed) ≡ mayFinish (jobWith marks)
     unfolding headerOf groupsOf
     may-not-yet l = (λ i. refused 22 (all i - passed)) ∙ sym (may-22 (jobWith marks) (sym good) (omega arith))
@@ -58,27 +58,27 @@ module _ (lines : List ℕ) (h : Header) (is : Fronted lines h) (inks : List ℕ
     may-now l = sym (may-on (jobWith marks) (sym good) (omega arith))
 
   -- a job that may be finished has accepted cells
-  pub may-good : (marks : List ℕ) → accepted tt ≡ mayFinish (jobWith marks) → accepted tt ≡ bareCells (h .levels) (h .inputs) inks
+  pub may-good : (marks : List ℕ) → accepted tt ≡ mayFinish (jobWith marks) → accepted tt ≡ fullCells (h .levels) (h .inputs) inks
   unfolding mayFinish answers.onward headerOf
-  may-good marks e = go (bareCells (h .levels) (h .inputs) inks) refl
+  may-good marks e = go (fullCells (h .levels) (h .inputs) inks) refl
     where
-      go : (a : answers.Answer (Unit {0})) → bareCells (h .levels) (h .inputs) inks ≡ a → accepted tt ≡ bareCells (h .levels) (h .inputs) inks
+      go : (a : answers.Answer (Unit {0})) → fullCells (h .levels) (h .inputs) inks ≡ a → accepted tt ≡ fullCells (h .levels) (h .inputs) inks
       go (answers.accepted _) d = sym d
       go (answers.refused number place) d = absurd (not-refused tt number place (e ∙ may-refused (jobWith marks) number place d))
 
-  -- so its table keeps the rules
+  -- so its table keeps the rules and is full
   pub may-given : (marks : List ℕ) → accepted tt ≡ mayFinish (jobWith marks) → Given lines h inks
   unfolding headerOf
   may-given marks e =
       let good = may-good marks e in
-      let pos : 0 < h .levels = omega (arith, front-size lines h is .levels-least) in
       record {
         names = names-inside lines h (is .held);
         kept = record {
           header = front-kept lines h is;
-          count = bare-accepted (h .levels) (h .inputs) inks good .1;
-          below = λ k l. inks-below (h .levels) pos inks (bare-inks (h .levels) (h .inputs) inks good) k;
+          count = cells-sized (h .levels) (h .inputs) inks good .1;
+          within = λ k l. omega (arith, cells-below (h .levels) (h .inputs) inks good k l);
         };
+        full = cells-below (h .levels) (h .inputs) inks good;
       }
 
   module _ (marks cells buffer output : List ℕ) where

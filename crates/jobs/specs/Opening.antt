@@ -16,7 +16,7 @@ use Rattle.rules.specs.Sheets.{Table, headerLines}
 use Rattle.rules.specs.Printed.{line}
 use Rattle.rules.specs.Kept.{GoodNames, KeptHeader, KeptTable}
 use Rattle.rules.specs.Answers.{Answer, accepted, refused, written}
-use Rattle.rules.specs.Reading.{readTable}
+use Rattle.rules.specs.OpenCells.{readFull}
 use Rattle.rules.specs.Jobs.{noTable, newJob, emptyJob}
 use Rattle.rules.specs.Evaluation.{computing}
 use Rattle.laws.specs.Answers.{written-front}
@@ -50,7 +50,7 @@ unfoldable pub noBytes : Job
 noBytes = record { lines = replicate mostLines 0; cells = replicate mostCells 0; marks = replicate mostGroups 0; passed = 0 }
 
 unfoldable pub openedBytes : List ℕ → Job
-openedBytes s = elim (readTable s) [ refused number place ↦ noBytes | accepted t ↦ newBytes t ]
+openedBytes s = elim (readFull s) [ refused number place ↦ noBytes | accepted t ↦ newBytes t ]
 
 -- ---- the first lines
 

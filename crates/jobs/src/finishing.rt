@@ -24,7 +24,7 @@ fn may_finish(lines: &[u8], h: Header, inks: &[u8], passed: usize) -> Outcome
     ensures { λ r. ⌜ ((marks : List ℕ) → outcomeAs tt r
         ≡ mayFinish (record { table = tableIn (now (lines .entry)) h (now (inks .entry)); marks = marks; passed = passed })) ⌝ }
 {
-    let judged = bare::bare_cells(h.levels, h.inputs, inks);
+    let judged = bare::full_cells(h.levels, h.inputs, inks);
     match judged {
         Outcome::Refused { number, place } => Outcome::Refused { number, place },
         Outcome::Accepted => {

@@ -16,7 +16,7 @@ use lines::put::copy;
 use nets::forms::Header;
 use radix::limits;
 use radix::powers;
-use table_reading::sheet;
+use table_reading::full;
 
 // The empty job: no bytes of it are a sheet's first lines.
 fn no_job() -> Job
@@ -69,7 +69,7 @@ pub fn open(s: &[u8]) -> Opened
     ensures { λ r. ⌜ OpenDone (now (s .entry)) r ⌝ }
 {
     let mut inks = [0u8; limits::MOST_CELLS];
-    let read = sheet::read_table(s, &mut inks);
+    let read = full::read_full(s, &mut inks);
     let outcome = read.outcome;
     let h = read.header;
     match outcome {

@@ -41,3 +41,11 @@ filledInto net t cells output =
       | true ↦ record { answer = turnedAway answers.neither 23 (suc (roomyBefore net t)); cells = cells-then; output = output }
       | false ↦ sheetKept net t cells-then output
     ]
+
+-- what follows past 27: 13, or what follows past it
+unfoldable pub fullInto : Net → Table → List ℕ → List ℕ → KeptWiring
+fullInto net t cells output =
+    elim (ltb (length cells) (length (t .inks))) [
+      | true ↦ record { answer = turnedAway answers.neither 13 (length (t .inks)); cells = cells; output = output }
+      | false ↦ filledInto net t cells output
+    ]

@@ -1,4 +1,4 @@
--- Keeping the wiring of two accepted sheets: headers, the cells buffer, then the gates' groups and the sheet.
+-- Keeping the wiring of two accepted sheets: headers, a full table, the cells buffer, then the gates' groups and the sheet.
 -- Assumes nothing.
 use Prim.Native.Nat.{ℕ, suc, _+_, _-_, _^_, _≤_, _<_}
 use mathlib.Core.Path.{_≡_, refl, sym, ap, ap₂, _∙_, subst, subst⁻¹, subst₂}
@@ -16,13 +16,14 @@ use Rattle.rules.specs.Printed.{printedNet}
 use Rattle.rules.specs.Limits.{sizeFits}
 use Rattle.rules.specs.Filling.{inputGroups, filled}
 use Rattle.rules.specs.Kept.{IsNet, KeptHeader}
-use Rattle.rules.specs.Answers.{inkIn, neither, written}
+use Rattle.rules.specs.Answers.{accepted, inkIn, neither, refused, tableNamed, written}
+use Rattle.rules.specs.OpenCells.{full, fullTable}
 use Rattle.rules.specs.Settling.{writtenSheet}
 use Rattle.rules.specs.Checking.{sameNames, sameHeader}
 use Rattle.rules.specs.Keeping.{gateLinks, keptGates, keptNet, roomyGates, roomyBefore, changedGates, turnedAway, KeptWiring, keptInto, keepCall}
 use Rattle.laws.specs.Tests.{both-eqb}
 use Rattle.laws.specs.Settling.{sheet-15, sheet-written}
-use Rattle.laws.specs.Keeping.{keep-accepted, keep-12, keep-13, keep-23, keep-15, keep-written}
+use Rattle.laws.specs.Keeping.{keep-accepted, keep-12, keep-27, keep-13, keep-23, keep-15, keep-written}
 use Rattle.readback.specs.ReadBack.{net-accepted}
 use Rattle.trees.specs.Fillings.{Fillable}
 use Rattle.trees.specs.KeptLinks.{same-net}
@@ -40,10 +41,10 @@ use Rattle.table_reading.specs.Answers.{inksIn}
 use Rattle.lines.specs.Put.{Put, put-wrote}
 use Rattle.answers.specs.declared.answer.Answer.{Answer}
 use Rattle.answers.specs.Answers.{answerOf, madeOf}
-use Rattle.accepted.specs.Taken.{NetTaken, TableTaken, Given, sound, held-size, names-inside, inks-front, inks-given}
+use Rattle.accepted.specs.Taken.{NetTaken, TableTaken, Given, sound, held-size, names-inside, taken-full, inks-front, inks-kept, inks-given}
 use Rattle.synthesis.specs.Outcomes.{given-size, given-count, given-below, net-is}
 use Rattle.keeping.specs.declared.answer.Kept.{Kept}
-use Rattle.keeping.specs.Answers.{keepingOf, keptOf, withChanged, sheetKept, filledInto}
+use Rattle.keeping.specs.Answers.{keepingOf, keptOf, withChanged, sheetKept, filledInto, fullInto}
 
 -- what `keep_filled` asks
 pub record Ready (s : List ℕ) (h : Header) (net : Net) (inks cells : List ℕ) : Type 0 where
@@ -51,31 +52,48 @@ pub record Ready (s : List ℕ) (h : Header) (net : Net) (inks cells : List ℕ)
   pub given : Given s h inks
   pub long : length inks ≤ length cells
 
--- ---- past 13
+-- ---- past 27
 
-module _ (net : sheets.Net) (t : Table) (cells output : List ℕ) (same : sameHeader (net .header) (t .header) ≡ true) (long : length (t .inks) ≤ length cells) where
-  past-13 : keptInto net t cells output ≡ filledInto net t cells output
+module _ (net : sheets.Net) (t : Table) (cells output : List ℕ) where
+  pub full-short : length cells < length (t .inks)
+      → record { answer = turnedAway neither 13 (length (t .inks)); cells = cells; output = output } ≡ fullInto net t cells output
+  unfolding fullInto
+  full-short short = sym (rw (lt-ltb _ _ short, fullInto))
+
+  pub full-long : length (t .inks) ≤ length cells → filledInto net t cells output ≡ fullInto net t cells output
+  unfolding fullInto
+  full-long long = sym (rw (le-ltb _ _ long, fullInto))
+
+module _ (net : sheets.Net) (t : Table) (cells output : List ℕ) (same : sameHeader (net .header) (t .header) ≡ true) (whole : fullTable t ≡ accepted tt) where
+  past-13 : length (t .inks) ≤ length cells → keptInto net t cells output ≡ filledInto net t cells output
   unfolding filledInto sheetKept withChanged
-  past-13 = go (decLe (length (net .gates)) (roomyBefore net t)) (decLe (length (printedNet (keptNet net t))) (length output))
+  past-13 long = go (decLe (length (net .gates)) (roomyBefore net t)) (decLe (length (printedNet (keptNet net t))) (length output))
     where
       go : Dec (length (net .gates) ≤ roomyBefore net t) → Dec (length (printedNet (keptNet net t)) ≤ length output) → keptInto net t cells output ≡ filledInto net t cells output
       go (no crowded) _ =
-          keep-23 net t cells output same long (lt-of-not-le crowded) ∙ sym (rw (lt-ltb _ _ (lt-of-not-le crowded), filledInto))
+          keep-23 net t cells output same whole long (lt-of-not-le crowded) ∙ sym (rw (lt-ltb _ _ (lt-of-not-le crowded), filledInto))
       go (yes roomy) (no short) =
-          keep-15 net t cells output same long roomy (lt-of-not-le short)
+          keep-15 net t cells output same whole long roomy (lt-of-not-le short)
           ∙ sym (rw (le-ltb _ _ roomy, filledInto, sheetKept, sheet-15 (printedNet (keptNet net t)) (written cells (t .inks)) (written cells (t .inks)) output (lt-of-not-le short)))
       go (yes roomy) (yes fits) =
-          keep-written net t cells output same long roomy fits
+          keep-written net t cells output same whole long roomy fits
           ∙ sym (rw (le-ltb _ _ roomy, filledInto, sheetKept, sheet-written (printedNet (keptNet net t)) (written cells (t .inks)) (written cells (t .inks)) output fits))
+
+  past-27 : keptInto net t cells output ≡ fullInto net t cells output
+  past-27 = go (decLe (length (t .inks)) (length cells))
+    where
+      go : Dec (length (t .inks) ≤ length cells) → keptInto net t cells output ≡ fullInto net t cells output
+      go (yes long) = past-13 long ∙ full-long net t cells output long
+      go (no short) = keep-13 net t cells output same whole (lt-of-not-le short) ∙ full-short net t cells output (lt-of-not-le short)
 
 -- the header of an accepted net sheet keeps the rules
 own-header : (s : List ℕ) (h : Header) (net : Net) → NetTaken s h net → KeptHeader (headerOf s h)
 own-header s h net taken = net-accepted s (netIn s h net) (taken .reads) .1 .header
 
 -- the table's header has no say in what follows
-any-header : (net : sheets.Net) (t u : Table) (cells output : List ℕ) → t .inks ≡ u .inks → filledInto net t cells output ≡ filledInto net u cells output
-unfolding filledInto sheetKept roomyBefore keptNet
-any-header net t u cells output e = ap (λ (inks : List ℕ). filledInto net (record { header = t .header; inks = inks }) cells output) e
+any-header : (net : sheets.Net) (t u : Table) (cells output : List ℕ) → t .inks ≡ u .inks → fullInto net t cells output ≡ fullInto net u cells output
+unfolding fullInto filledInto sheetKept roomyBefore keptNet
+any-header net t u cells output e = ap (λ (inks : List ℕ). fullInto net (record { header = t .header; inks = inks }) cells output) e
 
 -- ---- two accepted sheets
 
@@ -102,49 +120,48 @@ module _ (s : List ℕ) (h : Header) (net : Net) (taken : NetTaken s h net) (t :
       count-is = is ∙ ap₂ _^_ (sizes .0) (sizes .1)
 
       front : take (count - 0) inks ≡ inksIn inks k
-      front = inks-front t k inks other count count-is
-
-      table-given : Given t k (take (count - 0) inks)
-      table-given = inks-given t k inks other count count-is
+      front = inks-front t k inks count count-is
 
       front-length : length (take (count - 0) inks) ≡ count
-      front-length = given-count t k (take (count - 0) inks) table-given ∙ sym count-is
-
-      inks-length : length (inksIn inks k) ≡ count
-      inks-length = ap length (sym front) ∙ front-length
+      unfolding headerOf
+      front-length = inks-kept t k inks count count-is other .count ∙ sym count-is
 
       -- the buffer holds all inks
       pub inks-long : count ≤ length inks
       inks-long = omega (arith, front-length, length-take (count - 0) inks)
 
-      pub cells-short : length cells < count → record { answer = turnedAway neither 13 count; cells = cells; output = output } ≡ keepCall s t cells output
-      cells-short short =
-          (λ i. record { answer = turnedAway neither 13 (sym inks-length i); cells = cells; output = output })
-          ∙ sym (both-accepted ∙ keep-13 (netIn s h net) (tableIn t k (inksIn inks k)) cells output agreed (subst⁻¹ (λ (n : ℕ). length cells < n) inks-length short))
+      -- 27, which names the table sheet
+      pub table-open : (number place : ℕ) → refused number place ≡ full (k .levels) (take (count - 0) inks)
+          → record { answer = turnedAway tableNamed number place; cells = cells; output = output } ≡ keepCall s t cells output
+      unfolding fullTable headerOf
+      table-open number place e =
+          sym (both-accepted ∙ keep-27 (netIn s h net) (tableIn t k (inksIn inks k)) cells output agreed number place (ap (full (k .levels)) (sym front) ∙ sym e))
 
-      module _ (long : count ≤ length cells) where
-        -- the inks are a table of the net's header
-        pub both-ready : Ready s h net (take (count - 0) inks) cells
+      module _ (on : accepted tt ≡ full (k .levels) (take (count - 0) inks)) where
+        whole : full (k .levels) (inksIn inks k) ≡ accepted tt
+        whole = ap (full (k .levels)) (sym front) ∙ sym on
+
+        table-given : Given t k (take (count - 0) inks)
+        table-given = inks-given t k inks count count-is (taken-full t k inks other whole)
+
+        -- the inks are a full table of the net's header
+        pub both-given : Given s h (take (count - 0) inks)
         unfolding headerOf
-        both-ready =
+        both-given =
+            let below : (p : ℕ) → p < length (take (count - 0) inks) → inkIn (take (count - 0) inks) p < h .levels =
+            λ p p<. subst⁻¹ (λ (m : ℕ). inkIn (take (count - 0) inks) p < m) (sizes .0) (table-given .full p p<) in
             record {
-              taken = taken;
-              given = record {
-                names = names-inside s h (taken .header);
-                kept = record {
-                  header = own-header s h net taken;
-                  count = front-length ∙ is;
-                  below = λ p p<. subst⁻¹ (λ (m : ℕ). inkIn (take (count - 0) inks) p < m) (sizes .0) (table-given .kept .below p p<);
-                };
-              };
-              long = omega (arith, front-length);
+              names = names-inside s h (taken .header);
+              kept = record { header = own-header s h net taken; count = front-length ∙ is; within = λ p p<. omega (arith, below p p<) };
+              full = below;
             }
 
-        pub cells-long : (r : KeptWiring) → r ≡ filledInto (netIn s h net) (tableIn s h (take (count - 0) inks)) cells output → r ≡ keepCall s t cells output
-        cells-long r e =
+        pub full-told : (r : KeptWiring) → r ≡ fullInto (netIn s h net) (tableIn s h (take (count - 0) inks)) cells output → r ≡ keepCall s t cells output
+        unfolding fullTable headerOf
+        full-told r e =
             e
             ∙ any-header (netIn s h net) (tableIn s h (take (count - 0) inks)) (tableIn t k (inksIn inks k)) cells output front
-            ∙ sym (past-13 (netIn s h net) (tableIn t k (inksIn inks k)) cells output agreed (omega (arith, inks-length)))
+            ∙ sym (past-27 (netIn s h net) (tableIn t k (inksIn inks k)) cells output agreed whole)
             ∙ sym both-accepted
 
 -- ---- past 13, by value

@@ -2,12 +2,13 @@
 ghost use mathlib.Core.Path.{_≡_};
 ghost use Rattle.rules.specs.Keeping.{keepCall};
 ghost use Rattle.nets.specs.Forms.{netIn, tableIn};
-ghost use Rattle.keeping.specs.Answers.{keptOf, filledInto};
-ghost use Rattle.accepted.specs.Taken.{NetTaken, TableTaken};
+ghost use Rattle.keeping.specs.Answers.{keptOf, filledInto, fullInto};
+ghost use Rattle.accepted.specs.Taken.{NetTaken, TableTaken, Given};
 ghost use Rattle.keeping.specs.Judging.{Ready};
 use crate::answer::Kept;
 use crate::crowded::roomy_gates;
 use crate::rewrite::rewrite;
+use answers::full::judge_full;
 use answers::named::Named;
 use answers::outcome::Outcome;
 use checking::headers::same_header;
@@ -44,7 +45,31 @@ fn keep_filled(
     rewrite(s, header, net, inks, out)
 }
 
-// The net sheet s and the table sheet t, both accepted: refusal 12 or 13, or what the wiring comes to. The inks of t stand at the front of `inks`.
+// A full table: refusal 13, or what the wiring comes to.
+fn keep_full(
+    s: &[u8],
+    header: Header,
+    net: Net,
+    inks: &[u8],
+    cells: &mut [u8],
+    out: &mut [u8],
+) -> Kept
+    requires { ⌜ NetTaken (now s) header net × Given (now s) header (now inks) ⌝ }
+    ensures { λ r. ⌜ keptOf r (now (cells .exit)) (now (out .exit))
+        ≡ fullInto (netIn (now (s .entry)) header net) (tableIn (now (s .entry)) header (now (inks .entry))) (now (cells .entry)) (now (out .entry)) ⌝ }
+{
+    if cells.len() < inks.len() {
+        return Kept::Refused {
+            named: Named::Neither,
+            number: 13,
+            place: inks.len(),
+        };
+    }
+    keep_filled(s, header, net, inks, cells, out)
+}
+
+// The net sheet s and the table sheet t, both accepted: refusal 12, refusal 27, which names the table sheet, or what a full table comes to. The inks
+// of t stand at the front of `inks`.
 fn keep_accepted(
     s: &[u8],
     header: Header,
@@ -67,14 +92,15 @@ fn keep_accepted(
             place: 0,
         };
     }
-    if cells.len() < count {
-        return Kept::Refused {
-            named: Named::Neither,
-            number: 13,
-            place: count,
-        };
+    let judged = judge_full(other.levels, &inks[0..count]);
+    match judged {
+        Outcome::Refused { number, place } => Kept::Refused {
+            named: Named::Table,
+            number,
+            place,
+        },
+        Outcome::Accepted => keep_full(s, header, net, &inks[0..count], cells, out),
     }
-    keep_filled(s, header, net, &inks[0..count], cells, out)
 }
 
 // The wiring of the accepted net sheet s, for the table sheet t.

@@ -1,13 +1,13 @@
 -- What bare cells come to, one law for each outcome, and what follows of those that are accepted.
 -- Assumes nothing.
 use Prim.Native.Nat.{ℕ, _^_, _≤_, _<_}
-use mathlib.Core.Path.{_≡_, refl, ap, _∙_}
+use mathlib.Core.Path.{_≡_, refl, sym, ap, _∙_}
 use mathlib.Core.Bool.{Bool, true, false, not, and-false}
 use mathlib.Core.List.{List}
 use native.Mathlib.Omega.{arith}
-use lib.Dec.{eqb, ltb}
-use lib.ListN.{length}
-use borrow.Author.Tests.{eqb-true, eqb-false, eq-eqb, ne-eqb, lt-ltb, le-ltb}
+use lib.Dec.{eqb, leb}
+use lib.ListN.{length, getD}
+use borrow.Author.Tests.{eqb-true, eqb-false, eq-eqb, ne-eqb, lt-ltb, le-ltb, le-leb}
 use Rattle.rules.specs.Lists.{all, firstPlace}
 use Rattle.rules.specs.Limits.{sizeFits}
 use Rattle.rules.specs.Sheets.{Table}
@@ -29,16 +29,22 @@ module _ (m n : ℕ) (cells : List ℕ) where
   bare-length ne = rw (ne-eqb (length cells) (m ^ n) ne, and-false (sizeFits m n), bareCells)
 
   module _ (fits : sizeFits m n ≡ true) (count : length cells ≡ m ^ n) (k : ℕ)
-      (over : k ≡ firstPlace (λ c. not (ltb c m)) cells) where
+      (over : k ≡ firstPlace (λ c. not (leb c m)) cells) where
     pub bare-cell : k < length cells → answers.refused 10 k ≡ bareCells m n cells
     unfolding bareCells
     bare-cell h =
-        rw (fits, eq-eqb (length cells) (m ^ n) count, all-place (λ c. ltb c m) cells, ← over, lt-ltb k (length cells) h, bareCells) (ap (answers.refused 10) over)
+        rw (fits, eq-eqb (length cells) (m ^ n) count, all-place (λ c. leb c m) cells, ← over, lt-ltb k (length cells) h, bareCells) (ap (answers.refused 10) over)
 
     pub bare-good : length cells ≤ k → answers.accepted tt ≡ bareCells m n cells
     unfolding bareCells
     bare-good h =
-        rw (fits, eq-eqb (length cells) (m ^ n) count, all-place (λ c. ltb c m) cells, ← over, le-ltb k (length cells) h, bareCells)
+        rw (fits, eq-eqb (length cells) (m ^ n) count, all-place (λ c. leb c m) cells, ← over, le-ltb k (length cells) h, bareCells)
+
+  -- no cell is above m
+  pub bare-within : sizeFits m n ≡ true → length cells ≡ m ^ n → ((k : ℕ) → k < length cells → getD cells k 0 ≤ m) → answers.accepted tt ≡ bareCells m n cells
+  unfolding bareCells
+  bare-within fits count within =
+      rw (fits, eq-eqb (length cells) (m ^ n) count, all-each (λ c. leb c m) 0 cells (λ k h. le-leb _ _ (within k h)), bareCells)
 
   never : answers.accepted tt ≡ bareCells m n cells → answers.refused 9 0 ≡ bareCells m n cells → ⊥
   never e r = let z : _≡_ {A = ℕ} 0 1 = cc in omega arith
@@ -51,25 +57,18 @@ module _ (m n : ℕ) (cells : List ℕ) where
       go true fits false count = absurd (never e (bare-length (eqb-false _ _ count)))
       go false fits t count = absurd (never e (bare-size fits))
 
-  -- .. and each cell is below m
-  pub bare-inks : answers.accepted tt ≡ bareCells m n cells → all (λ c. ltb c m) cells ≡ true
+  -- .. and no cell is above m
+  pub bare-inks : answers.accepted tt ≡ bareCells m n cells → all (λ c. leb c m) cells ≡ true
   unfolding bareCells
-  bare-inks e = go (all (λ c. ltb c m) cells) refl
+  bare-inks e = go (all (λ c. leb c m) cells) refl
     where
-      go : (t : Bool) → all (λ c. ltb c m) cells ≡ t → all (λ c. ltb c m) cells ≡ true
+      go : (t : Bool) → all (λ c. leb c m) cells ≡ t → all (λ c. leb c m) cells ≡ true
       go true h = h
       go false h =
           let (fits, count) = bare-accepted e in
-          let back : bareCells m n cells ≡ answers.refused 10 (firstPlace (λ c. not (ltb c m)) cells) = rw (fits, eq-eqb (length cells) (m ^ n) count, h, bareCells) in
+          let back : bareCells m n cells ≡ answers.refused 10 (firstPlace (λ c. not (leb c m)) cells) = rw (fits, eq-eqb (length cells) (m ^ n) count, h, bareCells) in
           absurd (not-refused tt 10 _ (e ∙ back))
 
 -- the inks of a table that keeps the rules are bare cells that are accepted
 pub bare-kept : (t : Table) → KeptTable t → bareCells (t .header .levels) (t .header .inputs) (t .inks) ≡ answers.accepted tt
-unfolding bareCells
-bare-kept t kept =
-    rw (
-      kept-fits (t .header) (kept .header),
-      eq-eqb (length (t .inks)) (t .header .levels ^ t .header .inputs) (kept .count),
-      all-each (λ c. ltb c (t .header .levels)) 0 (t .inks) (λ k h. lt-ltb _ _ (kept .below k h)),
-      bareCells,
-    )
+bare-kept t kept = sym (bare-within (t .header .levels) (t .header .inputs) (t .inks) (kept-fits (t .header) (kept .header)) (kept .count) (kept .within))

@@ -9,7 +9,7 @@ use Rattle.rules.specs.Sheets.{Table}
 use Rattle.rules.specs.Printed.{printedNet}
 use Rattle.rules.specs.Marks.{marksLength, storedMarks}
 use Rattle.rules.specs.Answers.{accepted, refused, written}
-use Rattle.rules.specs.Reading.{readTable}
+use Rattle.rules.specs.OpenCells.{readFull}
 use Rattle.rules.specs.Settling.{roomFor, writtenSheet}
 use Rattle.rules.specs.FamilyCalls.{countOfTable, familyNet, countedInto, familyCountCall, afterCount, numberedInto, familyTreeCall}
 use Rattle.laws.specs.Settling.{marksOfTable, room-13, room-14, room-both}
@@ -89,21 +89,21 @@ module _ (number : ℕ) (t : Table) (cells marks output : List ℕ) where
 -- ---- a sheet that is turned back, and one that is accepted
 
 module _ (s cells marks : List ℕ) where
-  pub family-count-refused : (number place : ℕ) → readTable s ≡ refused number place
+  pub family-count-refused : (number place : ℕ) → readFull s ≡ refused number place
       → familyCountCall s cells marks ≡ record { answer = refused number place; cells = cells; marks = marks }
   unfolding familyCountCall
   family-count-refused number place e = rw (e, familyCountCall)
 
-  pub family-count-accepted : (t : Table) → readTable s ≡ accepted t → familyCountCall s cells marks ≡ countedInto t cells marks
+  pub family-count-accepted : (t : Table) → readFull s ≡ accepted t → familyCountCall s cells marks ≡ countedInto t cells marks
   unfolding familyCountCall
   family-count-accepted t e = rw (e, familyCountCall)
 
 module _ (s : List ℕ) (number : ℕ) (cells marks output : List ℕ) where
-  pub family-tree-refused : (refusal place : ℕ) → readTable s ≡ refused refusal place
+  pub family-tree-refused : (refusal place : ℕ) → readFull s ≡ refused refusal place
       → familyTreeCall s number cells marks output ≡ record { answer = refused refusal place; cells = cells; marks = marks; output = output }
   unfolding familyTreeCall
   family-tree-refused refusal place e = rw (e, familyTreeCall)
 
-  pub family-tree-accepted : (t : Table) → readTable s ≡ accepted t → familyTreeCall s number cells marks output ≡ numberedInto number t cells marks output
+  pub family-tree-accepted : (t : Table) → readFull s ≡ accepted t → familyTreeCall s number cells marks output ≡ numberedInto number t cells marks output
   unfolding familyTreeCall
   family-tree-accepted t e = rw (e, familyTreeCall)

@@ -10,19 +10,18 @@ use borrow.Author.Tests.{lt-ltb, le-ltb, le-leb, lt-leb, eq-eqb, ne-eqb}
 use Rattle.rules.specs.Sheets.{Table}
 use Rattle.rules.specs.Marks.{markIn}
 use Rattle.rules.specs.Answers.{accepted, onward, refused}
-use Rattle.rules.specs.Reading.{readTable}
-use Rattle.rules.specs.BareCells.{bareCells}
+use Rattle.rules.specs.OpenCells.{fullCells, readFull}
 use Rattle.rules.specs.Settling.{settledNet, madeInto}
 use Rattle.rules.specs.Jobs.{Job, groupsOf, newJob, emptyJob, openJob, further, stepJob, final, notReached, reachedIn, askJob, mayFinish, finishJob}
 
 -- ---- opening
 
 module _ (s : List ℕ) where
-  pub open-refused : (number place : ℕ) → readTable s ≡ refused number place → openJob s ≡ record { job = emptyJob; answer = refused number place }
+  pub open-refused : (number place : ℕ) → readFull s ≡ refused number place → openJob s ≡ record { job = emptyJob; answer = refused number place }
   unfolding openJob
   open-refused number place e = rw (e, openJob)
 
-  pub open-accepted : (t : Table) → readTable s ≡ accepted t → openJob s ≡ record { job = newJob t; answer = accepted tt }
+  pub open-accepted : (t : Table) → readFull s ≡ accepted t → openJob s ≡ record { job = newJob t; answer = accepted tt }
   unfolding openJob
   open-accepted t e = rw (e, openJob)
 
@@ -71,12 +70,12 @@ module _ (job : Job) where
 
   -- ---- finishing
 
-  pub may-refused : (number place : ℕ) → bareCells (job .table .header .levels) (job .table .header .inputs) (job .table .inks) ≡ refused number place
+  pub may-refused : (number place : ℕ) → fullCells (job .table .header .levels) (job .table .header .inputs) (job .table .inks) ≡ refused number place
       → mayFinish job ≡ refused number place
   unfolding mayFinish onward
   may-refused number place e = rw (e, mayFinish)
 
-  module _ (e : bareCells (job .table .header .levels) (job .table .header .inputs) (job .table .inks) ≡ accepted tt) where
+  module _ (e : fullCells (job .table .header .levels) (job .table .header .inputs) (job .table .inks) ≡ accepted tt) where
     pub may-22 : job .passed < groupsOf job → mayFinish job ≡ refused 22 (groupsOf job - job .passed)
     unfolding mayFinish onward
     may-22 h = rw (e, lt-ltb _ _ h, mayFinish)

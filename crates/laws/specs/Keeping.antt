@@ -10,6 +10,7 @@ use Rattle.rules.specs.Sheets.{Net, Table}
 use Rattle.rules.specs.Printed.{printedNet}
 use Rattle.rules.specs.Answers.{accepted, refused, written, netNamed, tableNamed, neither}
 use Rattle.rules.specs.Reading.{readNet, readTable}
+use Rattle.rules.specs.OpenCells.{fullTable}
 use Rattle.rules.specs.Checking.{sameHeader}
 use Rattle.rules.specs.Keeping.{keptNet, roomyBefore, leavesOut, changedGates, rewritten, turnedAway, keptInto, keepCall}
 
@@ -35,36 +36,42 @@ module _ (net : Net) (t : Table) (cells output : List ℕ) where
   keep-12 e = rw (e, keptInto)
 
   module _ (same : sameHeader (net .header) (t .header) ≡ true) where
-    pub keep-13 : length cells < length (t .inks)
-        → keptInto net t cells output ≡ record { answer = turnedAway neither 13 (length (t .inks)); cells = cells; output = output }
+    pub keep-27 : (number place : ℕ) → fullTable t ≡ refused number place
+        → keptInto net t cells output ≡ record { answer = turnedAway tableNamed number place; cells = cells; output = output }
     unfolding keptInto
-    keep-13 h = rw (same, lt-ltb _ _ h, keptInto)
+    keep-27 number place e = rw (same, e, keptInto)
 
-    module _ (long : length (t .inks) ≤ length cells) where
-      pub keep-23-0 : leavesOut net t ≡ true
-          → keptInto net t cells output ≡ record { answer = turnedAway neither 23 0; cells = written cells (t .inks); output = output }
+    module _ (whole : fullTable t ≡ accepted tt) where
+      pub keep-13 : length cells < length (t .inks)
+          → keptInto net t cells output ≡ record { answer = turnedAway neither 13 (length (t .inks)); cells = cells; output = output }
       unfolding keptInto
-      keep-23-0 e = rw (same, le-ltb _ _ long, e, keptInto)
+      keep-13 h = rw (same, whole, lt-ltb _ _ h, keptInto)
 
-      module _ (takes : leavesOut net t ≡ false) where
-        pub keep-23 : roomyBefore net t < length (net .gates)
-            → keptInto net t cells output ≡ record { answer = turnedAway neither 23 (suc (roomyBefore net t)); cells = written cells (t .inks); output = output }
+      module _ (long : length (t .inks) ≤ length cells) where
+        pub keep-23-0 : leavesOut net t ≡ true
+            → keptInto net t cells output ≡ record { answer = turnedAway neither 23 0; cells = written cells (t .inks); output = output }
         unfolding keptInto
-        keep-23 h = rw (same, le-ltb _ _ long, takes, lt-ltb _ _ h, keptInto)
+        keep-23-0 e = rw (same, whole, le-ltb _ _ long, e, keptInto)
 
-        module _ (roomy : length (net .gates) ≤ roomyBefore net t) where
-          pub keep-15 : length output < length (printedNet (keptNet net t))
-              → keptInto net t cells output
-              ≡ record { answer = turnedAway neither 15 (length (printedNet (keptNet net t))); cells = written cells (t .inks); output = output }
+        module _ (takes : leavesOut net t ≡ false) where
+          pub keep-23 : roomyBefore net t < length (net .gates)
+              → keptInto net t cells output ≡ record { answer = turnedAway neither 23 (suc (roomyBefore net t)); cells = written cells (t .inks); output = output }
           unfolding keptInto
-          keep-15 h = rw (same, le-ltb _ _ long, takes, le-ltb _ _ roomy, lt-ltb _ _ h, keptInto)
+          keep-23 h = rw (same, whole, le-ltb _ _ long, takes, lt-ltb _ _ h, keptInto)
 
-          pub keep-written : length (printedNet (keptNet net t)) ≤ length output
-              → keptInto net t cells output
-              ≡ record {
-                answer = rewritten (length (printedNet (keptNet net t))) (changedGates (net .gates) (keptNet net t .gates));
-                cells = written cells (t .inks);
-                output = written output (printedNet (keptNet net t));
-              }
-          unfolding keptInto
-          keep-written h = rw (same, le-ltb _ _ long, takes, le-ltb _ _ roomy, le-ltb _ _ h, keptInto)
+          module _ (roomy : length (net .gates) ≤ roomyBefore net t) where
+            pub keep-15 : length output < length (printedNet (keptNet net t))
+                → keptInto net t cells output
+                ≡ record { answer = turnedAway neither 15 (length (printedNet (keptNet net t))); cells = written cells (t .inks); output = output }
+            unfolding keptInto
+            keep-15 h = rw (same, whole, le-ltb _ _ long, takes, le-ltb _ _ roomy, lt-ltb _ _ h, keptInto)
+
+            pub keep-written : length (printedNet (keptNet net t)) ≤ length output
+                → keptInto net t cells output
+                ≡ record {
+                  answer = rewritten (length (printedNet (keptNet net t))) (changedGates (net .gates) (keptNet net t .gates));
+                  cells = written cells (t .inks);
+                  output = written output (printedNet (keptNet net t));
+                }
+            unfolding keptInto
+            keep-written h = rw (same, whole, le-ltb _ _ long, takes, le-ltb _ _ roomy, le-ltb _ _ h, keptInto)

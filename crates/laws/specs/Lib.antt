@@ -31,6 +31,8 @@ pub mod Walks
 pub mod Answers
 pub mod Fresh
 pub mod BareCells
+pub mod OpenCells
+pub mod Inks
 pub mod Multiplicity
 pub mod Extremes
 pub mod Listed

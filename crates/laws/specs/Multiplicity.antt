@@ -9,10 +9,10 @@ use borrow.Author.Tests.{eq-eqb, ne-eqb, le-leb, lt-leb}
 use Rattle.rules.specs.Groups.{multiplicity}
 use Rattle.rules.specs.Answers as answers
 use Rattle.rules.specs.Answers.{inkIn}
-use Rattle.rules.specs.BareCells.{bareCells}
+use Rattle.rules.specs.OpenCells.{fullCells}
 use Rattle.rules.specs.Multiplicity.{multiplicityCall}
 
--- the multiplicity call once the bare cells are accepted
+-- the multiplicity call once the bare cells are accepted and full
 unfoldable pub groupAnswer : ℕ → ℕ → List ℕ → ℕ → answers.Answer ℕ
 groupAnswer m n cells g =
     elim (eqb g 0 || leb (2 ^ n) g) [
@@ -21,12 +21,12 @@ groupAnswer m n cells g =
     ]
 
 module _ (m n : ℕ) (cells : List ℕ) where
-  pub multiplicity-refused : (g number place : ℕ) → answers.refused number place ≡ bareCells m n cells
+  pub multiplicity-refused : (g number place : ℕ) → answers.refused number place ≡ fullCells m n cells
       → answers.refused number place ≡ multiplicityCall m n cells g
   unfolding multiplicityCall answers.onward
   multiplicity-refused g number place e = rw (← e)
 
-  pub multiplicity-judged : (g : ℕ) → answers.accepted tt ≡ bareCells m n cells → groupAnswer m n cells g ≡ multiplicityCall m n cells g
+  pub multiplicity-judged : (g : ℕ) → answers.accepted tt ≡ fullCells m n cells → groupAnswer m n cells g ≡ multiplicityCall m n cells g
   unfolding multiplicityCall answers.onward groupAnswer
   multiplicity-judged g e = rw (← e)
 

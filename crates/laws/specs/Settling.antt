@@ -12,7 +12,8 @@ use Rattle.rules.specs.Printed.{printedNet}
 use Rattle.rules.specs.Groups.{wholeGroup}
 use Rattle.rules.specs.Marks.{markIn, marksOf, marksLength, storedMarks, noTreePlace}
 use Rattle.rules.specs.Answers.{accepted, refused, inkIn, written}
-use Rattle.rules.specs.Reading.{readNet, readTable, tableOfNet}
+use Rattle.rules.specs.Reading.{readNet, tableOfNet}
+use Rattle.rules.specs.OpenCells.{readFull}
 use Rattle.rules.specs.Settling.{settledNet, writtenSheet, afterMarks, roomFor, madeInto, settleCall, makeCall}
 use Rattle.laws.specs.Answers.{not-refused}
 
@@ -115,11 +116,11 @@ module _ (s cells marks output : List ℕ) where
   unfolding settleCall
   settle-accepted net e = rw (e, settleCall)
 
-  pub make-refused : (number place : ℕ) → readTable s ≡ refused number place
+  pub make-refused : (number place : ℕ) → readFull s ≡ refused number place
       → makeCall s cells marks output ≡ record { answer = refused number place; cells = cells; marks = marks; output = output }
   unfolding makeCall
   make-refused number place e = rw (e, makeCall)
 
-  pub make-accepted : (t : Table) → readTable s ≡ accepted t → makeCall s cells marks output ≡ madeInto settledNet t cells marks output
+  pub make-accepted : (t : Table) → readFull s ≡ accepted t → makeCall s cells marks output ≡ madeInto settledNet t cells marks output
   unfolding makeCall
   make-accepted t e = rw (e, makeCall)

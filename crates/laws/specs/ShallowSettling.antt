@@ -5,7 +5,8 @@ use mathlib.Core.Path.{_≡_, refl}
 use mathlib.Core.List.{List}
 use Rattle.rules.specs.Sheets.{Net, Table}
 use Rattle.rules.specs.Answers.{Answer, accepted, refused, onward}
-use Rattle.rules.specs.Reading.{readNet, readTable, tableOfNet}
+use Rattle.rules.specs.Reading.{readNet, tableOfNet}
+use Rattle.rules.specs.OpenCells.{readFull}
 use Rattle.rules.specs.ShallowSettling.{Layered, layered, layeredInto, settleShallowCall, makeShallowCall, shallowNet}
 
 -- an answer without its count of layers
@@ -30,11 +31,11 @@ module _ (s cells marks output : List ℕ) where
   unfolding settleShallowCall
   settle-shallow-accepted net e = rw (e, settleShallowCall)
 
-  pub make-shallow-refused : (number place : ℕ) → readTable s ≡ refused number place
+  pub make-shallow-refused : (number place : ℕ) → readFull s ≡ refused number place
       → makeShallowCall s cells marks output ≡ record { answer = refused number place; cells = cells; marks = marks; output = output }
   unfolding makeShallowCall
   make-shallow-refused number place e = rw (e, makeShallowCall)
 
-  pub make-shallow-accepted : (t : Table) → readTable s ≡ accepted t → makeShallowCall s cells marks output ≡ layeredInto shallowNet t cells marks output
+  pub make-shallow-accepted : (t : Table) → readFull s ≡ accepted t → makeShallowCall s cells marks output ≡ layeredInto shallowNet t cells marks output
   unfolding makeShallowCall
   make-shallow-accepted t e = rw (e, makeShallowCall)

@@ -1,6 +1,6 @@
 -- A row of a loose sheet.
 -- Assumes nothing.
-use Prim.Native.Nat.{ℕ, _^_, _<_}
+use Prim.Native.Nat.{ℕ, _^_, _≤_, _<_}
 use mathlib.Core.Path.{_≡_, refl, sym, ap, _∙_}
 use mathlib.Core.Bool.{Bool, true, false}
 use mathlib.Core.List.{List}
@@ -37,7 +37,7 @@ inkOfRow m p = fieldIn loose (inkField m) newline >>= λ ink. give (record { ind
 -- reading a row at `at`, behind any rows that `given` stands for
 pub record RowReads (s : List ℕ) (at m n : ℕ) (given : List ℕ) (r : RowRead) : Type 0 where
   pub reads : (earlier : List Row) → Given (m ^ n) earlier given → rowAs s r ≡ rowFrom m n earlier at (drop at s) at
-  pub held : (p ink next : ℕ) → r ≡ Taken p ink next → (p < m ^ n) × (ink < m) × (getD given p 0 ≡ 0)
+  pub held : (p ink next : ℕ) → r ≡ Taken p ink next → (p < m ^ n) × (ink ≤ m) × (getD given p 0 ≡ 0)
 
 -- ---- the ink
 
@@ -51,14 +51,14 @@ module _ (s : List ℕ) (at m p : ℕ) (step : Step) (ink : stepAs itself s step
   unfolding inkOfRow then newline
   ink-on value next e = rw (← ink, e) refl
 
--- an ink that was read is below m, and the index is the one that was told
-pub ink-told-below : (s : List ℕ) (at m p : ℕ) (r : RowRead) → rowAs s r ≡ inkOfRow m p (drop at s) at
-    → (q ink next : ℕ) → r ≡ Taken q ink next → (q ≡ p) × (ink < m)
+-- an ink that was read is a level, or m for an open cell, and the index is the one that was told
+pub ink-told-within : (s : List ℕ) (at m p : ℕ) (r : RowRead) → rowAs s r ≡ inkOfRow m p (drop at s) at
+    → (q ink next : ℕ) → r ≡ Taken q ink next → (q ≡ p) × (ink ≤ m)
 unfolding inkOfRow then
-ink-told-below s at m p r e q ink next is = go (fieldIn loose (inkField m) newline (drop at s) at) refl (sym (ap (rowAs s) is) ∙ e)
+ink-told-within s at m p r e q ink next is = go (fieldIn loose (inkField m) newline (drop at s) at) refl (sym (ap (rowAs s) is) ∙ e)
   where
     go : (x : Read ℕ) → fieldIn loose (inkField m) newline (drop at s) at ≡ x
-        → rowAs s (Taken q ink next) ≡ then x (λ ink. give (record { index = p; ink = ink })) → (q ≡ p) × (ink < m)
+        → rowAs s (Taken q ink next) ≡ then x (λ ink. give (record { index = p; ink = ink })) → (q ≡ p) × (ink ≤ m)
     go (read a rest place) f h =
         let same-row : _≡_ {A = Row} (record { index = q; ink = ink }) (record { index = p; ink = a }) = cc in
         (ap (λ (row : Row). row .index) same-row, rw (ap (λ (row : Row). row .ink) same-row) (ink-told m _ a (field-read-in loose (inkField m) a newline (drop at s) rest at place f .0)))
@@ -90,6 +90,6 @@ module _ (s : List ℕ) (at m n : ℕ) (given : List ℕ) (step : Step) (index :
         record {
           reads = λ earlier marks. rw (← (index .reads), on, marks .left p (index .below p next on) once, notGiven) ink;
           held = λ q k last e.
-              let (same-index, below) = ink-told-below s next m p r ink q k last e in
-              (rw same-index (index .below p next on), below, rw same-index once);
+              let (same-index, within) = ink-told-within s next m p r ink q k last e in
+              (rw same-index (index .below p next on), within, rw same-index once);
         }

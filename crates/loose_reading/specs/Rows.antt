@@ -35,7 +35,7 @@ zeros-blank (suc count) (suc p) = zeros-blank count p
 -- the inks of some rows stand at the front of `cells`, in index order
 pub record InksOf (m n : ℕ) (rows : List Row) (cells : List ℕ) : Type 0 where
   pub inks : take (m ^ n) cells ≡ map (inkNamed rows) (range 0 (m ^ n))
-  pub below : Below m (take (m ^ n) cells)
+  pub below : Below (suc m) (take (m ^ n) cells)
 
 -- reading all rows from `at` on
 pub record RowsRead (s : List ℕ) (at m n : ℕ) (cells : List ℕ) (r : Step) : Type 0 where
@@ -96,18 +96,18 @@ pub record InRows (s : List ℕ) (at m n : ℕ) (cells given : List ℕ) (place 
   pub most : k ≤ m ^ n
   pub marks : Given (m ^ n) rows given
   pub inks : (p : ℕ) → p < m ^ n → getD cells p 0 ≡ inkNamed rows p
-  pub below : (p : ℕ) → p < m ^ n → getD cells p 0 < m
+  pub below : (p : ℕ) → p < m ^ n → getD cells p 0 < suc m
   pub reads : looseRows m n (m ^ n) [] (drop at s) at ≡ looseRows m n (m ^ n - k) rows (drop place s) place
 
-pub rows-start : (s : List ℕ) (at m n : ℕ) (cells given : List ℕ) → 0 < m → Blank cells → Blank given → InRows s at m n cells given at 0
+pub rows-start : (s : List ℕ) (at m n : ℕ) (cells given : List ℕ) → Blank cells → Blank given → InRows s at m n cells given at 0
 unfolding any inkNamed find
-rows-start s at m n cells given pos blank none-given =
+rows-start s at m n cells given blank none-given =
     record {
       rows = [];
       most = omega arith;
       marks = record { named = λ p h q. absurd (q (none-given p)); left = λ p h q. refl };
       inks = λ p h. blank p;
-      below = λ p h. rw (blank p) pos;
+      below = λ p h. rw (blank p) (omega arith);
       reads = rw (sub-zero (m ^ n)) refl;
     }
 
@@ -119,7 +119,7 @@ module _ (s : List ℕ) (at m n : ℕ) (cells given : List ℕ) (place k : ℕ) 
       record {
         rows = before .rows;
         reads = sym (rw none-left at (before .reads));
-        held = λ _ _ _. record { inks = front; below = at-below m (take (m ^ n) cells) (λ p h. rw (getD-take (m ^ n) cells p 0 (within p h)) (before .below p (within p h))) };
+        held = λ _ _ _. record { inks = front; below = at-below (suc m) (take (m ^ n) cells) (λ p h. rw (getD-take (m ^ n) cells p 0 (within p h)) (before .below p (within p h))) };
       }
     where
       long : length (take (m ^ n) cells) ≡ m ^ n
@@ -191,6 +191,6 @@ module _ (s : List ℕ) (at m n : ℕ) (cells given : List ℕ) (place k : ℕ) 
           inks q h low fresh false e =
               getD-set-other cells p q ink 0 (λ y. eqb-false p q e (sym y)) ∙ (before .inks q h ∙ sym (ink-other q (before .rows) named-row e))
 
-          below : (q : ℕ) → q < m ^ n → ink < m → p < m ^ n → (t : Bool) → eqb p q ≡ t → getD (set cells p ink) q 0 < m
-          below q h small low true e = rw (← (eqb-true p q e), getD-set-same cells p ink 0 (omega arith)) small
+          below : (q : ℕ) → q < m ^ n → ink ≤ m → p < m ^ n → (t : Bool) → eqb p q ≡ t → getD (set cells p ink) q 0 < suc m
+          below q h small low true e = rw (← (eqb-true p q e), getD-set-same cells p ink 0 (omega arith)) (omega arith)
           below q h small low false e = rw (getD-set-other cells p q ink 0 (λ y. eqb-false p q e (sym y))) (before .below q h)

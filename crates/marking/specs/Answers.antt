@@ -11,7 +11,7 @@ use Rattle.rules.specs.Groups.{wholeGroup}
 use Rattle.rules.specs.Marks.{markIn, marksOf, marksLength, storedMarks}
 use Rattle.rules.specs.Marking.{Marked, markingCall}
 use Rattle.rules.specs.Answers.{accepted, refused, inkIn, written}
-use Rattle.rules.specs.BareCells.{bareCells}
+use Rattle.rules.specs.OpenCells.{fullCells}
 use Rattle.answers.specs.declared.answer.Answer.{Answer}
 use Rattle.answers.specs.Answers.{answerOf}
 use Rattle.marking.specs.Marking.{MarkedInto}
@@ -19,7 +19,7 @@ use Rattle.marking.specs.Marking.{MarkedInto}
 abbrev pub markedOf : Answer → List ℕ → Marked
 markedOf r marks = record { answer = answerOf r; marks = marks }
 
--- the marking call once the bare cells are accepted
+-- the marking call once the bare cells are accepted and full
 unfoldable pub markedInto : ℕ → ℕ → List ℕ → List ℕ → Marked
 markedInto m n cells buffer =
     elim (ltb (length buffer) (marksLength n)) [
@@ -30,12 +30,12 @@ markedInto m n cells buffer =
     ]
 
 module _ (m n : ℕ) (cells buffer : List ℕ) where
-  pub marking-refused : (number place : ℕ) → refused number place ≡ bareCells m n cells
+  pub marking-refused : (number place : ℕ) → refused number place ≡ fullCells m n cells
       → record { answer = refused number place; marks = buffer } ≡ markingCall m n cells buffer
   unfolding markingCall
   marking-refused number place e = rw (← e, markingCall)
 
-  pub marking-judged : accepted tt ≡ bareCells m n cells → markedInto m n cells buffer ≡ markingCall m n cells buffer
+  pub marking-judged : accepted tt ≡ fullCells m n cells → markedInto m n cells buffer ≡ markingCall m n cells buffer
   unfolding markingCall markedInto
   marking-judged e = rw (← e, markingCall)
 

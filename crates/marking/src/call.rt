@@ -33,7 +33,7 @@ fn mark_into(m: usize, n: usize, cells: &[u8], buffer: &mut [u8]) -> Answer
 pub fn marking(m: usize, n: usize, cells: &[u8], marks: &mut [u8]) -> Answer
     ensures { λ r. ⌜ markedOf r (now (marks .exit)) ≡ markingCall m n (now (cells .entry)) (now (marks .entry)) ⌝ }
 {
-    let judged = bare::bare_cells(m, n, cells);
+    let judged = bare::full_cells(m, n, cells);
     match judged {
         Outcome::Refused { number, place } => Answer::Refused { number, place },
         Outcome::Accepted => mark_into(m, n, cells, marks),

@@ -25,6 +25,7 @@ use Rattle.rules.specs.Answers.{Answer, accepted, refused}
 use Rattle.rules.specs.Reading.{answered, readNet, readTable}
 use Rattle.laws.specs.Same.{same-true, same-length}
 use Rattle.laws.specs.Answers.{not-refused}
+use Rattle.laws.specs.Inks.{field-bad}
 use Rattle.laws.specs.Finds.{found-is, first-in-range}
 use Rattle.laws.specs.Sizes.{inputs-fit, kept-size}
 use Rattle.laws.specs.Decimals.{decimal-length}
@@ -108,7 +109,7 @@ stays-ink : (m : ℕ) → Stays 0 (inkField m)
 unfolding inkField
 stays-ink m [] v k there long e = absurd (omega arith)
 stays-ink m (b ∷ []) [] k there long e = e
-stays-ink m (b ∷ []) (c ∷ v) k there long e = ap bad (sym (judged-bad (isDigit m b) (b - 48) 6 k e .1))
+stays-ink m (b ∷ []) (c ∷ v) k there long e = ap bad (sym (field-bad m b k e))
 stays-ink m (b ∷ c ∷ w) v k there long e = e
 
 -- a reference, with up to 99 gates before it

@@ -6,25 +6,27 @@ use mathlib.Core.Bool.{Bool, true, false, not, _&&_, _||_, and-eq-true-iff, fals
 use mathlib.Core.Option.{Option, none, some}
 use mathlib.Core.List.{List, [], _∷_, map}
 use native.Mathlib.Nat.{mul-pos}
+use native.Mathlib.Decide.{ℕ-discrete}
 use native.Mathlib.Omega.{arith}
 use lib.ListN.{length, getD, length-map, List·getD-map}
 use lib.Dec.{eqb, leb}
 use borrow.Author.Tests.{leb-true, eqb-true, eq-eqb, not-true}
 use Rattle.rules.specs.Lists.{range, all, any, same, find}
-use Rattle.rules.specs.Text.{text, digitByte, isDigit, decimal}
+use Rattle.rules.specs.Text.{space, newline, text, digitByte, openByte, isDigit, decimal}
 use Rattle.rules.specs.Limits.{levelsFit, inputsFit, cellsFit, fewestInputs, mostInputs}
-use Rattle.rules.specs.Fields.{Judged, good, bad, Judge, judged}
+use Rattle.rules.specs.Fields.{Judged, good, bad, Judge, judged, isSeparator}
 use Rattle.rules.specs.LooseSheet.{anyLevel}
-use Rattle.rules.specs.Sheets.{levelsField, inputsOf, inputsField, isLetter, letterFirst, isName, nameField, digitsField, levelField, inkField}
+use Rattle.rules.specs.Sheets.{levelsField, inputsOf, inputsField, isLetter, letterFirst, isName, nameField, digitsField, levelField, inkField, inkByte}
 use Rattle.rules.specs.Kept.{GateTable}
 use Rattle.laws.specs.Sizes.{levels-fit, inputs-fit}
 use Rattle.laws.specs.Tests.{both-leb, all-iff, all-mem, all-each}
 use Rattle.laws.specs.Same.{same-refl, same-true}
 use Rattle.laws.specs.Places.{mem-getD}
 use Rattle.laws.specs.Finds.{found-is, found-only, first-in-range}
-use Rattle.readback.specs.Fields.{isWord, Judges, not-good, judged-good}
+use Rattle.readback.specs.Fields.{plain, isWord, Judges, not-good, judged-good}
 use Rattle.laws.specs.Decimals.{decimal-one}
 use Rattle.laws.specs.Digits.{digit-iff, digit-byte}
+use Rattle.laws.specs.Inks.{open-byte, level-byte, field-open, field-digit}
 use Rattle.readback.specs.Decimals.{high-plain, high-word, digits-word, decimal-word, decimal-injective}
 
 -- the digit of a digit's byte
@@ -218,20 +220,41 @@ judges-level l = record {
   only = λ w a e. (tt, refl, same-true w (digitByte l ∷ []) (judged-good (same w (digitByte l ∷ [])) tt 5 a e .0));
 }
 
--- an ink field that is good
-ink-only : (m : ℕ) (w : List ℕ) (a : ℕ) → inkField m w ≡ good a → (x : (d : ℕ) × (d < m)) × (a ≡ x .0) × (w ≡ digitByte (x .0) ∷ [])
-unfolding inkField
-ink-only m [] a e = absurd (not-good 6 a e)
-ink-only m (b ∷ c ∷ w) a e = absurd (not-good 6 a e)
-ink-only m (b ∷ []) a e =
-    let (t, q) = judged-good (isDigit m b) (b - 48) 6 a e in
-    let (h, k) = digit-back m b t in
-    ((b - 48, h), q, ap (λ c. c ∷ []) k)
+-- an ink field that is good: the sign, or a digit below m
+ink-only : (m : ℕ) (w : List ℕ) (a : ℕ) → inkField m w ≡ good a → (x : (d : ℕ) × (d ≤ m)) × (a ≡ x .0) × (w ≡ inkByte m (x .0) ∷ [])
+ink-only m [] a e = absurd (unfold inkField in not-good 6 a e)
+ink-only m (b ∷ c ∷ w) a e = absurd (unfold inkField in not-good 6 a e)
+ink-only m (b ∷ []) a e = go (ℕ-discrete b openByte)
+  where
+    go : Dec (b ≡ openByte) → (x : (d : ℕ) × (d ≤ m)) × (a ≡ x .0) × (b ∷ [] ≡ inkByte m (x .0) ∷ [])
+    go (yes sign) =
+        let opens = field-open m b sign in
+        ((m, omega arith), (cc), ap (λ c. c ∷ []) (sign ∙ sym (open-byte m m refl)))
+    go (no digit) =
+        let (t, q) = judged-good (isDigit m b) (b - 48) 6 a (sym (field-digit m b digit) ∙ e) in
+        let (h, k) = digit-back m b t in
+        ((b - 48, omega arith), q, ap (λ c. c ∷ []) (k ∙ sym (level-byte m (b - 48) (λ q. omega arith))))
 
--- the ink field: a level below m
-pub judges-ink : (m : ℕ) → Judges (inkField m) ((d : ℕ) × (d < m)) (λ x. x .0) (λ x. digitByte (x .0) ∷ [])
-unfolding inkField
-judges-ink m = record { passes = λ x. rw (digit-byte m (x .0) (x .1), byte-digit (x .0)) refl; word = λ x. digit-word (x .0); only = ink-only m }
+-- the byte of an ink is a good field, ..
+ink-passes : (m d : ℕ) → d ≤ m → inkField m (inkByte m d ∷ []) ≡ good d
+ink-passes m d h = go (ℕ-discrete d m)
+  where
+    go : Dec (d ≡ m) → inkField m (inkByte m d ∷ []) ≡ good d
+    go (yes same) = rw (open-byte m d same) (field-open m openByte refl ∙ ap good (sym same))
+    go (no below) =
+        rw (level-byte m d below) (field-digit m (digitByte d) (unfold digitByte in λ e. omega arith) ∙ rw (digit-byte m d (omega arith), byte-digit d) refl)
+
+-- .. and a word
+pub ink-word : (m d : ℕ) → isWord (inkByte m d ∷ []) ≡ true
+ink-word m d = go (ℕ-discrete d m)
+  where
+    go : Dec (d ≡ m) → isWord (inkByte m d ∷ []) ≡ true
+    go (yes same) = rw (open-byte m d same) (unfold isWord all plain isSeparator space newline in refl)
+    go (no below) = rw (level-byte m d below) (digit-word d)
+
+-- the ink field: a level below m, or m as its sign
+pub judges-ink : (m : ℕ) → Judges (inkField m) ((d : ℕ) × (d ≤ m)) (λ x. x .0) (λ x. inkByte m (x .0) ∷ [])
+judges-ink m = record { passes = λ x. ink-passes m (x .0) (x .1); word = λ x. ink-word m (x .0); only = ink-only m }
 
 -- a level field of a loose row that is good
 any-level-only : (m : ℕ) (w : List ℕ) (a : ℕ) → anyLevel m w ≡ good a → (x : (d : ℕ) × (d < m)) × (a ≡ x .0) × (w ≡ digitByte (x .0) ∷ [])

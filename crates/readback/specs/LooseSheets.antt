@@ -1,10 +1,10 @@
 -- Loose table sheets: what the reader of a loose sheet spells.
 -- Assumes nothing.
-use Prim.Native.Nat.{ℕ, zero, suc, _+_, _*_, _^_, _<_}
+use Prim.Native.Nat.{ℕ, zero, suc, _+_, _*_, _^_, _≤_, _<_}
 use mathlib.Core.Path.{_≡_, refl, sym, _∙_, ap, subst, subst⁻¹}
 use mathlib.Core.Bool.{Bool, true, false}
 use mathlib.Core.Logic.{_↔_}
-use mathlib.Core.List.{List, [], _∷_, _++_, map, append-assoc, append-nil, map-append}
+use mathlib.Core.List.{List, [], _∷_, _++_, map, append-assoc, append-nil}
 use native.Mathlib.Omega.{arith}
 use lib.ListN.{length}
 use lib.Seq.{append-snoc}
@@ -13,7 +13,7 @@ use Rattle.rules.specs.Lists.{all, any, same}
 use Rattle.rules.specs.Text.{space, newline, text, digitByte, decimal}
 use Rattle.rules.specs.Limits.{levelsFit, inputsFit, cellsFit}
 use Rattle.rules.specs.Fields.{Read, Reader, read, turnedBack, then, _>>=_, give, isSeparator, loose, fieldIn, theWord, closed}
-use Rattle.rules.specs.Sheets.{Header, isName, nameField, nameFieldsIn, headerLinesIn, inkField, levelsAt}
+use Rattle.rules.specs.Sheets.{Header, isName, nameField, nameFieldsIn, headerLinesIn, inkField, inkByte, levelsAt}
 use Rattle.rules.specs.Kept.{GoodNames, Distinct, KeptHeader}
 use Rattle.rules.specs.LooseSheet.{Row, LooseTable, anyLevel, indexFields, isOf, notGiven, rowFrom, looseRows, looseSheet, blanks, LooseLine, LooseLines, rowFields, looseFields, EachRow, KeptLoose, IsLoose}
 use Rattle.rules.specs.LooseSheet.{readLoose}
@@ -28,7 +28,7 @@ use Rattle.laws.specs.Bounds.{Below, below-at, at-below}
 use Rattle.laws.specs.Assignments.{Assignment, indexFrom, indexOf, index-levels, index-below, levels-index, levels-given}
 use Rattle.readback.specs.Spells.{SpellsBetween, SpellsTo, Spells, Any, spells-give, spells-before, spells-onto, spells-then, spells-as, not-read}
 use Rattle.readback.specs.Fields.{plain, isWord, judges-word, Ended, spells-end}
-use Rattle.readback.specs.Judges.{judges-levels, judges-inputs, judges-name, judges-ink, judges-any-level, name-word, digit-word}
+use Rattle.readback.specs.Judges.{judges-levels, judges-inputs, judges-name, judges-ink, judges-any-level, name-word, digit-word, ink-word}
 use Rattle.readback.specs.Decimals.{decimal-word}
 use Rattle.readback.specs.Names.{NewNames, new-names}
 use Rattle.readback.specs.LooseFields.{NoSpace, word-first, spells-parted, spells-last}
@@ -269,15 +269,15 @@ named-turned row other = eqb-comm (other .index) (row .index)
 module _ (m n : ℕ) (pos : 0 < m) where
   -- a row that names an assignment given in no earlier row, and its line
   abbrev RowIn : List Row → Type 0
-  RowIn earlier = (row : Row) × (s : List ℕ) × (row .index < m ^ n) × (row .ink < m) × (any (isOf (row .index)) earlier ≡ false) × LooseLine (rowFields m n row) s
+  RowIn earlier = (row : Row) × (s : List ℕ) × (row .index < m ^ n) × (row .ink ≤ m) × (any (isOf (row .index)) earlier ≡ false) × LooseLine (rowFields m n row) s
 
   -- levels below m are an assignment
   given : (ls : List ℕ) → length ls ≡ n → Below m ls → Assignment m n ls
   given ls l b = record { count = l; below = λ i h. below-at m ls b i (omega arith) }
 
-  row-words : (row : Row) → rowFields m n row ≡ digitWords (levelsAt m n (row .index)) ++ ((digitByte (row .ink) ∷ []) ∷ [])
+  row-words : (row : Row) → rowFields m n row ≡ digitWords (levelsAt m n (row .index)) ++ ((inkByte m (row .ink) ∷ []) ∷ [])
   unfolding rowFields
-  row-words row = map-append (λ l. digitByte l ∷ []) (levelsAt m n (row .index)) (row .ink ∷ [])
+  row-words row = refl
 
   spells-loose-row : (earlier : List Row) (first : ℕ) → Spells (rowFrom m n earlier first) (RowIn earlier) (λ x. x .0) (λ x. x .1)
   unfolding rowFrom indexFrom indexOf
@@ -285,9 +285,9 @@ module _ (m n : ℕ) (pos : 0 < m) where
       (spells-onto _ (spells-index m n 0) (λ x.
       spells-then _ (spells-not-given first earlier (indexFrom m 0 (x .0))) (λ _.
       spells-then _ (spells-last (judges-ink m)) (λ z. spells-give (record { index = indexFrom m 0 (x .0); ink = z .0 .0 }))))
-      (λ x (_, (((d, h), c), _)) rest _. word-first (digitByte d ∷ []) _ (digit-word d)))
+      (λ x (_, (((d, h), c), _)) rest _. word-first (inkByte m d ∷ []) _ (ink-word m d)))
       (λ ((ls, t, l, b, p), (fresh, (((d, h), c), _))).
-      let v = digitByte d ∷ [] in
+      let v = inkByte m d ∷ [] in
       let row : Row = record { index = indexFrom m 0 ls; ink = d } in
       let s = t ++ (v ++ (blanks c ++ newline ∷ [])) in
       let words : rowFields m n row ≡ digitWords ls ++ (v ∷ []) = row-words row ∙ ap (λ (k : List ℕ). digitWords k ++ (v ∷ [])) (levels-index m n ls (given ls l b)) in (
@@ -296,7 +296,7 @@ module _ (m n : ℕ) (pos : 0 < m) where
         ap (λ (u : List ℕ). t ++ u) (append-nil (v ++ (blanks c ++ newline ∷ []))),
       ))
       (λ (row, s, i, j, fresh, laid).
-      let v = digitByte (row .ink) ∷ [] in
+      let v = inkByte m (row .ink) ∷ [] in
       let ls = levelsAt m n (row .index) in
       let (t, c, p, e) = line-last v (digitWords ls) s (subst (λ (ws : List (List ℕ)). LooseLine ws s) (row-words row) laid) in
       let at : indexFrom m 0 ls ≡ row .index = index-levels m n (row .index) pos i in

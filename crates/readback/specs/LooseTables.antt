@@ -20,7 +20,6 @@ use Rattle.rules.specs.Kept.{Distinct, KeptTable}
 use Rattle.rules.specs.Answers.{accepted}
 use Rattle.rules.specs.Reading.{readTable}
 use Rattle.rules.specs.LooseSheet.{Row, LooseTable, isOf, inkOf, inkNamed, tableOfLoose, blanks, LooseLine, LooseLines, rowFields, looseFields, EachRow, KeptLoose, IsLoose, readLoose}
-use Rattle.laws.specs.Sizes.{levels-fit}
 use Rattle.laws.specs.Counts.{times-range}
 use Rattle.laws.specs.Distinct.{In, NotIn, not-in-cons, times-distinct, all-stand}
 use Rattle.laws.specs.Ranges.{range-length, map-range-length, map-range-at}
@@ -89,13 +88,13 @@ module _ (m n : ℕ) where
   index-named (row ∷ rows) (i, _, each) zero d h = i
   index-named (row ∷ rows) (_, _, each) (suc k) d h = index-named rows each k d (omega arith)
 
-  -- an ink that is given is below m
-  named-ink : 0 < m → (rows : List Row) → EachRow m n rows → (p : ℕ) → inkNamed rows p < m
+  -- an ink that is given is below m, or m where it is open
+  named-ink : (rows : List Row) → EachRow m n rows → (p : ℕ) → inkNamed rows p ≤ m
   unfolding inkNamed find
-  named-ink pos [] each p = pos
-  named-ink pos (row ∷ rows) (_, j, each) p = go (eqb (row .index) p) refl (named-ink pos rows each p)
+  named-ink [] each p = omega arith
+  named-ink (row ∷ rows) (_, j, each) p = go (eqb (row .index) p) refl (named-ink rows each p)
     where
-      go : (t : Bool) → eqb (row .index) p ≡ t → inkNamed rows p < m → inkNamed (row ∷ rows) p < m
+      go : (t : Bool) → eqb (row .index) p ≡ t → inkNamed rows p ≤ m → inkNamed (row ∷ rows) p ≤ m
       go true e later = rw (e, find) j
       go false e later = rw (e, find) later
 
@@ -107,9 +106,6 @@ module _ (t : LooseTable) (kept : KeptLoose t) where
 
   abbrev n : ℕ
   n = t .header .inputs
-
-  pos : 0 < m
-  pos = omega (arith, levels-fit m .0 (kept .header .levels) .0)
 
   -- every assignment is named by some row
   pub all-named : (p : ℕ) → p < m ^ n → In p (indices (t .rows))
@@ -126,7 +122,7 @@ module _ (t : LooseTable) (kept : KeptLoose t) where
   loose-kept = record {
     header = kept .header;
     count = map-range-length (inkNamed (t .rows)) 0 (m ^ n);
-    below = λ k l. rw (ink-at k (omega (arith, map-range-length (inkNamed (t .rows)) 0 (m ^ n)))) (named-ink m n pos (t .rows) (kept .each) k);
+    within = λ k l. rw (ink-at k (omega (arith, map-range-length (inkNamed (t .rows)) 0 (m ^ n)))) (named-ink m n (t .rows) (kept .each) k);
   }
 
 -- ---- strict sheets
@@ -163,10 +159,10 @@ unfolding rowsFrom
 rows-length p [] = refl
 rows-length p (ink ∷ inks) = ap suc (rows-length (suc p) inks)
 
-rows-each : (m n p : ℕ) (inks : List ℕ) → p + length inks ≤ m ^ n → ((k : ℕ) → k < length inks → getD inks k 0 < m) → EachRow m n (rowsFrom p inks)
+rows-each : (m n p : ℕ) (inks : List ℕ) → p + length inks ≤ m ^ n → ((k : ℕ) → k < length inks → getD inks k 0 ≤ m) → EachRow m n (rowsFrom p inks)
 unfolding rowsFrom
-rows-each m n p [] h below = tt
-rows-each m n p (ink ∷ inks) h below = (omega arith, below 0 (omega arith), rows-each m n (suc p) inks (omega arith) (λ k l. below (suc k) (omega arith)))
+rows-each m n p [] h within = tt
+rows-each m n p (ink ∷ inks) h within = (omega arith, within 0 (omega arith), rows-each m n (suc p) inks (omega arith) (λ k l. within (suc k) (omega arith)))
 
 -- each has its own ink
 rows-ink : (p : ℕ) (inks : List ℕ) (k : ℕ) → k < length inks → inkNamed (rowsFrom p inks) (p + k) ≡ getD inks k 0
@@ -194,7 +190,7 @@ module _ (t : Table) (kept : KeptTable t) where
         kept = record {
           header = kept .header;
           count = rows-length 0 (t .inks) ∙ kept .count;
-          each = rows-each (h .levels) (h .inputs) 0 (t .inks) (omega (arith, kept .count)) (kept .below);
+          each = rows-each (h .levels) (h .inputs) 0 (t .inks) (omega (arith, kept .count)) (kept .within);
           once = subst⁻¹ Distinct (rows-indices 0 (t .inks)) (times-distinct (range 0 (length (t .inks))) (λ r. times-range r 0 (length (t .inks))));
         };
       }

@@ -16,6 +16,7 @@ use Rattle.rules.specs.LooseSheet.{Row, anyLevel, indexFields, isOf, notGiven, 
 use Rattle.rules.specs.Reading.{readNet, readTable}
 use Rattle.readback.specs.Spells.{not-read}
 use Rattle.laws.specs.Distinct.{In}
+use Rattle.laws.specs.Inks.{field-bad}
 use Rattle.readback.specs.Among.{Among, AmongJudge, Refuses, named-bad, named-turned, test-bad, among-give, among-then, among-field, among-field-in, among-word, among-closed, among-answer}
 use Rattle.readback.specs.Ends.{among-or-end, among-used}
 use Rattle.readback.specs.NetSheets.{netToEnd, judgedLast, net-whole}
@@ -70,7 +71,7 @@ module _ (numbers : List ℕ) (one : In 1 numbers) (two : In 2 numbers) (three :
   among-ink : (m : ℕ) → AmongJudge numbers (inkField m)
   unfolding inkField
   among-ink m [] k e = named-bad numbers one 6 k six e
-  among-ink m (b ∷ []) k e = test-bad numbers one (isDigit m b) (b - 48) 6 k six e
+  among-ink m (b ∷ []) k e = rw (field-bad m b k e) six
   among-ink m (b ∷ c ∷ w) k e = named-bad numbers one 6 k six e
 
   -- ---- the sheets

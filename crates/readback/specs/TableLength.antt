@@ -13,7 +13,7 @@ use borrow.Author.Tests.{leb-true, eqb-true}
 use Rattle.rules.specs.Lists.{range, all}
 use Rattle.rules.specs.Text.{text, digitByte}
 use Rattle.rules.specs.Limits.{cellsFit, mostTableSheet, mostRead}
-use Rattle.rules.specs.Sheets.{Table, levelsAt}
+use Rattle.rules.specs.Sheets.{Table, levelsAt, inkByte}
 use Rattle.rules.specs.Printed.{line, firstLines, printedRow, printedRows, printedTable}
 use Rattle.rules.specs.Kept.{GoodNames, KeptTable}
 use Rattle.laws.specs.Decimals.{decimal-length}
@@ -36,15 +36,15 @@ third-length (w ∷ v ∷ names) g =
     rw length-append (omega arith)
 
 -- a row's line: two bytes for each level, and two for the ink
-digits-length : (levels : List ℕ) (ink : ℕ) → length (line (map (λ d. digitByte d ∷ []) (levels ++ (ink ∷ [])))) ≡ 2 * length levels + 2
+digits-length : (levels : List ℕ) (b : ℕ) → length (line (map (λ d. digitByte d ∷ []) levels ++ ((b ∷ []) ∷ []))) ≡ 2 * length levels + 2
 unfolding line
-digits-length [] ink = refl
-digits-length (l ∷ []) ink = refl
-digits-length (l ∷ k ∷ levels) ink = omega (arith, digits-length (k ∷ levels) ink)
+digits-length [] b = refl
+digits-length (l ∷ []) b = refl
+digits-length (l ∷ k ∷ levels) b = omega (arith, digits-length (k ∷ levels) b)
 
 row-length : (m n p ink : ℕ) → length (printedRow m n p ink) ≡ 2 * n + 2
 unfolding printedRow
-row-length m n p ink = digits-length (levelsAt m n p) ink ∙ ap (λ k. 2 * k + 2) (levels-length m n p)
+row-length m n p ink = digits-length (levelsAt m n p) (inkByte m ink) ∙ ap (λ k. 2 * k + 2) (levels-length m n p)
 
 -- all rows
 rows-length : (m n p : ℕ) (inks : List ℕ) → length (printedRows m n p inks) ≡ length inks * (2 * n + 2)

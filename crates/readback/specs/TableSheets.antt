@@ -1,13 +1,14 @@
 -- Table sheets: what the reader of a table sheet spells.
 -- Assumes nothing.
-use Prim.Native.Nat.{ℕ, zero, suc, _^_, _<_}
+use Prim.Native.Nat.{ℕ, zero, suc, _^_, _≤_}
 use mathlib.Core.Path.{_≡_, refl, sym}
-use mathlib.Core.List.{List, [], _∷_, _++_, map, append-assoc, append-nil, map-append}
+use mathlib.Core.List.{List, [], _∷_, _++_, map, append-assoc, append-nil}
+use native.Mathlib.Omega.{arith}
 use lib.ListN.{length}
 use Rattle.rules.specs.Lists.{all}
 use Rattle.rules.specs.Text.{space, newline, text, digitByte}
 use Rattle.rules.specs.Fields.{_>>=_, isSeparator, field}
-use Rattle.rules.specs.Sheets.{Header, Table, levelsAt, levelFields, inkField, rowLines, tableSheet}
+use Rattle.rules.specs.Sheets.{Header, Table, levelsAt, levelFields, inkField, inkByte, rowLines, tableSheet}
 use Rattle.rules.specs.Printed.{line, firstLines, printedRow, printedRows, printedTable}
 use Rattle.rules.specs.Kept.{KeptTable}
 use Rattle.laws.specs.Bounds.{Below, below-at, at-below}
@@ -48,22 +49,22 @@ spells-levels (l ∷ ls) = spells-as (spells-then _ (spells-field space parts-sp
     (λ _. (tt, refl, ended-space (digitByte l ∷ []) (digitWords ls))) (λ _. ((tt, tt), refl, sym (ended-space (digitByte l ∷ []) (digitWords ls))))
 
 -- the print of a row, its levels and its ink
-row-text : (m n p ink : ℕ) → ended space (digitWords (levelsAt m n p)) ++ (digitByte ink ∷ newline ∷ []) ≡ printedRow m n p ink
+row-text : (m n p ink : ℕ) → ended space (digitWords (levelsAt m n p)) ++ (inkByte m ink ∷ newline ∷ []) ≡ printedRow m n p ink
 unfolding printedRow
-row-text m n p ink = rw (map-append, line-last (digitWords (levelsAt m n p)) (digitByte ink ∷ [])) refl
+row-text m n p ink = sym (line-last (digitWords (levelsAt m n p)) (inkByte m ink ∷ []))
 
 spells-row : (m n p : ℕ)
-    → Spells (levelFields (levelsAt m n p) >>= λ _. field (inkField m) newline) ((ink : ℕ) × (ink < m)) (λ x. x .0) (λ x. printedRow m n p (x .0))
+    → Spells (levelFields (levelsAt m n p) >>= λ _. field (inkField m) newline) ((ink : ℕ) × (ink ≤ m)) (λ x. x .0) (λ x. printedRow m n p (x .0))
 spells-row m n p = spells-as (spells-then _ (spells-levels (levelsAt m n p)) (λ _. spells-field newline parts-newline (judges-ink m)))
     (λ (_, x). (x, refl, row-text m n p (x .0))) (λ x. ((tt, x), refl, sym (row-text m n p (x .0))))
 
-spells-rows : (m n count p : ℕ) (earlier : List ℕ) → Collects (rowLines m n p count earlier) earlier count (Below m) (printedRows m n p)
+spells-rows : (m n count p : ℕ) (earlier : List ℕ) → Collects (rowLines m n p count earlier) earlier count (Below (suc m)) (printedRows m n p)
 unfolding rowLines printedRows
-spells-rows m n zero p earlier = collects-none earlier (Below m) (printedRows m n p) tt refl
+spells-rows m n zero p earlier = collects-none earlier (Below (suc m)) (printedRows m n p) tt refl
 spells-rows m n (suc count) p earlier =
     rw (← then-then (levelFields (levelsAt m n p)) (λ _. field (inkField m) newline) (λ ink. rowLines m n (suc p) count (earlier ++ (ink ∷ []))))
-    (collects-more _ earlier count (λ ink. ink < m) (λ _. Below m) (Below m) (printedRow m n p) (printedRows m n (suc p)) (printedRows m n p)
-    (spells-row m n p) (λ ink. spells-rows m n count (suc p) (earlier ++ (ink ∷ []))) (λ ink inks. (λ h. h, λ h. h)) (λ ink inks l. refl))
+    (collects-more _ earlier count (λ ink. ink ≤ m) (λ _. Below (suc m)) (Below (suc m)) (printedRow m n p) (printedRows m n (suc p)) (printedRows m n p)
+    (spells-row m n p) (λ ink. spells-rows m n count (suc p) (earlier ++ (ink ∷ []))) (λ ink inks. (λ (h, k). (omega arith, k), λ (h, k). (omega arith, k))) (λ ink inks l. refl))
 
 -- ---- the sheet
 
@@ -81,5 +82,5 @@ spells-table = spells-as
     (spells-then _ (spells-header space refl) (λ (h, k).
     spells-then _ (spells-field newline refl (judges-word "ink" refl)) (λ _.
     spells-then _ (spells-rows (h .levels) (h .inputs) (h .levels ^ h .inputs) 0 []) (λ inks. spells-end (record { header = h; inks = inks .0 })))))
-    (λ ((h, k), (_, ((inks, l, b), _))). ((record { header = h; inks = inks }, record { header = k; count = l; below = below-at (h .levels) inks b }), refl, table-text h inks))
-    (λ (t, k). (((t .header, k .header), (tt, ((t .inks, k .count, at-below (t .header .levels) (t .inks) (k .below)), tt))), refl, sym (table-text (t .header) (t .inks))))
+    (λ ((h, k), (_, ((inks, l, b), _))). ((record { header = h; inks = inks }, record { header = k; count = l; within = λ k i. omega (arith, below-at (suc (h .levels)) inks b k i) }), refl, table-text h inks))
+    (λ (t, k). (((t .header, k .header), (tt, ((t .inks, k .count, at-below (suc (t .header .levels)) (t .inks) (λ p i. omega (arith, k .within p i))), tt))), refl, sym (table-text (t .header) (t .inks))))

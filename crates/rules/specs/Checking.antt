@@ -9,6 +9,7 @@ use Rattle.rules.specs.Lists.{range, firstPlace, same}
 use Rattle.rules.specs.Sheets.{Header, Net, Table}
 use Rattle.rules.specs.Answers.{Named, accepted, neither, netNamed, refused, tableNamed, written}
 use Rattle.rules.specs.Reading.{readNet, readTable, tableOfNet}
+use Rattle.rules.specs.OpenCells.{isOpen}
 
 -- "it answers agreement or the lowest index that differs"; "names the sheet it refuses; 12 names neither", nor does 13
 pub data Verdict : Type 0 where
@@ -32,10 +33,11 @@ sameNames (v ∷ vs) (w ∷ ws) = same v w && sameNames vs ws
 unfoldable pub sameHeader : Header → Header → Bool
 sameHeader h k = eqb (h .levels) (k .levels) && eqb (h .inputs) (k .inputs) && sameNames (h .names) (k .names)
 
--- agreement, or the lowest index at which two lists of inks differ
-unfoldable pub compared : List ℕ → List ℕ → Verdict
-compared xs ys =
-    let at = firstPlace (λ p. not (eqb (getD xs p 0) (getD ys p 0))) (range 0 (length xs)) in
+-- Agreement, or the lowest index at which the inks of a net and of a table of m levels differ. "A check passes over open assignments, for its agreement and for the lowest
+-- index that differs." (document 02, K13)
+unfoldable pub compared : ℕ → List ℕ → List ℕ → Verdict
+compared m xs ys =
+    let at = firstPlace (λ p. not (isOpen m (getD ys p 0)) && not (eqb (getD xs p 0) (getD ys p 0))) (range 0 (length xs)) in
     elim (ltb at (length xs)) [ true ↦ differ at | false ↦ agree ]
 
 -- 12: "checked sheets differ in m, n or names; place 0". 13: cells buffer short. "it .. puts the table sheet's inks in the
@@ -46,7 +48,7 @@ checkedInto net t cells =
       | false ↦ record { answer = turnedDown neither 12 0; cells = cells }
       | true ↦ elim (ltb (length cells) (length (t .inks))) [
         | true ↦ record { answer = turnedDown neither 13 (length (t .inks)); cells = cells }
-        | false ↦ record { answer = compared (tableOfNet net .inks) (t .inks); cells = written cells (t .inks) }
+        | false ↦ record { answer = compared (t .header .levels) (tableOfNet net .inks) (t .inks); cells = written cells (t .inks) }
       ]
     ]
 

@@ -21,6 +21,7 @@ use Rattle.rules.specs.Family as family
 use Rattle.rules.specs.Answers as answers
 use Rattle.rules.specs.Reading as reading
 use Rattle.rules.specs.BareCells as bareCells
+use Rattle.rules.specs.OpenCells as openCells
 use Rattle.rules.specs.Multiplicity as multiplicity
 use Rattle.rules.specs.Marking as marking
 use Rattle.rules.specs.Settling as settling
@@ -40,5 +41,5 @@ use Rattle.rules.specs.Jobs as jobs
 use Rattle.rules.specs.Glyphs as glyphs
 
 unfoldable pub computing : Unit {0}
-unfolding lists.computing text.computing limits.computing fields.computing sheets.computing printed.computing value.computing groups.computing differences.computing marks.computing wirings.computing filling.computing leaves.computing settled.computing layers.computing shallow.computing family.computing answers.computing reading.computing bareCells.computing multiplicity.computing marking.computing settling.computing shallowSettling.computing familyCalls.computing shallower.computing checking.computing tableWriting.computing programs.computing lister.computing arrivalSheet.computing arrivals.computing looseSheet.computing tidying.computing jobs.computing keeping.computing glyphs.computing
+unfolding lists.computing text.computing limits.computing fields.computing sheets.computing printed.computing value.computing groups.computing differences.computing marks.computing wirings.computing filling.computing leaves.computing settled.computing layers.computing shallow.computing family.computing answers.computing reading.computing bareCells.computing openCells.computing multiplicity.computing marking.computing settling.computing shallowSettling.computing familyCalls.computing shallower.computing checking.computing tableWriting.computing programs.computing lister.computing arrivalSheet.computing arrivals.computing looseSheet.computing tidying.computing jobs.computing keeping.computing glyphs.computing
 computing = tt

@@ -12,7 +12,7 @@ use Rattle.rules.specs.Marks.{marksOf, storedMarks}
 use Rattle.rules.specs.Leaves.{leavesOf}
 use Rattle.rules.specs.Family.{treeCount, familyGates}
 use Rattle.rules.specs.Answers.{Answer, accepted, inkIn, refused, written}
-use Rattle.rules.specs.Reading.{readTable}
+use Rattle.rules.specs.OpenCells.{readFull}
 use Rattle.rules.specs.Settling.{Made, roomFor, writtenSheet}
 
 -- ---- of a table
@@ -53,7 +53,7 @@ countedInto t cells marks =
 -- "One call takes a table sheet with making's cells and marks buffers, no output, and answers the count of the trees."
 unfoldable pub familyCountCall : List ℕ → List ℕ → List ℕ → Counted
 familyCountCall sheet cells marks =
-    elim (readTable sheet) [
+    elim (readFull sheet) [
       | refused number place ↦ record { answer = refused number place; cells = cells; marks = marks }
       | accepted t ↦ countedInto t cells marks
     ]
@@ -83,7 +83,7 @@ numberedInto number t cells marks output =
 -- "The other takes a table sheet, an order number and all of making's buffers, and writes the tree of that number, from 0."
 unfoldable pub familyTreeCall : List ℕ → ℕ → List ℕ → List ℕ → List ℕ → Made
 familyTreeCall sheet number cells marks output =
-    elim (readTable sheet) [
+    elim (readFull sheet) [
       | refused refusal place ↦ record { answer = refused refusal place; cells = cells; marks = marks; output = output }
       | accepted t ↦ numberedInto number t cells marks output
     ]

@@ -9,8 +9,7 @@ use lib.Dec.{eqb, leb, ltb}
 use Rattle.rules.specs.Sheets.{Header, Table}
 use Rattle.rules.specs.Marks.{markIn, markOf}
 use Rattle.rules.specs.Answers.{Answer, accepted, inkIn, onward, refused}
-use Rattle.rules.specs.Reading.{readTable}
-use Rattle.rules.specs.BareCells.{bareCells}
+use Rattle.rules.specs.OpenCells.{fullCells, readFull}
 use Rattle.rules.specs.Settling.{Made, settledNet, madeInto}
 
 -- ---- a job
@@ -44,10 +43,10 @@ pub record Opened : Type 0 where
   pub job : Job
   pub answer : Answer (Unit {0})
 
--- "A sheet that is turned back opens an empty job beside its refusal"
+-- "A sheet that is turned back opens an empty job beside its refusal". "Everything that .. marks groups .. needs a full table, a job at its opening." (document 02, K13)
 unfoldable pub openJob : List ℕ → Opened
 openJob sheet =
-    elim (readTable sheet) [
+    elim (readFull sheet) [
       | refused number place ↦ record { job = emptyJob; answer = refused number place }
       | accepted t ↦ record { job = newJob t; answer = accepted tt }
     ]
@@ -110,7 +109,7 @@ pub record Finished : Type 0 where
 unfoldable pub mayFinish : Job → Answer (Unit {0})
 mayFinish job =
     let t = job .table in
-    onward (bareCells (t .header .levels) (t .header .inputs) (t .inks))
+    onward (fullCells (t .header .levels) (t .header .inputs) (t .inks))
     (λ _. elim (ltb (job .passed) (groupsOf job)) [ true ↦ refused 22 (groupsOf job - job .passed) | false ↦ accepted tt ])
 
 -- "both are judged before 13, and leave the job and all buffers untouched". "finishing writes what making writes", from the job's own table.

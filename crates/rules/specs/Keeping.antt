@@ -16,6 +16,7 @@ use Rattle.rules.specs.Leaves.{matters}
 use Rattle.rules.specs.Family.{gateGroups}
 use Rattle.rules.specs.Answers.{Named, accepted, inkIn, neither, netNamed, refused, tableNamed, written}
 use Rattle.rules.specs.Reading.{readNet, readTable}
+use Rattle.rules.specs.OpenCells.{fullTable}
 use Rattle.rules.specs.Checking.{sameHeader}
 
 -- ---- the wiring, and its gates filled anew
@@ -79,8 +80,8 @@ pub record KeptWiring : Type 0 where
   pub cells : List ℕ
   pub output : List ℕ
 
--- What is judged once both sheets are read, in this order: 12, 13, 23 at 0, 23 at a gate, 15. "A kept wiring that leaves out an input that matters is refused with 23
--- at place 0, before its gates are judged." (document 02, K12) 12: the sheets differ in m, n or names. 13: cells buffer short. "23, place the
+-- What is judged once both sheets are read, in this order: 12, 27, which names the table sheet, 13, 23 at 0, 23 at a gate, 15. "A kept wiring that leaves out an input that
+-- matters is refused with 23 at place 0, before its gates are judged." (document 02, K12) 12: the sheets differ in m, n or names. 13: cells buffer short. "23, place the
 -- number of the first gate whose group has more than m classes, judged after 12 and 13 and before 15; it names neither sheet and leaves the cells written."
 -- 15: output short, with the cells written.
 unfoldable pub keptInto : Net → Table → List ℕ → List ℕ → KeptWiring
@@ -90,15 +91,18 @@ keptInto net t cells output =
     let sheet = printedNet kept in
     elim (sameHeader (net .header) (t .header)) [
       | false ↦ record { answer = turnedAway neither 12 0; cells = cells; output = output }
-      | true ↦ elim (ltb (length cells) (length (t .inks))) [
-        | true ↦ record { answer = turnedAway neither 13 (length (t .inks)); cells = cells; output = output }
-        | false ↦ elim (leavesOut net t) [
-          | true ↦ record { answer = turnedAway neither 23 0; cells = cells-then; output = output }
-          | false ↦ elim (ltb (roomyBefore net t) (length (net .gates))) [
-            | true ↦ record { answer = turnedAway neither 23 (suc (roomyBefore net t)); cells = cells-then; output = output }
-            | false ↦ elim (ltb (length output) (length sheet)) [
-              | true ↦ record { answer = turnedAway neither 15 (length sheet); cells = cells-then; output = output }
-              | false ↦ record { answer = rewritten (length sheet) (changedGates (net .gates) (kept .gates)); cells = cells-then; output = written output sheet }
+      | true ↦ elim (fullTable t) [
+        | refused number place ↦ record { answer = turnedAway tableNamed number place; cells = cells; output = output }
+        | accepted _ ↦ elim (ltb (length cells) (length (t .inks))) [
+          | true ↦ record { answer = turnedAway neither 13 (length (t .inks)); cells = cells; output = output }
+          | false ↦ elim (leavesOut net t) [
+            | true ↦ record { answer = turnedAway neither 23 0; cells = cells-then; output = output }
+            | false ↦ elim (ltb (roomyBefore net t) (length (net .gates))) [
+              | true ↦ record { answer = turnedAway neither 23 (suc (roomyBefore net t)); cells = cells-then; output = output }
+              | false ↦ elim (ltb (length output) (length sheet)) [
+                | true ↦ record { answer = turnedAway neither 15 (length sheet); cells = cells-then; output = output }
+                | false ↦ record { answer = rewritten (length sheet) (changedGates (net .gates) (kept .gates)); cells = cells-then; output = written output sheet }
+              ]
             ]
           ]
         ]

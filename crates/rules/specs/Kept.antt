@@ -1,7 +1,7 @@
 -- Document 01, section 'Sheets', said without a reader: the rules that a header, a net's gates and a table's inks keep. A sheet is
 -- accepted exactly when it is the print of a net or a table that keeps them (the theorems are in the crate `readback`).
 -- Assumes nothing.
-use Prim.Native.Nat.{ℕ, suc, _+_, _*_, _^_, _<_}
+use Prim.Native.Nat.{ℕ, suc, _+_, _*_, _^_, _≤_, _<_}
 use mathlib.Core.Path.{_≡_}
 use mathlib.Core.Bool.{true, false}
 use mathlib.Core.List.{List, [], _∷_}
@@ -66,8 +66,12 @@ pub record KeptNet (net : Net) : Type 0 where
   pub header : KeptHeader (net .header)
   pub gates : IsNet (net .header .levels) (net .header .inputs) (net .gates)
 
--- a table sheet keeps every rule: one ink below m for each cell
+-- a table sheet keeps every rule: for each cell one ink below m, or m where it is open
 pub record KeptTable (t : Table) : Type 0 where
   pub header : KeptHeader (t .header)
   pub count : length (t .inks) ≡ t .header .levels ^ t .header .inputs
-  pub below : (k : ℕ) → k < length (t .inks) → getD (t .inks) k 0 < t .header .levels
+  pub within : (k : ℕ) → k < length (t .inks) → getD (t .inks) k 0 ≤ t .header .levels
+
+-- a full table: no cell is open (document 02, K13)
+abbrev pub FullTable : Table → Type 0
+FullTable t = (k : ℕ) → k < length (t .inks) → getD (t .inks) k 0 < t .header .levels

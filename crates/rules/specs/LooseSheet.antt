@@ -1,7 +1,7 @@
 -- Document 02, K8: the loose table sheet, field by field, with the number and the place of every refusal; and its rules said without a reader.
 -- "Customers export loosely laid tables. A tidier accepts one or more spaces between fields, spaces before a line feed, rows in any order."
 -- Assumes nothing.
-use Prim.Native.Nat.{ℕ, zero, suc, _+_, _-_, _*_, _^_, _<_}
+use Prim.Native.Nat.{ℕ, zero, suc, _+_, _-_, _*_, _^_, _≤_, _<_}
 use mathlib.Core.Path.{_≡_}
 use mathlib.Core.Bool.{Bool, true, false}
 use mathlib.Core.Option.{Option, none, some}
@@ -11,7 +11,7 @@ use lib.Dec.{eqb}
 use Rattle.rules.specs.Lists.{range, any, find}
 use Rattle.rules.specs.Text.{space, newline, text, digitByte, isDigit, decimal, zeroByte}
 use Rattle.rules.specs.Fields.{Reader, read, turnedBack, _>>=_, give, bad, Judge, judged, loose, fieldIn, theWord, closed}
-use Rattle.rules.specs.Sheets.{Header, Table, headerLinesIn, inkField, levelsAt}
+use Rattle.rules.specs.Sheets.{Header, Table, headerLinesIn, inkField, inkByte, levelsAt}
 use Rattle.rules.specs.Kept.{Distinct, KeptHeader}
 use Rattle.rules.specs.Answers.{Answer}
 use Rattle.rules.specs.Reading.{answered}
@@ -109,7 +109,7 @@ LooseLines (ws ∷ lines) s = (first rest : List ℕ) × (s ≡ first ++ rest) �
 
 -- the fields of a row
 unfoldable pub rowFields : ℕ → ℕ → Row → List (List ℕ)
-rowFields m n row = map (λ l. digitByte l ∷ []) (levelsAt m n (row .index) ++ (row .ink ∷ []))
+rowFields m n row = map (λ l. digitByte l ∷ []) (levelsAt m n (row .index)) ++ ((inkByte m (row .ink) ∷ []) ∷ [])
 
 -- the fields of a loose sheet, line by line
 unfoldable pub looseFields : LooseTable → List (List (List ℕ))
@@ -120,10 +120,10 @@ looseFields t =
     ∷ (h .names ++ (text "ink" ∷ []))
     ∷ map (rowFields (h .levels) (h .inputs)) (t .rows)
 
--- a row names an assignment and has an ink below m
+-- a row names an assignment and has an ink below m, or m where it is open
 abbrev pub EachRow : ℕ → ℕ → List Row → Type 0
 EachRow m n [] = Unit {0}
-EachRow m n (row ∷ rows) = (row .index < m ^ n) × (row .ink < m) × EachRow m n rows
+EachRow m n (row ∷ rows) = (row .index < m ^ n) × (row .ink ≤ m) × EachRow m n rows
 
 -- A loose sheet's table keeps every rule: a good header, and as many rows as cells, no two of the same assignment
 pub record KeptLoose (t : LooseTable) : Type 0 where

@@ -8,7 +8,7 @@ use lib.Dec.{ltb}
 use Rattle.rules.specs.Groups.{wholeGroup}
 use Rattle.rules.specs.Marks.{markIn, marksOf, marksLength, storedMarks}
 use Rattle.rules.specs.Answers.{Answer, accepted, inkIn, refused, written}
-use Rattle.rules.specs.BareCells.{bareCells}
+use Rattle.rules.specs.OpenCells.{fullCells}
 
 -- what marking answers, and what its buffer holds afterwards
 pub record Marked : Type 0 where
@@ -19,7 +19,7 @@ pub record Marked : Type 0 where
 -- of 13 to 15 is the length needed"
 unfoldable pub markingCall : ℕ → ℕ → List ℕ → List ℕ → Marked
 markingCall m n cells buffer =
-    elim (bareCells m n cells) [
+    elim (fullCells m n cells) [
       | refused number place ↦ record { answer = refused number place; marks = buffer }
       | accepted _ ↦ elim (ltb (length buffer) (marksLength n)) [
         | true ↦ record { answer = refused 14 (marksLength n); marks = buffer }

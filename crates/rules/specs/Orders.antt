@@ -33,10 +33,19 @@ pub length-before-cell : multiplicityCall 2 2 (2 ∷ []) 0 ≡ refused 9 0
 unfolding computing
 length-before-cell = refl
 
--- 10 before 11: a cell that is not below m, and group 0
-pub cell-before-group : multiplicityCall 2 2 (0 ∷ 2 ∷ 0 ∷ 0 ∷ []) 0 ≡ refused 10 1
+-- 10 before 11: a cell above m, and group 0
+pub cell-before-group : multiplicityCall 2 2 (0 ∷ 3 ∷ 0 ∷ 0 ∷ []) 0 ≡ refused 10 1
 unfolding computing
 cell-before-group = refl
+
+-- 27 "for bare cells between 10 and 11": an open cell before one above m; an open cell, and group 0
+pub above-before-open : multiplicityCall 2 2 (2 ∷ 0 ∷ 3 ∷ 0 ∷ []) 1 ≡ refused 10 2
+unfolding computing
+above-before-open = refl
+
+pub open-before-group : multiplicityCall 2 2 (0 ∷ 2 ∷ 0 ∷ 2 ∷ []) 0 ≡ refused 27 1
+unfolding computing
+open-before-group = refl
 
 -- ---- settling and making: "Judged in this order after the input": 13, 14, 16, 15
 

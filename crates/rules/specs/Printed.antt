@@ -4,7 +4,7 @@ use Prim.Native.Nat.{ℕ, suc}
 use mathlib.Core.List.{List, [], _∷_, _++_, map}
 use Rattle.rules.specs.Lists.{concatMap}
 use Rattle.rules.specs.Text.{space, newline, text, digitByte, decimal}
-use Rattle.rules.specs.Sheets.{Header, Gate, Net, Table, referenceText, levelsAt}
+use Rattle.rules.specs.Sheets.{Header, Gate, Net, Table, referenceText, levelsAt, inkByte}
 
 -- "Every line ends in one line feed (byte 10)". "Fields are parted by exactly one space."
 unfoldable pub line : List (List ℕ) → List ℕ
@@ -30,7 +30,7 @@ printedNet net =
 
 -- the row of index p
 unfoldable pub printedRow : ℕ → ℕ → ℕ → ℕ → List ℕ
-printedRow m n p ink = line (map (λ l. digitByte l ∷ []) (levelsAt m n p ++ (ink ∷ [])))
+printedRow m n p ink = line (map (λ l. digitByte l ∷ []) (levelsAt m n p) ++ ((inkByte m ink ∷ []) ∷ []))
 
 -- the rows from index p on
 unfoldable pub printedRows : ℕ → ℕ → ℕ → List ℕ → List ℕ

@@ -13,6 +13,7 @@ use Rattle.rules.specs.Sheets.{Net}
 use Rattle.rules.specs.Answers.{accepted, refused, onward, netNamed, tableNamed, neither}
 use Rattle.rules.specs.Reading.{readNet, readTable}
 use Rattle.rules.specs.BareCells.{bareCells}
+use Rattle.rules.specs.OpenCells.{fullCells, readFull}
 use Rattle.rules.specs.Multiplicity.{multiplicityCall}
 use Rattle.rules.specs.Marking.{markingCall}
 use Rattle.rules.specs.Settling.{settleCall, makeCall}
@@ -89,14 +90,14 @@ net-back e =
     }
 
 pub table-back : {sheet : List ℕ} {number place : ℕ} → readTable sheet ≡ refused number place → TableBack sheet number place
-unfolding makeCall familyCountCall familyTreeCall checkCall openJob keepCall
+unfolding makeCall familyCountCall familyTreeCall checkCall openJob keepCall readFull onward
 table-back e =
     record {
-      making = λ cells marks output. rw (e, makeCall);
-      counting = λ cells marks. rw (e, familyCountCall);
-      numbering = λ order cells marks output. rw (e, familyTreeCall);
+      making = λ cells marks output. rw (e, readFull, makeCall);
+      counting = λ cells marks. rw (e, readFull, familyCountCall);
+      numbering = λ order cells marks output. rw (e, readFull, familyTreeCall);
       checking = λ net-sheet cells net a. rw (a, e, checkCall);
-      opening = rw (e, openJob);
+      opening = rw (e, readFull, openJob);
       keeping = λ net-sheet cells output net a. rw (a, e, keepCall);
     }
 
@@ -110,7 +111,7 @@ unfolding tidyCall
 loose-back e = record { tidying = λ cells output. rw (e, tidyCall) }
 
 pub cells-back : {m n : ℕ} {cells : List ℕ} {number place : ℕ} → bareCells m n cells ≡ refused number place → CellsBack m n cells number place
-unfolding multiplicityCall markingCall onward
+unfolding multiplicityCall markingCall onward fullCells
 cells-back e = record { counting = λ g. rw (e, multiplicityCall); marking = λ marks. rw (e, markingCall) }
 
 -- A buffer before the call: so many nines, a byte that no call writes.
@@ -278,8 +279,8 @@ refusals =
     ∷ bare 2 1 "01" 9 0
     ∷ bare 2 13 "01" 9 0
     ∷ finish "levels inputs/2 2/a b b ink/" 0 4 4 48 9 0 "9999" (nines 4)
-    -- 10: a cell
-    ∷ bare 2 2 "0112" 10 3
+    -- 10: a cell above m
+    ∷ bare 2 2 "0113" 10 3
     -- 11: the group
     ∷ group 2 2 "0111" 4 11 0
     ∷ group 2 2 "0111" 0 11 0

@@ -13,7 +13,8 @@ use Rattle.rules.specs.Groups.{wholeGroup}
 use Rattle.rules.specs.Marks.{markIn, marksOf, marksLength, storedMarks, noTreePlace}
 use Rattle.rules.specs.Settled.{settledGates}
 use Rattle.rules.specs.Answers.{Answer, accepted, inkIn, refused, written}
-use Rattle.rules.specs.Reading.{readNet, readTable, tableOfNet}
+use Rattle.rules.specs.Reading.{readNet, tableOfNet}
+use Rattle.rules.specs.OpenCells.{readFull}
 
 -- what settling and making answer, and what their three buffers hold afterwards
 pub record Made : Type 0 where
@@ -79,10 +80,10 @@ settleCall sheet cells marks output =
       | accepted net ↦ madeInto settledNet (tableOfNet net) cells marks output
     ]
 
--- "*Making* does the same from a table sheet."
+-- "*Making* does the same from a table sheet.", which "needs a full table" (document 02, K13)
 unfoldable pub makeCall : List ℕ → List ℕ → List ℕ → List ℕ → Made
 makeCall sheet cells marks output =
-    elim (readTable sheet) [
+    elim (readFull sheet) [
       | refused number place ↦ record { answer = refused number place; cells = cells; marks = marks; output = output }
       | accepted t ↦ madeInto settledNet t cells marks output
     ]

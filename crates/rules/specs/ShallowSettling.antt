@@ -8,7 +8,8 @@ use Rattle.rules.specs.Marks.{marksOf}
 use Rattle.rules.specs.Layers.{layers}
 use Rattle.rules.specs.Shallow.{shallowGates}
 use Rattle.rules.specs.Answers.{Answer, accepted, inkIn, onward, refused}
-use Rattle.rules.specs.Reading.{readNet, readTable, tableOfNet}
+use Rattle.rules.specs.Reading.{readNet, tableOfNet}
+use Rattle.rules.specs.OpenCells.{readFull}
 use Rattle.rules.specs.Settling.{Made, madeInto}
 
 -- the shallow net of a table, under the table's header
@@ -57,7 +58,7 @@ settleShallowCall sheet cells marks output =
 -- .. "a making"
 unfoldable pub makeShallowCall : List ℕ → List ℕ → List ℕ → List ℕ → LayeredMade
 makeShallowCall sheet cells marks output =
-    elim (readTable sheet) [
+    elim (readFull sheet) [
       | refused number place ↦ record { answer = refused number place; cells = cells; marks = marks; output = output }
       | accepted t ↦ layeredInto shallowNet t cells marks output
     ]

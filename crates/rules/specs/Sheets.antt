@@ -7,9 +7,9 @@ use mathlib.Core.List.{List, [], _∷_, _++_, map}
 use lib.ListN.{length, getD}
 use lib.Dec.{eqb, leb, ltb}
 use Rattle.rules.specs.Lists.{range, all, any, find, same}
-use Rattle.rules.specs.Text.{space, newline, text, digitByte, isDigit, decimal}
+use Rattle.rules.specs.Text.{space, newline, text, digitByte, openByte, isDigit, decimal}
 use Rattle.rules.specs.Limits.{levelsFit, cellsFit, fewestInputs, mostInputs, mostNameBytes}
-use Rattle.rules.specs.Fields.{read, turnedBack, Reader, _>>=_, give, bad, Judge, judged, strict, Layout, field, fieldIn, theWord, closed}
+use Rattle.rules.specs.Fields.{read, turnedBack, Reader, _>>=_, give, bad, good, Judge, judged, strict, Layout, field, fieldIn, theWord, closed}
 
 -- ---- the two header lines and the names
 
@@ -164,11 +164,15 @@ levelsAt m n p = map (level m n p) (range 0 n)
 unfoldable pub levelField : ℕ → Judge (Unit {0})
 levelField due w = judged (same w (digitByte due ∷ [])) tt 5
 
--- "the ink level". 6: ink field
+-- "the ink level". 6: ink field. Or, where an assignment cannot occur, "its maker writes `-` as their ink. Table sheets take it, and a cell holds m for it." (document 02, K13)
 unfoldable pub inkField : ℕ → Judge ℕ
 inkField m [] = bad 6
-inkField m (b ∷ []) = judged (isDigit m b) (b - 48) 6
+inkField m (b ∷ []) = elim (eqb b openByte) [ true ↦ good m | false ↦ judged (isDigit m b) (b - 48) 6 ]
 inkField m (b ∷ c ∷ w) = bad 6
+
+-- the byte that an ink is written as
+unfoldable pub inkByte : ℕ → ℕ → ℕ
+inkByte m ink = elim (eqb ink m) [ true ↦ openByte | false ↦ digitByte ink ]
 
 -- a row's input levels, each with a space after it
 unfoldable pub levelFields : List ℕ → Reader (Unit {0})
@@ -197,5 +201,5 @@ tableSheet = do
 
 -- all of this file computes
 unfoldable pub computing : Unit {0}
-unfolding levelsField inputsOf inputsField isLetter letterFirst isName nameField nameFieldsIn headerLinesIn referenceText referenceOf referenceField digitsField usedBy gateLine orEnd gateLines earlierUsed allUsed netSheet level levelsAt levelField inkField levelFields rowLines tableSheet
+unfolding levelsField inputsOf inputsField isLetter letterFirst isName nameField nameFieldsIn headerLinesIn referenceText referenceOf referenceField digitsField usedBy gateLine orEnd gateLines earlierUsed allUsed netSheet level levelsAt levelField inkField inkByte levelFields rowLines tableSheet
 computing = tt

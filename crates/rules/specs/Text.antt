@@ -36,6 +36,10 @@ zeroByte = 48
 unfoldable pub digitByte : ℕ → ℕ
 digitByte d = zeroByte + d
 
+-- `-`, the sign of an open cell (document 02, K13)
+abbrev pub openByte : ℕ
+openByte = 45
+
 -- is `b` the byte of a digit below `m`? (m is at most 10)
 unfoldable pub isDigit : ℕ → ℕ → Bool
 isDigit m b = leb zeroByte b && ltb b (zeroByte + m)

@@ -7,7 +7,8 @@ use lib.ListN.{take}
 use Rattle.rules.specs.Sheets.{Table}
 use Rattle.rules.specs.Sheets as sheets
 use Rattle.rules.specs.Answers.{Answer, accepted, onward, refused}
-use Rattle.rules.specs.Reading.{readNet, readTable, tableOfNet}
+use Rattle.rules.specs.Reading.{readNet, tableOfNet}
+use Rattle.rules.specs.OpenCells.{readFull}
 use Rattle.rules.specs.Settling.{Made, settledNet, madeInto, settleCall, makeCall}
 use Rattle.rules.specs.ShallowSettling.{LayeredMade, layeredInto, makeShallowCall, settleShallowCall, shallowNet, withLayers}
 use Rattle.laws.specs.Settling.{settle-accepted, settle-refused, make-accepted, make-refused}
@@ -20,7 +21,7 @@ use Rattle.nets.specs.declared.forms.Header.{Header}
 use Rattle.nets.specs.declared.forms.Net.{Net}
 use Rattle.nets.specs.Evaluating.{Tabled}
 use Rattle.nets.specs.Forms.{tableIn}
-use Rattle.accepted.specs.Taken.{NetTaken, TableTaken, Given, own-cells, front-table, front-given, inks-table}
+use Rattle.accepted.specs.Taken.{NetTaken, FullTaken, Given, own-cells, front-table, front-given, inks-table}
 
 -- ---- a call, whatever net is made of the table
 
@@ -33,7 +34,7 @@ settlesBy netFor sheet cells marks output =
 
 unfoldable pub makesBy : (Table → sheets.Net) → List ℕ → List ℕ → List ℕ → List ℕ → LayeredMade
 makesBy netFor sheet cells marks output =
-    elim (readTable sheet) [
+    elim (readFull sheet) [
       | refused number place ↦ record { answer = refused number place; cells = cells; marks = marks; output = output }
       | accepted t ↦ layeredInto netFor t cells marks output
     ]
@@ -48,12 +49,12 @@ module _ (netFor : Table → sheets.Net) (s cells marks output : List ℕ) where
   unfolding settlesBy
   settles-accepted net e = rw (e, settlesBy)
 
-  pub makes-refused : (number place : ℕ) → readTable s ≡ refused number place
+  pub makes-refused : (number place : ℕ) → readFull s ≡ refused number place
       → makesBy netFor s cells marks output ≡ record { answer = refused number place; cells = cells; marks = marks; output = output }
   unfolding makesBy
   makes-refused number place e = rw (e, makesBy)
 
-  makes-accepted : (t : Table) → readTable s ≡ accepted t → makesBy netFor s cells marks output ≡ layeredInto netFor t cells marks output
+  makes-accepted : (t : Table) → readFull s ≡ accepted t → makesBy netFor s cells marks output ≡ layeredInto netFor t cells marks output
   unfolding makesBy
   makes-accepted t e = rw (e, makesBy)
 
@@ -87,9 +88,9 @@ module _ (s cells marks output : List ℕ) where
   -- .. and making
   pub makes-plain : plainMade (makesBy settledNet s cells marks output) ≡ makeCall s cells marks output
   unfolding plainMade plain onward layeredInto
-  makes-plain = go (readTable s) refl
+  makes-plain = go (readFull s) refl
     where
-      go : (a : Answer Table) → readTable s ≡ a → plainMade (makesBy settledNet s cells marks output) ≡ makeCall s cells marks output
+      go : (a : Answer Table) → readFull s ≡ a → plainMade (makesBy settledNet s cells marks output) ≡ makeCall s cells marks output
       go (accepted t) e =
           ap plainMade (makes-accepted settledNet s cells marks output t e) ∙ plain-with _ _ ∙ sym (make-accepted s cells marks output t e)
       go (refused number place) e =
@@ -129,9 +130,9 @@ module _ (s : List ℕ) (h : Header) (net : Net) (taken : NetTaken s h net) (bef
       ∙ sym (settles-accepted netFor s cells marks output _ (taken .reads))
 
 -- a table, and its inks at the front of their buffer
-pub table-settled : (s : List ℕ) (h : Header) (inks : List ℕ) → TableTaken s h inks → (count : ℕ) → count ≡ h .levels ^ h .inputs
+pub table-settled : (s : List ℕ) (h : Header) (inks : List ℕ) → FullTaken s h inks → (count : ℕ) → count ≡ h .levels ^ h .inputs
     → (netFor : Table → sheets.Net) (cells marks output : List ℕ)
     → layeredInto netFor (tableIn s h (take (count - 0) inks)) cells marks output ≡ makesBy netFor s cells marks output
 table-settled s h inks taken count is netFor cells marks output =
-    ap (λ t. layeredInto netFor t cells marks output) (inks-table s h inks taken count is)
+    ap (λ t. layeredInto netFor t cells marks output) (inks-table s h inks count is)
     ∙ sym (makes-accepted netFor s cells marks output _ (taken .reads))

@@ -13,7 +13,7 @@ use nets::values;
 use radix::limits;
 use radix::powers;
 use synthesis::into;
-use table_reading::sheet;
+use table_reading::full;
 use wirings::choice::Choice;
 
 // The net's table goes into an array of its own first: a refusal must change no buffer.
@@ -68,7 +68,7 @@ pub fn make_by(
         ≡ makesBy (netBy choice) (now (s .entry)) (now (cells .entry)) (now (marks .entry)) (now (out .entry)) ⌝ }
 {
     let mut inks = [0u8; limits::MOST_CELLS];
-    let read = sheet::read_table(s, &mut inks);
+    let read = full::read_full(s, &mut inks);
     let outcome = read.outcome;
     let header = read.header;
     match outcome {

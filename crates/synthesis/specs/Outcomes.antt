@@ -66,7 +66,7 @@ module _ (s : List ℕ) (h : Header) (inks : List ℕ) (given : Given s h inks) 
 
   pub given-below : (p : ℕ) → p < h .levels ^ h .inputs → inkIn inks p < h .levels
   unfolding headerOf
-  given-below p l = given .kept .below p (subst⁻¹ (λ (k : ℕ). p < k) given-count l)
+  given-below p l = given .full p (subst⁻¹ (λ (k : ℕ). p < k) given-count l)
 
   -- ---- the net of some gates
 

@@ -8,7 +8,7 @@ use native.Mathlib.Omega.{arith}
 use lib.ListN.{length, getD, length-append, length-take, length-drop}
 use Rattle.rules.specs.Text.{space, newline, text, decimal}
 use Rattle.rules.specs.Lists.{range}
-use Rattle.rules.specs.Sheets.{levelsAt}
+use Rattle.rules.specs.Sheets.{levelsAt, inkByte}
 use Rattle.rules.specs.Printed.{line, printedRow, printedRows, printedTable}
 use Rattle.laws.specs.Levels.{levels-length}
 use Rattle.nets.specs.declared.forms.Header.{Header}
@@ -44,7 +44,7 @@ module _ (s : List ℕ) (h : Header) where
       ∙ simp length-append (omega (arith, names-total i n (omega arith), name-length i n l))
 
 one-row : (m n p ink : ℕ) → length (printedRow m n p ink) ≡ 2 * n + 2
-one-row m n p ink = ap length (row-text m n p ink) ∙ row-length (levelsAt m n p) ink ∙ ap (λ (k : ℕ). 2 * k + 2) (levels-length m n p)
+one-row m n p ink = ap length (row-text m n p ink) ∙ row-length (levelsAt m n p) (inkByte m ink) ∙ ap (λ (k : ℕ). 2 * k + 2) (levels-length m n p)
 
 rows-length : (m n p : ℕ) (inks : List ℕ) → length (printedRows m n p inks) ≡ length inks * (2 * n + 2)
 unfolding printedRows

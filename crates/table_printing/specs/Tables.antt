@@ -16,7 +16,7 @@ use Rattle.accepted.specs.Taken.{Given}
 use Rattle.lines.specs.Lines.{spacedFrom, line-last, spaced-all}
 use Rattle.lines.specs.Names.{NamesInside}
 
--- levels and inks are digits
+-- levels are digits, and inks are no more than a digit
 pub record TableInside (s : List ℕ) (h : Header) (inks : List ℕ) : Type 0 where
   pub names : NamesInside s h
   pub someLevels : 0 < h .levels
@@ -36,4 +36,4 @@ unfolding headerOf
 table-inside s h inks given =
     let kept = given .kept in
     let fit = levels-fit (h .levels) .0 (kept .header .levels) in
-    record { names = given .names; someLevels = omega arith; levels = fit .1; digits = λ k l. omega (arith, fit .1, kept .below k l) }
+    record { names = given .names; someLevels = omega arith; levels = fit .1; digits = λ k l. omega (arith, fit .1, kept .within k l) }

@@ -1,7 +1,9 @@
 // A table sheet.
 ghost use Prim.Native.Nat.{ℕ, _+_, _≤_, _<_};
+ghost use mathlib.Core.Path.{_≡_};
 ghost use lib.ListN.{length, getD};
 ghost use Rattle.rules.specs.Limits.{mostLevels, mostInputs};
+ghost use Rattle.rules.specs.Sheets.{inkByte};
 ghost use Rattle.rules.specs.Printed.{printedRows, printedTable};
 ghost use Rattle.lines.specs.Put.{Put, Room, Wrote};
 ghost use Rattle.table_printing.specs.Rows.{rowText};
@@ -14,9 +16,20 @@ use nets::forms::Header;
 use nets::levels::next_levels;
 use radix::limits::MOST_INPUTS;
 
-// A row: each level with a space behind it, then the ink with a line feed.
+// The byte of an ink: its digit, or the sign of an open cell.
+fn ink_byte(m: usize, ink: u8) -> u8
+    requires { ⌜ ink < 10 ⌝ }
+    ensures { λ r. ⌜ r ≡ inkByte m ink ⌝ }
+{
+    if ink as usize == m {
+        return b'-';
+    }
+    b'0' + ink
+}
+
+// A row: each level with a space behind it, then the byte of the ink with a line feed.
 fn print_row(levels: &[u8], ink: u8, out: &mut [u8], at: usize) -> usize
-    requires { ⌜ ((k : ℕ) → k < length (now levels) → getD (now levels) k 0 < 10) × (ink < 10) × Room (now out) at (rowText (now levels) ink) ⌝ }
+    requires { ⌜ ((k : ℕ) → k < length (now levels) → getD (now levels) k 0 < 10) × Room (now out) at (rowText (now levels) ink) ⌝ }
     ensures { λ r. ⌜ Put (now (out .entry)) at (rowText (now (levels .entry)) ink) (now (out .exit)) r ⌝ }
 {
     let mut i: usize = 0;
@@ -27,7 +40,7 @@ fn print_row(levels: &[u8], ink: u8, out: &mut [u8], at: usize) -> usize
         i += 1;
         p += 2;
     }
-    out[p] = b'0' + ink;
+    out[p] = ink;
     out[p + 1] = b'\n';
     p + 2
 }
@@ -41,7 +54,8 @@ fn print_rows(m: usize, n: usize, inks: &[u8], out: &mut [u8], at: usize) -> usi
     let mut k: usize = 0;
     let mut p: usize = at;
     while k < inks.len() {
-        p = print_row(&levels[0..n], inks[k], out, p);
+        let ink = ink_byte(m, inks[k]);
+        p = print_row(&levels[0..n], ink, out, p);
         next_levels(m, n, &mut levels);
         k += 1;
     }

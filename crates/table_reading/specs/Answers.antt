@@ -1,6 +1,6 @@
 -- What reading a table sheet answers, in document 01's definitions.
 -- Assumes nothing.
-use Prim.Native.Nat.{ℕ, _^_}
+use Prim.Native.Nat.{ℕ, suc, _^_}
 use mathlib.Core.Path.{_≡_}
 use mathlib.Core.List.{List, []}
 use lib.ListN.{take}
@@ -23,10 +23,10 @@ use Rattle.table_reading.specs.declared.sheet.TableRead.{TableRead}
 abbrev pub inksIn : List ℕ → Header → List ℕ
 inksIn cells h = take (h .levels ^ h .inputs) cells
 
--- what an accepted sheet's header and inks keep
+-- what an accepted sheet's header and inks keep: an ink is a level, or m for an open cell
 pub record TableHeld (s cells : List ℕ) (h : Header) : Type 0 where
   pub header : HeaderHeld s h
-  pub inks : Below (h .levels) (inksIn cells h)
+  pub inks : Below (suc (h .levels)) (inksIn cells h)
 
 -- reading a whole table sheet, with `cells` as they are afterwards
 pub record TableReads (s cells : List ℕ) (r : TableRead) : Type 0 where
@@ -35,7 +35,7 @@ pub record TableReads (s cells : List ℕ) (r : TableRead) : Type 0 where
 
 -- what is left of a table sheet with the header h is read by `reader`
 abbrev pub TableRest : List ℕ → ℕ → Reader Table → Header → List ℕ → Outcome → Type 0
-TableRest s at reader h cells o = Answers s at reader (tableIn s h (inksIn cells h)) (Below (h .levels) (inksIn cells h)) o
+TableRest s at reader h cells o = Answers s at reader (tableIn s h (inksIn cells h)) (Below (suc (h .levels)) (inksIn cells h)) o
 
 -- the rows under a header, and the end after them
 abbrev pub allRows : sheets.Header → Reader (List ℕ)

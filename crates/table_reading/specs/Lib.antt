@@ -2,6 +2,7 @@ pub mod Answers
 pub mod Block
 pub mod Blocks
 pub mod Due
+pub mod Full
 pub mod Inks
 pub mod Levels
 pub mod Parts

@@ -59,11 +59,11 @@ module _ (s levels : List ℕ) (at n place i : ℕ) (room : n ≤ length levels)
       let short : length (take n levels) ≤ i = rw (length-take-le n levels room) done in
       rw (row .reads, drop-of-length-le (take n levels) short) ink
 
--- the ink of a row that was read is a level
-pub row-ink : (m : ℕ) (ls t rest : List ℕ) (q ink next : ℕ) → rowLine m ls t q ≡ read ink rest next → ink < m
+-- the ink of a row that was read is a level, or m for an open cell
+pub row-ink : (m : ℕ) (ls t rest : List ℕ) (q ink next : ℕ) → rowLine m ls t q ≡ read ink rest next → ink ≤ m
 unfolding rowLine then
 row-ink m ls t rest q ink next e = go (levelFields ls t q) e
   where
-    go : (x : Read (Unit {0})) → then x (λ _. field (inkField m) newline) ≡ read ink rest next → ink < m
+    go : (x : Read (Unit {0})) → then x (λ _. field (inkField m) newline) ≡ read ink rest next → ink ≤ m
     go (read a later place) h = ink-read m newline later rest place ink next h
     go (turnedBack number place) h = let z : _≡_ {A = ℕ} 0 1 = cc in absurd (omega arith)

@@ -20,7 +20,7 @@ use Rattle.table_reading.specs.Row.{rowLine, row-ink}
 -- reading all rows from `at` on; their inks stand at the front of `cells`
 pub record RowsRead (s : List ℕ) (at m n : ℕ) (cells : List ℕ) (r : Step) : Type 0 where
   pub reads : stepAs (λ _. take (m ^ n) cells) s r ≡ rowLines m n 0 (m ^ n) [] (drop at s) at
-  pub held : (value next : ℕ) → r ≡ On value next → Below m (take (m ^ n) cells)
+  pub held : (value next : ℕ) → r ≡ On value next → Below (suc m) (take (m ^ n) cells)
 
 rows-more : (m n p count : ℕ) (inks t : List ℕ) (q : ℕ)
     → rowLines m n p (suc count) inks t q ≡ then (rowLine m (levelsAt m n p) t q) (λ ink. rowLines m n (suc p) count (inks ++ (ink ∷ [])))
@@ -30,7 +30,7 @@ rows-more m n p count inks t q = sym (then-then (levelFields (levelsAt m n p) t 
 -- p rows are read, and the rows from here are the rows from the start
 pub record Reached (s : List ℕ) (at m n : ℕ) (cells : List ℕ) (place p : ℕ) : Type 0 where
   pub most : p ≤ m ^ n
-  pub inks : Below m (take p cells)
+  pub inks : Below (suc m) (take p cells)
   pub reads : rowLines m n 0 (m ^ n) [] (drop at s) at ≡ rowLines m n p (m ^ n - p) (take p cells) (drop place s) place
 
 -- and `levels` begins with the levels of the row that is due
@@ -69,15 +69,15 @@ module _ (s : List ℕ) (at m n : ℕ) (cells : List ℕ) (place p : ℕ) (rows 
         record { reads = rw (onward, e) refl; held = λ value next q. let z : _≡_ {A = ℕ} 0 1 = cc in absurd (omega arith) }
 
     module _ (ink next : ℕ) (on : step ≡ On ink next) where
-      pub ink-below : ink < m
-      ink-below = row-ink m (levelsAt m n p) (drop place s) (drop next s) place ink next (sym row ∙ ap (stepAs itself s) on)
+      pub ink-within : ink ≤ m
+      ink-within = row-ink m (levelsAt m n p) (drop place s) (drop next s) place ink next (sym row ∙ ap (stepAs itself s) on)
 
       pub reached-next : p < length cells → Reached s at m n (set cells p ink) next (p + 1)
       unfolding then
       reached-next here =
           record {
             most = omega arith;
-            inks = rw stored (below-append m (take p cells) (ink ∷ []) (rows .inks) (ink-below, tt));
+            inks = rw stored (below-append (suc m) (take p cells) (ink ∷ []) (rows .inks) (omega (arith, ink-within), tt));
             reads = rw (onward, on, stored, add-one) refl;
           }
         where

@@ -8,6 +8,7 @@ ghost use Rattle.rules.specs.Limits.{mostLevels, mostInputs};
 ghost use Rattle.fields.specs.declared.steps.Found.the-variants.{At};
 ghost use Rattle.table_reading.specs.Due.{AreDigits, rowBytes, LevelsStand, RowStands};
 ghost use Rattle.table_reading.specs.Words.{pairAt, wordAt, duePair, dueWord, middleOf, WordsOf};
+use crate::inks::OPEN;
 use fields::runs::NEWLINE;
 use fields::runs::SPACE;
 use fields::runs::ZERO;
@@ -17,6 +18,9 @@ use fields::steps::Found;
 const LEVEL: usize = ZERO + 256 * SPACE as usize;
 
 const INK: usize = ZERO + 256 * NEWLINE as usize;
+
+// The sign of an open cell with a line feed, which is less.
+const SIGN: usize = OPEN + 256 * NEWLINE as usize;
 
 // The byte at `at` and the one after it.
 pub fn two_bytes(s: &[u8], at: usize) -> usize
@@ -165,6 +169,9 @@ pub fn due_ink(
     }
     let ink = two_bytes(s, end + 2);
     if ink < INK {
+        if ink == SIGN {
+            return Found::At(m);
+        }
         return Found::Nowhere;
     }
     if m <= ink - INK {

@@ -12,6 +12,10 @@ use fields::runs::field_at;
 use fields::steps::Step;
 use fields::steps::Verdict;
 
+// The sign of an open cell.
+pub const OPEN: usize = b'-' as usize;
+
+// A digit below m, or the sign, for which a cell holds m.
 pub fn judge_ink(w: &[u8], m: usize) -> Verdict
     ensures { λ r. ⌜ judgedAs itself r ≡ inkField m (now (w .entry)) ⌝ }
 {
@@ -19,6 +23,9 @@ pub fn judge_ink(w: &[u8], m: usize) -> Verdict
         return Verdict::Bad(6);
     }
     let b = w[0] as usize;
+    if b == OPEN {
+        return Verdict::Good(m);
+    }
     if b < ZERO {
         return Verdict::Bad(6);
     }

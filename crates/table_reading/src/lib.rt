@@ -1,6 +1,7 @@
 // Reading a table sheet.
 pub mod blocks;
 pub mod due;
+pub mod full;
 pub mod inks;
 pub mod levels;
 pub mod rows;

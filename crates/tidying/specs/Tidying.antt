@@ -1,6 +1,6 @@
 -- Tidying: a loose sheet that was read, its cells and its table sheet.
 -- Assumes nothing.
-use Prim.Native.Nat.{ℕ, _+_, _-_, _^_, _≤_, _<_}
+use Prim.Native.Nat.{ℕ, suc, _+_, _-_, _^_, _≤_, _<_}
 use mathlib.Core.Path.{_≡_, refl, sym, ap, _∙_, subst}
 use mathlib.Core.Bool.{Bool, true, false, false≢true}
 use mathlib.Core.List.{List}
@@ -44,7 +44,7 @@ pub record LooseTaken (s : List ℕ) (h : Header) (cells : List ℕ) : Type 0 wh
   pub reads : readLoose s ≡ accepted table
   pub tidied : tableOfLoose table ≡ tableIn s h (inksIn cells h)
   pub header : HeaderHeld s h
-  pub below : Below (h .levels) (inksIn cells h)
+  pub below : Below (suc (h .levels)) (inksIn cells h)
   pub room : mostCells ≤ length cells
 
 -- the sheet is the table sheet of its own header and inks, if it is said to be strict
@@ -115,7 +115,7 @@ module _ (s : List ℕ) (h : Header) (inks : List ℕ) (taken : LooseTaken s h i
         names = names-inside s h (taken .header);
         someLevels = omega (arith, size .levels-least);
         levels = size .levels-most;
-        digits = λ k l. omega (arith, size .levels-most, below-at (h .levels) (take (count - 0) inks) (subst (Below (h .levels)) (sym front) (taken .below)) k l);
+        digits = λ k l. omega (arith, size .levels-most, below-at (suc (h .levels)) (take (count - 0) inks) (subst (Below (suc (h .levels))) (sym front) (taken .below)) k l);
       }
 
   pub front-itself : (strict : Bool) → Itself strict s h (inksIn inks h) → Itself strict s h (take (count - 0) inks)

@@ -7,7 +7,7 @@ use native.Mathlib.Omega.{arith}
 use Rattle.rules.specs.Limits.{levelsFit, inputsFit}
 use Rattle.laws.specs.Sizes.{levels-fit, inputs-fit}
 use Rattle.rules.specs.Sheets.{Net}
-use Rattle.rules.specs.Kept.{KeptNet, KeptTable}
+use Rattle.rules.specs.Kept.{KeptNet, KeptTable, FullTable}
 use Rattle.rules.specs.Settling.{settledNet}
 use Rattle.rules.specs.Reading.{tableOfNet}
 use Rattle.laws.specs.Settling.{WholeTwo}
@@ -23,15 +23,21 @@ module _ (net : Net) (kept : KeptNet net) where
   pos : 0 < net .header .levels
   pos = levels-pos (net .header .levels) (kept .header .levels)
 
-  -- a net's table keeps a table's rules, and its whole group has mark 2
+  -- a net's table is full, ..
+  pub net-full : FullTable (tableOfNet net)
+  unfolding tableOfNet
+  net-full k h =
+      let count = table-length (net .header .levels) (net .header .inputs) (net .gates) in
+      net-inks (net .header .levels) (net .header .inputs) pos (net .gates) (kept .gates) k (subst (λ (l : ℕ). k < l) count h)
+
+  -- .. it keeps a table's rules, and its whole group has mark 2
   pub kept-table : KeptTable (tableOfNet net)
   unfolding tableOfNet
   kept-table =
-      let count = table-length (net .header .levels) (net .header .inputs) (net .gates) in
       record {
         header = kept .header;
-        count = count;
-        below = λ k h. net-inks (net .header .levels) (net .header .inputs) pos (net .gates) (kept .gates) k (subst (λ (l : ℕ). k < l) count h);
+        count = table-length (net .header .levels) (net .header .inputs) (net .gates);
+        within = λ k h. omega (arith, net-full k h);
       }
 
   pub net-whole-two : WholeTwo (tableOfNet net)

@@ -8,7 +8,7 @@ use lib.ListN.{length}
 use Rattle.rules.specs.Sheets.{Gate, Net, Table}
 use Rattle.rules.specs.Printed.{printedNet}
 use Rattle.rules.specs.Layers.{layers}
-use Rattle.rules.specs.Kept.{IsNet, KeptNet, KeptTable}
+use Rattle.rules.specs.Kept.{IsNet, KeptNet, KeptTable, FullTable}
 use Rattle.rules.specs.Leaves.{leavesOf}
 use Rattle.rules.specs.Answers.{inkIn}
 use Rattle.rules.specs.Reading.{tableOfNet}
@@ -19,13 +19,13 @@ use Rattle.trees.specs.Trees.{Tree, wiringIn, treeValue, Computes}
 use Rattle.trees.specs.Existence.{settled-net, settled-leaves}
 use Rattle.trees.specs.TreeExistence.{GateTree}
 use Rattle.trees.specs.Uniqueness.{table-is, table-at}
-use Rattle.trees.specs.NetTables.{levels-pos, inputs-several, kept-table, net-whole-two}
+use Rattle.trees.specs.NetTables.{levels-pos, inputs-several, kept-table, net-full, net-whole-two}
 use Rattle.trees.specs.UsedOnce.{same-inputs}
 use Rattle.trees.specs.EquallyLong.{equally-long}
 use Rattle.trees.specs.Depths.{depth}
 use Rattle.trees.specs.ShallowNet.{shallow-net, shallow-leaves, shallowest-net, shallowest-tree}
 
-module _ (t : Table) (kept : KeptTable t) (two : WholeTwo t) where
+module _ (t : Table) (kept : KeptTable t) (full : FullTable t) (two : WholeTwo t) where
   pos : 0 < t .header .levels
   pos = levels-pos (t .header .levels) (kept .header .levels)
 
@@ -33,7 +33,7 @@ module _ (t : Table) (kept : KeptTable t) (two : WholeTwo t) where
   several = inputs-several (t .header .inputs) (kept .header .inputs)
 
   inks-below : (p : ℕ) → p < t .header .levels ^ t .header .inputs → inkIn (t .inks) p < t .header .levels
-  inks-below p h = kept .below p (subst⁻¹ (λ (k : ℕ). p < k) (kept .count) h)
+  inks-below p h = full p (subst⁻¹ (λ (k : ℕ). p < k) (kept .count) h)
 
   pub shallow-kept : KeptNet (shallowNet t)
   unfolding shallowNet
@@ -78,5 +78,5 @@ module _ (t : Table) (kept : KeptTable t) (two : WholeTwo t) where
 pub shallow-least-net : (net : Net) → KeptNet net → netLayers (shallowNet (tableOfNet net)) ≤ netLayers net
 unfolding netLayers tableOfNet
 shallow-least-net net kept =
-    shallow-least-gates (tableOfNet net) (kept-table net kept) (net-whole-two net kept) (net .gates) (kept .gates)
+    shallow-least-gates (tableOfNet net) (kept-table net kept) (net-full net kept) (net-whole-two net kept) (net .gates) (kept .gates)
     (λ p h. sym (table-at (net .header .levels) (net .header .inputs) (net .gates) p h))

@@ -1,4 +1,4 @@
--- `checking::verdict::compare` meets its contract. The loop's invariant: the two agree below `i`.
+-- `checking::verdict::compare` meets its contract. The loop's invariant: the two agree below `i`, where the table is not open.
 -- Assumes nothing.
 use Prim.Native.Nat.{_-_, _≤_}
 use native.Mathlib.Omega.{arith}
@@ -9,10 +9,10 @@ use Rattle.checking.proofs.verdict.compare.Statement.{statement}
 use Rattle.checking.proofs.verdict.compare.Tie as tie
 
 abbrev Inv-loop : tie.InvT-loop
-Inv-loop xs ys last i₀ i = (i ≤ length xs) × AgreeTo xs ys i
+Inv-loop xs ys m last i₀ i = (i ≤ length xs) × AgreeTo m xs ys i
 
 abbrev μ-loop : tie.MeasureT-loop
-μ-loop xs ys last i₀ i = length xs - i
+μ-loop xs ys m last i₀ i = length xs - i
 
 sub-last : tie.Need-sub-last Inv-loop μ-loop
 sub-last c = omega arith

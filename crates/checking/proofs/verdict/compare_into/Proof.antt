@@ -19,7 +19,7 @@ same-length : tie.Need-same-length
 same-length c = search needs
 
 returns : tie.Need-returns
-returns c = inks-compared _ _ _ _ _ (at-start (c .before .before .before) .pre .2) (c .before .before .before .copy .ensures) _ (c .compare .ensures)
+returns c = inks-compared _ _ _ _ _ _ (at-start (c .before .before .before) .pre .2) (c .before .before .before .copy .ensures) _ (c .compare .ensures)
 
 pub compare-into-spec : {M : Type 1} → statement M
 compare-into-spec = tie.close (tie.spec copy-requires compare-requires same-length returns)

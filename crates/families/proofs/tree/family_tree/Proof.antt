@@ -3,16 +3,16 @@ use mathlib.Core.Path.{sym, _∙_}
 use native.Mathlib.Omega.{arith}
 use borrow.Author.Needs.{needs}
 use Rattle.laws.specs.FamilyCalls.{family-tree-refused}
-use Rattle.accepted.specs.Taken.{held-size, table-taken, table-refused, inks-given}
+use Rattle.accepted.specs.Taken.{held-size, full-taken, full-refused, inks-given}
 use Rattle.families.specs.Outcomes.{table-numbered}
 use Rattle.families.proofs.tree.family_tree.Statement.{statement}
 use Rattle.families.proofs.tree.family_tree.Tie as tie
 
 -- the table's read and each call, from the next
-abbrev at-read : tie.After-enum-told → tie.After-read-table
+abbrev at-read : tie.After-enum-told → tie.After-read-full
 at-read c = c .before .before .before .before
 
-abbrev at-start : tie.After-read-table → tie.Start
+abbrev at-start : tie.After-read-full → tie.Start
 at-start c = c .before .before .before .before .before .before
 
 abbrev at-power : tie.After-tree-into-arg4 → tie.After-power
@@ -21,11 +21,11 @@ at-power c = c .before .before .before .before .before
 abbrev at-done : tie.After-slice-known6 → tie.After-tree-into
 at-done c = c .before .before .before .before .before .before
 
-slice-aggregate-read-table : tie.Need-slice-aggregate-read-table
-slice-aggregate-read-table c = search needs
+slice-aggregate-read-full : tie.Need-slice-aggregate-read-full
+slice-aggregate-read-full c = search needs
 
-read-table-requires : tie.Need-read-table-requires
-read-table-requires c κs = search needs
+read-full-requires : tie.Need-read-full-requires
+read-full-requires c κs = search needs
 
 enum-known-outcome : tie.Need-enum-known-outcome
 enum-known-outcome c = search needs
@@ -35,7 +35,7 @@ enum-told c = search needs
 
 power-requires : tie.Need-power-requires
 power-requires c κs =
-    let size = held-size _ _ (at-read c .read-table .ensures .held (c .enum-told .given .1) .header) in
+    let size = held-size _ _ (at-read c .read-full .ensures .held (c .enum-told .given .1) .header) in
     (omega (arith, size .levels-most), omega (arith, size .inputs-most))
 
 sub-tree-into : tie.Need-sub-tree-into
@@ -46,17 +46,17 @@ part-tree-into-start c = search needs
 
 part-tree-into-end : tie.Need-part-tree-into-end
 part-tree-into-end c =
-    let read = at-read (c .before .before) .read-table in
+    let read = at-read (c .before .before) .read-full in
     omega (arith, c .before .power .ensures, held-size _ _ (read .ensures .held (c .before .before .enum-told .given .1) .header) .cells-most, read .kept)
 
 tree-into-requires : tie.Need-tree-into-requires
-tree-into-requires c κs = inks-given _ _ _ (table-taken _ _ _ (at-read (at-power c .before) .read-table .ensures) (at-power c .before .enum-told .given .1)) _ (at-power c .power .ensures)
+tree-into-requires c κs = inks-given _ _ _ _ (at-power c .power .ensures) (full-taken _ _ _ (at-read (at-power c .before) .read-full .ensures) (at-power c .before .enum-told .given .1))
 
 returns : tie.Need-returns
 returns c =
     let read = c .before .before .before .before .before in
     let a = at-start read .args in
-    sym (family-tree-refused (a .s .now) (a .order) (a .cells .now) (a .marks .now) (a .out .now) _ _ (table-refused _ _ _ (read .read-table .ensures) _ _ (c .before .outcome .given .1)))
+    sym (family-tree-refused (a .s .now) (a .order) (a .cells .now) (a .marks .now) (a .out .now) _ _ (full-refused _ _ _ (read .read-full .ensures) _ _ (c .before .outcome .given .1)))
 
 same-length : tie.Need-same-length
 same-length c = search needs
@@ -72,15 +72,15 @@ returns-2 c =
     let power = at-power (at-done c .before) in
     let a = at-start (at-read (power .before)) .args in
     at-done c .tree-into .ensures
-    ∙ table-numbered _ _ _ (table-taken _ _ _ (at-read (power .before) .read-table .ensures) (power .before .enum-told .given .1)) _ (power .power .ensures)
+    ∙ table-numbered _ _ _ (full-taken _ _ _ (at-read (power .before) .read-full .ensures) (power .before .enum-told .given .1)) _ (power .power .ensures)
     (a .cells .now) (a .marks .now) (a .order) (a .out .now)
 
 pub family-tree-spec : {M : Type 1} → statement M
 family-tree-spec =
     tie.close
     (tie.spec
-    slice-aggregate-read-table
-    read-table-requires
+    slice-aggregate-read-full
+    read-full-requires
     enum-known-outcome
     enum-told
     power-requires

@@ -4,9 +4,9 @@ use mathlib.Core.Path.{_≡_, sym, ap, _∙_}
 use mathlib.Core.Bool.{not}
 use native.Mathlib.Nat.{zero-add}
 use native.Mathlib.Omega.{arith}
-use lib.Dec.{ltb}
+use lib.Dec.{leb}
 use lib.ListN.{length, drop}
-use borrow.Author.Tests.{lt-ltb, le-ltb}
+use borrow.Author.Tests.{lt-leb, le-leb}
 use Rattle.rules.specs.Lists.{firstPlace}
 use Rattle.laws.specs.Walks.{place-next, place-stop, place-end}
 use Rattle.groups.proofs.bare.first_over.Statement.{statement}
@@ -14,7 +14,7 @@ use Rattle.groups.proofs.bare.first_over.Tie as tie
 
 abbrev Inv-loop : tie.InvT-loop
 Inv-loop m cells k₀ k =
-    (k ≤ length cells) × (k + firstPlace (λ c. not (ltb c m)) (drop k cells) ≡ firstPlace (λ c. not (ltb c m)) cells)
+    (k ≤ length cells) × (k + firstPlace (λ c. not (leb c m)) (drop k cells) ≡ firstPlace (λ c. not (leb c m)) cells)
 
 abbrev μ-loop : tie.MeasureT-loop
 μ-loop m cells k₀ k = length cells - k
@@ -31,7 +31,7 @@ cast-if1 c = omega (arith, c .shared-slice-known .given (c .before .before .loop
 returns : tie.Need-returns Inv-loop μ-loop
 returns c =
     let a = c .before .before .before .before .args in
-    sym (place-stop (λ x. not (ltb x (a .m))) (a .cells .now) (c .before .before .before .loop .k) (c .before .before .loop-test .taken) (ap not (le-ltb _ (a .m) (c .if1 .taken)))) ∙ c .before .before .before .loop .inv .1
+    sym (place-stop (λ x. not (leb x (a .m))) (a .cells .now) (c .before .before .before .loop .k) (c .before .before .loop-test .taken) (ap not (lt-leb _ (a .m) (c .if1 .taken)))) ∙ c .before .before .before .loop .inv .1
 
 add-k : tie.Need-add-k Inv-loop μ-loop
 add-k c = omega arith
@@ -43,13 +43,13 @@ loop-again : tie.Need-loop-again Inv-loop μ-loop
 loop-again c =
     let a = c .before .before .before .before .args in (
       omega arith,
-      place-next (λ x. not (ltb x (a .m))) (a .cells .now) (c .before .before .before .loop .k) (c .before .before .loop-test .taken) (ap not (lt-ltb _ (a .m) (c .if1 .left))) ∙ c .before .before .before .loop .inv .1,
+      place-next (λ x. not (leb x (a .m))) (a .cells .now) (c .before .before .before .loop .k) (c .before .before .loop-test .taken) (ap not (le-leb _ (a .m) (c .if1 .left))) ∙ c .before .before .before .loop .inv .1,
     )
 
 returns-2 : tie.Need-returns-2 Inv-loop μ-loop
 returns-2 c =
     let a = c .before .before .args in
-    sym (place-end (λ x. not (ltb x (a .m))) (a .cells .now) (c .before .loop .k) (c .loop-test .left)) ∙ c .before .loop .inv .1
+    sym (place-end (λ x. not (leb x (a .m))) (a .cells .now) (c .before .loop .k) (c .loop-test .left)) ∙ c .before .loop .inv .1
 
 pub first-over-spec : {M : Type 1} → statement M
 first-over-spec =

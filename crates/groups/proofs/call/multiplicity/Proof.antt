@@ -2,14 +2,14 @@
 -- Assumes nothing.
 use mathlib.Core.Path.{sym, ap, _∙_}
 use Rattle.answers.specs.Answers.{outcomeAs}
-use Rattle.laws.specs.BareCells.{bare-accepted}
+use Rattle.laws.specs.OpenCells.{cells-sized}
 use Rattle.laws.specs.Multiplicity.{multiplicity-refused, multiplicity-judged}
 use borrow.Author.Needs.{needs}
 use Rattle.groups.proofs.call.multiplicity.Statement.{statement}
 use Rattle.groups.proofs.call.multiplicity.Tie as tie
 
-bare-cells-requires : tie.Need-bare-cells-requires
-bare-cells-requires c κs = search needs
+full-cells-requires : tie.Need-full-cells-requires
+full-cells-requires c κs = search needs
 
 enum-known-judged : tie.Need-enum-known-judged
 enum-known-judged c = search needs
@@ -18,19 +18,19 @@ enum-told : tie.Need-enum-told
 enum-told c = search needs
 
 group-answer-requires : tie.Need-group-answer-requires
-group-answer-requires c κs = bare-accepted _ _ _ (sym (ap (outcomeAs tt) (c .enum-told .given .1)) ∙ c .before .before .bare-cells .ensures)
+group-answer-requires c κs = cells-sized _ _ _ (sym (ap (outcomeAs tt) (c .enum-told .given .1)) ∙ c .before .before .full-cells .ensures)
 
 returns : tie.Need-returns
-returns c = multiplicity-refused _ _ _ _ _ _ (sym (ap (outcomeAs tt) (c .before .judged .given .1)) ∙ c .before .before .before .bare-cells .ensures)
+returns c = multiplicity-refused _ _ _ _ _ _ (sym (ap (outcomeAs tt) (c .before .judged .given .1)) ∙ c .before .before .before .full-cells .ensures)
 
 returns-2 : tie.Need-returns-2
-returns-2 c = c .group-answer .ensures ∙ multiplicity-judged _ _ _ _ (sym (ap (outcomeAs tt) (c .before .enum-told .given .1)) ∙ c .before .before .before .bare-cells .ensures)
+returns-2 c = c .group-answer .ensures ∙ multiplicity-judged _ _ _ _ (sym (ap (outcomeAs tt) (c .before .enum-told .given .1)) ∙ c .before .before .before .full-cells .ensures)
 
 pub multiplicity-spec : {M : Type 1} → statement M
 multiplicity-spec =
     tie.close
     (tie.spec
-    bare-cells-requires
+    full-cells-requires
     enum-known-judged
     enum-told
     group-answer-requires

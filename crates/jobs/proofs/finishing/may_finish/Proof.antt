@@ -4,7 +4,7 @@ use mathlib.Core.Path.{_≡_, sym, ap, _∙_}
 use native.Mathlib.Omega.{arith}
 use lib.Pow.{pow-pos}
 use Rattle.rules.specs.Answers.{accepted}
-use Rattle.rules.specs.BareCells.{bareCells}
+use Rattle.rules.specs.OpenCells.{fullCells}
 use Rattle.answers.specs.Answers.{outcomeAs}
 use Rattle.jobs.specs.Forms.{front-size}
 use Rattle.jobs.specs.Finishing.{may-not, may-not-yet, may-now}
@@ -13,20 +13,20 @@ use Rattle.jobs.proofs.finishing.may_finish.Statement.{statement}
 use Rattle.jobs.proofs.finishing.may_finish.Tie as tie
 
 -- the start, the cells' judgement and the power, each from the next
-abbrev at-start : tie.After-bare-cells → tie.Start
+abbrev at-start : tie.After-full-cells → tie.Start
 at-start c = c .before .before .before
 
-abbrev at-bare : tie.After-enum-told → tie.After-bare-cells
+abbrev at-bare : tie.After-enum-told → tie.After-full-cells
 at-bare c = c .before .before
 
 -- the cells are accepted
 good : (c : tie.After-enum-told) →
     let a = at-start (at-bare c) .args in
-    accepted tt ≡ bareCells (a .h .levels) (a .h .inputs) (a .inks .now)
-good c = sym (ap (outcomeAs tt) (c .enum-told .given .1)) ∙ at-bare c .bare-cells .ensures
+    accepted tt ≡ fullCells (a .h .levels) (a .h .inputs) (a .inks .now)
+good c = sym (ap (outcomeAs tt) (c .enum-told .given .1)) ∙ at-bare c .full-cells .ensures
 
-bare-cells-requires : tie.Need-bare-cells-requires
-bare-cells-requires c κs = search needs
+full-cells-requires : tie.Need-full-cells-requires
+full-cells-requires c κs = search needs
 
 enum-known-judged : tie.Need-enum-known-judged
 enum-known-judged c = search needs
@@ -54,7 +54,7 @@ returns c =
 returns-2 : tie.Need-returns-2
 returns-2 c =
     let bare = c .before .before .before in
-    λ marks. may-not _ _ (at-start bare .pre) _ _ _ _ (sym (ap (outcomeAs tt) (c .before .judged .given .1)) ∙ bare .bare-cells .ensures) marks
+    λ marks. may-not _ _ (at-start bare .pre) _ _ _ _ (sym (ap (outcomeAs tt) (c .before .judged .given .1)) ∙ bare .full-cells .ensures) marks
 
 returns-3 : tie.Need-returns-3
 returns-3 c =
@@ -66,7 +66,7 @@ pub may-finish-spec : {M : Type 1} → statement M
 may-finish-spec =
     tie.close
     (tie.spec
-    bare-cells-requires
+    full-cells-requires
     enum-known-judged
     enum-told
     power-requires

@@ -2,24 +2,24 @@
 use mathlib.Core.Path.{sym, ap, _∙_}
 use native.Mathlib.Omega.{arith}
 use Rattle.rules.specs.Answers.{accepted}
-use Rattle.accepted.specs.Taken.{held-size, table-taken, table-refused, inks-given, inks-table}
+use Rattle.accepted.specs.Taken.{held-size, full-taken, full-refused, inks-given, inks-table}
 use Rattle.jobs.specs.Calls.{opened-none, opened-new}
 use borrow.Author.Needs.{needs}
 use Rattle.jobs.proofs.opening.open.Statement.{statement}
 use Rattle.jobs.proofs.opening.open.Tie as tie
 
 -- the read, from the match on it, and the match, from the part of the cells
-abbrev at-read : tie.After-enum-told → tie.After-read-table
+abbrev at-read : tie.After-enum-told → tie.After-read-full
 at-read c = c .before .before .before .before
 
 abbrev at-told : tie.After-inks3 → tie.After-enum-told
 at-told c = c .before .before
 
-slice-aggregate-read-table : tie.Need-slice-aggregate-read-table
-slice-aggregate-read-table c = search needs
+slice-aggregate-read-full : tie.Need-slice-aggregate-read-full
+slice-aggregate-read-full c = search needs
 
-read-table-requires : tie.Need-read-table-requires
-read-table-requires c κs = search needs
+read-full-requires : tie.Need-read-full-requires
+read-full-requires c κs = search needs
 
 enum-known-outcome : tie.Need-enum-known-outcome
 enum-known-outcome c = search needs
@@ -32,7 +32,7 @@ enum-told c = search needs
 
 power-requires : tie.Need-power-requires
 power-requires c κs =
-    let size = held-size _ _ (at-read c .read-table .ensures .held (c .enum-told .given .1) .header) in
+    let size = held-size _ _ (at-read c .read-full .ensures .held (c .enum-told .given .1) .header) in
     (omega (arith, size .levels-most), omega (arith, size .inputs-most))
 
 sub-new-job : tie.Need-sub-new-job
@@ -44,32 +44,32 @@ part-new-job-start c = search needs
 part-new-job-end : tie.Need-part-new-job-end
 part-new-job-end c =
     let told = at-told c in
-    let read = at-read told .read-table in
+    let read = at-read told .read-full in
     omega (arith, c .before .power .ensures, held-size _ _ (read .ensures .held (told .enum-told .given .1) .header) .cells-most, read .kept)
 
 new-job-requires : tie.Need-new-job-requires
 new-job-requires c κs =
     let told = at-told (c .before) in
-    inks-given _ _ _ (table-taken _ _ _ (at-read told .read-table .ensures) (told .enum-told .given .1)) _ (c .before .before .power .ensures)
+    inks-given _ _ _ _ (c .before .before .power .ensures) (full-taken _ _ _ (at-read told .read-full .ensures) (told .enum-told .given .1))
 
 returns : tie.Need-returns
 returns c =
     let read = c .before .before .before .before .before .before in
-    opened-none _ _ (c .no-job .ensures) _ _ (table-refused _ _ _ (read .read-table .ensures) _ _ (c .before .before .outcome .given .1))
+    opened-none _ _ (c .no-job .ensures) _ _ (full-refused _ _ _ (read .read-full .ensures) _ _ (c .before .before .outcome .given .1))
 
 returns-2 : tie.Need-returns-2
 returns-2 c =
     let part = c .before .before in
     let told = at-told part in
-    let taken = table-taken _ _ _ (at-read told .read-table .ensures) (told .enum-told .given .1) in
-    opened-new _ _ _ (c .new-job .ensures) (taken .reads ∙ ap accepted (sym (inks-table _ _ _ taken _ (part .before .power .ensures))))
+    let taken = full-taken _ _ _ (at-read told .read-full .ensures) (told .enum-told .given .1) in
+    opened-new _ _ _ (c .new-job .ensures) (taken .reads ∙ ap accepted (sym (inks-table _ _ _ _ (part .before .power .ensures))))
 
 pub open-spec : {M : Type 1} → statement M
 open-spec =
     tie.close
     (tie.spec
-    slice-aggregate-read-table
-    read-table-requires
+    slice-aggregate-read-full
+    read-full-requires
     enum-known-outcome
     no-job-requires
     enum-told

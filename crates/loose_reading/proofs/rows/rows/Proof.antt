@@ -52,7 +52,7 @@ power-requires c κs = omega (arith, size (c .before .before))
 loop-holds : tie.Need-loop-holds Inv-loop μ-loop
 loop-holds c =
     let from = at-start c in
-    (refl, length-replicate {A = ℕ} mostCells 0, rows-start _ _ _ _ _ _ (omega (arith, size from .levels-least)) (from .pre .2) (zeros-blank mostCells))
+    (refl, length-replicate {A = ℕ} mostCells 0, rows-start _ _ _ _ _ _ (from .pre .2) (zeros-blank mostCells))
 
 slice-aggregate-row : tie.Need-slice-aggregate-row Inv-loop μ-loop
 slice-aggregate-row c = sym (c .before .before .loop .inv .1)

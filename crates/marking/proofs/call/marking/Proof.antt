@@ -1,21 +1,21 @@
 -- `marking::call::marking` meets its contract: what bare cells are refused for, or what marking does. Assumes nothing.
 use mathlib.Core.Path.{sym, ap, _∙_}
 use Rattle.answers.specs.Answers.{outcomeAs}
-use Rattle.laws.specs.BareCells.{bare-accepted}
+use Rattle.laws.specs.OpenCells.{cells-sized}
 use Rattle.marking.specs.Answers.{marking-refused, marking-judged}
 use borrow.Author.Needs.{needs}
 use Rattle.marking.proofs.call.marking.Statement.{statement}
 use Rattle.marking.proofs.call.marking.Tie as tie
 
--- the start and the call of `bare_cells`, from the calls after them
-abbrev at-start : tie.After-bare-cells → tie.Start
+-- the start and the call of `full_cells`, from the calls after them
+abbrev at-start : tie.After-full-cells → tie.Start
 at-start c = c .before .before .before
 
-abbrev at-bare : tie.After-mark-into-arg → tie.After-bare-cells
+abbrev at-bare : tie.After-mark-into-arg → tie.After-full-cells
 at-bare c = c .before .before .before
 
-bare-cells-requires : tie.Need-bare-cells-requires
-bare-cells-requires c κs = search needs
+full-cells-requires : tie.Need-full-cells-requires
+full-cells-requires c κs = search needs
 
 enum-known-judged : tie.Need-enum-known-judged
 enum-known-judged c = search needs
@@ -24,10 +24,10 @@ enum-told : tie.Need-enum-told
 enum-told c = search needs
 
 mark-into-requires : tie.Need-mark-into-requires
-mark-into-requires c κs = bare-accepted _ _ _ (sym (ap (outcomeAs tt) (c .before .enum-told .given .1)) ∙ at-bare c .bare-cells .ensures)
+mark-into-requires c κs = cells-sized _ _ _ (sym (ap (outcomeAs tt) (c .before .enum-told .given .1)) ∙ at-bare c .full-cells .ensures)
 
 returns : tie.Need-returns
-returns c = marking-refused _ _ _ _ _ _ (sym (ap (outcomeAs tt) (c .before .judged .given .1)) ∙ c .before .before .before .bare-cells .ensures)
+returns c = marking-refused _ _ _ _ _ _ (sym (ap (outcomeAs tt) (c .before .judged .given .1)) ∙ c .before .before .before .full-cells .ensures)
 
 same-length : tie.Need-same-length
 same-length c = search needs
@@ -36,13 +36,13 @@ returns-2 : tie.Need-returns-2
 returns-2 c =
     let a = at-start (at-bare (c .before .before .before)) .args in
     c .before .before .mark-into .ensures
-    ∙ marking-judged (a .m) (a .n) (a .cells .now) (a .marks .now) (sym (ap (outcomeAs tt) (c .before .before .before .before .enum-told .given .1)) ∙ at-bare (c .before .before .before) .bare-cells .ensures)
+    ∙ marking-judged (a .m) (a .n) (a .cells .now) (a .marks .now) (sym (ap (outcomeAs tt) (c .before .before .before .before .enum-told .given .1)) ∙ at-bare (c .before .before .before) .full-cells .ensures)
 
 pub marking-spec : {M : Type 1} → statement M
 marking-spec =
     tie.close
     (tie.spec
-    bare-cells-requires
+    full-cells-requires
     enum-known-judged
     enum-told
     mark-into-requires

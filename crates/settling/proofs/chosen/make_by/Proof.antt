@@ -1,7 +1,7 @@
 -- `settling::chosen::make_by` meets its contract. Assumes nothing.
 use mathlib.Core.Path.{sym, _∙_}
 use native.Mathlib.Omega.{arith}
-use Rattle.accepted.specs.Taken.{held-size, table-taken, table-refused, inks-given}
+use Rattle.accepted.specs.Taken.{held-size, full-taken, full-refused, inks-given}
 use Rattle.synthesis.specs.Outcomes.{netBy}
 use Rattle.settling.specs.Calls.{makes-refused, table-settled}
 use borrow.Author.Needs.{needs}
@@ -9,10 +9,10 @@ use Rattle.settling.proofs.chosen.make_by.Statement.{statement}
 use Rattle.settling.proofs.chosen.make_by.Tie as tie
 
 -- the table's read and each call, from the next
-abbrev at-read : tie.After-enum-told → tie.After-read-table
+abbrev at-read : tie.After-enum-told → tie.After-read-full
 at-read c = c .before .before .before .before
 
-abbrev at-start : tie.After-read-table → tie.Start
+abbrev at-start : tie.After-read-full → tie.Start
 at-start c = c .before .before .before .before .before .before
 
 abbrev at-power : tie.After-settle-into-arg4 → tie.After-power
@@ -21,11 +21,11 @@ at-power c = c .before .before .before .before .before
 abbrev at-settled : tie.After-slice-known6 → tie.After-settle-into
 at-settled c = c .before .before .before .before .before .before
 
-slice-aggregate-read-table : tie.Need-slice-aggregate-read-table
-slice-aggregate-read-table c = search needs
+slice-aggregate-read-full : tie.Need-slice-aggregate-read-full
+slice-aggregate-read-full c = search needs
 
-read-table-requires : tie.Need-read-table-requires
-read-table-requires c κs = omega arith
+read-full-requires : tie.Need-read-full-requires
+read-full-requires c κs = omega arith
 
 enum-known-outcome : tie.Need-enum-known-outcome
 enum-known-outcome c = search needs
@@ -35,7 +35,7 @@ enum-told c = search needs
 
 power-requires : tie.Need-power-requires
 power-requires c κs =
-    let size = held-size _ _ (at-read c .read-table .ensures .held (c .enum-told .given .1) .header) in
+    let size = held-size _ _ (at-read c .read-full .ensures .held (c .enum-told .given .1) .header) in
     (omega (arith, size .levels-most), omega (arith, size .inputs-most))
 
 sub-settle-into : tie.Need-sub-settle-into
@@ -46,16 +46,16 @@ part-settle-into-start c = search needs
 
 part-settle-into-end : tie.Need-part-settle-into-end
 part-settle-into-end c =
-    let read = at-read (c .before .before) .read-table in
+    let read = at-read (c .before .before) .read-full in
     omega (arith, c .before .power .ensures, held-size _ _ (read .ensures .held (c .before .before .enum-told .given .1) .header) .cells-most, read .kept)
 
 settle-into-requires : tie.Need-settle-into-requires
-settle-into-requires c κs = inks-given _ _ _ (table-taken _ _ _ (at-read (at-power c .before) .read-table .ensures) (at-power c .before .enum-told .given .1)) _ (at-power c .power .ensures)
+settle-into-requires c κs = inks-given _ _ _ _ (at-power c .power .ensures) (full-taken _ _ _ (at-read (at-power c .before) .read-full .ensures) (at-power c .before .enum-told .given .1))
 
 returns : tie.Need-returns
 returns c =
     let a = at-start (c .before .before .before .before .before) .args in
-    sym (makes-refused (netBy (a .choice)) (a .s .now) (a .cells .now) (a .marks .now) (a .out .now) _ _ (table-refused _ _ _ (c .before .before .before .before .before .read-table .ensures) _ _ (c .before .outcome .given .1)))
+    sym (makes-refused (netBy (a .choice)) (a .s .now) (a .cells .now) (a .marks .now) (a .out .now) _ _ (full-refused _ _ _ (c .before .before .before .before .before .read-full .ensures) _ _ (c .before .outcome .given .1)))
 
 same-length : tie.Need-same-length
 same-length c = search needs
@@ -71,14 +71,14 @@ returns-2 c =
     let power = at-power (at-settled c .before) in
     let a = at-start (at-read (power .before)) .args in
     at-settled c .settle-into .ensures
-    ∙ table-settled _ _ _ (table-taken _ _ _ (at-read (power .before) .read-table .ensures) (power .before .enum-told .given .1)) _ (power .power .ensures) (netBy (a .choice)) (a .cells .now) (a .marks .now) (a .out .now)
+    ∙ table-settled _ _ _ (full-taken _ _ _ (at-read (power .before) .read-full .ensures) (power .before .enum-told .given .1)) _ (power .power .ensures) (netBy (a .choice)) (a .cells .now) (a .marks .now) (a .out .now)
 
 pub make-by-spec : {M : Type 1} → statement M
 make-by-spec =
     tie.close
     (tie.spec
-    slice-aggregate-read-table
-    read-table-requires
+    slice-aggregate-read-full
+    read-full-requires
     enum-known-outcome
     enum-told
     power-requires

@@ -24,12 +24,12 @@ unfolding digitByte space
 turn c = rw (row-next (c .before .before .before .args .levels .now) (c .before .before .before .args .ink) (c .before .before .loop .i) (c .before .loop-test .taken)) at (c .before .before .loop .inv .1)
 
 last : (c : tie.After-loop Inv-loop μ-loop)
-    → Left (c .before .loop .out) (c .before .loop .p) ((zeroByte + c .before .before .args .ink) ∷ newlineByte ∷ []) (c .before .before .args .out .now) (c .before .before .args .at) (rowText (c .before .before .args .levels .now) (c .before .before .args .ink))
-unfolding digitByte newline
+    → Left (c .before .loop .out) (c .before .loop .p) (c .before .before .args .ink ∷ newlineByte ∷ []) (c .before .before .args .out .now) (c .before .before .args .at) (rowText (c .before .before .args .levels .now) (c .before .before .args .ink))
+unfolding newline
 last c = rw (row-end (c .before .before .args .levels .now) (c .before .before .args .ink) (c .before .loop .i) (c .loop-test .left)) at (c .before .loop .inv .1)
 
 loop-holds : tie.Need-loop-holds Inv-loop μ-loop
-loop-holds c = (omega arith, parts-left (row-all (c .args .levels .now) (c .args .ink)) (c .pre .2))
+loop-holds c = (omega arith, parts-left (row-all (c .args .levels .now) (c .args .ink)) (c .pre .1))
 
 shared-slice-read-out : tie.Need-shared-slice-read-out Inv-loop μ-loop
 shared-slice-read-out c = omega arith
@@ -58,14 +58,11 @@ loop-less c = omega arith
 loop-again : tie.Need-loop-again Inv-loop μ-loop
 loop-again c = (omega arith, bytes-left (turn c))
 
-add-out-3 : tie.Need-add-out-3 Inv-loop μ-loop
-add-out-3 c = omega arith
-
 slice-write-out-3 : tie.Need-slice-write-out-3 Inv-loop μ-loop
 slice-write-out-3 c = omega (arith, last c .room)
 
-add-out-4 : tie.Need-add-out-4 Inv-loop μ-loop
-add-out-4 c = omega (arith, last c .room)
+add-out-3 : tie.Need-add-out-3 Inv-loop μ-loop
+add-out-3 c = omega (arith, last c .room)
 
 slice-write-out-4 : tie.Need-slice-write-out-4 Inv-loop μ-loop
 slice-write-out-4 c = simp length-set (omega (arith, last c .room))
@@ -95,9 +92,8 @@ print-row-spec =
     add-p
     loop-less
     loop-again
-    add-out-3
     slice-write-out-3
-    add-out-4
+    add-out-3
     slice-write-out-4
     add-result
     same-length

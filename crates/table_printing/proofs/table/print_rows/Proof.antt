@@ -8,7 +8,7 @@ use native.Mathlib.Nat.{sub-zero}
 use native.Mathlib.Omega.{arith}
 use lib.ListN.{length, getD, take, drop}
 use Rattle.rules.specs.Limits.{mostLevels, mostInputs}
-use Rattle.rules.specs.Sheets.{levelsAt}
+use Rattle.rules.specs.Sheets.{levelsAt, inkByte}
 use Rattle.rules.specs.Printed.{printedRows}
 use Rattle.laws.specs.Levels.{zeros-front, levels-length, levels-below, front-next, front-kept}
 use Rattle.lines.specs.Put.{Room, Left, all-left, put-left, room-for, none-left}
@@ -43,11 +43,11 @@ module _ (m n k : ℕ) (levels : List ℕ) (front : take n levels ≡ levelsAt m
 
   module _ (inks : List ℕ) (h : k < length inks) {out : List ℕ} {p : ℕ} {out₀ : List ℕ} {at : ℕ} {t : List ℕ}
       (l : Left out p (printedRows m n k (drop k inks)) out₀ at t) where
-    first-row : Left out p (rowText (take (n - 0) levels) (getD inks k 0) ++ printedRows m n (k + 1) (drop (k + 1) inks)) out₀ at t
+    first-row : Left out p (rowText (take (n - 0) levels) (inkByte m (getD inks k 0)) ++ printedRows m n (k + 1) (drop (k + 1) inks)) out₀ at t
     first-row = rw lent (rw (rows-next m n k inks h) at l)
 
-    row-room : Room out p (rowText (take (n - 0) levels) (getD inks k 0))
-    row-room = room-for (rowText (take (n - 0) levels) (getD inks k 0)) (printedRows m n (k + 1) (drop (k + 1) inks)) first-row
+    row-room : Room out p (rowText (take (n - 0) levels) (inkByte m (getD inks k 0)))
+    row-room = room-for (rowText (take (n - 0) levels) (inkByte m (getD inks k 0))) (printedRows m n (k + 1) (drop (k + 1) inks)) first-row
 
 loop-holds : tie.Need-loop-holds Inv-loop μ-loop
 loop-holds c = (refl, zeros-front (c .before .before .args .m) (c .before .before .args .n) mostInputs (omega arith), all-left (c .before .before .pre .4))

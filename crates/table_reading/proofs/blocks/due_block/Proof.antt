@@ -97,7 +97,7 @@ enum-known-ink c = search needs
 cast-cells : tie.Need-cast-cells Inv-loop μ-loop
 cast-cells c =
     let stands = at-ink c .due-ink .ensures _ (c .before .ink .given .1) in
-    omega (arith, stands .below, start (at-turn (at-ink c) .before) .pre .few)
+    omega (arith, stands .within, start (at-turn (at-ink c) .before) .pre .few)
 
 -- a turn's cell lies in the buffer
 cell : (c : tie.In-loop Inv-loop μ-loop) → start (c .before) .args .q * start (c .before) .args .m + c .before .loop .l < length (c .before .loop .cells)

@@ -8,7 +8,7 @@ use lib.ListN.{length, length-set}
 use Rattle.rules.specs.Limits.{mostInputs}
 use Rattle.laws.specs.Levels.{zeros-front, front-next}
 use Rattle.laws.specs.Sizes.{Size, sized}
-use Rattle.table_reading.specs.Rows.{InRows, row-due, rows-back, reached-next, rows-done, ink-below}
+use Rattle.table_reading.specs.Rows.{InRows, row-due, rows-back, reached-next, rows-done, ink-within}
 use Rattle.table_reading.proofs.rows.rows.Statement.{statement}
 use Rattle.table_reading.proofs.rows.rows.Tie as tie
 
@@ -101,7 +101,7 @@ cast-cells : tie.Need-cast-cells Inv-loop μ-loop
 cast-cells c =
     let turn = at-turn (at-row c) in
     let rows = turn .before .loop .inv .2 in
-    let small = ink-below _ _ _ _ _ _ _ (rows .reached) (more turn) _ (row-due rows (at-row c .row .result) (at-row c .row .ensures)) _ _ (c .before .step .given .1) in
+    let small = ink-within _ _ _ _ _ _ _ (rows .reached) (more turn) _ (row-due rows (at-row c .row .result) (at-row c .row .ensures)) _ _ (c .before .step .given .1) in
     omega (arith, small, size (start (turn .before)) .levels-most)
 
 -- a turn's cell lies in the buffer

@@ -1,21 +1,17 @@
--- `groups::bare::bare_cells` meets its contract: each return is one of the definition's cases. Assumes nothing.
-use Prim.Native.Nat.{ℕ, _^_, _≤_, _<_}
-use mathlib.Core.Path.{_≡_, refl, sym, ap, _∙_}
-use mathlib.Core.Bool.{true, not, false≢true}
-use mathlib.Core.List.{List}
-use native.Mathlib.Decide.{decLt}
+-- `groups::bare::full_cells` meets its contract: each return is one of the definition's cases. Assumes nothing.
+use Prim.Native.Nat.{_^_}
+use mathlib.Core.Path.{_≡_, sym, _∙_}
+use mathlib.Core.Bool.{true}
 use native.Mathlib.Omega.{arith}
-use borrow.Author.Tests.{not-true, not-false, lt-ltb}
-use lib.Dec.{ltb}
-use lib.ListN.{length, getD}
+use borrow.Author.Tests.{not-true, not-false}
+use lib.ListN.{length}
 use Rattle.rules.specs.Limits.{sizeFits}
-use Rattle.rules.specs.Lists.{firstPlace}
-use Rattle.laws.specs.FirstPlaces.{at-first}
 use Rattle.laws.specs.Sizes.{sized}
 use Rattle.laws.specs.BareCells.{bare-size, bare-length, bare-cell, bare-good}
+use Rattle.laws.specs.OpenCells.{cells-refused, cells-judged, cells-full}
 use borrow.Author.Needs.{needs}
-use Rattle.groups.proofs.bare.bare_cells.Statement.{statement}
-use Rattle.groups.proofs.bare.bare_cells.Tie as tie
+use Rattle.groups.proofs.bare.full_cells.Statement.{statement}
+use Rattle.groups.proofs.bare.full_cells.Tie as tie
 
 -- the call of `power` from that of `inks_below`, and that from `first_over`
 abbrev at-power : tie.After-inks-below → tie.After-power
@@ -31,19 +27,11 @@ fits c = sym (at-power c .before .before .size-fits .ensures) ∙ not-false _ (a
 long : (c : tie.After-inks-below) → let a = at-power c .before .before .before .before .args in length (a .cells .now) ≡ a .m ^ a .n
 long c = c .before .if2 .left ∙ at-power c .power .ensures
 
--- where every cell is below m, none is the first that is not
-none-over : (m : ℕ) (cells : List ℕ) → ((p : ℕ) → p < length cells → getD cells p 0 < m) → length cells ≤ firstPlace (λ c. not (ltb c m)) cells
-none-over m cells below = go (decLt (firstPlace (λ c. not (ltb c m)) cells) (length cells))
-  where
-    go : Dec (firstPlace (λ c. not (ltb c m)) cells < length cells) → length cells ≤ firstPlace (λ c. not (ltb c m)) cells
-    go (yes inside) = absurd (false≢true (sym (ap not (lt-ltb _ m (below _ inside))) ∙ at-first (λ c. not (ltb c m)) 0 cells inside))
-    go (no past) = omega (arith, past)
-
 size-fits-requires : tie.Need-size-fits-requires
 size-fits-requires c κs = search needs
 
 returns : tie.Need-returns
-returns c = bare-size _ _ _ (sym (c .before .size-fits .ensures) ∙ not-true _ (c .if1 .taken))
+returns c = cells-refused _ _ _ _ _ (bare-size _ _ _ (sym (c .before .size-fits .ensures) ∙ not-true _ (c .if1 .taken)))
 
 power-requires : tie.Need-power-requires
 power-requires c κs =
@@ -52,7 +40,7 @@ power-requires c κs =
     omega (arith, fit .levels-most, fit .inputs-most)
 
 returns-2 : tie.Need-returns-2
-returns-2 c = bare-length _ _ _ (λ e. c .if2 .taken (e ∙ sym (c .before .power .ensures)))
+returns-2 c = cells-refused _ _ _ _ _ (bare-length _ _ _ (λ e. c .if2 .taken (e ∙ sym (c .before .power .ensures))))
 
 inks-below-requires : tie.Need-inks-below-requires
 inks-below-requires c κs =
@@ -64,19 +52,26 @@ inks-below-requires c κs =
 returns-3 : tie.Need-returns-3
 returns-3 c =
     let i = c .before in
-    bare-good _ _ _ (fits i) (long i) _ refl (none-over _ _ (i .inks-below .ensures (c .if3 .taken)))
+    cells-full _ _ _ (fits i) (long i) (i .inks-below .ensures (c .if3 .taken))
 
 first-over-requires : tie.Need-first-over-requires
 first-over-requires c κs = search needs
 
 returns-4 : tie.Need-returns-4
-returns-4 c = let i = at-inks (c .before) in bare-cell _ _ _ (fits i) (long i) (c .before .first-over .result) (c .before .first-over .ensures) (c .if4 .taken)
+returns-4 c = let i = at-inks (c .before) in cells-refused _ _ _ _ _ (bare-cell _ _ _ (fits i) (long i) (c .before .first-over .result) (c .before .first-over .ensures) (c .if4 .taken))
 
+judge-full-requires : tie.Need-judge-full-requires
+judge-full-requires c κs = sized _ _ (fits (at-inks (c .before))) .levels-most
+
+-- no cell is above m
 returns-5 : tie.Need-returns-5
-returns-5 c = let i = at-inks (c .before) in bare-good _ _ _ (fits i) (long i) (c .before .first-over .result) (c .before .first-over .ensures) (c .if4 .left)
+returns-5 c =
+    let over = c .before .before in
+    let i = at-inks over in
+    c .judge-full .ensures ∙ cells-judged _ _ _ (bare-good _ _ _ (fits i) (long i) (over .first-over .result) (over .first-over .ensures) (c .before .if4 .left))
 
-pub bare-cells-spec : {M : Type 1} → statement M
-bare-cells-spec =
+pub full-cells-spec : {M : Type 1} → statement M
+full-cells-spec =
     tie.close
     (tie.spec
     size-fits-requires
@@ -86,5 +81,6 @@ bare-cells-spec =
     inks-below-requires
     returns-3
     first-over-requires
+    judge-full-requires
     returns-4
     returns-5)
