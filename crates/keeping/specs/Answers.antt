@@ -9,7 +9,7 @@ use Rattle.rules.specs.Sheets.{Net, Table}
 use Rattle.rules.specs.Printed.{printedNet}
 use Rattle.rules.specs.Answers as answers
 use Rattle.rules.specs.Settling.{writtenSheet}
-use Rattle.rules.specs.Keeping.{Keeping, rewritten, turnedAway, KeptWiring, keptNet, roomyBefore, changedGates}
+use Rattle.rules.specs.Keeping.{Keeping, rewritten, turnedAway, KeptWiring, keptNet, roomyBefore, leavesOut, changedGates}
 use Rattle.answers.specs.Answers.{namedOf}
 use Rattle.keeping.specs.declared.answer.Kept.{Kept}
 use Rattle.keeping.specs.declared.answer.Kept.the-variants.{Accepted, Refused}
@@ -33,13 +33,16 @@ sheetKept net t cells output =
     let made = writtenSheet (printedNet (keptNet net t)) cells cells output in
     record { answer = withChanged (changedGates (net .gates) (keptNet net t .gates)) (made .answer); cells = cells; output = made .output }
 
--- what follows past 13: the inks in the cells buffer; 23, or the sheet
+-- what follows past 13: the inks in the cells buffer; 23 at 0, 23 at a gate, or the sheet
 unfoldable pub filledInto : Net → Table → List ℕ → List ℕ → KeptWiring
 filledInto net t cells output =
     let cells-then = answers.written cells (t .inks) in
-    elim (ltb (roomyBefore net t) (length (net .gates))) [
-      | true ↦ record { answer = turnedAway answers.neither 23 (suc (roomyBefore net t)); cells = cells-then; output = output }
-      | false ↦ sheetKept net t cells-then output
+    elim (leavesOut net t) [
+      | true ↦ record { answer = turnedAway answers.neither 23 0; cells = cells-then; output = output }
+      | false ↦ elim (ltb (roomyBefore net t) (length (net .gates))) [
+        | true ↦ record { answer = turnedAway answers.neither 23 (suc (roomyBefore net t)); cells = cells-then; output = output }
+        | false ↦ sheetKept net t cells-then output
+      ]
     ]
 
 -- what follows past 27: 13, or what follows past it

@@ -13,21 +13,20 @@ use borrow.Author.Tests.{lt-ltb, le-ltb, not-true, not-false}
 use Rattle.rules.specs.Sheets as sheets
 use Rattle.rules.specs.Sheets.{Table}
 use Rattle.rules.specs.Printed.{printedNet}
-use Rattle.rules.specs.Limits.{sizeFits}
 use Rattle.rules.specs.Filling.{inputGroups, filled}
 use Rattle.rules.specs.Kept.{IsNet, KeptHeader}
 use Rattle.rules.specs.Answers.{accepted, inkIn, neither, refused, tableNamed, written}
 use Rattle.rules.specs.OpenCells.{full, fullTable}
 use Rattle.rules.specs.Settling.{writtenSheet}
 use Rattle.rules.specs.Checking.{sameNames, sameHeader}
-use Rattle.rules.specs.Keeping.{gateLinks, keptGates, keptNet, roomyGates, roomyBefore, changedGates, turnedAway, KeptWiring, keptInto, keepCall}
+use Rattle.rules.specs.Keeping.{gateLinks, keptGates, keptNet, roomyGates, roomyBefore, leavesOut, changedGates, turnedAway, KeptWiring, keptInto, keepCall}
 use Rattle.laws.specs.Tests.{both-eqb}
 use Rattle.laws.specs.Settling.{sheet-15, sheet-written}
-use Rattle.laws.specs.Keeping.{keep-accepted, keep-12, keep-27, keep-13, keep-23, keep-15, keep-written}
+use Rattle.laws.specs.Keeping.{keep-accepted, keep-12, keep-27, keep-13, keep-23-0, keep-23, keep-15, keep-written}
 use Rattle.readback.specs.ReadBack.{net-accepted}
 use Rattle.trees.specs.Fillings.{Fillable}
 use Rattle.trees.specs.KeptLinks.{same-net}
-use Rattle.trees.specs.KeptWirings.{GatesFew, all-roomy, kept-fillable, kept-fills}
+use Rattle.trees.specs.KeptWirings.{UsesMattering, GatesFew, leaves-out-none, all-roomy, kept-fillable, kept-fills}
 use Rattle.nets.specs.declared.forms.Header.{Header}
 use Rattle.nets.specs.declared.forms.Net.{Net}
 use Rattle.nets.specs.Forms.{headerOf, gatesOf, tableIn, netIn}
@@ -38,13 +37,10 @@ use Rattle.digits.specs.Sized.{Sized, sized}
 use Rattle.filling.specs.Filled.{Filled}
 use Rattle.filling.specs.MadeNet.{NetOf}
 use Rattle.table_reading.specs.Answers.{inksIn}
-use Rattle.lines.specs.Put.{Put, put-wrote}
 use Rattle.answers.specs.declared.answer.Answer.{Answer}
 use Rattle.answers.specs.Answers.{answerOf, madeOf}
 use Rattle.accepted.specs.Taken.{NetTaken, TableTaken, Given, sound, held-size, names-inside, taken-full, inks-front, inks-kept, inks-given}
-use Rattle.synthesis.specs.Outcomes.{given-size, given-count, given-below, net-is}
-use Rattle.keeping.specs.declared.answer.Kept.{Kept}
-use Rattle.keeping.specs.Answers.{keepingOf, keptOf, withChanged, sheetKept, filledInto, fullInto}
+use Rattle.synthesis.specs.Outcomes.{given-size, given-count, given-below}
 
 -- what `keep_filled` asks
 pub record Ready (s : List ℕ) (h : Header) (net : Net) (inks cells : List ℕ) : Type 0 where
@@ -67,17 +63,19 @@ module _ (net : sheets.Net) (t : Table) (cells output : List ℕ) where
 module _ (net : sheets.Net) (t : Table) (cells output : List ℕ) (same : sameHeader (net .header) (t .header) ≡ true) (whole : fullTable t ≡ accepted tt) where
   past-13 : length (t .inks) ≤ length cells → keptInto net t cells output ≡ filledInto net t cells output
   unfolding filledInto sheetKept withChanged
-  past-13 long = go (decLe (length (net .gates)) (roomyBefore net t)) (decLe (length (printedNet (keptNet net t))) (length output))
+  past-13 long = go (leavesOut net t) refl (decLe (length (net .gates)) (roomyBefore net t)) (decLe (length (printedNet (keptNet net t))) (length output))
     where
-      go : Dec (length (net .gates) ≤ roomyBefore net t) → Dec (length (printedNet (keptNet net t)) ≤ length output) → keptInto net t cells output ≡ filledInto net t cells output
-      go (no crowded) _ =
-          keep-23 net t cells output same whole long (lt-of-not-le crowded) ∙ sym (rw (lt-ltb _ _ (lt-of-not-le crowded), filledInto))
-      go (yes roomy) (no short) =
-          keep-15 net t cells output same whole long roomy (lt-of-not-le short)
-          ∙ sym (rw (le-ltb _ _ roomy, filledInto, sheetKept, sheet-15 (printedNet (keptNet net t)) (written cells (t .inks)) (written cells (t .inks)) output (lt-of-not-le short)))
-      go (yes roomy) (yes fits) =
-          keep-written net t cells output same whole long roomy fits
-          ∙ sym (rw (le-ltb _ _ roomy, filledInto, sheetKept, sheet-written (printedNet (keptNet net t)) (written cells (t .inks)) (written cells (t .inks)) output fits))
+      go : (b : Bool) → leavesOut net t ≡ b → Dec (length (net .gates) ≤ roomyBefore net t) → Dec (length (printedNet (keptNet net t)) ≤ length output)
+          → keptInto net t cells output ≡ filledInto net t cells output
+      go true out _ _ = keep-23-0 net t cells output same whole long out ∙ sym (rw (out, filledInto))
+      go false takes (no crowded) _ =
+          keep-23 net t cells output same whole long takes (lt-of-not-le crowded) ∙ sym (rw (takes, lt-ltb _ _ (lt-of-not-le crowded), filledInto))
+      go false takes (yes roomy) (no short) =
+          keep-15 net t cells output same whole long takes roomy (lt-of-not-le short)
+          ∙ sym (rw (takes, le-ltb _ _ roomy, filledInto, sheetKept, sheet-15 (printedNet (keptNet net t)) (written cells (t .inks)) (written cells (t .inks)) output (lt-of-not-le short)))
+      go false takes (yes roomy) (yes fits) =
+          keep-written net t cells output same whole long takes roomy fits
+          ∙ sym (rw (takes, le-ltb _ _ roomy, filledInto, sheetKept, sheet-written (printedNet (keptNet net t)) (written cells (t .inks)) (written cells (t .inks)) output fits))
 
   past-27 : keptInto net t cells output ≡ fullInto net t cells output
   past-27 = go (decLe (length (t .inks)) (length cells))
@@ -92,7 +90,7 @@ own-header s h net taken = net-accepted s (netIn s h net) (taken .reads) .1 .hea
 
 -- the table's header has no say in what follows
 any-header : (net : sheets.Net) (t u : Table) (cells output : List ℕ) → t .inks ≡ u .inks → fullInto net t cells output ≡ fullInto net u cells output
-unfolding fullInto filledInto sheetKept roomyBefore keptNet
+unfolding fullInto filledInto sheetKept leavesOut roomyBefore keptNet
 any-header net t u cells output e = ap (λ (inks : List ℕ). fullInto net (record { header = t .header; inks = inks }) cells output) e
 
 -- ---- two accepted sheets
@@ -177,30 +175,43 @@ module _ (s : List ℕ) (h : Header) (net : Net) (inks : List ℕ) (taken : NetT
       subst₂ (λ (m n : ℕ). Sized m n inks) (sym (taken .levels)) (sym (taken .inputs))
       (sized (h .levels) (h .inputs) inks (given-size s h inks given) (omega (arith, given-count s h inks given)))
 
-  module _ (cells cells-then output : List ℕ) (copied : cells-then ≡ written cells inks) (roomy : ℕ)
-      (is : roomy ≡ roomyGates (net .levels) (net .inputs) (inkIn inks) (gatesOf net)) where
-    -- 23
-    pub first-told : roomy < net .gates
-        → record { answer = turnedAway neither 23 (roomy + 1); cells = cells-then; output = output } ≡ filledInto (netIn s h net) (tableIn s h inks) cells output
+  -- whether an input that matters is left out, in the code's numbers
+  out-is : leavesOutOf (net .levels) (net .inputs) (inkIn inks) (gatesOf net) ≡ leavesOut (netIn s h net) (tableIn s h inks)
+  unfolding leavesOut headerOf
+  out-is = ap₂ (λ (m n : ℕ). leavesOutOf m n (inkIn inks) (gatesOf net)) (taken .levels) (taken .inputs)
+
+  module _ (cells cells-then output : List ℕ) (copied : cells-then ≡ written cells inks) where
+    -- 23 at 0
+    pub left-told : leavesOutOf (net .levels) (net .inputs) (inkIn inks) (gatesOf net) ≡ true
+        → record { answer = turnedAway neither 23 0; cells = cells-then; output = output } ≡ filledInto (netIn s h net) (tableIn s h inks) cells output
     unfolding filledInto
-    first-told some =
-        let place : roomy + 1 ≡ suc (roomyBefore (netIn s h net) (tableIn s h inks)) = omega (arith, is, roomy-is) in
-        (λ i. record { answer = turnedAway neither 23 (place i); cells = copied i; output = output })
-        ∙ sym (rw (lt-ltb (roomyBefore (netIn s h net) (tableIn s h inks)) (length (gatesOf net)) (omega (arith, is, roomy-is, gates-length net)), filledInto))
+    left-told out = (λ i. record { answer = turnedAway neither 23 0; cells = copied i; output = output }) ∙ sym (rw (sym out-is ∙ out, filledInto))
 
-    -- 15, or the sheet
-    pub sheet-told : net .gates ≤ roomy → (r : Kept) (after : List ℕ)
-        → ((own : List ℕ) → keptOf r own after ≡ sheetKept (netIn s h net) (tableIn s h inks) own output)
-        → keptOf r cells-then after ≡ filledInto (netIn s h net) (tableIn s h inks) cells output
-    unfolding filledInto
-    sheet-told all r after told =
-        told cells-then
-        ∙ ap (λ (own : List ℕ). sheetKept (netIn s h net) (tableIn s h inks) own output) copied
-        ∙ sym (rw (le-ltb (roomyBefore (netIn s h net) (tableIn s h inks)) (length (gatesOf net)) (omega (arith, is, roomy-is, gates-length net)), filledInto))
+    module _ (takes : leavesOutOf (net .levels) (net .inputs) (inkIn inks) (gatesOf net) ≡ false) (roomy : ℕ)
+        (is : roomy ≡ roomyGates (net .levels) (net .inputs) (inkIn inks) (gatesOf net)) where
+      -- 23 at a gate
+      pub first-told : roomy < net .gates
+          → record { answer = turnedAway neither 23 (roomy + 1); cells = cells-then; output = output } ≡ filledInto (netIn s h net) (tableIn s h inks) cells output
+      unfolding filledInto
+      first-told some =
+          let place : roomy + 1 ≡ suc (roomyBefore (netIn s h net) (tableIn s h inks)) = omega (arith, is, roomy-is) in
+          (λ i. record { answer = turnedAway neither 23 (place i); cells = copied i; output = output })
+          ∙ sym (rw (sym out-is ∙ takes, lt-ltb (roomyBefore (netIn s h net) (tableIn s h inks)) (length (gatesOf net)) (omega (arith, is, roomy-is, gates-length net)), filledInto))
 
-  -- ---- where every gate has room
+      -- 15, or the sheet
+      pub sheet-told : net .gates ≤ roomy → (r : Kept) (after : List ℕ)
+          → ((own : List ℕ) → keptOf r own after ≡ sheetKept (netIn s h net) (tableIn s h inks) own output)
+          → keptOf r cells-then after ≡ filledInto (netIn s h net) (tableIn s h inks) cells output
+      unfolding filledInto
+      sheet-told all r after told =
+          told cells-then
+          ∙ ap (λ (own : List ℕ). sheetKept (netIn s h net) (tableIn s h inks) own output) copied
+          ∙ sym (rw (sym out-is ∙ takes, le-ltb (roomyBefore (netIn s h net) (tableIn s h inks)) (length (gatesOf net)) (omega (arith, is, roomy-is, gates-length net)), filledInto))
 
-  module _ (all : net .gates ≤ roomyGates (net .levels) (net .inputs) (inkIn inks) (gatesOf net)) where
+  -- ---- where no input that matters is left out, and every gate has room
+
+  module _ (takes : leavesOutOf (net .levels) (net .inputs) (inkIn inks) (gatesOf net) ≡ false)
+      (all : net .gates ≤ roomyGates (net .levels) (net .inputs) (inkIn inks) (gatesOf net)) where
     abbrev f : ℕ → ℕ
     f = inkIn inks
 
@@ -210,23 +221,26 @@ module _ (s : List ℕ) (h : Header) (net : Net) (inks : List ℕ) (taken : NetT
     pos : 0 < net .levels
     pos = table-sized .some
 
-    several : 1 < net .inputs
-    several = rw (taken .inputs) (omega (arith, held-size s h (taken .header) .inputs-least))
+    uses : UsesMattering (net .levels) (net .inputs) f (gatesOf net)
+    unfolding headerOf
+    uses =
+        subst₂ (λ (m n : ℕ). UsesMattering m n f (gatesOf net)) (sym (taken .levels)) (sym (taken .inputs))
+        (leaves-out-none (netIn s h net) (tableIn s h inks) .0 (sym out-is ∙ takes))
 
     few : GatesFew (net .levels) (net .inputs) f (gatesOf net)
-    few = all-roomy (net .levels) (net .inputs) pos several f (gatesOf net) (own .gates) .0 (omega (arith, gates-length net))
+    few = all-roomy (net .levels) (net .inputs) pos f (gatesOf net) (own .gates) .0 (omega (arith, gates-length net))
 
     -- the wiring can be filled, ..
     pub wiring-fills : (w : Wiring) → linksIn w ≡ gateLinks (gatesOf net) → Fillable (net .levels) (net .inputs) f (inputGroups (net .inputs)) (linksIn w)
     wiring-fills w links =
         subst⁻¹ (Fillable (net .levels) (net .inputs) f (inputGroups (net .inputs))) links
-        (kept-fillable (net .levels) (net .inputs) pos several f (gatesOf net) (own .gates) few)
+        (kept-fillable (net .levels) (net .inputs) pos f (gatesOf net) (own .gates) few)
 
     below : (p : ℕ) → p < net .levels ^ net .inputs → f p < net .levels
     below =
         subst₂ (λ (m n : ℕ). (p : ℕ) → p < m ^ n → f p < m) (sym (taken .levels)) (sym (taken .inputs)) (given-below s h inks given)
 
-    module _ (w : Wiring) (count : w .gates ≡ net .gates) (links : linksIn w ≡ gateLinks (gatesOf net)) (new : Net) (done : Filled (net .levels) (net .inputs) f w new) where
+    module _ (w : Wiring) (links : linksIn w ≡ gateLinks (gatesOf net)) (new : Net) (done : Filled (net .levels) (net .inputs) f w new) where
       new-gates : gatesOf new ≡ keptGates (net .levels) (net .inputs) f (gatesOf net)
       unfolding keptGates
       new-gates = done .gates ∙ ap (λ ls. filled (net .levels) (net .inputs) f ls) links
@@ -234,12 +248,11 @@ module _ (s : List ℕ) (h : Header) (net : Net) (inks : List ℕ) (taken : NetT
       -- .. and filled it is the net of its gates, which keep the rules
       pub new-net : NetOf (h .levels) (h .inputs) (keptGates (net .levels) (net .inputs) f (gatesOf net)) new
       new-net =
-          let fills = kept-fills (net .levels) (net .inputs) pos several f (gatesOf net) (own .gates) few below in
+          let fills = kept-fills (net .levels) (net .inputs) pos f (gatesOf net) (own .gates) few uses below in
           let is-net = same-net (net .levels) (net .inputs) (gatesOf net) (keptGates (net .levels) (net .inputs) f (gatesOf net)) (fills .wiring) (own .gates) (fills .tables) in
           record {
             levels = done .levels ∙ taken .levels;
             inputs = done .inputs ∙ taken .inputs;
-            count = omega (arith, done .count, count, own .gates .count, gates-length net, taken .inputs);
             gates = new-gates;
             kept = subst⁻¹ (IsNet (h .levels) (h .inputs)) new-gates
                 (subst₂ (λ (m n : ℕ). IsNet m n (keptGates (net .levels) (net .inputs) f (gatesOf net))) (taken .levels) (taken .inputs) is-net);

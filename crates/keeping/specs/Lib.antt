@@ -1,4 +1,5 @@
 pub mod Answers
+pub mod LeftOut
 pub mod Groups
 pub mod Changed
 pub mod Judging

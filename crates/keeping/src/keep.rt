@@ -7,6 +7,7 @@ ghost use Rattle.accepted.specs.Taken.{NetTaken, TableTaken, Given};
 ghost use Rattle.keeping.specs.Judging.{Ready};
 use crate::answer::Kept;
 use crate::crowded::roomy_gates;
+use crate::left_out::leaves_out;
 use crate::rewrite::rewrite;
 use answers::full::judge_full;
 use answers::named::Named;
@@ -20,7 +21,7 @@ use radix::limits::MOST_CELLS;
 use radix::powers::power;
 use table_reading::sheet::read_table;
 
-// The inks in the cells buffer, and then refusal 23, refusal 15 or the sheet.
+// The inks in the cells buffer, and then refusal 23 at 0 or at a gate, refusal 15 or the sheet.
 fn keep_filled(
     s: &[u8],
     header: Header,
@@ -34,6 +35,13 @@ fn keep_filled(
         ≡ filledInto (netIn (now (s .entry)) header net) (tableIn (now (s .entry)) header (now (inks .entry))) (now (cells .entry)) (now (out .entry)) ⌝ }
 {
     copy(inks, cells, 0);
+    if leaves_out(net, inks) {
+        return Kept::Refused {
+            named: Named::Neither,
+            number: 23,
+            place: 0,
+        };
+    }
     let roomy = roomy_gates(net, inks);
     if roomy < net.gates {
         return Kept::Refused {

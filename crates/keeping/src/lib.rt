@@ -3,5 +3,6 @@ pub mod answer;
 pub mod changed;
 pub mod crowded;
 pub mod keep;
+pub mod left_out;
 pub mod rewrite;
 pub mod wiring;

@@ -1,14 +1,15 @@
 // A net's gates filled anew, and its sheet with the set of those that changed.
 ghost use mathlib.Core.Path.{_≡_};
+ghost use mathlib.Core.Bool.{false};
 ghost use mathlib.Core.List.{List};
 ghost use Prim.Native.Nat.{ℕ, _≤_};
 ghost use Rattle.rules.specs.Answers.{inkIn};
-ghost use Rattle.rules.specs.Keeping.{keptGates, roomyGates};
+ghost use Rattle.rules.specs.Keeping.{roomyGates};
 ghost use Rattle.nets.specs.Forms.{gatesOf, netIn, tableIn};
-ghost use Rattle.filling.specs.MadeNet.{NetOf};
 ghost use Rattle.accepted.specs.Taken.{NetTaken, Given};
 ghost use Rattle.answers.specs.Answers.{answerOf};
 ghost use Rattle.keeping.specs.Answers.{keepingOf, keptOf, withChanged, sheetKept};
+ghost use Rattle.keeping.specs.LeftOut.{leavesOutOf};
 use crate::answer::Kept;
 use crate::changed::changed_gates;
 use crate::wiring::wiring_of;
@@ -33,9 +34,10 @@ fn with_changed(answer: Answer, changed: usize) -> Kept
     }
 }
 
-// Refusal 15, or the sheet. No gate's group has too many classes for the table `inks`.
+// Refusal 15, or the sheet. No input that matters to the table `inks` is left out, and no gate's group has too many classes.
 pub fn rewrite(s: &[u8], header: Header, net: Net, inks: &[u8], out: &mut [u8]) -> Kept
     requires { ⌜ NetTaken (now s) header net × Given (now s) header (now inks)
+        × (leavesOutOf (net .levels) (net .inputs) (inkIn (now inks)) (gatesOf net) ≡ false)
         × (net .gates ≤ roomyGates (net .levels) (net .inputs) (inkIn (now inks)) (gatesOf net)) ⌝ }
     ensures { λ r. ⌜ ((cells : List ℕ) → keptOf r cells (now (out .exit))
         ≡ sheetKept (netIn (now (s .entry)) header net) (tableIn (now (s .entry)) header (now (inks .entry))) cells (now (out .entry))) ⌝ }

@@ -1,29 +1,35 @@
--- `keeping::keep::keep_filled` meets its contract: the inks copied, then 23, or what is written anew. Assumes nothing.
-use mathlib.Core.Path.{_≡_}
-use mathlib.Core.List.{List}
+-- `keeping::keep::keep_filled` meets its contract: the inks copied, then 23 at 0 or at a gate, or what is written anew. Assumes nothing.
+use mathlib.Core.Path.{_≡_, sym, _∙_}
+use mathlib.Core.Bool.{false}
+use native.Mathlib.Omega.{arith}
 use borrow.Author.Needs.{needs}
-use Rattle.rules.specs.Answers.{written}
+use Rattle.rules.specs.Answers.{inkIn, written}
+use Rattle.nets.specs.Forms.{gatesOf}
 use Rattle.lines.specs.Put.{put-wrote}
 use Rattle.accepted.specs.Taken.{sound}
-use Rattle.keeping.specs.Judging.{table-sized, first-told, sheet-told}
+use Rattle.keeping.specs.LeftOut.{leavesOutOf}
+use Rattle.keeping.specs.Judging.{table-sized, left-told, first-told, sheet-told}
 use Rattle.keeping.proofs.keep.keep_filled.Statement.{statement}
 use Rattle.keeping.proofs.keep.keep_filled.Tie as tie
 
--- the start from the inks copied, these from the gates looked at, and those from the sheet
+-- the start from the inks copied, these from the inputs looked at, those from the gates looked at, and these from the sheet
 abbrev start : tie.After-copy → tie.Start
 start c = c .before .before .before .before .before .before
 
-abbrev copied : tie.After-roomy-gates → tie.After-copy
+abbrev copied : tie.After-leaves-out → tie.After-copy
 copied c = c .before .before .before
 
-abbrev test : tie.After-rewrite → tie.Else1
+abbrev inputs : tie.After-roomy-gates → tie.After-leaves-out
+inputs c = c .before .before
+
+abbrev test : tie.After-rewrite → tie.Else2
 test c = c .before .before
 
 copy-requires : tie.Need-copy-requires
 copy-requires c κs = search needs
 
-roomy-gates-requires : tie.Need-roomy-gates-requires
-roomy-gates-requires c κs =
+leaves-out-requires : tie.Need-leaves-out-requires
+leaves-out-requires c κs =
     let s = start (c .before .before) in
     (sound _ _ _ (s .pre .taken), table-sized _ _ _ _ (s .pre .taken) (s .pre .given))
 
@@ -31,33 +37,58 @@ roomy-gates-requires c κs =
 cells-then : (c : tie.After-copy) → c .copy .last .1 .0 ≡ written (start c .args .cells .now) (start c .args .inks .now)
 cells-then c = put-wrote (start c .pre .long) (c .copy .ensures) .text
 
-add-t13 : tie.Need-add-t13
-add-t13 c = search needs
-
 same-length : tie.Need-same-length
 same-length c = search needs
 
 returns : tie.Need-returns
 returns c =
-    let looked = c .before .before in
-    let s = start (copied looked) in
-    first-told _ _ _ _ (s .pre .taken) (s .pre .given) _ _ (s .args .out .now) (cells-then (copied looked)) _ (looked .roomy-gates .ensures) (c .if1 .taken)
+    let copy = copied (c .before) in
+    let s = start copy in
+    left-told _ _ _ _ (s .pre .taken) (s .pre .given) _ _ (s .args .out .now) (cells-then copy) (sym (c .before .leaves-out .ensures) ∙ c .if1 .taken)
 
-rewrite-requires : tie.Need-rewrite-requires
-rewrite-requires c κs = search needs
+roomy-gates-requires : tie.Need-roomy-gates-requires
+roomy-gates-requires c κs =
+    let s = start (copied (c .before)) in
+    (sound _ _ _ (s .pre .taken), table-sized _ _ _ _ (s .pre .taken) (s .pre .given))
+
+-- no input that matters is left out then
+takes : (c : tie.Else1) →
+    let a = start (copied (c .before)) .args in
+    leavesOutOf (a .net .levels) (a .net .inputs) (inkIn (a .inks .now)) (gatesOf (a .net)) ≡ false
+takes c = sym (c .before .leaves-out .ensures) ∙ c .if1 .left
+
+add-t15 : tie.Need-add-t15
+add-t15 c = search needs
 
 same-length-2 : tie.Need-same-length-2
 same-length-2 c = search needs
 
+returns-2 : tie.Need-returns-2
+returns-2 c =
+    let looked = c .before .before in
+    let copy = copied (inputs looked) in
+    let s = start copy in
+    first-told _ _ _ _ (s .pre .taken) (s .pre .given) _ _ (s .args .out .now) (cells-then copy) (takes (looked .before)) _ (looked .roomy-gates .ensures) (c .if2 .taken)
+
+rewrite-requires : tie.Need-rewrite-requires
+rewrite-requires c κs =
+    let looked = c .before .before .before in
+    let s = start (copied (inputs looked)) in
+    (s .pre .taken, s .pre .given, takes (looked .before), omega (arith, c .before .if2 .left, looked .roomy-gates .ensures))
+
 same-length-3 : tie.Need-same-length-3
 same-length-3 c = search needs
 
-returns-2 : tie.Need-returns-2
-returns-2 c =
+same-length-4 : tie.Need-same-length-4
+same-length-4 c = search needs
+
+returns-3 : tie.Need-returns-3
+returns-3 c =
     let told = c .before .before in
     let looked = test told .before .before in
-    let s = start (copied looked) in
-    sheet-told _ _ _ _ (s .pre .taken) (s .pre .given) _ _ (s .args .out .now) (cells-then (copied looked)) _ (looked .roomy-gates .ensures) (test told .if1 .left)
+    let copy = copied (inputs looked) in
+    let s = start copy in
+    sheet-told _ _ _ _ (s .pre .taken) (s .pre .given) _ _ (s .args .out .now) (cells-then copy) (takes (looked .before)) _ (looked .roomy-gates .ensures) (test told .if2 .left)
     (told .rewrite .result) _ (told .rewrite .ensures)
 
 pub keep-filled-spec : {M : Type 1} → statement M
@@ -65,11 +96,14 @@ keep-filled-spec =
     tie.close
     (tie.spec
     copy-requires
-    roomy-gates-requires
-    add-t13
+    leaves-out-requires
     same-length
     returns
-    rewrite-requires
+    roomy-gates-requires
+    add-t15
     same-length-2
+    returns-2
+    rewrite-requires
     same-length-3
-    returns-2)
+    same-length-4
+    returns-3)

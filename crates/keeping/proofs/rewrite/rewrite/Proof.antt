@@ -34,7 +34,7 @@ fill-requires c κs =
     let w = c .wiring-of in (
       table-sized _ _ _ _ (s .pre .0) (s .pre .1),
       omega (arith, w .ensures .0, gates-count (s .args .net) (own s)),
-      wiring-fills _ _ _ _ (s .pre .0) (s .pre .1) (s .pre .2) (w .result) (w .ensures .1),
+      wiring-fills _ _ _ _ (s .pre .0) (s .pre .1) (s .pre .2) (s .pre .3) (w .result) (w .ensures .1),
     )
 
 changed-gates-requires : tie.Need-changed-gates-requires
@@ -47,7 +47,7 @@ new : (c : tie.After-fill)
 new c =
     let s = start (c .before) in
     let w = c .before .wiring-of in
-    new-net _ _ _ _ (s .pre .0) (s .pre .1) (s .pre .2) (w .result) (w .ensures .0) (w .ensures .1) (c .fill .result) (c .fill .ensures)
+    new-net _ _ _ _ (s .pre .0) (s .pre .1) (s .pre .2) (s .pre .3) (w .result) (w .ensures .1) (c .fill .result) (c .fill .ensures)
 
 write-sheet-requires : tie.Need-write-sheet-requires
 write-sheet-requires c κs =
@@ -67,7 +67,7 @@ returns c =
     let f = filled (sheet .before) in
     let s = start (f .before) in
     let w = f .before .wiring-of in
-    rewrite-told _ _ _ _ (s .pre .0) (s .pre .1) (s .pre .2) (w .result) (w .ensures .0) (w .ensures .1) (f .fill .result) (f .fill .ensures)
+    rewrite-told _ _ _ _ (s .pre .0) (s .pre .1) (s .pre .2) (s .pre .3) (w .result) (w .ensures .1) (f .fill .result) (f .fill .ensures)
     (sheet .write-sheet .result) (s .args .out .now) (sheet .write-sheet .last .1 .1 .1 .0) (sheet .write-sheet .ensures) (set .result) (set .ensures)
     (c .with-changed .result) (c .with-changed .ensures)
 
