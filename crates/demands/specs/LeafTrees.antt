@@ -122,7 +122,7 @@ module _ (t : Table) (kept : FullKept t) where
           (gates, net, (λ p h. values p ∙ agrees-all t (kept .header) tree is .1 agrees p h), rw leaves at uses),
     )
 
--- ---- making
+-- ---- making, of a full table
 
 module _ (s : List ℕ) (t : Table) (reads : readFull s ≡ accepted t) (cells marks output : List ℕ)
     (cells-fit : t .header .levels ^ t .header .inputs ≤ length cells) (marks-fit : marksLength (t .header .inputs) ≤ length marks) where

@@ -133,7 +133,7 @@ module _ (t : Table) (kept : FullKept t) where
   shallow-written cells marks output sheet e =
       written-on shallowNet (shallow-kept t (keeps t kept) (kept .below)) shallow-on cells marks output sheet (sym (ap sheetOf (plain-into shallowNet t cells marks output)) ∙ e)
 
--- ---- from a table sheet
+-- ---- from a sheet of a full table
 
 module _ (s : List ℕ) (t : Table) (reads : readFull s ≡ accepted t) where
   kept-t : FullKept t

@@ -1,5 +1,5 @@
--- Document 02, K14, of the family of a table's trees: two table sheets of which one is a renaming of the other's inks have as many trees, and under every number
--- sheets that differ by the renaming in the last table alone.
+-- Document 02, K14, of the family of a table's trees: two full table sheets of which one is a renaming of the other's inks have as many trees, and under every
+-- number sheets that differ by the renaming in the last table alone.
 -- Assumes nothing.
 use Prim.Native.Nat.{ℕ, _^_, _≤_, _<_}
 use mathlib.Core.Path.{_≡_, ap, _∙_, subst}

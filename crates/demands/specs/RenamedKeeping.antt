@@ -1,5 +1,5 @@
--- Document 02, K14, of a wiring that is kept: for two table sheets of which one is a renaming of the other's inks a net sheet is refused with the same number and
--- place, or kept for both. Then the two sheets differ by the renaming in the last table alone, and the sets of the gates that changed agree but for the
+-- Document 02, K14, of a wiring that is kept: for two full table sheets of which one is a renaming of the other's inks a net sheet is refused with the same number
+-- and place, or kept for both. Then the two sheets differ by the renaming in the last table alone, and the sets of the gates that changed agree but for the
 -- last gate.
 -- Assumes nothing.
 use Prim.Native.Nat.{ℕ, suc, _^_, _≤_, _<_}

@@ -23,7 +23,7 @@ use Rattle.demands.specs.FirstLines.{threeLines}
 use Rattle.demands.specs.TableLines.{same-table-lines}
 use Rattle.demands.specs.Settles.{table-path}
 
--- ---- two table sheets
+-- ---- two full table sheets
 
 -- both accepted and full, and r renames the levels of the one to those of the other
 pub record RenamedTables (r : ℕ → ℕ) (s other : List ℕ) : Type 0 where
