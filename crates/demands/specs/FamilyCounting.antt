@@ -91,7 +91,7 @@ module _ (s cells marks : List ℕ) where
       go (goes-on t is) =
           rw (accepted-inj (countOfTable t) count (sym (counted-answer (is .counts)) ∙ e)) at (table-fits t (full-accepted s t (is .reads) .1))
 
--- ---- an accepted table sheet
+-- ---- an accepted sheet of a full table
 
 module _ (s : List ℕ) (t : Table) (reads : readFull s ≡ accepted t) where
   -- there are at most (2k − 3)!! trees for k leaves, ..

@@ -25,7 +25,7 @@ use Rattle.demands.specs.FamilySheets.{writes-tree, tree-short}
 use Rattle.rules.specs.OpenCells.{readFull}
 use Rattle.demands.specs.FullSheets.{fullNumbers, full-accepted, full-refusal}
 
--- enough for the cells and the marks of every accepted table sheet
+-- enough for the cells and the marks of every accepted sheet of a full table
 ample-on : (s cells marks : List ℕ) → mostCells ≤ length cells → mostMarks ≤ length marks → (t : Table) → readFull s ≡ accepted t → GoesOn s cells marks t
 ample-on s cells marks cells-most marks-most t reads =
     let kept = full-accepted s t reads .1 .header in

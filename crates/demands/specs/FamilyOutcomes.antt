@@ -31,7 +31,7 @@ made-answer e = ap (λ (m : Made). m .answer) e
 pub counted-answer : {counted other : Counted} → counted ≡ other → counted .answer ≡ other .answer
 counted-answer e = ap (λ (c : Counted). c .answer) e
 
--- the table sheet's, 13 and 14
+-- those of a sheet of a full table, 13 and 14
 abbrev pub judgedNumbers : List ℕ
 judgedNumbers = 1 ∷ 2 ∷ 3 ∷ 4 ∷ 5 ∷ 6 ∷ 27 ∷ 13 ∷ 14 ∷ []
 
@@ -60,7 +60,7 @@ pub data Judged (s cells marks : List ℕ) : Type 0 where
   goes-on : (t : Table) → GoesOn s cells marks t → Judged s cells marks
 
 module _ (s cells marks : List ℕ) where
-  -- an accepted table sheet, and room
+  -- an accepted sheet of a full table, and room
   pub on-with : (t : Table) → readFull s ≡ accepted t → t .header .levels ^ t .header .inputs ≤ length cells → marksLength (t .header .inputs) ≤ length marks
       → GoesOn s cells marks t
   on-with t reads cells-fit marks-fit = record {

@@ -1,4 +1,4 @@
--- The family of an accepted table, under the table's header: the net of each number below the count keeps a net sheet's rules, has exactly the
+-- The family of an accepted full table, under the table's header: the net of each number below the count keeps a net sheet's rules, has exactly the
 -- table and stands on just the table's leaves, its sheet is as long as the settled net's, and number 0 is the settled net. There is a number exactly when
 -- the whole group has mark 2.
 -- Assumes nothing.

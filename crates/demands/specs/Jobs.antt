@@ -24,7 +24,7 @@ use Rattle.demands.specs.JobMoves.{stepsIn, Done, moves-table, moves-pas
 use Rattle.rules.specs.OpenCells.{fullCells, readFull}
 use Rattle.demands.specs.FullSheets.{full-accepted, keeps}
 
--- ---- a job on an accepted sheet, after any list of steps and askings
+-- ---- a job on an accepted sheet of a full table, after any list of steps and askings
 
 module _ (s : List ℕ) (t : Table) (reads : readFull s ≡ accepted t) (moves : List Move) where
   -- the job

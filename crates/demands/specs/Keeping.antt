@@ -160,7 +160,7 @@ module _ (s r cells : List ℕ) (past : Past s r cells) where
   -- cells written", the output untouched, ..
   pub refuses-23-0 : LeftOut net t → (output : List ℕ)
       → keepCall s r cells output ≡ record { answer = turnedAway neither 23 0; cells = written cells (t .inks); output = output }
-  refuses-23-0 is output = judged output ∙ keep-23-0 net t cells output same cells-long (left-out net t .1 is)
+  refuses-23-0 is output = judged output ∙ keep-23-0 net t cells output same (full-t .1) cells-long (left-out net t .1 is)
 
   -- .. and at place 0 no other is
   pub place-0 : (output : List ℕ) → (keepCall s r cells output .answer ≡ turnedAway neither 23 0) ↔ LeftOut net t

@@ -1,4 +1,4 @@
--- Document 02, K10 and K12, said of nets and tables: when a net's wiring can be filled for a table, and what filling it gives.
+-- Document 02, K10 and K12, said of nets and full tables: when a net's wiring can be filled for a table, and what filling it gives.
 -- Assumes nothing.
 use Prim.Native.Nat.{ℕ, _^_, _≤_, _<_}
 use mathlib.Core.Path.{_≡_, refl, sym, ap, _∙_, subst⁻¹}

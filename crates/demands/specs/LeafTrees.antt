@@ -18,11 +18,11 @@ use Rattle.rules.specs.Wirings.{groupOf, linksOf}
 use Rattle.rules.specs.Filling.{filled}
 use Rattle.rules.specs.Leaves.{matters}
 use Rattle.rules.specs.Settled.{settledWiring}
-use Rattle.rules.specs.Kept.{IsNet, KeptTable}
+use Rattle.rules.specs.Kept.{IsNet}
 use Rattle.rules.specs.Answers.{accepted, refused, inkIn}
-use Rattle.rules.specs.Reading.{readNet, readTable, tableOfNet}
+use Rattle.rules.specs.Reading.{readNet, tableOfNet}
+use Rattle.rules.specs.OpenCells.{readFull}
 use Rattle.rules.specs.Settling.{makeCall}
-use Rattle.readback.specs.ReadBack.{table-accepted}
 use Rattle.trees.specs.Trees.{Tree, wiringIn, Computes}
 use Rattle.trees.specs.Members.{whole-below, member-whole, member-ext, size-whole, size-zero}
 use Rattle.trees.specs.Wirings.{group-below}
@@ -33,6 +33,7 @@ use Rattle.trees.specs.CutWirings.{holding-marked}
 use Rattle.trees.specs.Existence.{filled-computes, filled-leaves}
 use Rattle.trees.specs.TreeExistence.{tree-is-net, net-is-gate-tree}
 use Rattle.trees.specs.NetTables.{levels-pos, inputs-several}
+use Rattle.demands.specs.FullSheets.{FullKept, full-accepted}
 use Rattle.demands.specs.Makes.{leavesOfTable, HasTree, two-tree, netWith, gates-sheet, sheet-gates, make-refuses}
 use Rattle.demands.specs.TreeClause.{TreeFor, TreeAgrees, agrees-all}
 
@@ -61,7 +62,7 @@ some-member : (n g : ℕ) → 0 < size n g → 0 < g
 some-member n zero h = absurd (omega (arith, size-zero n))
 some-member n (suc g) h = omega arith
 
-module _ (t : Table) (kept : KeptTable t) where
+module _ (t : Table) (kept : FullKept t) where
   abbrev m : ℕ
   m = t .header .levels
 
@@ -121,16 +122,16 @@ module _ (t : Table) (kept : KeptTable t) where
           (gates, net, (λ p h. values p ∙ agrees-all t (kept .header) tree is .1 agrees p h), rw leaves at uses),
     )
 
--- ---- making
+-- ---- making, of a full table
 
-module _ (s : List ℕ) (t : Table) (reads : readTable s ≡ accepted t) (cells marks output : List ℕ)
+module _ (s : List ℕ) (t : Table) (reads : readFull s ≡ accepted t) (cells marks output : List ℕ)
     (cells-fit : t .header .levels ^ t .header .inputs ≤ length cells) (marks-fit : marksLength (t .header .inputs) ≤ length marks) where
   -- making refuses the table with 16
   abbrev pub Refuses16 : Type 0
   Refuses16 = (place : ℕ) × (makeCall s cells marks output .answer ≡ refused 16 place)
 
-  kept-t : KeptTable t
-  kept-t = table-accepted s t reads .1
+  kept-t : FullKept t
+  kept-t = full-accepted s t reads .1
 
   -- exactly when no net stands on these, ..
   module _ (g : ℕ) (may : MayBeLeaves t g) where

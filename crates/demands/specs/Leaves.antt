@@ -18,9 +18,10 @@ use Rattle.rules.specs.Sheets.{Gate, Net, Table, usedBy}
 use Rattle.rules.specs.Groups.{size}
 use Rattle.rules.specs.Wirings.{gatesIn}
 use Rattle.rules.specs.Leaves.{matters, mattering}
-use Rattle.rules.specs.Kept.{IsNet, KeptNet, KeptTable}
+use Rattle.rules.specs.Kept.{IsNet, KeptNet}
 use Rattle.rules.specs.Answers.{Answer, accepted, inkIn}
-use Rattle.rules.specs.Reading.{readNet, readTable, tableOfNet}
+use Rattle.rules.specs.Reading.{readNet, tableOfNet}
+use Rattle.rules.specs.OpenCells.{readFull}
 use Rattle.rules.specs.Settling.{settledNet, madeInto, settleCall, makeCall}
 use Rattle.rules.specs.ShallowSettling.{shallowNet, layeredInto, settleShallowCall, makeShallowCall}
 use Rattle.rules.specs.FamilyCalls.{familyNet, familyTreeCall}
@@ -28,7 +29,7 @@ use Rattle.rules.specs.Jobs.{Finished, Move, afterMoves, openJob, finishJob}
 use Rattle.laws.specs.Answers.{accepted-inj, not-refused}
 use Rattle.laws.specs.Settling.{WholeTwo, settle-accepted, make-accepted}
 use Rattle.laws.specs.ShallowSettling.{settle-shallow-accepted, make-shallow-accepted}
-use Rattle.readback.specs.ReadBack.{net-accepted, net-read-back, table-accepted}
+use Rattle.readback.specs.ReadBack.{net-accepted, net-read-back}
 use Rattle.trees.specs.Trees.{Tree, wiringIn, Computes}
 use Rattle.trees.specs.NetTree.{UsesJust, net-group, net-uses}
 use Rattle.trees.specs.UsedOnce.{net-size}
@@ -38,8 +39,9 @@ use Rattle.trees.specs.FewestGates.{net-gates-least, tree-gates-least}
 use Rattle.trees.specs.ShallowNet.{shallow-leaves}
 use Rattle.trees.specs.ShallowTables.{shallow-kept}
 use Rattle.trees.specs.Uniqueness.{table-at}
-use Rattle.trees.specs.NetTables.{levels-pos, inputs-several, kept-table}
+use Rattle.trees.specs.NetTables.{levels-pos, inputs-several}
 use Rattle.demands.specs.Settles.{sheetIn, sheetOf}
+use Rattle.demands.specs.FullSheets.{FullKept, keeps, net-kept, full-accepted}
 use Rattle.demands.specs.Makes.{leavesOfTable, made-kept, sheet-gates, into-accepted}
 use Rattle.demands.specs.TreeClause.{TreeFor, TreeAgrees, agrees-all}
 use Rattle.demands.specs.LeafInputs.{leaf-count, leaf-first}
@@ -72,7 +74,7 @@ pub record OnLeaves (t : Table) (net : Net) : Type 0 where
   -- .. and none of Section I's trees
   pub fewest-trees : (tree : Tree) → TreeFor t tree → TreeAgrees tree t → length (net .gates) ≤ gatesIn (wiringIn tree)
 
-module _ (t : Table) (kept : KeptTable t) where
+module _ (t : Table) (kept : FullKept t) where
   abbrev m : ℕ
   m = t .header .levels
 
@@ -98,8 +100,8 @@ module _ (t : Table) (kept : KeptTable t) where
       record {
         leaves = uses;
         each-matters = λ enough i i<. uses i i< ∙ leaves-matter m n pos f enough i i<;
-        first-listed = λ i j less j< idle is. uses i (omega arith) ∙ leaf-first t kept i j less j< idle (sym (uses j j<) ∙ is);
-        gates = count ∙ leaf-count t kept;
+        first-listed = λ i j less j< idle is. uses i (omega arith) ∙ leaf-first t (keeps t kept) i j less j< idle (sym (uses j j<) ∙ is);
+        gates = count ∙ leaf-count t (keeps t kept);
         fewest = least;
         fewest-sheets = λ r other reads table. let (is-net, has) = sheet-gates t r other reads table in least (other .gates) is-net has;
         fewest-trees = λ tree tree-is agrees. omega (arith, tree-gates-least m n pos several f tree tree-is (agrees-all t (kept .header) tree tree-is .1 agrees));
@@ -113,7 +115,7 @@ module _ (t : Table) (kept : KeptTable t) where
   -- .. and the shallow one
   shallow-on : WholeTwo t → OnLeaves t (shallowNet t)
   unfolding shallowNet
-  shallow-on two = on-leaves (shallowNet t) (shallow-kept t kept two .gates) (shallow-leaves m n pos several f two)
+  shallow-on two = on-leaves (shallowNet t) (shallow-kept t (keeps t kept) (kept .below) two .gates) (shallow-leaves m n pos several f two)
 
   -- whatever the buffers, a sheet that is written of the one or the other is accepted as it
   written-on : (netFor : Table → Net) → (WholeTwo t → KeptNet (netFor t)) → (WholeTwo t → OnLeaves t (netFor t)) → (cells marks output sheet : List ℕ)
@@ -129,13 +131,13 @@ module _ (t : Table) (kept : KeptTable t) where
   shallow-written : (cells marks output sheet : List ℕ) → shallowSheetOf (layeredInto shallowNet t cells marks output) ≡ accepted sheet
       → (net : Net) → readNet sheet ≡ accepted net → OnLeaves t net
   shallow-written cells marks output sheet e =
-      written-on shallowNet (shallow-kept t kept) shallow-on cells marks output sheet (sym (ap sheetOf (plain-into shallowNet t cells marks output)) ∙ e)
+      written-on shallowNet (shallow-kept t (keeps t kept) (kept .below)) shallow-on cells marks output sheet (sym (ap sheetOf (plain-into shallowNet t cells marks output)) ∙ e)
 
--- ---- from a table sheet
+-- ---- from a sheet of a full table
 
-module _ (s : List ℕ) (t : Table) (reads : readTable s ≡ accepted t) where
-  kept-t : KeptTable t
-  kept-t = table-accepted s t reads .1
+module _ (s : List ℕ) (t : Table) (reads : readFull s ≡ accepted t) where
+  kept-t : FullKept t
+  kept-t = full-accepted s t reads .1
 
   -- "A settled tree now has just the inputs that matter as leaves": making, ..
   pub made-on-leaves : (cells marks output sheet : List ℕ) → sheetOf (makeCall s cells marks output) ≡ accepted sheet
@@ -181,13 +183,13 @@ module _ (s : List ℕ) (net : Net) (reads : readNet s ≡ accepted net) where
   pub settled-on-leaves : (cells marks output sheet : List ℕ) → sheetOf (settleCall s cells marks output) ≡ accepted sheet
       → (other : Net) → readNet sheet ≡ accepted other → OnLeaves (tableOfNet net) other
   settled-on-leaves cells marks output sheet e =
-      settled-written (tableOfNet net) (kept-table net kept-net) cells marks output sheet (sym (ap sheetOf (settle-accepted s cells marks output net reads)) ∙ e)
+      settled-written (tableOfNet net) (net-kept net kept-net) cells marks output sheet (sym (ap sheetOf (settle-accepted s cells marks output net reads)) ∙ e)
 
   -- .. shallow settling, ..
   pub shallow-settled-on-leaves : (cells marks output sheet : List ℕ) → shallowSheetOf (settleShallowCall s cells marks output) ≡ accepted sheet
       → (other : Net) → readNet sheet ≡ accepted other → OnLeaves (tableOfNet net) other
   shallow-settled-on-leaves cells marks output sheet e =
-      shallow-written (tableOfNet net) (kept-table net kept-net) cells marks output sheet
+      shallow-written (tableOfNet net) (net-kept net kept-net) cells marks output sheet
       (sym (ap shallowSheetOf (settle-shallow-accepted s cells marks output net reads)) ∙ e)
 
   -- .. and why no fewer leaves would do: every accepted net uses each input that matters to its table

@@ -25,7 +25,7 @@ use Rattle.rules.specs.ShallowSettling.{makeShallowCall}
 use Rattle.rules.specs.FamilyCalls.{countOfTable, familyCountCall, numberedInto, afterCount, familyTreeCall}
 use Rattle.rules.specs.Checking.{sameHeader}
 use Rattle.rules.specs.Printed.{printedNet}
-use Rattle.rules.specs.Keeping.{Keeping, turnedAway, KeptWiring, keptNet, roomyBefore, keptInto, keepCall}
+use Rattle.rules.specs.Keeping.{Keeping, turnedAway, KeptWiring, keptNet, roomyBefore, leavesOut, keptInto, keepCall}
 use Rattle.rules.specs.Jobs.{Job, emptyJob, Opened, openJob, mayFinish}
 use Rattle.laws.specs.Answers.{not-refused}
 use Rattle.laws.specs.Distinct.{In}
@@ -36,7 +36,7 @@ use Rattle.laws.specs.ShallowSettling.{make-shallow-refused}
 use Rattle.laws.specs.FamilyCalls.{family-count-refused, family-tree-refused, family-tree-accepted}
 use Rattle.laws.specs.Jobs.{open-refused, open-accepted, may-refused}
 use Rattle.laws.specs.Multiplicity.{groupAnswer, multiplicity-refused, multiplicity-judged}
-use Rattle.laws.specs.Keeping.{keep-net-refused, keep-table-refused, keep-accepted, keep-12, keep-27, keep-13, keep-23, keep-15, keep-written}
+use Rattle.laws.specs.Keeping.{keep-net-refused, keep-table-refused, keep-accepted, keep-12, keep-27, keep-13, keep-23-0, keep-23, keep-15, keep-written}
 use Rattle.readback.specs.Numbers.{netNumbers, tableNumbers, net-refusal, table-refusal}
 use Rattle.demands.specs.Numbers.{Gives, accepts, by-answer, bare-numbers, not-given, refuses}
 use Rattle.demands.specs.SettlingNumbers.{sheet-numbers, room-numbers, into-numbers}
@@ -197,14 +197,16 @@ module _ (s r : List ℕ) (k : ℕ) (cells output : List ℕ) where
       past : (named : Named) (net : Net) (t : Table) → sameHeader (net .header) (t .header) ≡ true → fullTable t ≡ accepted tt
           → keptInto net t cells output .answer ≡ turnedAway named 27 k → ⊥
       past named net t same on e =
-          rest (decLe (length (t .inks)) (length cells)) (decLe (length (net .gates)) (roomyBefore net t)) (decLe (length (printedNet (keptNet net t))) (length output))
+          rest (decLe (length (t .inks)) (length cells)) (leavesOut net t) refl (decLe (length (net .gates)) (roomyBefore net t)) (decLe (length (printedNet (keptNet net t))) (length output))
         where
-          rest : Dec (length (t .inks) ≤ length cells) → Dec (length (net .gates) ≤ roomyBefore net t) → Dec (length (printedNet (keptNet net t)) ≤ length output) → ⊥
-          rest (no short) b c = omega (arith, number-of neither named 13 _ (sym (answered (keep-13 net t cells output same on (lt-of-not-le short))) ∙ e) .0)
-          rest (yes long) (no crowded) c = omega (arith, number-of neither named 23 _ (sym (answered (keep-23 net t cells output same on long (lt-of-not-le crowded))) ∙ e) .0)
-          rest (yes long) (yes roomy) (no short) = omega (arith, number-of neither named 15 _ (sym (answered (keep-15 net t cells output same on long roomy (lt-of-not-le short))) ∙ e) .0)
-          rest (yes long) (yes roomy) (yes fits) =
-              let made = sym (answered (keep-written net t cells output same on long roomy fits)) ∙ e in
+          rest : Dec (length (t .inks) ≤ length cells) → (out : Bool) → leavesOut net t ≡ out → Dec (length (net .gates) ≤ roomyBefore net t)
+              → Dec (length (printedNet (keptNet net t)) ≤ length output) → ⊥
+          rest (no short) _ _ _ _ = omega (arith, number-of neither named 13 _ (sym (answered (keep-13 net t cells output same on (lt-of-not-le short))) ∙ e) .0)
+          rest (yes long) true out _ _ = omega (arith, number-of neither named 23 0 (sym (answered (keep-23-0 net t cells output same on long out)) ∙ e) .0)
+          rest (yes long) false takes (no crowded) _ = omega (arith, number-of neither named 23 _ (sym (answered (keep-23 net t cells output same on long takes (lt-of-not-le crowded))) ∙ e) .0)
+          rest (yes long) false takes (yes roomy) (no short) = omega (arith, number-of neither named 15 _ (sym (answered (keep-15 net t cells output same on long takes roomy (lt-of-not-le short))) ∙ e) .0)
+          rest (yes long) false takes (yes roomy) (yes fits) =
+              let made = sym (answered (keep-written net t cells output same on long takes roomy fits)) ∙ e in
               let z : _≡_ {A = ℕ} 0 1 = cc in
               omega arith
 

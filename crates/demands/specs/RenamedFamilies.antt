@@ -1,5 +1,5 @@
--- Document 02, K14, of the family of a table's trees: two table sheets of which one is a renaming of the other's inks have as many trees, and under every number
--- sheets that differ by the renaming in the last table alone.
+-- Document 02, K14, of the family of a table's trees: two full table sheets of which one is a renaming of the other's inks have as many trees, and under every
+-- number sheets that differ by the renaming in the last table alone.
 -- Assumes nothing.
 use Prim.Native.Nat.{ℕ, _^_, _≤_, _<_}
 use mathlib.Core.Path.{_≡_, ap, _∙_, subst}
@@ -10,7 +10,6 @@ use lib.ListN.{length, take}
 use Rattle.rules.specs.Sheets.{Table}
 use Rattle.rules.specs.Printed.{printedNet}
 use Rattle.rules.specs.Marks.{marksLength, storedMarks}
-use Rattle.rules.specs.Kept.{KeptTable}
 use Rattle.rules.specs.Answers.{accepted, inkIn}
 use Rattle.rules.specs.Settling.{settledNet}
 use Rattle.rules.specs.FamilyCalls.{Counted, countOfTable, familyNet, familyCountCall, familyTreeCall, afterCount}
@@ -19,6 +18,7 @@ use Rattle.laws.specs.FamilyCalls.{counted-marked, family-count-accepted, numbe
 use Rattle.trees.specs.NetTables.{inputs-several}
 use Rattle.trees.specs.RenamedWirings.{count-renamed}
 use Rattle.trees.specs.RenamedNets.{family-renamed}
+use Rattle.demands.specs.FullSheets.{FullKept}
 use Rattle.demands.specs.Makes.{two-tree}
 use Rattle.demands.specs.FamilyTables.{some-two, family-as-long}
 use Rattle.demands.specs.FamilySheets.{tree-accepted}
@@ -31,7 +31,7 @@ pub record AlikeCounted (n : ℕ) (counted other : Counted) : Type 0 where
   pub marks : take (marksLength n) (counted .marks) ≡ take (marksLength n) (other .marks)
 
 -- making's buffers are long enough for the sheet of each number
-number-fits : (t : Table) → KeptTable t → (number : ℕ) → number < countOfTable t → (cells marks output : List ℕ) → Enough settledNet t cells marks output
+number-fits : (t : Table) → FullKept t → (number : ℕ) → number < countOfTable t → (cells marks output : List ℕ) → Enough settledNet t cells marks output
     → length (printedNet (familyNet number t)) ≤ length output
 number-fits t kept number less cells marks output enough =
     rw (family-as-long t kept number less) (enough .output-fits (two-tree t kept .1 (some-two t kept (omega arith))))

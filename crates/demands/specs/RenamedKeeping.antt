@@ -1,5 +1,5 @@
--- Document 02, K14, of a wiring that is kept: for two table sheets of which one is a renaming of the other's inks a net sheet is refused with the same number and
--- place, or kept for both. Then the two sheets differ by the renaming in the last table alone, and the sets of the gates that changed agree but for the
+-- Document 02, K14, of a wiring that is kept: for two full table sheets of which one is a renaming of the other's inks a net sheet is refused with the same number
+-- and place, or kept for both. Then the two sheets differ by the renaming in the last table alone, and the sets of the gates that changed agree but for the
 -- last gate.
 -- Assumes nothing.
 use Prim.Native.Nat.{ℕ, suc, _^_, _≤_, _<_}
@@ -15,10 +15,12 @@ use Rattle.rules.specs.Printed.{printedNet}
 use Rattle.rules.specs.Groups.{member}
 use Rattle.rules.specs.Kept.{KeptNet}
 use Rattle.rules.specs.Answers.{Answer, accepted, refused, Named, netNamed, neither, inkIn, written}
-use Rattle.rules.specs.Reading.{readNet}
+use Rattle.rules.specs.Reading.{readNet, readTable}
+use Rattle.rules.specs.OpenCells.{fullTable}
 use Rattle.rules.specs.Checking.{sameHeader}
 use Rattle.rules.specs.Keeping.{rewritten, turnedAway, KeptWiring, keptNet, roomyBefore, leavesOut, changedGates, keepCall, keptInto}
 use Rattle.laws.specs.Answers.{written-front}
+use Rattle.laws.specs.OpenCells.{read-accepted}
 use Rattle.laws.specs.Keeping.{keep-net-refused, keep-accepted, keep-12, keep-23-0, keep-23, keep-written}
 use Rattle.trees.specs.NetTables.{levels-pos}
 use Rattle.trees.specs.Renaming.{Renamed, SameInks, renamed-same}
@@ -53,6 +55,13 @@ module _ (r : ℕ → ℕ) (s other : List ℕ) (both : RenamedTables r s other)
 
   abbrev need : ℕ
   need = t .header .levels ^ t .header .inputs
+
+  -- both are read, and judged full
+  read-one : (readTable s ≡ accepted t) × (fullTable t ≡ accepted tt)
+  read-one = read-accepted s t (both .reads)
+
+  read-other : (readTable other ≡ accepted u) × (fullTable u ≡ accepted tt)
+  read-other = read-accepted other u (reads-renamed r s other both)
 
   -- ---- a net of the tables' levels, inputs and names
 
@@ -121,10 +130,10 @@ module _ (r : ℕ → ℕ) (s other : List ℕ) (both : RenamedTables r s other)
             sym (but-last-changed (keptNet net t .gates) (keptNet net u .gates) (gates .lines) (net .gates) (sym count) k (λ e. not-last (e ∙ count)))
 
       judged : keepCall q s cells output ≡ keptInto net t cells output
-      judged = keep-accepted q s cells output net reads t (both .reads)
+      judged = keep-accepted q s cells output net reads t (read-one .0)
 
       judged' : keepCall q other cells' output' ≡ keptInto net u cells' output'
-      judged' = keep-accepted q other cells' output' net reads u (reads-renamed r s other both)
+      judged' = keep-accepted q other cells' output' net reads u (read-other .0)
 
       alike : sameHeader (net .header) (t .header) ≡ true
       alike = same-header (net .header) (t .header) header
@@ -145,8 +154,8 @@ module _ (r : ℕ → ℕ) (s other : List ℕ) (both : RenamedTables r s other)
               let (takes', roomy') = room' takes roomy in
               let as-long = renamed-long r _ _ nets in
               rw (
-                judged ∙ keep-written net t cells output alike long takes roomy (rw (kept-as-long q s cells past (room takes roomy)) fits),
-                judged' ∙ keep-written net u cells' output' alike long' takes' roomy' (rw (kept-as-long q other cells' past' (room' takes roomy)) fits'),
+                judged ∙ keep-written net t cells output alike (read-one .1) long takes roomy (rw (kept-as-long q s cells past (room takes roomy)) fits),
+                judged' ∙ keep-written net u cells' output' alike (read-other .1) long' takes' roomy' (rw (kept-as-long q other cells' past' (room' takes roomy)) fits'),
               )
               (both-kept (length (printedNet (keptNet net t))) _ _ net refl (ap (λ (k : ℕ). rewritten k (changedGates (net .gates) (keptNet net u .gates))) (sym as-long))
               (subst⁻¹ (λ (b : List ℕ). RenamedNets r b (take (length (printedNet (keptNet net t))) (written output' (printedNet (keptNet net u))))) (written-front output (printedNet (keptNet net t)))
@@ -155,12 +164,12 @@ module _ (r : ℕ → ℕ) (s other : List ℕ) (both : RenamedTables r s other)
 
           go : (out : Bool) → leavesOut net t ≡ out → Dec (length (net .gates) ≤ roomyBefore net t) → AlikeKept r q (keepCall q s cells output) (keepCall q other cells' output')
           go true out _ =
-              rw (judged ∙ keep-23-0 net t cells output alike long out, judged' ∙ keep-23-0 net u cells' output' alike long' (sym same-out ∙ out))
+              rw (judged ∙ keep-23-0 net t cells output alike (read-one .1) long out, judged' ∙ keep-23-0 net u cells' output' alike (read-other .1) long' (sym same-out ∙ out))
               (both-refused neither 23 0 refl refl)
           go false takes (no crowded) =
               rw (
-                judged ∙ keep-23 net t cells output alike long takes (lt-of-not-le crowded),
-                judged' ∙ keep-23 net u cells' output' alike long' (sym same-out ∙ takes) (subst (λ (k : ℕ). k < length (net .gates)) same-roomy (lt-of-not-le crowded)),
+                judged ∙ keep-23 net t cells output alike (read-one .1) long takes (lt-of-not-le crowded),
+                judged' ∙ keep-23 net u cells' output' alike (read-other .1) long' (sym same-out ∙ takes) (subst (λ (k : ℕ). k < length (net .gates)) same-roomy (lt-of-not-le crowded)),
               )
               (both-refused neither 23 (suc (roomyBefore net t)) refl (ap (λ (k : ℕ). turnedAway neither 23 (suc k)) (sym same-roomy)))
           go false takes (yes roomy) = made takes roomy
@@ -181,7 +190,7 @@ module _ (r : ℕ → ℕ) (s other : List ℕ) (both : RenamedTables r s other)
           of true h = kept-alike q net e (header-same (net .header) (t .header) h) cells output cells' output' cells-fit cells-fit' fits fits'
           of false h =
               rw (
-                keep-accepted q s cells output net e t (both .reads) ∙ keep-12 net t cells output h,
-                keep-accepted q other cells' output' net e u (reads-renamed r s other both) ∙ keep-12 net u cells' output' h,
+                keep-accepted q s cells output net e t (read-one .0) ∙ keep-12 net t cells output h,
+                keep-accepted q other cells' output' net e u (read-other .0) ∙ keep-12 net u cells' output' h,
               )
               (both-refused neither 12 0 refl refl)

@@ -9,28 +9,28 @@ use lib.ListN.{length, length-append, length-map}
 use Rattle.rules.specs.Text.{digitByte}
 use Rattle.rules.specs.Sheets.{Header, Gate, Net, Table}
 use Rattle.rules.specs.Printed.{printedNet}
-use Rattle.rules.specs.Kept.{KeptTable}
 use Rattle.rules.specs.Answers.{accepted, inkIn}
-use Rattle.rules.specs.Reading.{readNet, readTable}
+use Rattle.rules.specs.Reading.{readNet}
+use Rattle.rules.specs.OpenCells.{readFull}
 use Rattle.laws.specs.Places.{map-at}
 use Rattle.laws.specs.Settling.{marksOfTable}
 use Rattle.trees.specs.NetTables.{levels-pos}
 use Rattle.trees.specs.Renaming.{Renamed, SameInks, renamed-same, marks-renamed}
 use Rattle.trees.specs.ButLast.{ButLastField, but-last-printed}
 use Rattle.trees.specs.RenamedGates.{RenamedGates}
-use Rattle.readback.specs.ReadBack.{table-accepted}
+use Rattle.demands.specs.FullSheets.{FullKept, full-sheet, full-accepted}
 use Rattle.demands.specs.FirstLines.{threeLines}
 use Rattle.demands.specs.TableLines.{same-table-lines}
 use Rattle.demands.specs.Settles.{table-path}
 
--- ---- two table sheets
+-- ---- two full table sheets
 
--- both accepted, and r renames the levels of the one to those of the other
+-- both accepted and full, and r renames the levels of the one to those of the other
 pub record RenamedTables (r : ℕ → ℕ) (s other : List ℕ) : Type 0 where
   pub table : Table
   pub renamed : Table
-  pub reads : readTable s ≡ accepted table
-  pub reads-other : readTable other ≡ accepted renamed
+  pub reads : readFull s ≡ accepted table
+  pub reads-other : readFull other ≡ accepted renamed
   -- "with the same first three lines"
   pub lines : threeLines s ≡ threeLines other
   -- "a one-to-one renaming of the ink levels"
@@ -56,8 +56,8 @@ module _ (r : ℕ → ℕ) (s other : List ℕ) (both : RenamedTables r s other)
   abbrev n : ℕ
   n = t .header .inputs
 
-  pub kept-one : KeptTable t
-  kept-one = table-accepted s t (both .reads) .1
+  pub kept-one : FullKept t
+  kept-one = full-accepted s t (both .reads) .1
 
   pub positive : 0 < m
   positive = levels-pos m (kept-one .header .levels)
@@ -65,13 +65,15 @@ module _ (r : ℕ → ℕ) (s other : List ℕ) (both : RenamedTables r s other)
   -- the other sheet's table is that one
   pub is-renamed : both .renamed ≡ u
   is-renamed =
-      table-path (both .renamed) u (sym (same-table-lines s other t (both .renamed) (both .reads) (both .reads-other) .0 (both .lines))) (both .inks)
+      let read = full-sheet s t .0 (both .reads) .0 in
+      let read-other = full-sheet other (both .renamed) .0 (both .reads-other) .0 in
+      table-path (both .renamed) u (sym (same-table-lines s other t (both .renamed) read read-other .0 (both .lines))) (both .inks)
 
-  pub reads-renamed : readTable other ≡ accepted u
+  pub reads-renamed : readFull other ≡ accepted u
   reads-renamed = both .reads-other ∙ ap accepted is-renamed
 
-  pub kept-other : KeptTable u
-  kept-other = table-accepted other u reads-renamed .1
+  pub kept-other : FullKept u
+  kept-other = full-accepted other u reads-renamed .1
 
   pub inks-below : (p : ℕ) → p < m ^ n → inkIn (t .inks) p < m
   inks-below p h = kept-one .below p (subst⁻¹ (λ (k : ℕ). p < k) (kept-one .count) h)

@@ -26,6 +26,7 @@ use Rattle.trees.specs.RenamedWirings.{shallow-layers-renamed}
 use Rattle.trees.specs.RenamedNets.{settled-renamed, shallow-renamed}
 use Rattle.trees.specs.ShallowTables.{shallow-kept}
 use Rattle.readback.specs.ReadBack.{net-read-back}
+use Rattle.demands.specs.FullSheets.{keeps}
 use Rattle.demands.specs.Makes.{HasTree, two-tree, made-accepted}
 use Rattle.demands.specs.RenamedSheets.{RenamedTables, renamedTable, kept-one, positive, is-renamed, reads-renamed, kept-other, inks-below, inks-renamed, same-inks, same-marks, RenamedNets, renamed-long, nets-renamed}
 
@@ -158,8 +159,8 @@ module _ (r : ℕ → ℕ) (s other : List ℕ) (both : RenamedTables r s other)
   shallow-sheets : WholeTwo t → RenamedNets r (printedNet (shallowNet t)) (printedNet (shallowNet u))
   unfolding shallowNet
   shallow-sheets two =
-      nets-renamed r (t .header) _ _ (net-read-back (shallowNet t) (shallow-kept t (kept-one r s other both) two))
-      (net-read-back (shallowNet u) (shallow-kept u (kept-other r s other both) (two-renamed two)))
+      nets-renamed r (t .header) _ _ (net-read-back (shallowNet t) (shallow-kept t (keeps t (kept-one r s other both)) (kept-one r s other both .below) two))
+      (net-read-back (shallowNet u) (shallow-kept u (keeps u (kept-other r s other both)) (kept-other r s other both .below) (two-renamed two)))
       (shallow-renamed m n (positive r s other both) r (inkIn (t .inks)) (inkIn (u .inks)) (inks-below r s other both) (inks-renamed r s other both) several two)
 
   module _ (cells marks output cells' marks' output' : List ℕ) where

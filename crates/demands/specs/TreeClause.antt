@@ -60,7 +60,7 @@ table-is-tree-value s net reads =
           (λ p h. sym (tree .2 p) ∙ sym (table-at (net .header .levels) (net .header .inputs) (net .gates) p h)),
     )
 
--- Demand 3: making refuses with 16 exactly when no such tree computes the table.
+-- Demand 3, of a full table: making refuses with 16 exactly when no such tree computes it.
 pub make-refuses-trees : (s : List ℕ) (t : Table) → readFull s ≡ accepted t
     → (cells marks output : List ℕ) → t .header .levels ^ t .header .inputs ≤ length cells → marksLength (t .header .inputs) ≤ length marks
     → ((place : ℕ) × (makeCall s cells marks output .answer ≡ refused 16 place)) ↔ (ComputedByTree t → ⊥)
