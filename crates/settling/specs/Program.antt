@@ -15,7 +15,8 @@ use Rattle.rules.specs.Groups.{wholeGroup}
 use Rattle.rules.specs.Marks.{markIn, marksLength, storedMarks}
 use Rattle.rules.specs.Answers.{Answer, accepted, refused, written}
 use Rattle.rules.specs.Settling.{Made, settledNet, writtenSheet, madeInto, settleCall, makeCall}
-use Rattle.rules.specs.Reading.{readNet, readTable, tableOfNet}
+use Rattle.rules.specs.Reading.{readNet, tableOfNet}
+use Rattle.rules.specs.OpenCells.{readFull}
 use Rattle.rules.specs.Programs.{programOutput, zeros}
 use Rattle.laws.specs.Settling.{WholeTwo, marksOfTable, into-13, into-14, into-marked, marked-16, marked-tree, sheet-15, sheet-written, settle-refused, settle-accepted, make-refused, make-accepted}
 use Rattle.answers.specs.declared.answer.Answer as own
@@ -78,9 +79,9 @@ module _ (output : List ℕ) where
         go (refused number place) e = subst⁻¹ (Fits output) (settle-refused s cells marks output number place e) (refusal-fits number place cells marks)
 
     pub make-fits : Fits output (makeCall s cells marks output)
-    make-fits = go (readTable s) refl
+    make-fits = go (readFull s) refl
       where
-        go : (a : Answer Table) → readTable s ≡ a → Fits output (makeCall s cells marks output)
+        go : (a : Answer Table) → readFull s ≡ a → Fits output (makeCall s cells marks output)
         go (accepted t) e = subst⁻¹ (Fits output) (make-accepted s cells marks output t e) (into-fits t cells marks)
         go (refused number place) e = subst⁻¹ (Fits output) (make-refused s cells marks output number place e) (refusal-fits number place cells marks)
 
