@@ -28,7 +28,7 @@ abbrev at-start : tie.In-loop Inv-loop μ-loop → tie.Start Inv-loop μ-loop
 at-start c = c .before .before .before .before
 
 abbrev at-turn : tie.After-print-row-arg2 Inv-loop μ-loop → tie.In-loop Inv-loop μ-loop
-at-turn c = c .before .before .before .before
+at-turn c = c .before .before .before .before .before
 
 abbrev at-row : tie.After-levels2 Inv-loop μ-loop → tie.After-print-row Inv-loop μ-loop
 at-row c = c .before .before .before
@@ -41,16 +41,23 @@ module _ (m n k : ℕ) (levels : List ℕ) (front : take n levels ≡ levelsAt m
   digits : 0 < m → m ≤ mostLevels → (i : ℕ) → i < length (take (n - 0) levels) → getD (take (n - 0) levels) i 0 < 10
   digits pos few i h = rw lent (omega (arith, levels-below m n k i pos (omega (arith, levels-length m n k, ap length lent))))
 
-  module _ (inks : List ℕ) (h : k < length inks) {out : List ℕ} {p : ℕ} {out₀ : List ℕ} {at : ℕ} {t : List ℕ}
-      (l : Left out p (printedRows m n k (drop k inks)) out₀ at t) where
-    first-row : Left out p (rowText (take (n - 0) levels) (inkByte m (getD inks k 0)) ++ printedRows m n (k + 1) (drop (k + 1) inks)) out₀ at t
-    first-row = rw lent (rw (rows-next m n k inks h) at l)
+  -- the row of index k, by the byte b that `ink_byte` gave
+  module _ (inks : List ℕ) (h : k < length inks) {b : ℕ} (byte : b ≡ inkByte m (getD inks k 0))
+      {out : List ℕ} {p : ℕ} {out₀ : List ℕ} {at : ℕ} {t : List ℕ} (l : Left out p (printedRows m n k (drop k inks)) out₀ at t) where
+    first-row : Left out p (rowText (take (n - 0) levels) b ++ printedRows m n (k + 1) (drop (k + 1) inks)) out₀ at t
+    first-row = rw (lent, byte) (rw (rows-next m n k inks h) at l)
 
-    row-room : Room out p (rowText (take (n - 0) levels) (inkByte m (getD inks k 0)))
-    row-room = room-for (rowText (take (n - 0) levels) (inkByte m (getD inks k 0))) (printedRows m n (k + 1) (drop (k + 1) inks)) first-row
+    row-room : Room out p (rowText (take (n - 0) levels) b)
+    row-room = room-for (rowText (take (n - 0) levels) b) (printedRows m n (k + 1) (drop (k + 1) inks)) first-row
 
 loop-holds : tie.Need-loop-holds Inv-loop μ-loop
 loop-holds c = (refl, zeros-front (c .before .before .args .m) (c .before .before .args .n) mostInputs (omega arith), all-left (c .before .before .pre .4))
+
+shared-slice-read-ink-byte : tie.Need-shared-slice-read-ink-byte Inv-loop μ-loop
+shared-slice-read-ink-byte c = omega arith
+
+ink-byte-requires : tie.Need-ink-byte-requires Inv-loop μ-loop
+ink-byte-requires c κs = at-start (c .before) .pre .3 (c .before .before .loop .k) (c .before .loop-test .taken)
 
 sub-print-row : tie.Need-sub-print-row Inv-loop μ-loop
 sub-print-row c = omega arith
@@ -59,10 +66,7 @@ part-print-row-start : tie.Need-part-print-row-start Inv-loop μ-loop
 part-print-row-start c = omega arith
 
 part-print-row-end : tie.Need-part-print-row-end Inv-loop μ-loop
-part-print-row-end c = omega (arith, at-start (c .before) .pre .2, c .before .before .loop .inv .0)
-
-shared-slice-read-print-row : tie.Need-shared-slice-read-print-row Inv-loop μ-loop
-shared-slice-read-print-row c = omega arith
+part-print-row-end c = omega (arith, at-start (c .before .before .before) .pre .2, c .before .before .before .before .loop .inv .0)
 
 print-row-requires : tie.Need-print-row-requires Inv-loop μ-loop
 print-row-requires c κs =
@@ -70,8 +74,7 @@ print-row-requires c κs =
     let at = at-turn c .before .loop in
     let more = at-turn c .loop-test .taken in (
       digits (start .args .m) (start .args .n) (at .k) (at .levels) (at .inv .1) (start .pre .0) (start .pre .1),
-      start .pre .3 (at .k) more,
-      row-room (start .args .m) (start .args .n) (at .k) (at .levels) (at .inv .1) (start .args .inks .now) more (at .inv .2),
+      row-room (start .args .m) (start .args .n) (at .k) (at .levels) (at .inv .1) (start .args .inks .now) more (c .before .before .before .ink-byte .ensures) (at .inv .2),
     )
 
 slice-aggregate-next-levels : tie.Need-slice-aggregate-next-levels Inv-loop μ-loop
@@ -97,7 +100,7 @@ loop-again c =
     let front = at .inv .1 in (
       front-kept (start .args .m) (start .args .n) (at .k) (start .pre .0) _ _ front did (omega (arith, start .pre .2, at .inv .0)) ∙ at .inv .0,
       front-next (start .args .m) (start .args .n) (at .k) (start .pre .0) _ _ front did,
-      put-left (first-row (start .args .m) (start .args .n) (at .k) (at .levels) front (start .args .inks .now) (at-turn (row .before) .loop-test .taken) (at .inv .2)) (row .print-row .ensures),
+      put-left (first-row (start .args .m) (start .args .n) (at .k) (at .levels) front (start .args .inks .now) (at-turn (row .before) .loop-test .taken) (row .before .before .before .before .ink-byte .ensures) (at .inv .2)) (row .print-row .ensures),
     )
 
 same-length : tie.Need-same-length Inv-loop μ-loop
@@ -113,10 +116,11 @@ print-rows-spec =
     Inv-loop
     μ-loop
     loop-holds
+    shared-slice-read-ink-byte
+    ink-byte-requires
     sub-print-row
     part-print-row-start
     part-print-row-end
-    shared-slice-read-print-row
     print-row-requires
     slice-aggregate-next-levels
     next-levels-requires
