@@ -20,16 +20,19 @@ sub-last c = omega arith
 loop-holds : tie.Need-loop-holds Inv-loop μ-loop
 loop-holds c = (omega arith, λ p h. absurd (omega arith))
 
-shared-slice-read-if1 : tie.Need-shared-slice-read-if1 Inv-loop μ-loop
-shared-slice-read-if1 c = omega arith
+shared-slice-read-differs : tie.Need-shared-slice-read-differs Inv-loop μ-loop
+shared-slice-read-differs c = omega arith
 
-shared-slice-read-if1-2 : tie.Need-shared-slice-read-if1-2 Inv-loop μ-loop
-shared-slice-read-if1-2 c = omega arith
+shared-slice-read-differs-2 : tie.Need-shared-slice-read-differs-2 Inv-loop μ-loop
+shared-slice-read-differs-2 c = omega arith
+
+differs-requires : tie.Need-differs-requires Inv-loop μ-loop
+differs-requires c κs = tt
 
 returns : tie.Need-returns Inv-loop μ-loop
 returns c =
-    let at = c .before .before .before .before .loop in
-    differ-first _ _ (at .i) (omega arith) (c .if1 .taken) (at .inv .1)
+    let at = c .before .before .before .before .before .loop in
+    differ-first _ _ _ (at .i) (omega arith) (c .before .differs .ensures .0 (c .if1 .taken)) (at .inv .1)
 
 add-i : tie.Need-add-i Inv-loop μ-loop
 add-i c = omega arith
@@ -39,11 +42,11 @@ loop-less c = omega arith
 
 loop-again : tie.Need-loop-again Inv-loop μ-loop
 loop-again c =
-    let at = c .before .before .before .before .loop in
-    (omega arith, below-more _ _ (at .inv .1) (c .if1 .left))
+    let at = c .before .before .before .before .before .loop in
+    (omega arith, below-more _ _ (at .inv .1) (c .before .differs .ensures .1 (c .if1 .left)))
 
 returns-2 : tie.Need-returns-2 Inv-loop μ-loop
-returns-2 c = agree-all _ _ (λ p h. c .before .loop .inv .1 p (omega arith))
+returns-2 c = agree-all _ _ _ (λ p h. c .before .loop .inv .1 p (omega arith))
 
 pub compare-spec : {M : Type 1} → statement M
 compare-spec =
@@ -53,8 +56,9 @@ compare-spec =
     μ-loop
     sub-last
     loop-holds
-    shared-slice-read-if1
-    shared-slice-read-if1-2
+    shared-slice-read-differs
+    shared-slice-read-differs-2
+    differs-requires
     returns
     add-i
     loop-less
