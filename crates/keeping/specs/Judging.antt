@@ -39,7 +39,7 @@ use Rattle.filling.specs.MadeNet.{NetOf}
 use Rattle.table_reading.specs.Answers.{inksIn}
 use Rattle.answers.specs.declared.answer.Answer.{Answer}
 use Rattle.answers.specs.Answers.{answerOf, madeOf}
-use Rattle.accepted.specs.Taken.{NetTaken, TableTaken, Given, sound, held-size, names-inside, taken-full, inks-front, inks-kept, inks-given}
+use Rattle.accepted.specs.Taken.{NetTaken, TableTaken, Given, sound, names-inside, taken-full, inks-front, inks-kept, inks-given}
 use Rattle.synthesis.specs.Outcomes.{given-size, given-count, given-below}
 use Rattle.keeping.specs.declared.answer.Kept.{Kept}
 use Rattle.keeping.specs.Answers.{keepingOf, keptOf, withChanged, sheetKept, filledInto, fullInto}
