@@ -39,8 +39,11 @@ use Rattle.filling.specs.MadeNet.{NetOf}
 use Rattle.table_reading.specs.Answers.{inksIn}
 use Rattle.answers.specs.declared.answer.Answer.{Answer}
 use Rattle.answers.specs.Answers.{answerOf, madeOf}
-use Rattle.accepted.specs.Taken.{NetTaken, TableTaken, Given, sound, held-size, names-inside, taken-full, inks-front, inks-kept, inks-given}
+use Rattle.accepted.specs.Taken.{NetTaken, TableTaken, Given, sound, names-inside, taken-full, inks-front, inks-kept, inks-given}
 use Rattle.synthesis.specs.Outcomes.{given-size, given-count, given-below}
+use Rattle.keeping.specs.declared.answer.Kept.{Kept}
+use Rattle.keeping.specs.Answers.{keepingOf, keptOf, withChanged, sheetKept, filledInto, fullInto}
+use Rattle.keeping.specs.LeftOut.{leavesOutOf}
 
 -- what `keep_filled` asks
 pub record Ready (s : List ℕ) (h : Header) (net : Net) (inks cells : List ℕ) : Type 0 where
