@@ -10,7 +10,7 @@
  * Bytes are lent as a pointer and a length. A pointer must be good for that many bytes, and must not be null even where the
  * length is 0. Two buffers lent to one call must not overlap, and a buffer must not overlap a sheet.
  *
- * A sheet is any bytes. Levels are written m and inputs n below. A refusal of a sheet (1 to 8, 18 to 20) has a place in it, a byte from 0;
+ * A sheet is any bytes. Levels are written m and inputs n below. A refusal of a sheet (1 to 8, 18 to 20, 26) has a place in it, a byte from 0;
  * docs/REFUSALS.md says what each number means. Refusals are listed in the order in which they are judged. Where a buffer is
  * longer than needed, its further bytes are kept.
  */
@@ -50,9 +50,10 @@ enum sitgurp_refusal {
     SITGURP_REFUSED_REPEATED_ROW = 20,      /* a loose sheet's row names the assignment of an earlier row */
     SITGURP_REFUSED_JOB_DONE = 21,          /* a step of a job that is done */
     SITGURP_REFUSED_JOB_UNFINISHED = 22,    /* finishing a job that is not done; the place is the groups still to go */
-    SITGURP_REFUSED_WIRING = 23,            /* no gate tables give the wiring the table; the place is a gate's number */
+    SITGURP_REFUSED_WIRING = 23,            /* no gate tables give the wiring the table; the place is a gate's number, or 0 */
     SITGURP_REFUSED_PICTURE = 24,           /* a picture's side, the number of its cells, or a cell's level */
-    SITGURP_REFUSED_OFFSETS = 25            /* an offset missing, one too many, or one too far */
+    SITGURP_REFUSED_OFFSETS = 25,           /* an offset missing, one too many, or one too far */
+    SITGURP_REFUSED_UNUSED_GATE = 26        /* a net sheet's earlier gate is never used; the place is the sheet's length */
 };
 
 /* Buffers that always suffice: cells, marks, a net sheet, a table sheet, a picture. */
@@ -168,9 +169,9 @@ sitgurp_answer sitgurp_marking(size_t m, size_t n, const uint8_t *cells, size_t 
 
 /*
  * Settles a net sheet: writes its table into cells, one byte a cell, every group's mark into marks, and the settled net sheet into
- * output, and answers that sheet's length. Needs m to the power n bytes, 2 to the power n, divided by 4, and the
- * settled sheet's length.
- * Refusals: 1 to 4 and 6 to 8 (the sheet), 13 (cells too short), 14 (marks too short), 15 (output too short); the value of 13 to 15 is the
+ * output, and answers that sheet's length. The settled net uses just the inputs that matter; where fewer than two do, the first-listed others make
+ * up two. Needs m to the power n bytes, 2 to the power n, divided by 4, and the settled sheet's length.
+ * Refusals: 1 to 4, 6 to 8 and 26 (the sheet), 13 (cells too short), 14 (marks too short), 15 (output too short); the value of 13 to 15 is the
  * length needed. 15 leaves cells and marks written and output as it was; every other refusal changes no byte.
  */
 sitgurp_answer sitgurp_settle(const uint8_t *sheet, size_t sheet_length, uint8_t *cells, size_t cells_length, uint8_t *marks,
@@ -201,9 +202,9 @@ sitgurp_shallow sitgurp_make_shallow(const uint8_t *sheet, size_t sheet_length, 
                                      size_t marks_length, uint8_t *output, size_t output_length);
 
 /*
- * How many trees compute the table of a table sheet, with the cells and the marks of sitgurp_make and no output. Trees that differ only in which
- * side is left, in gate numbers or in gate tables count once. A table with no tree has count 0, and is not refused. The count is 64 bits wide; within
- * the sizes of a sheet it is at most 13,749,310,575.
+ * How many trees compute the table of a table sheet, with the cells and the marks of sitgurp_make and no output. Counted are the trees on the inputs
+ * that the settled net uses. Trees that differ only in which side is left, in gate numbers or in gate tables count once. A table with no tree has
+ * count 0, and is not refused. The count is 64 bits wide; within the sizes of a sheet it is at most 13,749,310,575.
  * Refusals: 1 to 6 (the sheet), 13 (cells too short), 14 (marks too short); the value of 13 and 14 is the length needed. A refusal changes no byte.
  */
 sitgurp_answer sitgurp_family_count(const uint8_t *sheet, size_t sheet_length, uint8_t *cells, size_t cells_length, uint8_t *marks,
@@ -227,7 +228,7 @@ sitgurp_which sitgurp_shallower(const uint8_t *first, size_t first_length, const
 /*
  * Checks a net sheet against a table sheet, and writes the table sheet's inks into cells, whether they agree or not. Needs m to the
  * power n bytes.
- * Refusals: 1 to 4 and 6 to 8 (the net sheet), 1 to 6 (the table sheet), 12 (the sheets differ in m, n or names; value 0), 13 (cells too short;
+ * Refusals: 1 to 4, 6 to 8 and 26 (the net sheet), 1 to 6 (the table sheet), 12 (the sheets differ in m, n or names; value 0), 13 (cells too short;
  * value is the length needed). A refusal changes no byte. 12 and 13 name neither sheet.
  */
 sitgurp_verdict sitgurp_check(const uint8_t *net_sheet, size_t net_sheet_length, const uint8_t *table_sheet,
@@ -237,16 +238,17 @@ sitgurp_verdict sitgurp_check(const uint8_t *net_sheet, size_t net_sheet_length,
  * Keeps the wiring of a net sheet, and fills its gates anew so that the net has the table of a table sheet: writes that sheet's inks into cells and the net
  * sheet into output. Left and right of every gate line stay as they are, and so do the lines' order and the header; gate tables follow the rule of the settled
  * net. Needs m to the power n bytes, and the net sheet's length.
- * Refusals: 1 to 4 and 6 to 8 (the net sheet), 1 to 6 (the table sheet), 12 (the sheets differ in m, n or names; value 0), 13 (cells too short), 23 (no gate tables
- * give this wiring that table; value is the number of the first gate whose group has more than m classes), 15 (output too short); the value of 13 and 15 is
- * the length needed. 23 and 15 leave cells written and output as it was; every other refusal changes no byte. 12, 13, 15 and 23 name neither sheet.
+ * Refusals: 1 to 4, 6 to 8 and 26 (the net sheet), 1 to 6 (the table sheet), 12 (the sheets differ in m, n or names; value 0), 13 (cells too short), 23 (no gate
+ * tables give this wiring that table; value is 0 where it leaves out an input that matters, otherwise the number of the first gate whose group has more than m
+ * classes), 15 (output too short); the value of 13 and 15 is the length needed. 23 and 15 leave cells written and output as it was; every other refusal changes no
+ * byte. 12, 13, 15 and 23 name neither sheet.
  */
 sitgurp_kept sitgurp_keep(const uint8_t *net_sheet, size_t net_sheet_length, const uint8_t *table_sheet, size_t table_sheet_length,
                           uint8_t *cells, size_t cells_length, uint8_t *output, size_t output_length);
 
 /*
  * Writes the table sheet of a net sheet into output, and answers its length, which is what it needs.
- * Refusals: 1 to 4 and 6 to 8 (the sheet), 15 (output too short; value is the length needed). A refusal changes no byte.
+ * Refusals: 1 to 4, 6 to 8 and 26 (the sheet), 15 (output too short; value is the length needed). A refusal changes no byte.
  */
 sitgurp_answer sitgurp_write_table(const uint8_t *sheet, size_t sheet_length, uint8_t *output, size_t output_length);
 
@@ -263,15 +265,15 @@ sitgurp_answer sitgurp_tidy(const uint8_t *sheet, size_t sheet_length, uint8_t *
 /*
  * Turn k of the gate lister, from 0: the gate line of gate k + 1 of a net sheet, and after the last line that none is left.
  * Writes nothing.
- * Refusals: 1 to 4 and 6 to 8 (the sheet), the same at every turn.
+ * Refusals: 1 to 4, 6 to 8 and 26 (the sheet), the same at every turn.
  */
 sitgurp_turn sitgurp_gate_line(const uint8_t *sheet, size_t sheet_length, size_t k);
 
 /*
  * When the output of a net settles: a net sheet, an arrival sheet for its inputs, and the delay of every gate in quarters of a microsecond. The
- * settling time is the largest, over the inputs, of arrival plus delay times gates on the way; earliest is that of the earliest arrivals, latest
- * that of the latest. Both are exact, and whatever the arrivals inside their ranges, the output settles between them. Writes nothing.
- * Refusals: 1 to 4 and 6 to 8 (the net sheet), 1, 18 and 19 (the arrival sheet).
+ * settling time is the largest, over the inputs that the net uses, of arrival plus delay times gates on the way; earliest is that of the earliest
+ * arrivals, latest that of the latest. Both are exact, and whatever the arrivals inside their ranges, the output settles between them. Writes nothing.
+ * Refusals: 1 to 4, 6 to 8 and 26 (the net sheet), 1, 18 and 19 (the arrival sheet).
  */
 sitgurp_arrival_times sitgurp_arrivals(const uint8_t *net_sheet, size_t net_sheet_length, const uint8_t *arrival_sheet,
                                        size_t arrival_sheet_length, uint8_t delay);
@@ -328,8 +330,8 @@ static inline sitgurp_answer sitgurp_job_finish(const sitgurp_job *job, uint8_t 
  * A picture has one byte a cell, a level below m, row by row, and 1 to 64 cells a side. For each input there are two offsets, across and down,
  * -2 to 2 each, in the order of the inputs. Each cell of the new picture is the net's value with every input read from the old cell so many cells to
  * the right and so many below; outside the picture the level is 0.
- * Refusals: 1 to 4 and 6 to 8 (the net sheet), 24 (a side, the number of cells or a cell's level), 25 (an offset missing, one too many or one too far), 15 (output
- * too short; value is the length needed). The value of 24 and 25 is 0. A refusal changes no byte.
+ * Refusals: 1 to 4, 6 to 8 and 26 (the net sheet), 24 (a side, the number of cells or a cell's level), 25 (an offset missing, one too many or one too far), 15
+ * (output too short; value is the length needed). The value of 24 and 25 is 0. A refusal changes no byte.
  */
 sitgurp_answer sitgurp_glyph(const uint8_t *net_sheet, size_t net_sheet_length, size_t width, size_t height, const uint8_t *picture,
                              size_t picture_length, const int8_t *offsets, size_t offsets_length, uint8_t *output,

@@ -241,6 +241,7 @@ refusals =
     ∷ net "levels inputs/2 2/a b c/" 1 21
     ∷ net "" 1 0
     ∷ net "levels inputs/2 2/" 1 18
+    ∷ net "levels inputs/2 2/a b/left right table/" 1 39
     ∷ net "levels inputs/2 2/a b/left right table/a b 0001" 1 47
     ∷ net "levels inputs/2 2/a b/left right table/a b 0001/a b 0001/" 1 48
     ∷ table "levels inputs/2 2/a b ink/0 0 0/0 1 0/1 0 0/1 1 1/1 1 1/" 1 50
@@ -338,7 +339,7 @@ refusals =
     ∷ keep "levels inputs/2 3/a b c/left right table/a b 0001/1 c 0111/" "levels inputs/2 3/a b c ink/0 0 0 0/0 0 1 0/0 1 0 0/0 1 1 1/1 0 0 0/1 0 1 1/1 1 0 1/1 1 1 1/" 9 0 23 1 "000101119"
     ∷ keep "levels inputs/2 4/a b c d/left right table/a b 0110/c 1 0001/2 d 0001/" "levels inputs/2 4/a b c d ink/0 0 0 0 0/0 0 0 1 0/0 0 1 0 0/0 0 1 1 1/0 1 0 0 0/0 1 0 1 1/0 1 1 0 1/0 1 1 1 1/1 0 0 0 0/1 0 0 1 1/1 0 1 0 1/1 0 1 1 1/1 1 0 0 0/1 1 0 1 0/1 1 1 0 0/1 1 1 1 1/" 16 80 23 2 "0001011101110001"
     -- .. and an input that matters left out, at place 0, before the gates
-    ∷ keep "levels inputs/2 3/a b c/left right table/a b 0001/" "levels inputs/2 3/a b c ink/0 0 0 0/0 0 1 0/0 1 0 0/0 1 1 1/1 0 0 0/1 0 1 1/1 1 0 1/1 1 1 1/" 8 60 23 0 "00010111"
+    ∷ keep "levels inputs/2 3/a b c/left right table/a b 0001/" "levels inputs/2 3/a b c ink/0 0 0 0/0 0 1 0/0 1 0 0/0 1 1 1/1 0 0 0/1 0 1 1/1 1 0 1/1 1 1 1/" 9 50 23 0 "000101119"
     -- 24: a side of 0; of 65; the number of cells; a cell's level
     ∷ glyph "levels inputs/2 2/a b/left right table/a b 0110/" "" "0 0 -1 0" 0 2 4 24 0
     ∷ glyph "levels inputs/2 2/a b/left right table/a b 0110/" "00000000000000000000000000000000000000000000000000000000000000000" "0 0 -1 0" 65 1 65 24 0
@@ -349,15 +350,17 @@ refusals =
     ∷ glyph "levels inputs/2 2/a b/left right table/a b 0110/" "01 11" "0 0 -1 0 0" 2 2 4 25 0
     ∷ glyph "levels inputs/2 2/a b/left right table/a b 0110/" "01 11" "0 0 -3 0" 2 2 4 25 0
     ∷ glyph "levels inputs/2 2/a b/left right table/a b 0110/" "01 11" "0 0 0 3" 2 2 4 25 0
-    -- 26: an earlier gate that is never used
-    ∷ net "levels inputs/2 4/a b c d/left right table/a b 0001/c d 0110/" 26 61
+    -- 26: an earlier gate that is never used; of three gates the first; judged last, so that a reference used before comes first
+    ∷ net "levels inputs/2 4/a b c d/left right table/a b 0001/c d 0001/" 26 61
+    ∷ net "levels inputs/2 5/a b c d e/left right table/a b 0001/c d 0001/2 e 0001/" 26 72
+    ∷ net "levels inputs/2 5/a b c d e/left right table/a b 0001/c d 0001/e a 0001/" 8 65
     ∷ []
 
 pub refusals-hold : AllCome refusals
 unfolding computing lineEnds paper digits named nines jobAfter signedFrom signed
 refusals-hold =
     net-back refl and net-back refl and table-back refl and net-back refl and net-back refl and net-back refl and net-back refl
-    and net-back refl and net-back refl and net-back refl and table-back refl and loose-back refl and loose-back refl and loose-back refl
+    and net-back refl and net-back refl and net-back refl and net-back refl and table-back refl and loose-back refl and loose-back refl and loose-back refl
     and loose-back refl and loose-back refl and net-back refl and net-back refl and net-back refl and table-back refl and net-back refl
     and net-back refl and table-back refl and table-back refl and loose-back refl and table-back refl and net-back refl and net-back refl
     and net-back refl and net-back refl and net-back refl and net-back refl and cells-back refl and cells-back refl and cells-back refl
@@ -365,5 +368,5 @@ refusals-hold =
     and refl and refl and refl and refl and refl and refl and refl and refl and refl and refl and refl and refl and refl and refl and refl
     and refl and refl and refl and arrivals-back refl and arrivals-back refl and arrivals-back refl and arrivals-back refl
     and arrivals-back refl and arrivals-back refl and loose-back refl and loose-back refl and refl and refl and refl and refl and refl
-    and refl and refl and refl and refl and refl and refl and refl and refl and refl and refl and net-back refl
+    and refl and refl and refl and refl and refl and refl and refl and refl and refl and refl and net-back refl and net-back refl and net-back refl
     and none

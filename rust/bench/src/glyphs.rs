@@ -61,7 +61,7 @@ fn printing(m: usize, n: usize) -> f64 {
     let mut generator = Generator::new(20);
     let inputs: Vec<_> = (0..NETS)
         .map(|_| {
-            let net = generator.net(m, n);
+            let net = generator.net_of_all_inputs(m, n);
             let sheet = print_net_sheet(&generator.header(m, n), &net);
             let levels = generator.table(m, n, TableKind::Random).inks;
             let picture: Vec<u8> = levels.into_iter().cycle().take(SIDE * SIDE).collect();

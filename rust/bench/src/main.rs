@@ -57,7 +57,7 @@ fn main() {
         ratios::shallow_making,
     );
     by_size(
-        "counting the trees of a sheet / marking; of a constant at 2 11 it is to be 5 at most",
+        "counting the trees of a sheet / marking; of a sum at 2 11 it is to be 5 at most",
         ratios::family_counting,
     );
     by_size("the last tree of the family / making", ratios::last_tree);

@@ -106,38 +106,62 @@ fn row_classes(m: usize, n: usize, cells: &[u8], group: usize) -> (Vec<usize>, V
     (rows, of_rows)
 }
 
-/// What a group's wire carries at each of its rows: a single input its level, the whole group the ink, any other its class.
-fn carried(m: usize, n: usize, cells: &[u8], group: usize) -> (Vec<usize>, Vec<u8>) {
-    let mut rows = Vec::new();
-    if group == (1 << n) - 1 {
-        offsets(m, n, group, &mut rows);
-        return (rows, cells.to_vec());
+/// The inputs that matter, made up to two by the first-listed others.
+fn leaves(m: usize, n: usize, cells: &[u8]) -> usize {
+    let mut leaves: usize = 0;
+    let mut weight = 1;
+    for input in (0..n).rev() {
+        let mut blocks = cells.chunks_exact(weight * m);
+        if !blocks.all(|block| block[weight..] == block[..weight * (m - 1)]) {
+            leaves |= 1 << input;
+        }
+        weight *= m;
     }
+    for input in 0..n {
+        if leaves.count_ones() < 2 {
+            leaves |= 1 << input;
+        }
+    }
+    leaves
+}
+
+/// What a group's wire carries at each of its rows: a single input its level, the last gate the ink, any other its class.
+fn carried(table: &Table, group: usize) -> (Vec<usize>, Vec<u8>) {
+    let &Table { m, n, cells, .. } = table;
+    let mut rows = Vec::new();
     if group & (group - 1) == 0 {
         offsets(m, n, group, &mut rows);
         return (rows, (0..m as u8).collect());
     }
+    if group == table.leaves {
+        offsets(m, n, group, &mut rows);
+        let inks = rows.iter().map(|&row| cells[row]).collect();
+        return (rows, inks);
+    }
     row_classes(m, n, cells, group)
 }
 
-/// Adds the gates of a group with several members, A's, B's and its own, and answers its wire.
-fn add_gates(
+/// A table with its marks and its leaves.
+struct Table<'a> {
     m: usize,
     n: usize,
-    cells: &[u8],
-    marks: &[u8],
-    group: usize,
-    gates: &mut Vec<Gate>,
-) -> Wire {
-    let Some(a) = split(marks, group) else {
+    cells: &'a [u8],
+    marks: &'a [u8],
+    leaves: usize,
+}
+
+/// Adds the gates of a group with several members, A's, B's and its own, and answers its wire.
+fn add_gates(table: &Table, group: usize, gates: &mut Vec<Gate>) -> Wire {
+    let Some(a) = split(table.marks, group) else {
         return Wire::Input(group.trailing_zeros() as usize);
     };
-    let left = add_gates(m, n, cells, marks, a, gates);
-    let right = add_gates(m, n, cells, marks, group ^ a, gates);
-    let (a_rows, a_values) = carried(m, n, cells, a);
-    let (b_rows, b_values) = carried(m, n, cells, group ^ a);
-    let (rows, values) = carried(m, n, cells, group);
-    let mut own = vec![0; cells.len()];
+    let left = add_gates(table, a, gates);
+    let right = add_gates(table, group ^ a, gates);
+    let (a_rows, a_values) = carried(table, a);
+    let (b_rows, b_values) = carried(table, group ^ a);
+    let (rows, values) = carried(table, group);
+    let m = table.m;
+    let mut own = vec![0; table.cells.len()];
     rows.iter()
         .zip(&values)
         .for_each(|(&row, &value)| own[row] = value);
@@ -163,7 +187,15 @@ pub fn making(sheet: &[u8]) -> Option<Vec<u8>> {
     if marking(m, n, &inks, &mut marks) != 2 {
         return None;
     }
+    let leaves = leaves(m, n, &inks);
+    let table = Table {
+        m,
+        n,
+        cells: &inks,
+        marks: &marks,
+        leaves,
+    };
     let mut gates = Vec::new();
-    add_gates(m, n, &inks, &marks, (1 << n) - 1, &mut gates);
+    add_gates(&table, leaves, &mut gates);
     Some(print_net_sheet(&header, &Net { m, n, gates }))
 }

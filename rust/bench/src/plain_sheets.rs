@@ -151,8 +151,15 @@ fn read_net(sheet: &[u8]) -> Option<(Header, Vec<Gate>)> {
             right,
             digits,
         });
+        if rest.0.is_empty() {
+            break;
+        }
     }
-    rest.0.is_empty().then_some((header, gates))
+    let earlier_used = used[header.n..]
+        .iter()
+        .take(gates.len() - 1)
+        .all(|&used| used);
+    (rest.0.is_empty() && earlier_used).then_some((header, gates))
 }
 
 /// Whether both sheets are good, of one header, and agree, or where they first differ; the inks go to the front of the cells.
@@ -164,13 +171,14 @@ pub fn check(net: &[u8], table: &[u8], cells: &mut [u8]) -> Option<Option<usize>
     }
     cells.get_mut(..inks.len())?.copy_from_slice(&inks);
     let (m, n) = (header.m, header.n);
-    let mut wires = vec![0u8; 2 * n - 1];
+    let mut wires = vec![0u8; n + gates.len()];
+    let output = wires.len() - 1;
     for (index, &ink) in inks.iter().enumerate() {
         for (k, gate) in gates.iter().enumerate() {
             let at = usize::from(wires[gate.left]) * m + usize::from(wires[gate.right]);
             wires[n + k] = gate.digits[at];
         }
-        if wires[2 * n - 2] != ink {
+        if wires[output] != ink {
             return Some(Some(index));
         }
         for input in (0..n).rev() {

@@ -234,7 +234,7 @@ pub fn tidying(m: usize, n: usize, kind: TableKind, how: Laid) -> f64 {
 fn net_and_table(sheet: Vec<u8>, generator: &mut Generator) -> (Vec<u8>, Vec<u8>) {
     let net = sitgurp::made(&sheet).unwrap_or_else(|_| {
         let (header, _) = read_table_sheet(&sheet).expect("a good sheet");
-        print_net_sheet(&header, &generator.net(header.m, header.n))
+        print_net_sheet(&header, &generator.net_of_all_inputs(header.m, header.n))
     });
     (net, sheet)
 }

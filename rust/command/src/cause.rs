@@ -18,7 +18,8 @@ pub fn causes(due: Due, sheet: &[u8], refusal: &Refusal, inputs: &[String]) -> V
     let mut current = Some(refusal.clone());
     while let Some(fault) = &current {
         let front = Front::of(due, &copy, fault, inputs);
-        if let Some(words) = of_rows(&front, fault.kind()) {
+        let of_lines = of_rows(&front, fault.kind()).or_else(|| of_gates(&front, fault.kind()));
+        if let Some(words) = of_lines {
             causes.push(words);
             break;
         }
@@ -155,6 +156,23 @@ fn of_rows(front: &Front, kind: Kind) -> Option<String> {
         ));
     }
     None
+}
+
+/// The last lines of a net that uses every input: gates are left that no line joins.
+fn of_gates(front: &Front, kind: Kind) -> Option<String> {
+    let gates = front.references();
+    let is_used = |name: &String| gates.concat().contains(name);
+    if kind != Kind::UnusedGate || !front.names.iter().all(is_used) {
+        return None;
+    }
+    let mut loose = front.unused_gates();
+    loose.push(gates.len());
+    let numbers: Vec<String> = loose.iter().map(usize::to_string).collect();
+    let numbers = words::list(&numbers);
+    Some(match loose.len() - 1 {
+        1 => format!("the last line is missing, which joins gates {numbers}"),
+        lines => format!("the last {lines} lines are missing, which join gates {numbers}"),
+    })
 }
 
 /// The index of a row by its levels.

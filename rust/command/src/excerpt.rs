@@ -33,6 +33,12 @@ pub fn excerpt(sheet: &[u8], place: usize) -> String {
     format!("    {before}{after}\n    {indent}^\n")
 }
 
+/// Where a line begins, counted from 0.
+pub fn line_start(sheet: &[u8], line: usize) -> usize {
+    let lines = sheet.split_inclusive(|&byte| byte == b'\n');
+    lines.take(line).map(<[u8]>::len).sum()
+}
+
 /// A field of a sheet, as it is shown in a sentence.
 pub fn field(bytes: &[u8]) -> String {
     const LONGEST: usize = 40;

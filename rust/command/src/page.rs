@@ -3,7 +3,7 @@
 use crate::commands::why::paragraphs;
 use crate::fault::Fault;
 use crate::mend::mend;
-use crate::words::count;
+use crate::words::{count, list};
 use picture::elements::shade;
 use picture::{matrix, svg};
 use sitgurp::{Net, Table};
@@ -69,8 +69,18 @@ fn tree(table: &Table, net: &Net) -> String {
         1 => "It is the only tree of this table.".to_string(),
         trees => format!("It is one of {trees} trees of this table."),
     };
+    let names = net.unused().into_iter().map(|k| net.names()[k].as_str());
+    let names: Vec<&str> = names.collect();
+    let unused = match &names[..] {
+        [] => String::new(),
+        [one] => format!(" The input {one} never matters, and is not used."),
+        several => format!(
+            " The inputs {} never matter, and are not used.",
+            list(several)
+        ),
+    };
     format!(
-        "<h2>Its tree</h2>\n<p>{}, {}{shallower}. {family}</p>\n<div class=\"wide\">\n{}</div>\n<h2>The tree as a sheet</h2>\n<pre>{}</pre>\n",
+        "<h2>Its tree</h2>\n<p>{}, {}{shallower}. {family}{unused}</p>\n<div class=\"wide\">\n{}</div>\n<h2>The tree as a sheet</h2>\n<pre>{}</pre>\n",
         count(net.gates().len(), "gate"),
         count(layers, "layer"),
         svg::draw(net),

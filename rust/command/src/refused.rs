@@ -1,7 +1,7 @@
 //! A refusal as it is said: the file, the line and the column, what is due there, the line itself with a caret, and the likely cause.
 
 use crate::cause::causes;
-use crate::excerpt::excerpt;
+use crate::excerpt::{excerpt, line_start};
 use crate::input::Sheet;
 use crate::json::Json;
 use crate::loose::Loose;
@@ -25,13 +25,21 @@ impl Refused {
     /// Of a sheet that is not accepted. `inputs` are the names that an arrival sheet is for.
     fn of_sheet(due: Due, sheet: &Sheet, refusal: Refusal, inputs: &[String]) -> Refused {
         let front = Front::of(due, &sheet.bytes, &refusal, inputs);
+        // a gate that is never used is known at the sheet's end, and shown where it stands
+        let place = match front.unused_gates().first() {
+            Some(gate) if refusal.kind() == Kind::UnusedGate => line_start(&sheet.bytes, gate + 3),
+            _ => refusal.place,
+        };
         Refused {
             file: sheet.name.clone(),
             sentence: sentence(refusal.kind(), &front),
-            excerpt: excerpt(&sheet.bytes, refusal.place),
+            excerpt: excerpt(&sheet.bytes, place),
             causes: causes(due, &sheet.bytes, &refusal, inputs),
             hint: (due == Due::Table).then(|| tidy(sheet)).flatten(),
-            refusal,
+            refusal: Refusal {
+                position: Some(position(&sheet.bytes, place)),
+                ..refusal
+            },
         }
     }
 

@@ -76,13 +76,28 @@ impl<'a> Front<'a> {
         excerpt::field(&rest[..length])
     }
 
-    /// How many lines the sheet should have, once its second line is read.
+    /// How many lines the sheet should have, a net sheet at most, once its second line is read.
     fn lines_due(&self) -> usize {
         match self.due {
             Due::Table | Due::Loose => 3 + self.rows(),
             Due::Net => 4 + self.inputs - 1,
             Due::Arrivals => 1 + self.inputs,
         }
+    }
+
+    /// The two references of each gate line before the place.
+    pub fn references(&self) -> Vec<Vec<String>> {
+        let lines = self.sheet[..self.place].split(|&byte| byte == b'\n');
+        let lines = lines.skip(4).filter(|line| !line.is_empty());
+        let references = |line| fields(line).into_iter().take(2).collect();
+        lines.map(references).collect()
+    }
+
+    /// The numbers of the gates before the last that no gate line refers to.
+    pub fn unused_gates(&self) -> Vec<usize> {
+        let gates = self.references();
+        let is_used = |number: &usize| gates.concat().contains(&number.to_string());
+        (1..gates.len()).filter(|number| !is_used(number)).collect()
     }
 
     /// How many rows a table sheet should have.
@@ -155,6 +170,7 @@ pub fn sentence(kind: Kind, front: &Front) -> String {
             format!("this line is for the input `{due}`, not `{field}`: one line an input, in the net's order")
         }
         Kind::ArrivalTime => time(front, &field),
+        Kind::UnusedGate => unused(front),
         _ => layout(front),
     }
 }
@@ -170,7 +186,11 @@ fn layout(front: &Front) -> String {
         let rest = front.sheet[front.place..].trim_ascii();
         let all = match front.due {
             Due::Table | Due::Loose => format!("all {} stand above", count(front.rows(), "row")),
-            Due::Net => format!("all {} stand above", count(front.inputs - 1, "gate")),
+            Due::Net => format!(
+                "{} above, and {} inputs have no more",
+                stand(front.inputs - 1, "gate"),
+                front.inputs
+            ),
             Due::Arrivals => format!("all {} stand above", count(front.inputs, "input")),
         };
         return match rest.is_empty() {
@@ -238,12 +258,8 @@ fn early_end(front: &Front) -> String {
                 ),
             }
         }
-        (Due::Net, 5..) => {
-            let left = front.lines_due() + 1 - line;
-            format!(
-                "the sheet ends here, and {} missing",
-                are(left, "gate line")
-            )
+        (Due::Net, 5) => {
+            "the sheet ends here, and there is no gate line: a net has one or more".to_string()
         }
         (Due::Arrivals, 2..) => {
             let left = front.lines_due() + 1 - line;
@@ -255,6 +271,11 @@ fn early_end(front: &Front) -> String {
 
 fn are(number: usize, one: &str) -> String {
     let verb = if number == 1 { "is" } else { "are" };
+    format!("{} {verb}", count(number, one))
+}
+
+fn stand(number: usize, one: &str) -> String {
+    let verb = if number == 1 { "stands" } else { "stand" };
     format!("{} {verb}", count(number, one))
 }
 
@@ -427,7 +448,19 @@ fn used(front: &Front, field: &str) -> String {
     } else {
         ""
     };
-    format!("{what}`{field}` is used already, {place}: each input and each gate is used once")
+    format!("{what}`{field}` is used already, {place}: no input and no gate is used twice")
+}
+
+/// Gates that no later line refers to.
+fn unused(front: &Front) -> String {
+    let numbers: Vec<String> = front.unused_gates().iter().map(usize::to_string).collect();
+    let gates = match &numbers[..] {
+        [gate] => format!("gate {gate} is"),
+        gates => format!("gates {} are", words::list(gates)),
+    };
+    format!(
+        "{gates} never used: a later line refers to each gate but the last, which is the output"
+    )
 }
 
 fn time(front: &Front, field: &str) -> String {

@@ -123,6 +123,42 @@ fn a_wiring_that_cannot_have_the_table() {
     );
 }
 
+/// A net that leaves out inputs which the table needs, and one that leaves out others.
+#[test]
+fn a_wiring_that_leaves_inputs_out() {
+    let folder = examples("keep_left_out");
+    folder
+        .put("pair.net", net("c b 0001\n"))
+        .put("sum.table", SUM_TABLE)
+        // b and c, and not a
+        .put("pair.table", table([0, 1, 1, 0, 0, 1, 1, 0]));
+    keeps(
+        folder.run("keep pair.net pair.table"),
+        &net("c b 0110\n"),
+        "gate 1 has a new table\n",
+    );
+    refuses(
+        folder.run("keep pair.net sum.table"),
+        "pair.net: this net leaves out a, which matters in sum.table: no gate tables give this wiring that table (refusal 23)\n\
+         `sitgurp make sum.table` makes a tree of another wiring\n",
+    );
+    refuses(
+        folder.run("keep pair.net majority.table"),
+        "pair.net: this net leaves out a, which matters in majority.table: no gate tables give this wiring that table (refusal 23)\n\
+         no other wiring has it either; `sitgurp why majority.table` says what to change\n",
+    );
+    folder.put(
+        "four.net",
+        "levels inputs\n3 4\na b c d\nleft right table\nb d 012120201\n",
+    );
+    let two = folder.run("keep four.net seven.table");
+    let said = "four.net: this net leaves out a and c, which matter in seven.table: ";
+    assert!(two.err.starts_with(said), "{}", two.err);
+    let json = folder.run("keep pair.net sum.table --json").out;
+    let refused = "{\"refused\":[{\"file\":\"pair.net\",\"number\":23,\"kind\":\"Wiring\",\"place\":0,\"line\":null,\"column\":null,";
+    assert!(json.starts_with(refused), "{json}");
+}
+
 #[test]
 fn sheets_that_do_not_go_together() {
     let folder = examples("keep_sheets");

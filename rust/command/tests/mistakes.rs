@@ -178,18 +178,53 @@ fn a_missing_end() {
     );
     of_net(
         "no_gate",
-        SUM_NET.replace("1 c 0110\n", ""),
-        "my.net:6:1: the sheet ends here, and 1 gate line is missing (refusal 1)\n",
+        SUM_NET.replace("a b 0110\n1 c 0110\n", ""),
+        "my.net:5:1: the sheet ends here, and there is no gate line: a net has one or more (refusal 1)\n",
     );
     of_net(
         "gate_too_many",
         format!("{SUM_NET}1 c 0110\n"),
-        "my.net:7:1: the sheet should end before this line: all 2 gates stand above (refusal 1)\n    1 c 0110\n    ^\n",
+        "my.net:7:1: the sheet should end before this line: 2 gates stand above, and 3 inputs have no more (refusal 1)\n    1 c 0110\n    ^\n",
+    );
+    of_net(
+        "blank_line_at_the_end",
+        SUM_NET.replace("1 c 0110\n", "\n"),
+        "my.net:6:1: line 6 is blank: a gate line should have left, right and table, one space apart (refusal 1)\n\
+         likely cause: there is a blank line; delete it\n",
     );
     of_table(
         "no_first_line",
         SUM_TABLE.replace("levels inputs\n", ""),
         &format!("{FIRST}    2 3\n    ^\nlikely cause: the first line is missing; put `levels inputs` before this one\n"),
+    );
+}
+
+/// The line of the first such gate is shown; a sheet that uses every input has likely lost its last lines.
+#[test]
+fn gates_that_are_never_used() {
+    let head = "levels inputs\n2 5\na b c d e\nleft right table\n";
+    let rule = "a later line refers to each gate but the last, which is the output";
+    of_net(
+        "unused",
+        format!("{head}a b 0110\nc d 0110\n2 e 0110\n"),
+        &format!(
+            "my.net:5:1: gate 1 is never used: {rule} (refusal 26)\n    a b 0110\n    ^\n\
+             likely cause: the last line is missing, which joins gates 1 and 3\n"
+        ),
+    );
+    of_net(
+        "unused_and_inputs",
+        format!("{head}a b 0110\nc d 0110\n"),
+        &format!("my.net:5:1: gate 1 is never used: {rule} (refusal 26)\n    a b 0110\n    ^\n"),
+    );
+    let head = "levels inputs\n2 6\na b c d e f\nleft right table\n";
+    of_net(
+        "three_gates",
+        format!("{head}a b 0110\nc d 0110\ne f 0110\n"),
+        &format!(
+            "my.net:5:1: gates 1 and 2 are never used: {rule} (refusal 26)\n    a b 0110\n    ^\n\
+             likely cause: the last 2 lines are missing, which join gates 1, 2 and 3\n"
+        ),
     );
 }
 
@@ -259,9 +294,9 @@ fn gates() {
     let with = |from: &str, to: &str| SUM_NET.replace(from, to);
     of_net("unknown", with("1 c", "1 d"), "my.net:6:3: `d` is no input and no earlier gate: the inputs are a, b and c, and the only earlier gate is 1 (refusal 7)\n    1 d 0110\n      ^\n");
     of_net("own_number", with("a b 0110", "1 b 0110"), "my.net:5:1: `1` is no input and no earlier gate: the inputs are a, b and c, and there is no gate before the first (refusal 7)\n    1 b 0110\n    ^\n");
-    of_net("used", with("1 c", "1 a"), "my.net:6:3: `a` is used already, in line 5: each input and each gate is used once (refusal 8)\n    1 a 0110\n      ^\n");
-    of_net("used_here", with("a b 0110", "a a 0110"), "my.net:5:3: `a` is used already, in this line: each input and each gate is used once (refusal 8)\n    a a 0110\n      ^\n");
-    of_net("gate_used", with("1 c", "1 1"), "my.net:6:3: gate `1` is used already, in this line: each input and each gate is used once (refusal 8)\n    1 1 0110\n      ^\n");
+    of_net("used", with("1 c", "1 a"), "my.net:6:3: `a` is used already, in line 5: no input and no gate is used twice (refusal 8)\n    1 a 0110\n      ^\n");
+    of_net("used_here", with("a b 0110", "a a 0110"), "my.net:5:3: `a` is used already, in this line: no input and no gate is used twice (refusal 8)\n    a a 0110\n      ^\n");
+    of_net("gate_used", with("1 c", "1 1"), "my.net:6:3: gate `1` is used already, in this line: no input and no gate is used twice (refusal 8)\n    1 1 0110\n      ^\n");
     of_net("short_gate", with("1 c 0110", "1 c 011"), "my.net:6:5: a gate's table should be 4 digits from 0 to 1, and this has 3 (refusal 6)\n    1 c 011\n        ^\n");
     of_net("gate_digit", with("1 c 0110", "1 c 0112"), "my.net:6:5: a gate's table should be 4 digits from 0 to 1, and this has a 2 (refusal 6)\n    1 c 0112\n        ^\n");
 }

@@ -130,6 +130,52 @@ fn a_page_of_a_tree() {
     assert!(page.contains("<p>2 gates, 2 layers. It is one of 3 trees of this table.</p>"));
 }
 
+/// Inputs that never matter: the page says so, and the picture has them beside the tree.
+#[test]
+fn inputs_that_are_not_used() {
+    let folder = examples("page_unused");
+    let sheet = |rule: fn(usize, usize, usize) -> usize| {
+        let rows = (0..8).map(|row| {
+            let [a, b, c] = [row / 4, row / 2 % 2, row % 2];
+            format!("{a} {b} {c} {}\n", rule(a, b, c))
+        });
+        let rows: String = rows.collect();
+        format!("levels inputs\n2 3\na b c ink\n{rows}")
+    };
+    folder.put("pair.table", sheet(|_, b, c| b ^ c));
+    let net = "levels inputs\n2 3\na b c\nleft right table\nb c 0110\n";
+    answers(folder.run("make pair.table -o pair.net"), "");
+    assert_eq!(folder.get("pair.net"), net);
+    let svg = folder.run("draw pair.net").out;
+    assert_eq!(texts(&svg, "name"), ["a", "b", "c"]);
+    assert_eq!(count(&svg, "<rect class=\"unused\""), 1);
+    assert_eq!(
+        texts(&svg, "caption")[2],
+        "dashed: an input that is not used"
+    );
+    let dot = folder.run("draw --dot pair.net").out;
+    assert!(dot.contains("    \"a\" [style=\"rounded,dashed\"];\n"));
+    let page = folder.run("page pair.table").out;
+    stands_by_itself(&page);
+    assert!(page.contains("<p>1 gate, 1 layer. It is the only tree of this table. The input a never matters, and is not used.</p>"));
+    folder.put("zero.table", sheet(|_, _, _| 0));
+    let page = folder.run("page zero.table").out;
+    assert!(page.contains(" The input c never matters, and is not used.</p>"));
+    let count = folder.run("count zero.table").out;
+    assert_eq!(count, "1\n");
+    let four = (0..16).map(|row| {
+        let [a, b, c, d] = [row / 8, row / 4 % 2, row / 2 % 2, row % 2];
+        format!("{a} {b} {c} {d} {}\n", b & c)
+    });
+    let four: String = four.collect();
+    folder.put(
+        "four.table",
+        format!("levels inputs\n2 4\na b c d ink\n{four}"),
+    );
+    let page = folder.run("page four.table").out;
+    assert!(page.contains(" The inputs a and d never matter, and are not used.</p>"));
+}
+
 #[test]
 fn a_page_of_a_table_without_a_tree() {
     let folder = examples("page_refused");

@@ -1,6 +1,6 @@
 //! What a call is given. Everything follows from one seed.
 
-use reference::damage::TELLING_BYTES;
+use reference::damage::{Damage, TELLING_BYTES};
 use reference::generate::{Generator, TableKind};
 use reference::sheet::{print_net_sheet, print_table_sheet};
 
@@ -22,6 +22,13 @@ pub struct Drawn {
 
 /// Numbers that a caller has no business to send.
 const ODD_NUMBERS: [usize; 9] = [0, 1, 10, 13, 64, 255, 1 << 16, 1 << 32, usize::MAX];
+
+/// What leaves a gate unused, or makes a net sheet a line shorter or longer.
+const OF_GATES: [Damage; 3] = [
+    Damage::DropLastLine,
+    Damage::AddGate,
+    Damage::OtherReference,
+];
 
 /// The most bytes of a sheet that is no sheet.
 const MOST_NOISE: usize = 300;
@@ -59,9 +66,21 @@ impl Inputs {
         self.groups() / 4
     }
 
+    /// A net sheet, which may leave inputs out, good half of the time.
     pub fn net_sheet(&mut self) -> Vec<u8> {
         let good = self.generator.net_sheet(self.m, self.n);
-        self.perhaps_damaged(good)
+        match self.below(8) {
+            0 => self.other_gates(good),
+            _ => self.perhaps_damaged(good),
+        }
+    }
+
+    /// The sheet with other gate lines: it may still be good.
+    fn other_gates(&mut self, sheet: Vec<u8>) -> Vec<u8> {
+        let damage = *self.generator.rng.pick(&OF_GATES);
+        let mut sheet = self.generator.damage(&sheet, damage);
+        sheet.shrink_to_fit();
+        sheet
     }
 
     /// A net sheet beside another: of the same size, so that they are often level, or of any.
@@ -191,8 +210,9 @@ impl Inputs {
 
     /// Both sheets of a check are good most of the time.
     fn rarely_damaged(&mut self, sheet: Vec<u8>) -> Vec<u8> {
-        match self.below(4) {
-            0 => self.perhaps_damaged(sheet),
+        match self.below(16) {
+            0..4 => self.perhaps_damaged(sheet),
+            4 => self.other_gates(sheet),
             _ => sheet,
         }
     }

@@ -5,7 +5,7 @@ use std::collections::BTreeSet;
 use std::fmt;
 
 /// Refusals are numbered from 1; 0 stands for an accepted call.
-const ENDS: usize = 26;
+const ENDS: usize = 27;
 
 #[derive(Clone, Default)]
 struct Row {
@@ -107,6 +107,7 @@ mod tests {
             (Kind::Glyph, 25),
             (Kind::Multiplicity, 0),
             (Kind::Listing, 8),
+            (Kind::Settle, 26),
         ] {
             assert_eq!(all_but(kind, number).unseen(), [(kind, number)]);
         }

@@ -11,11 +11,17 @@ digraph net {
     edge [fontname=\"monospace\", fontsize=10];
 ";
 
-/// A gate's id is its number: no input's name begins with a digit. None is `ink` either.
+/// A gate's id is its number: no input's name begins with a digit. None is `ink` either. An input that no gate refers to is dashed.
 pub fn write(net: &Net) -> String {
     let mut text = HEAD.to_string();
-    for name in net.names() {
-        text += &format!("    \"{name}\" [style=rounded];\n");
+    let unused = net.unused();
+    for (k, name) in net.names().iter().enumerate() {
+        let style = if unused.contains(&k) {
+            "\"rounded,dashed\""
+        } else {
+            "rounded"
+        };
+        text += &format!("    \"{name}\" [style={style}];\n");
     }
     for gate in 0..net.gates().len() {
         text += &gate_lines(net, gate);

@@ -1,7 +1,8 @@
 //! Where each box and wire of a tree lies. Inputs stand in a column at the left, the output gate at the right.
 //!
 //! A subtree has a band of the page's height to itself: left's band lies above right's. So no box lies on another, and a
-//! wire that runs to the right inside its own band meets nothing before it turns in the gap before its gate.
+//! wire that runs to the right inside its own band meets nothing before it turns in the gap before its gate. Inputs that no
+//! gate refers to stand below the tree, each in a band of its own.
 
 use crate::tree::root;
 use sitgurp::{Gate, Net, Wire};
@@ -109,17 +110,28 @@ impl Layout {
     pub fn of(net: &Net) -> Layout {
         let reaches = reaches(net);
         let band = reaches.at(root(net));
-        let areas = areas(net, &middles(net, &reaches));
+        let bottom = MARGIN + band.above + band.below;
+        let unused = net.unused();
+        let mut middles = middles(net, &reaches);
+        for (k, &input) in unused.iter().enumerate() {
+            middles.inputs[input] = unused_top(bottom, k) + BAND_GAP + INPUT_HEIGHT / 2;
+        }
+        let areas = areas(net, &middles);
         let wires = net.gates().iter().zip(&areas.gates);
         let wires = wires.map(|(gate, &own)| paths(gate, own, &areas)).collect();
         let right = areas.at(root(net)).right() + OUTPUT + MARGIN;
         Layout {
             width: right.max(LEAST_WIDTH),
-            height: MARGIN + band.above + band.below + CAPTION + MARGIN,
+            height: unused_top(bottom, unused.len()) + CAPTION + MARGIN,
             areas,
             wires,
         }
     }
+}
+
+/// Where the band of the k-th unused input begins, from 0, below a tree that ends at `bottom`.
+fn unused_top(bottom: i32, k: usize) -> i32 {
+    bottom + (BAND_GAP + INPUT_HEIGHT) * k as i32
 }
 
 /// The width and height of every gate of the tree.
@@ -161,7 +173,7 @@ fn half_apart(left: Reach, right: Reach) -> i32 {
     (left.below + BAND_GAP + right.above + 1) / 2
 }
 
-/// The middle of every box, from the output gate back to the inputs.
+/// The middle of every box of the tree, from the output gate back to the inputs.
 fn middles(net: &Net, reaches: &Each<Reach>) -> Each<i32> {
     let mut middles = Each {
         inputs: vec![0; net.names().len()],

@@ -8,22 +8,34 @@ use sitgurp::Net;
 /// The distance between two lines under the tree.
 const CAPTION_LINE: i32 = 18;
 
+/// The style of an input that no gate refers to.
+const UNUSED: &str = "\
+.unused { fill: none; stroke: #9aa5b1; stroke-width: 1.5; stroke-dasharray: 4 3; }
+";
+
 pub fn draw(net: &Net) -> String {
     let layout = Layout::of(net);
     let (levels, inputs) = (net.levels(), net.names().len());
     let title = format!("A net of {levels} levels and {inputs} inputs");
-    let mut page = Elements::open(layout.width, layout.height, &title, "");
+    let unused = net.unused();
+    let style = if unused.is_empty() { "" } else { UNUSED };
+    let mut page = Elements::open(layout.width, layout.height, &title, style);
     for path in layout.wires.iter().flatten() {
         wire(&mut page, path);
     }
-    for (name, area) in net.names().iter().zip(&layout.areas.inputs) {
-        input(&mut page, name, area);
+    for (k, (name, area)) in net.names().iter().zip(&layout.areas.inputs).enumerate() {
+        let class = if unused.contains(&k) {
+            "unused"
+        } else {
+            "input"
+        };
+        input(&mut page, class, name, area);
     }
     for number in 0..net.gates().len() {
         gate(&mut page, net, number, &layout.areas.gates[number]);
     }
     output(&mut page, &layout.areas.at(root(net)));
-    caption(&mut page, &layout);
+    caption(&mut page, &layout, !unused.is_empty());
     page.close()
 }
 
@@ -34,8 +46,8 @@ fn wire(page: &mut Elements, path: &Path) {
     page.wire(&format!("M {x} {y} H {turn} V {level} H {end}"));
 }
 
-fn input(page: &mut Elements, name: &str, area: &Area) {
-    page.rect("input", area, " rx=\"14\"");
+fn input(page: &mut Elements, class: &str, name: &str, area: &Area) {
+    page.rect(class, area, " rx=\"14\"");
     page.text("name", area.x + area.width / 2, area.middle(), name);
 }
 
@@ -71,13 +83,16 @@ fn output(page: &mut Elements, last: &Area) {
     page.text("output", x + OUTPUT * 3 / 4, y, "ink");
 }
 
-fn caption(page: &mut Elements, layout: &Layout) {
+fn caption(page: &mut Elements, layout: &Layout, has_unused: bool) {
     let x = layout.areas.inputs[0].x;
     let lowest = layout.height - CAPTION / 2;
-    let lines = [
+    let mut lines = vec![
         "upper wire: left, picks the row",
         "lower wire: right, picks the column",
     ];
+    if has_unused {
+        lines.push("dashed: an input that is not used");
+    }
     for (k, line) in lines.iter().enumerate() {
         let up = CAPTION_LINE * (lines.len() - 1 - k) as i32;
         page.text("caption", x, lowest - up, line);

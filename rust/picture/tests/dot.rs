@@ -7,9 +7,16 @@ use common::net_sheets;
 /// The statements that are due for a sheet, from its lines alone.
 fn due(sheet: &str) -> Vec<String> {
     let lines: Vec<&str> = sheet.lines().collect();
+    let used = |name: &str| {
+        let mut references = lines[4..].iter().flat_map(|line| line.split(' ').take(2));
+        references.any(|reference| reference == name)
+    };
     let mut statements: Vec<String> = lines[2]
         .split(' ')
-        .map(|name| format!("\"{name}\" [style=rounded];"))
+        .map(|name| match used(name) {
+            true => format!("\"{name}\" [style=rounded];"),
+            false => format!("\"{name}\" [style=\"rounded,dashed\"];"),
+        })
         .collect();
     let m: usize = lines[1][..1].parse().expect("levels");
     for (k, line) in lines[4..].iter().enumerate() {

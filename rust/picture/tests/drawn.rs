@@ -50,8 +50,8 @@ fn seen(drawn: &Drawn, gate: &Rect) -> Seen {
     (called(drawn, gate), left, right, digits)
 }
 
-/// The gates of a sheet, as the second implementation reads it.
-fn due(sheet: &[u8]) -> (Vec<String>, Vec<Seen>) {
+/// The inputs and the gates of a sheet, as the second implementation reads it; beside an input, whether some gate refers to it.
+fn due(sheet: &[u8]) -> (Vec<(String, bool)>, Vec<Seen>) {
     let (header, net) = read_net_sheet(sheet).expect("a good sheet");
     let name = |bytes: &Vec<u8>| String::from_utf8(bytes.clone()).expect("a name");
     let names: Vec<String> = header.names.iter().map(name).collect();
@@ -65,7 +65,9 @@ fn due(sheet: &[u8]) -> (Vec<String>, Vec<Seen>) {
         (number, text(gate.left), text(gate.right), digits)
     });
     let gates = gates.collect();
-    (names, gates)
+    let used = (0..net.n).map(|input| net.uses(Wire::Input(input)));
+    let inputs = names.iter().cloned().zip(used).collect();
+    (inputs, gates)
 }
 
 fn of_class<'a>(drawn: &'a Drawn, class: &'a str) -> impl Iterator<Item = &'a Rect> {
@@ -78,16 +80,23 @@ fn every_input_once_and_every_gate_with_its_wires_and_digits() {
         let drawn = Drawn::read(&picture::svg::draw(
             &sitgurp::Net::read(&sheet).expect("a good sheet"),
         ));
-        let (mut names, mut gates) = due(&sheet);
-        let mut leaves: Vec<String> = of_class(&drawn, "input")
-            .map(|rect| called(&drawn, rect))
-            .collect();
+        let (mut inputs, mut gates) = due(&sheet);
+        let named = |class, used| {
+            let boxes = of_class(&drawn, class).map(|rect| called(&drawn, rect));
+            boxes.map(|name| (name, used)).collect::<Vec<_>>()
+        };
+        let mut drawn_inputs = [named("input", true), named("unused", false)].concat();
         let mut boxes: Vec<Seen> = of_class(&drawn, "gate")
             .map(|rect| seen(&drawn, rect))
             .collect();
-        names.sort();
-        leaves.sort();
-        assert_eq!(leaves, names);
+        inputs.sort();
+        drawn_inputs.sort();
+        assert_eq!(drawn_inputs, inputs);
+        let caption = drawn
+            .texts
+            .iter()
+            .any(|text| text.text.contains("not used"));
+        assert_eq!(caption, inputs.iter().any(|(_, used)| !used));
         gates.sort();
         boxes.sort();
         assert_eq!(boxes, gates);

@@ -47,11 +47,12 @@ pub struct Settling {
 }
 
 /// "The settling time of given arrivals is the largest, over the inputs, of
-/// arrival plus delay times gates on the way."
+/// arrival plus delay times gates on the way"; "arrival times count used inputs
+/// only".
 pub fn settling_time(net: &Net, arrivals: &[u64], delay: u64) -> u64 {
-    let times = arrivals.iter().enumerate();
-    let times = times.map(|(input, arrival)| arrival + delay * net.gates_on_the_way(input) as u64);
-    times.max().expect("every net has an input")
+    let used = net.used_inputs().into_iter();
+    let times = used.map(|input| arrivals[input] + delay * net.gates_on_the_way(input) as u64);
+    times.max().expect("every gate refers to something")
 }
 
 /// The settling when every input arrives as early as it may, and when every one

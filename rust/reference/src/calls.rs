@@ -79,7 +79,7 @@ pub fn marking(m: u64, n: u64, cells: &[u8], marks: &mut [u8]) -> Result<u8, Ref
 }
 
 /// A net sheet to the settled net sheet of its table.
-/// Refusals 1 to 8, 13, 14, 15.
+/// Refusals 1 to 8, 26, 13, 14, 15.
 pub fn settle(
     sheet: &[u8],
     cells: &mut [u8],
@@ -106,7 +106,7 @@ pub fn make(
 
 /// A net sheet to the sheet of the shallow net of its table: "a making and a
 /// settling that choose the tree with the fewest layers and are otherwise as
-/// document 01 has them". Refusals 1 to 8, 13, 14, 15.
+/// document 01 has them". Refusals 1 to 8, 26, 13, 14, 15.
 pub fn settle_shallow(
     sheet: &[u8],
     cells: &mut [u8],
@@ -135,7 +135,7 @@ pub fn make_shallow(
 pub fn family_count(sheet: &[u8], cells: &mut [u8], marks: &mut [u8]) -> Result<u64, Refusal> {
     let (_, table) = read_table_sheet(sheet)?;
     let of_groups = write_marks(&table, cells, marks)?;
-    Ok(family::count(&of_groups, table.n))
+    Ok(family::count(&table, &of_groups))
 }
 
 /// "The other takes a table sheet, an order number and all of making's buffers,
@@ -209,13 +209,13 @@ fn require_room(table: &Table, cells: &[u8], marks: &[u8]) -> Result<(), Refusal
 
 fn no_tree(marks: &[u8], n: usize) -> Refusal {
     let stuck = first_stuck(marks, n)
-        .expect("the whole group has at most m inks, so it has mark 1 when it has not 2");
+        .expect("the leaves have at most m inks, so they have mark 1 when they have not 2");
     Refusal::new(refusal::NO_TREE, stuck as u64)
 }
 
 /// A net sheet against a table sheet. It "puts the table sheet's inks in the
 /// cells buffer", whether they agree or not.
-/// Refusals: the net's 1 to 8, the table's 1 to 6, 12, 13.
+/// Refusals: the net's 1 to 8 and 26, the table's 1 to 6, 12, 13.
 pub fn check(net_sheet: &[u8], table_sheet: &[u8], cells: &mut [u8]) -> Result<Verdict, Refusal> {
     let (_, net, table) = read_both(net_sheet, table_sheet)?;
     require(refusal::CELLS_SHORT, cells.len(), table.inks.len())?;
@@ -232,7 +232,9 @@ pub fn check(net_sheet: &[u8], table_sheet: &[u8], cells: &mut [u8]) -> Result<V
 /// anew [..] over the given wiring, and write the sheet." The table sheet's inks go
 /// to the cells buffer. 23: "place the number of the first gate whose group has
 /// more than m classes, judged after 12 and 13 and before 15"; it "leaves the cells
-/// written". Refusals: the net's 1 to 8, the table's 1 to 6, 12, 13, 23, 15.
+/// written". A wiring "that leaves out an input that matters is refused with 23 at
+/// place 0, before its gates are judged". Refusals: the net's 1 to 8 and 26, the
+/// table's 1 to 6, 12, 13, 23, 15.
 pub fn keep(
     net_sheet: &[u8],
     table_sheet: &[u8],
@@ -278,14 +280,14 @@ pub fn shallower<'a>(first: &'a [u8], second: &'a [u8]) -> &'a [u8] {
 /// "The earliest and latest settling of the output in microseconds, as floats,
 /// and it is exact." "Every gate takes one common delay, a byte of quarters." "The
 /// net sheet is judged first, then this one."
-/// Refusals: the net's 1 to 8, the arrival sheet's 1, 18, 19.
+/// Refusals: the net's 1 to 8 and 26, the arrival sheet's 1, 18, 19.
 pub fn arrivals(net_sheet: &[u8], arrival_sheet: &[u8], delay: u8) -> Result<Settling, Refusal> {
     let (header, net) = read_net_sheet(net_sheet)?;
     let of_inputs = read_arrival_sheet(arrival_sheet, &header)?;
     Ok(arrivals::settling(&net, &of_inputs, u64::from(delay)))
 }
 
-/// A net sheet to the table sheet of its table. Refusals 1 to 8, 15.
+/// A net sheet to the table sheet of its table. Refusals 1 to 8, 26, 15.
 pub fn write_table(net_sheet: &[u8], out: &mut [u8]) -> Result<usize, Refusal> {
     let (header, net) = read_net_sheet(net_sheet)?;
     write_sheet(&print_table_sheet(&header, &net.table()), out)
@@ -304,7 +306,7 @@ pub fn tidy(sheet: &[u8], cells: &mut [u8], out: &mut [u8]) -> Result<usize, Ref
 /// A net's value at every cell of a picture, into the output; answers how many
 /// cells that are. The offsets are across then down for each input. 24 and 25 are
 /// "judged in that order after the net sheet and before 15, place 0".
-/// Refusals: the net's 1 to 8, 24, 25, 15.
+/// Refusals: the net's 1 to 8 and 26, 24, 25, 15.
 pub fn glyph(
     net_sheet: &[u8],
     width: u64,

@@ -1,6 +1,7 @@
 //! Damaged sheets: what the readers of sheets are tried on.
 
 use crate::generate::Generator;
+use std::collections::HashSet;
 use std::ops::Range;
 
 /// One way to spoil a sheet. The result may by chance still be a good sheet.
@@ -16,10 +17,13 @@ pub enum Damage {
     BadReference,
     AddLine,
     DropLine,
+    DropLastLine,
+    AddGate,
+    OtherReference,
 }
 
 impl Damage {
-    pub const ALL: [Damage; 10] = [
+    pub const ALL: [Damage; 13] = [
         Damage::ChangeByte,
         Damage::DropByte,
         Damage::DoubleByte,
@@ -30,6 +34,9 @@ impl Damage {
         Damage::BadReference,
         Damage::AddLine,
         Damage::DropLine,
+        Damage::DropLastLine,
+        Damage::AddGate,
+        Damage::OtherReference,
     ];
 }
 
@@ -64,6 +71,9 @@ impl Generator {
             Damage::BadReference => self.bad_reference(sheet),
             Damage::AddLine => self.add_line(sheet),
             Damage::DropLine => self.drop_line(sheet),
+            Damage::DropLastLine => drop_last_line(sheet),
+            Damage::AddGate => self.add_gate(sheet),
+            Damage::OtherReference => self.other_reference(sheet),
         }
     }
 
@@ -127,6 +137,42 @@ impl Generator {
         replace(sheet, &fields[self.rng.below(2)], text.as_bytes())
     }
 
+    /// One gate line more, of references that no line has if there are two, and
+    /// with the table of the line before it: the sheet may be good, a gate may be
+    /// unused, or it is one line too many.
+    fn add_gate(&mut self, sheet: &[u8]) -> Vec<u8> {
+        let gates = lines(sheet).len().saturating_sub(LINES_BEFORE_GATES);
+        let last = fields_of_line(sheet, LINES_BEFORE_GATES + gates.max(1) - 1);
+        let [_, _, table] = last.as_slice() else {
+            return sheet.to_vec();
+        };
+        let numbers = (1..=gates).map(|number| number.to_string().into_bytes());
+        let mut references = names_of(sheet);
+        references.extend(numbers);
+        let mut references = not_referred_to(sheet, references);
+        self.rng.shuffle(&mut references);
+        references.extend([b"1".to_vec(), b"1".to_vec()]);
+        let line = [&references[0], &references[1], &sheet[table.clone()]].join(&b' ');
+        [sheet, &line, b"\n"].concat()
+    }
+
+    /// A reference made the name of an unused input, if there is one, or of any
+    /// input: if it was a gate's number, that gate is now unused.
+    fn other_reference(&mut self, sheet: &[u8]) -> Vec<u8> {
+        let gates = lines(sheet).len().saturating_sub(LINES_BEFORE_GATES);
+        let line = LINES_BEFORE_GATES + self.rng.below(gates.max(1));
+        let fields = fields_of_line(sheet, line);
+        let mut names = not_referred_to(sheet, names_of(sheet));
+        if names.is_empty() {
+            names = names_of(sheet);
+        }
+        if fields.len() < 2 || names.is_empty() {
+            return sheet.to_vec();
+        }
+        let name = self.rng.pick(&names).clone();
+        replace(sheet, &fields[self.rng.below(2)], &name)
+    }
+
     /// Some line again, before some line or at the end.
     fn add_line(&mut self, sheet: &[u8]) -> Vec<u8> {
         let mut lines = lines(sheet);
@@ -140,6 +186,31 @@ impl Generator {
         lines.remove(self.rng.below(lines.len()));
         lines.concat()
     }
+}
+
+/// The lines before the first gate line of a net sheet.
+const LINES_BEFORE_GATES: usize = 4;
+
+/// The names in line 3.
+fn names_of(sheet: &[u8]) -> Vec<Vec<u8>> {
+    let fields = fields_of_line(sheet, 2).into_iter();
+    fields.map(|field| sheet[field].to_vec()).collect()
+}
+
+/// Those of the references that no gate line has.
+fn not_referred_to(sheet: &[u8], references: Vec<Vec<u8>>) -> Vec<Vec<u8>> {
+    let gates = lines(sheet).into_iter().skip(LINES_BEFORE_GATES);
+    let used: HashSet<&[u8]> = gates
+        .flat_map(|line| line.split(|&byte| byte == b' ').take(2))
+        .collect();
+    let references = references.into_iter();
+    references.filter(|one| !used.contains(&one[..])).collect()
+}
+
+fn drop_last_line(sheet: &[u8]) -> Vec<u8> {
+    let mut lines = lines(sheet);
+    lines.pop();
+    lines.concat()
 }
 
 /// Every sheet that differs from this one by one byte changed to a telling byte,

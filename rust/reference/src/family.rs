@@ -1,6 +1,8 @@
-//! "The whole family of trees": every wiring of a table, under a number.
+//! "The whole family of trees": every wiring of a table on its leaves, under a
+//! number.
 
-use crate::groups::{members, whole};
+use crate::groups::members;
+use crate::leaves::leaves;
 use crate::marks::{splits, TREE};
 use crate::net::{Net, Table};
 use crate::settled::net_by;
@@ -30,21 +32,23 @@ fn count_of((a, b): (usize, usize), counts: &[u64]) -> u64 {
     counts[a] * counts[b]
 }
 
-/// "The count of the trees" of a table with these marks.
-pub fn count(marks: &[u8], n: usize) -> u64 {
-    counts(marks, n)[whole(n)]
+/// "The count of the trees" of a table with these marks: "a family numbers the
+/// wirings on just these" leaves.
+pub fn count(table: &Table, marks: &[u8]) -> u64 {
+    counts(marks, table.n)[leaves(table)]
 }
 
 /// The tree of a table under an order number, "from 0"; none if the number is
 /// not below the count.
 pub fn family_net(table: &Table, marks: &[u8], number: u64) -> Option<Net> {
     let n = table.n;
+    let leaves = leaves(table);
     let counts = counts(marks, n);
-    if number >= counts[whole(n)] {
+    if number >= counts[leaves] {
         return None;
     }
     let mut chosen = HashMap::new();
-    let mut left = vec![(whole(n), number)];
+    let mut left = vec![(leaves, number)];
     while let Some((group, number)) = left.pop() {
         if members(group, n).len() > 1 {
             let ((a, b), rest) = split_of_number(splits(marks, group, n), &counts, number);

@@ -10,13 +10,15 @@ use crate::sheet::{print_arrival_sheet, print_net_sheet, print_table_sheet, Head
 /// Where a table comes from.
 #[derive(Clone, Copy, Debug, PartialEq, Eq)]
 pub enum TableKind {
-    /// The table of a random net: it has a tree.
+    /// The table of a random net of all inputs: it has a tree.
     OfNet,
+    /// The table of a random net that leaves inputs out: it has a tree too.
+    OfSomeInputs,
     /// The same with one ink changed.
     OneInkChanged,
     /// Any inks: at the larger sizes hardly ever with a tree.
     Random,
-    /// One ink everywhere: every wiring computes it.
+    /// One ink everywhere: no input matters.
     Constant,
     /// The sum of the levels modulo m: every wiring computes it.
     Sum,
@@ -28,11 +30,14 @@ pub enum TableKind {
     FewCells,
     /// Random inks that hang on three inputs alone.
     ThreeMatter,
+    /// Random inks that hang on two inputs at most.
+    TwoMatter,
 }
 
 impl TableKind {
-    pub const ALL: [TableKind; 9] = [
+    pub const ALL: [TableKind; 11] = [
         TableKind::OfNet,
+        TableKind::OfSomeInputs,
         TableKind::OneInkChanged,
         TableKind::Random,
         TableKind::Constant,
@@ -41,6 +46,7 @@ impl TableKind {
         TableKind::AnyChain,
         TableKind::FewCells,
         TableKind::ThreeMatter,
+        TableKind::TwoMatter,
     ];
 }
 
@@ -86,10 +92,37 @@ impl Generator {
         Header { m, n, names }
     }
 
-    /// A net of any wiring: two loose ends are joined by a gate until one is
-    /// left, so the gates stand in a random order that is valid.
+    /// A net of any wiring; half of them may leave inputs out.
     pub fn net(&mut self, m: usize, n: usize) -> Net {
-        let mut loose: Vec<Wire> = (0..n).map(Wire::Input).collect();
+        match self.rng.below(2) {
+            0 => self.net_of_all_inputs(m, n),
+            _ => self.net_of_some_inputs(m, n),
+        }
+    }
+
+    pub fn net_of_all_inputs(&mut self, m: usize, n: usize) -> Net {
+        self.net_of(m, n, &all_inputs(n))
+    }
+
+    /// A net that leaves out one input or more, if there are more than two.
+    pub fn net_of_some_inputs(&mut self, m: usize, n: usize) -> Net {
+        let used = 2 + self.rng.below(n.max(3) - 2);
+        let inputs = self.some_inputs(n, used);
+        self.net_of(m, n, &inputs)
+    }
+
+    /// So many of n inputs, in any order.
+    fn some_inputs(&mut self, n: usize, count: usize) -> Vec<usize> {
+        let mut inputs = all_inputs(n);
+        self.rng.shuffle(&mut inputs);
+        inputs.truncate(count);
+        inputs
+    }
+
+    /// A net of any wiring of these inputs: two loose ends are joined by a gate
+    /// until one is left, so the gates stand in a random order that is valid.
+    fn net_of(&mut self, m: usize, n: usize, inputs: &[usize]) -> Net {
+        let mut loose: Vec<Wire> = inputs.iter().map(|&input| Wire::Input(input)).collect();
         let mut gates = Vec::new();
         while loose.len() > 1 {
             let left = loose.swap_remove(self.rng.below(loose.len()));
@@ -106,9 +139,10 @@ impl Generator {
     }
 
     /// A gate's digits. Random digits alone would make deep nets nearly
-    /// constant, so many gates carry on all they are given.
+    /// constant, so many gates carry on all they are given; some give two levels
+    /// alone, so that the gate after them has digits that no assignment reaches.
     fn digits(&mut self, m: usize) -> Vec<u8> {
-        let kind = self.rng.below(5);
+        let kind = self.rng.below(6);
         let shift = self.rng.below(m);
         let mut digits = Vec::new();
         for u in 0..m {
@@ -117,6 +151,7 @@ impl Generator {
                     0 => (u + v + shift) % m,
                     1 => u.min(v),
                     2 => u.max(v),
+                    3 => self.rng.below(2),
                     _ => self.rng.below(m),
                 };
                 digits.push(digit as u8);
@@ -127,7 +162,8 @@ impl Generator {
 
     pub fn table(&mut self, m: usize, n: usize, kind: TableKind) -> Table {
         match kind {
-            TableKind::OfNet => self.net(m, n).table(),
+            TableKind::OfNet => self.net_of_all_inputs(m, n).table(),
+            TableKind::OfSomeInputs => self.net_of_some_inputs(m, n).table(),
             TableKind::OneInkChanged => self.one_ink_changed(m, n),
             TableKind::Random => self.random_table(m, n),
             TableKind::Constant => {
@@ -138,12 +174,16 @@ impl Generator {
             TableKind::MinMaxChain => Table::of(m, n, min_max_chain),
             TableKind::AnyChain => self.any_chain(m, n).table(),
             TableKind::FewCells => self.few_cells(m, n),
-            TableKind::ThreeMatter => self.three_matter(m, n),
+            TableKind::ThreeMatter => self.few_matter(m, n, 3),
+            TableKind::TwoMatter => {
+                let most = self.rng.below(3);
+                self.few_matter(m, n, most)
+            }
         }
     }
 
     fn one_ink_changed(&mut self, m: usize, n: usize) -> Table {
-        let mut table = self.net(m, n).table();
+        let mut table = self.net_of_all_inputs(m, n).table();
         let cell = self.rng.below(table.inks.len());
         let step = 1 + self.rng.below(m - 1);
         table.inks[cell] = ((usize::from(table.inks[cell]) + step) % m) as u8;
@@ -192,10 +232,9 @@ impl Generator {
         table
     }
 
-    fn three_matter(&mut self, m: usize, n: usize) -> Table {
-        let mut inputs = all_inputs(n);
-        self.rng.shuffle(&mut inputs);
-        inputs.truncate(3);
+    /// Any inks that hang on so many inputs at most.
+    fn few_matter(&mut self, m: usize, n: usize, most: usize) -> Table {
+        let inputs = self.some_inputs(n, most);
         let inner = self.random_table(m, inputs.len());
         Table::of(m, n, |levels| {
             inner.inks[place_in_count(levels, &inputs, m)]

@@ -33,6 +33,11 @@ pub fn others(group: usize, n: usize) -> Vec<usize> {
     (0..n).filter(|&input| !is_member(group, input)).collect()
 }
 
+/// The number of the group of the listed inputs.
+pub fn group_of(listed: &[usize]) -> usize {
+    listed.iter().map(|&input| 1 << input).sum()
+}
+
 /// The number of the group of all inputs.
 pub fn whole(n: usize) -> usize {
     (1 << n) - 1
@@ -42,7 +47,7 @@ pub fn whole(n: usize) -> usize {
 /// first-listed slowest, with all other inputs at 0. An input's level counts as
 /// often as the inputs after it in line 3 have assignments, so the index of a
 /// whole assignment is that of a group's part and that of the others' together.
-fn indices(table: &Table, listed: &[usize]) -> Vec<usize> {
+pub fn indices(table: &Table, listed: &[usize]) -> Vec<usize> {
     let mut all = vec![0];
     for &input in listed {
         let weight = table.m.pow((table.n - 1 - input) as u32);

@@ -14,6 +14,7 @@
 //! | `net`      | "Value of a net"                                          |
 //! | `groups`   | "Groups": alike, classes, multiplicity                    |
 //! | `marks`    | "Marks", and document 02's packing of them in a buffer    |
+//! | `leaves`   | document 02, "Inputs that never matter"                   |
 //! | `settled`  | "The settled net"                                         |
 //! | `shallow`  | document 02, "Shallow nets": the tree of fewest layers    |
 //! | `family`   | document 02, "The whole family of trees": counts, numbers |
@@ -40,6 +41,7 @@ pub mod glyph;
 pub mod groups;
 pub mod job;
 pub mod kept;
+pub mod leaves;
 pub mod limits;
 pub mod lister;
 pub mod loose;

@@ -1,7 +1,8 @@
 //! "Marks": which groups have few enough classes, and which of them can be
 //! built from inputs.
 
-use crate::groups::{is_member, members, multiplicities, multiplicity, whole};
+use crate::groups::{is_member, members, multiplicities, multiplicity};
+use crate::leaves::leaves;
 use crate::net::Table;
 
 /// "0 if it is empty or its multiplicity is over m."
@@ -45,13 +46,14 @@ fn mark_with(multiplicity: usize, lower: &[u8], group: usize, n: usize, most: us
     }
 }
 
-/// The least k for which the whole group has mark 2 with k in place of m: how
-/// many levels the gates' wires would have to carry for a tree to exist. The
-/// output is such a wire, so k is not below the number of distinct inks.
+/// The least k for which the leaves have mark 2 with k in place of m: how many
+/// levels the gates' wires would have to carry for a tree to exist. The output is
+/// such a wire, so k is not below the number of distinct inks.
 pub fn fewest_levels(table: &Table) -> usize {
     let multiplicities = multiplicities(table);
+    let leaves = leaves(table);
     (1..)
-        .find(|&most| marks_with(&multiplicities, table.n, most)[whole(table.n)] == TREE)
+        .find(|&most| marks_with(&multiplicities, table.n, most)[leaves] == TREE)
         .expect("with as many as the largest multiplicity every group has mark 2")
 }
 

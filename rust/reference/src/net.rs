@@ -18,8 +18,8 @@ pub struct Gate {
     pub digits: Vec<u8>,
 }
 
-/// The gate lines of a net over `m` levels and `n` inputs; the last gate is
-/// the output.
+/// The gate lines of a net over `m` levels and `n` inputs, "from 1 to n − 1"
+/// of them; the last gate is the output. "Inputs may stay unused."
 #[derive(Clone, Debug, PartialEq, Eq)]
 pub struct Net {
     pub m: usize,
@@ -73,21 +73,32 @@ impl Net {
             let right = carried(gate.right, levels, &values);
             values.push(gate.digits[left * self.m + right]);
         }
-        *values
-            .last()
-            .expect("every net has a gate, as n is 2 or more")
+        *values.last().expect("every net has a gate")
+    }
+
+    /// Whether some gate refers to this input or gate.
+    pub fn uses(&self, wire: Wire) -> bool {
+        let mut gates = self.gates.iter();
+        gates.any(|gate| gate.left == wire || gate.right == wire)
+    }
+
+    /// The inputs that some gate refers to, in the order of line 3.
+    pub fn used_inputs(&self) -> Vec<usize> {
+        let inputs = (0..self.n).filter(|&input| self.uses(Wire::Input(input)));
+        inputs.collect()
     }
 
     /// "The layers of a net are the most gates on a way from an input to the
     /// output."
     pub fn layers(&self) -> usize {
-        let ways = (0..self.n).map(|input| self.gates_on_the_way(input));
-        ways.max().expect("every net has an input")
+        let used = self.used_inputs().into_iter();
+        let ways = used.map(|input| self.gates_on_the_way(input));
+        ways.max().expect("every gate refers to something")
     }
 
-    /// How many gates are passed from an input to the output: the one that refers
-    /// to the input, the one that refers to that gate, and so on. A gate refers
-    /// to earlier ones, so they come up in this order.
+    /// How many gates are passed from a used input to the output: the one that
+    /// refers to the input, the one that refers to that gate, and so on. A gate
+    /// refers to earlier ones, so they come up in this order.
     pub fn gates_on_the_way(&self, input: usize) -> usize {
         let mut end = Wire::Input(input);
         let mut passed = 0;

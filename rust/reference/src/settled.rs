@@ -1,12 +1,14 @@
-//! "The settled net": the one net that document 01 fixes for a table; and how
-//! the gates of a tree are written and filled, however its groups are parted.
+//! "The settled net": the one net that document 01 fixes for a table, on the leaves
+//! that document 02 gives it; and how the gates of a tree are written and filled,
+//! however its groups are parted.
 
-use crate::groups::{classes, members, whole};
+use crate::groups::{classes, indices, members};
+use crate::leaves::leaves;
 use crate::marks::{split, TREE};
 use crate::net::{count_up, place_in_count, Gate, Net, Table, Wire};
 
-/// The settled net of a table with these marks; none if the whole group's mark
-/// is not 2.
+/// The settled net of a table with these marks; none if the leaves' mark is
+/// not 2.
 pub fn settled_net(table: &Table, marks: &[u8]) -> Option<Net> {
     net_by(table, marks, &|group| split(marks, group, table.n))
 }
@@ -14,15 +16,20 @@ pub fn settled_net(table: &Table, marks: &[u8]) -> Option<Net> {
 /// How a group of mark 2 with several members is parted, as (A, B).
 type Splitting<'a> = &'a dyn Fn(usize) -> Option<(usize, usize)>;
 
-/// The net of a table with these marks whose groups are parted so; none if the
-/// whole group's mark is not 2.
+/// The net of a table with these marks whose groups are parted so. "A table is
+/// refused for want of a tree exactly when none stands on those leaves": none if
+/// the leaves' mark is not 2.
 pub fn net_by(table: &Table, marks: &[u8], splitting: Splitting) -> Option<Net> {
-    let whole = whole(table.n);
-    if marks[whole] != TREE {
+    let leaves = leaves(table);
+    if marks[leaves] != TREE {
         return None;
     }
+    let output = Output {
+        table,
+        group: leaves,
+    };
     let mut gates = Vec::new();
-    add_gates(table, splitting, whole, &mut gates);
+    add_gates(&output, splitting, leaves, &mut gates);
     Some(Net {
         m: table.m,
         n: table.n,
@@ -30,16 +37,23 @@ pub fn net_by(table: &Table, marks: &[u8], splitting: Splitting) -> Option<Net> 
     })
 }
 
+/// A table, and the group of the inputs that the last gate hangs on: every input
+/// that matters is in it.
+pub struct Output<'a> {
+    pub table: &'a Table,
+    pub group: usize,
+}
+
 /// "A goes left. Gate lines: A's, then B's, then the group's own. A single input
 /// is wired by name." Answers the wire that carries the group.
-fn add_gates(table: &Table, splitting: Splitting, group: usize, gates: &mut Vec<Gate>) -> Wire {
-    if let [input] = members(group, table.n)[..] {
+fn add_gates(output: &Output, splitting: Splitting, group: usize, gates: &mut Vec<Gate>) -> Wire {
+    if let [input] = members(group, output.table.n)[..] {
         return Wire::Input(input);
     }
     let (a, b) = splitting(group).expect("a group of mark 2 with several members has a split");
-    let left = add_gates(table, splitting, a, gates);
-    let right = add_gates(table, splitting, b, gates);
-    let digits = digits(table, group, a, b);
+    let left = add_gates(output, splitting, a, gates);
+    let right = add_gates(output, splitting, b, gates);
+    let digits = digits(output, group, a, b);
     gates.push(Gate {
         left,
         right,
@@ -51,10 +65,11 @@ fn add_gates(table: &Table, splitting: Splitting, group: usize, gates: &mut Vec<
 /// The digits of the gate that joins the parts a and b of a group: at what the
 /// two parts carry, what the group carries. "A digit that no assignment reaches
 /// is 0."
-pub fn digits(table: &Table, group: usize, a: usize, b: usize) -> Vec<u8> {
-    let own = carried_by(table, group);
-    let left = carried_by(table, a);
-    let right = carried_by(table, b);
+pub fn digits(output: &Output, group: usize, a: usize, b: usize) -> Vec<u8> {
+    let table = output.table;
+    let own = carried_by(output, group);
+    let left = carried_by(output, a);
+    let right = carried_by(output, b);
     let [group, a, b] = [group, a, b].map(|group| members(group, table.n));
     let mut digits = vec![0; table.m * table.m];
     let mut levels = vec![0; table.n];
@@ -70,13 +85,17 @@ pub fn digits(table: &Table, group: usize, a: usize, b: usize) -> Vec<u8> {
 }
 
 /// What a group's wire carries at each of its assignments, as they are counted:
-/// a single input its level, the whole group the ink, any other its class.
-fn carried_by(table: &Table, group: usize) -> Vec<u8> {
-    if group == whole(table.n) {
-        return table.inks.clone();
-    }
-    if members(group, table.n).len() == 1 {
+/// a single input its level, the last gate the ink, any other its class.
+fn carried_by(output: &Output, group: usize) -> Vec<u8> {
+    let table = output.table;
+    let members = members(group, table.n);
+    if members.len() == 1 {
         return (0..table.m as u8).collect();
+    }
+    if group == output.group {
+        // no other input matters, so they may be 0
+        let indices = indices(table, &members).into_iter();
+        return indices.map(|index| table.inks[index]).collect();
     }
     let classes = classes(table, group).of;
     classes.iter().map(|&class| class as u8).collect()

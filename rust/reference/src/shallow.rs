@@ -5,8 +5,8 @@ use crate::marks::{splits, TREE};
 use crate::net::{Net, Table};
 use crate::settled::net_by;
 
-/// The shallow net of a table with these marks; none if the whole group's mark
-/// is not 2.
+/// The shallow net of a table with these marks, on the leaves of the settled net;
+/// none if the leaves' mark is not 2.
 ///
 /// "Among equally shallow trees each group takes the part A of lowest number
 /// that keeps its own group shallowest": so a group is as shallow as it can be

@@ -136,7 +136,7 @@ impl<'a> Reader<'a> {
         Ok(Header { m, n, names })
     }
 
-    /// The n - 1 gate lines.
+    /// The gate lines: "from 1 to n − 1 [..], and the sheet's end closes it".
     fn gates(&mut self, header: &Header) -> Result<Vec<Gate>, Refusal> {
         let mut used: Vec<Wire> = Vec::new();
         let mut gates = Vec::new();
@@ -149,6 +149,9 @@ impl<'a> Reader<'a> {
                 right,
                 digits,
             });
+            if self.at == self.sheet.len() {
+                break;
+            }
         }
         Ok(gates)
     }
@@ -234,7 +237,17 @@ fn read_net(sheet: &[u8]) -> Result<(Header, Net), Refusal> {
     reader.field(|field| fixed_word(field, b"table"), LINE_FEED)?;
     let gates = reader.gates(&header)?;
     reader.end()?;
-    Ok((header, Net { m, n, gates }))
+    let net = Net { m, n, gates };
+    if !earlier_gates_used(&net) {
+        // "place the sheet's length, judged last in the net sheet"
+        return Err(reader.refuse(refusal::UNUSED_GATE));
+    }
+    Ok((header, net))
+}
+
+/// "Inputs may stay unused, earlier gates may not."
+fn earlier_gates_used(net: &Net) -> bool {
+    (1..net.gates.len()).all(|number| net.uses(Wire::Gate(number)))
 }
 
 /// Reads a table sheet; a refusal names it.

@@ -52,6 +52,23 @@ fn the_largest_of_arrival_and_gates_on_the_way() {
     }
 }
 
+/// "Arrival times count used inputs only", and the sheet still has a line for every
+/// input.
+#[test]
+fn unused_inputs_do_not_count() {
+    let net = net_sheet(2, "a b c d", "b d 0110");
+    for (sheet, delay, earliest, latest) in [
+        ("a 900 900/b 0 4/c 800 900/d 2 2", 4, 1.5, 2.0),
+        ("a 0 0/b 8 8/c 0 0/d 0 65535", 0, 2.0, 16_383.75),
+        ("a 65535 65535/b 0 0/c 65535 65535/d 0 0", 255, 63.75, 63.75),
+    ] {
+        let answer = arrivals(&net, &arrival_sheet(sheet), delay);
+        assert_eq!(answer, settled_between(earliest, latest), "{sheet}");
+    }
+    let left_out = arrivals(&net, &arrival_sheet("b 0 0/d 0 0"), 0);
+    assert_eq!(left_out, Err(of_arrivals(18, 13)));
+}
+
 /// "Every gate takes one common delay": ten gates on the longest way.
 #[test]
 fn the_extremes_bit_for_bit() {
@@ -101,8 +118,9 @@ fn every_time_is_exact() {
 
 // ---- against every arrival inside the ranges
 
-/// The gates on the way from an input, from the text of the net sheet.
-fn gates_on_the_way(sheet: &[u8], name: &str) -> u64 {
+/// The gates on the way from an input, from the text of the net sheet; none for an
+/// input that no gate refers to.
+fn gates_on_the_way(sheet: &[u8], name: &str) -> Option<u64> {
     let text = std::str::from_utf8(sheet).expect("ASCII");
     let gates: Vec<Vec<&str>> = text
         .lines()
@@ -115,7 +133,7 @@ fn gates_on_the_way(sheet: &[u8], name: &str) -> u64 {
         end = (gate + 1).to_string();
         passed += 1;
     }
-    passed
+    (passed > 0).then_some(passed)
 }
 
 /// Every list of numbers within the ranges.
@@ -132,8 +150,8 @@ fn every_choice(ranges: &[(u64, u64)]) -> Vec<Vec<u64>> {
 }
 
 /// "For any arrivals inside the ranges it lies within the answer, and each end is
-/// met by some." The arrivals are tried in quarters and in finer units, `finer`
-/// of them to a quarter.
+/// met by some." "Arrival times count used inputs only." The arrivals are tried in
+/// quarters and in finer units, `finer` of them to a quarter.
 fn assert_ranges(net: &[u8], names: &[String], ranges: &[(u64, u64)], delay: u8, finer: u64) {
     let lines: Vec<String> = names
         .iter()
@@ -141,13 +159,17 @@ fn assert_ranges(net: &[u8], names: &[String], ranges: &[(u64, u64)], delay: u8,
         .map(|(name, (from, to))| format!("{name} {from} {to}"))
         .collect();
     let answer = arrivals(net, &arrival_sheet(&lines.join("/")), delay).expect("good sheets");
+    let used = |name: &String| gates_on_the_way(net, name);
     let ways: Vec<u64> = names
         .iter()
-        .map(|name| finer * u64::from(delay) * gates_on_the_way(net, name))
+        .filter_map(used)
+        .map(|gates| finer * u64::from(delay) * gates)
         .collect();
-    let scaled: Vec<(u64, u64)> = ranges
+    let scaled: Vec<(u64, u64)> = names
         .iter()
-        .map(|(from, to)| (from * finer, to * finer))
+        .zip(ranges)
+        .filter(|(name, _)| used(name).is_some())
+        .map(|(_, (from, to))| (from * finer, to * finer))
         .collect();
     let times: Vec<u64> = every_choice(&scaled)
         .iter()
@@ -208,7 +230,10 @@ fn nets_of_every_size() {
             let mut ends = [0, 0];
             for line in text.lines().skip(1) {
                 let fields: Vec<&str> = line.split(' ').collect();
-                let way = u64::from(delay) * gates_on_the_way(&net, fields[0]);
+                let Some(gates) = gates_on_the_way(&net, fields[0]) else {
+                    continue;
+                };
+                let way = u64::from(delay) * gates;
                 for (end, field) in ends.iter_mut().zip(&fields[1..]) {
                     *end = way
                         .max(*end)

@@ -44,9 +44,10 @@ fn case_3_classes_are_not_numbered_by_the_callers_digits() {
     assert_settles(2, "a b c", "b c 1001/a 1 1001", "b c 0110/a 1 0110");
 }
 
+/// "Case 4 becomes `a b 0000`."
 #[test]
 fn case_4_all_ink_0() {
-    assert_made(2, "a b c", |_| 0, "b c 0000/a 1 0000");
+    assert_made(2, "a b c", |_| 0, "a b 0000");
 }
 
 #[test]

@@ -1,7 +1,7 @@
-//! The family of a table's trees, against every wiring of its inputs: at small
+//! The family of a table's trees, against every wiring of its leaves: at small
 //! sizes each one is tried, and which of them compute the table is told without
 //! the library's groups and marks. "Every wiring that computes the table turns up
-//! under just one number."
+//! under just one number", and "a family numbers the wirings on just these" leaves.
 
 mod common;
 
@@ -13,13 +13,14 @@ use reference::{allowed_sizes, family_count, family_tree, make};
 use std::cmp::Ordering;
 use std::collections::{BTreeMap, HashSet};
 
-/// Every wiring of n inputs, sides and gate numbers aside: each further input is
+/// Every wiring over a group, sides and gate numbers aside: each further input is
 /// hung onto every place of every wiring of those before it. As it stands on the
 /// right of what it is hung onto, the first-listed input of a gate's group is
 /// always on the left.
-fn all_wirings(n: usize) -> Vec<Wiring> {
-    let mut all = vec![Wiring::Leaf(0)];
-    for input in 1..n {
+fn all_wirings(group: usize) -> Vec<Wiring> {
+    let mut inputs = (0..usize::BITS as usize).filter(|input| group >> input & 1 == 1);
+    let mut all = vec![Wiring::Leaf(inputs.next().expect("an input"))];
+    for input in inputs {
         all = all
             .iter()
             .flat_map(|wiring| hung_onto(wiring, input))
@@ -27,6 +28,11 @@ fn all_wirings(n: usize) -> Vec<Wiring> {
     }
     all.sort_by(order);
     all
+}
+
+/// The group of n inputs.
+fn whole(n: usize) -> usize {
+    (1 << n) - 1
 }
 
 /// The input joined to the whole, or hung onto a place of one of the two parts.
@@ -58,7 +64,7 @@ fn order(one: &Wiring, other: &Wiring) -> Ordering {
 fn the_wirings_are_all_there_once() {
     // (2n - 3)!!
     for (n, count) in (2..).zip([1, 3, 15, 105, 945, 10_395]) {
-        let all = all_wirings(n);
+        let all = all_wirings(whole(n));
         assert_eq!(all.len(), count);
         assert_eq!(all.iter().collect::<HashSet<_>>().len(), count);
         // the order tells any two of them apart
@@ -98,24 +104,34 @@ fn assert_family(m: usize, n: usize, inks: &[u8], computing: &[&Wiring], step: u
 
 // ---- two levels: every filling of every wiring
 
-/// For every table that has a tree, the wirings that compute it, in their order.
+/// For every table that has a tree on any leaves, the wirings on its own leaves
+/// that compute it, in their order.
 fn by_filling(n: usize, wirings: &[Wiring]) -> BTreeMap<Bits, Vec<&Wiring>> {
     let mut computing: BTreeMap<Bits, Vec<&Wiring>> = BTreeMap::new();
     for wiring in wirings {
         for table in tables_of(wiring, n) {
-            computing.entry(table).or_default().push(wiring);
+            let these = computing.entry(table).or_default();
+            if wiring.group() == leaves(2, n, &inks_of_bits(n, table)) {
+                these.push(wiring);
+            }
         }
     }
     computing
 }
 
+/// Every wiring of any of n inputs.
+fn wirings_of_any(n: usize) -> Vec<Wiring> {
+    all_leaves(n).flat_map(all_wirings).collect()
+}
+
 /// The tables that have a tree, one in so many: how many there are, and the most
 /// trees of any of them.
 fn assert_trees(n: usize, step: usize) -> (usize, usize) {
-    let wirings = all_wirings(n);
+    let wirings = wirings_of_any(n);
     let computing = by_filling(n, &wirings);
     let held = computing.iter().step_by(step);
     let trees = held.map(|(&table, computing)| {
+        assert!(!computing.is_empty(), "one stands on the leaves");
         let inks = inks_of_bits(n, table);
         assert_family(2, n, &inks, computing, 1)
     });
@@ -136,10 +152,10 @@ fn tables_of_two_levels_against_every_filling() {
 #[test]
 fn a_table_without_a_tree_has_no_family() {
     for n in [3, 4] {
-        let wirings = all_wirings(n);
+        let wirings = wirings_of_any(n);
         let computing = by_filling(n, &wirings);
         let without = (0..=mask(n)).filter(|table| !computing.contains_key(table));
-        for table in without.step_by(if n == 3 { 1 } else { 37 }) {
+        for table in without {
             assert_family(2, n, &inks_of_bits(n, table), &[], 1);
         }
     }
@@ -168,10 +184,10 @@ fn tables_of_more_levels_against_every_wiring() {
         (3, 6, 2, 41),
         (2, 7, 2, 301),
     ] {
-        let wirings = all_wirings(n);
         for kind in TableKind::ALL {
             for _ in 0..rounds {
                 let inks = generator.table(m, n, kind).inks;
+                let wirings = all_wirings(leaves(m, n, &inks));
                 let carried = carried(m, n, &inks);
                 let computes = |wiring: &&Wiring| {
                     let joints = wiring.joints();
@@ -185,7 +201,7 @@ fn tables_of_more_levels_against_every_wiring() {
         }
     }
     println!("{trees} trees; {several} tables have several trees and not every one");
-    assert!(several > 150);
+    assert!(several > 100);
 }
 
 // ---- by hand, and at every size
@@ -233,29 +249,63 @@ fn the_families_of_sums() {
     assert_eq!(numbered(&sum_sheet(4), 15), Err(of_neither(17, 15)));
 }
 
-/// Every wiring computes a constant and a sum: 1, 3, 15, .. trees, and the last
-/// of them takes the last-listed input to the first, then the one before it, and
-/// so on.
+/// Every wiring computes a sum: 1, 3, 15, .. trees, and the last of them takes the
+/// last-listed input to the first, then the one before it, and so on.
 #[test]
-fn constants_and_sums_have_every_wiring() {
+fn sums_have_every_wiring() {
     let mut count = 1;
     for n in 2..=12 {
         count *= 2 * n as u64 - 3;
-        let constant = rule_sheet(2, names(n), |_| 0);
-        for sheet in [&constant, &sum_sheet(n)] {
-            assert_eq!(counted(sheet), Ok(count));
-            assert_eq!(numbered(sheet, 0), made(sheet));
-            assert_eq!(numbered(sheet, count), Err(of_neither(17, count)));
-        }
+        let sheet = sum_sheet(n);
+        assert_eq!(counted(&sheet), Ok(count));
+        assert_eq!(numbered(&sheet, 0), made(&sheet));
+        assert_eq!(numbered(&sheet, count), Err(of_neither(17, count)));
         let letters: Vec<&str> = names(n).split(' ').collect();
-        let mut gates = format!("a {} 0000", letters[n - 1]);
+        let mut gates = format!("a {} 0110", letters[n - 1]);
         for (gate, letter) in letters[1..n - 1].iter().rev().enumerate() {
-            gates += &format!("/{} {letter} 0000", gate + 1);
+            gates += &format!("/{} {letter} 0110", gate + 1);
         }
         let last = net_sheet(2, names(n), &gates);
-        assert_eq!(numbered(&constant, count - 1), Ok(last));
+        assert_eq!(numbered(&sheet, count - 1), Ok(last));
     }
     assert_eq!(count, 13_749_310_575);
+}
+
+/// The sum modulo m of all inputs, at every size: 1, 3, 15, ..
+#[test]
+fn sums_of_every_size() {
+    let of_all_wirings = [1, 3, 15, 105, 945, 10_395, 135_135, 2_027_025];
+    let of_all_wirings = [
+        &of_all_wirings[..],
+        &[34_459_425, 654_729_075, 13_749_310_575],
+    ]
+    .concat();
+    for (m, n) in allowed_sizes() {
+        let (m, n) = (m as usize, n as usize);
+        let sheet = rule_sheet(m, names(n), |x| x.iter().sum::<usize>() % m);
+        assert_eq!(counted(&sheet), Ok(of_all_wirings[n - 2]));
+    }
+}
+
+/// One wiring on two leaves, however many inputs there are.
+#[test]
+fn constants_and_single_inputs_have_one_wiring() {
+    for (m, n) in allowed_sizes() {
+        let (m, n) = (m as usize, n as usize);
+        let constant = rule_sheet(m, names(n), |_| 1);
+        let last = rule_sheet(m, names(n), |x| x[n - 1]);
+        for (sheet, other) in [
+            (constant, "b"),
+            (last, names(n).split(' ').last().expect("a name")),
+        ] {
+            assert_eq!(counted(&sheet), Ok(1));
+            assert_eq!(numbered(&sheet, 0), made(&sheet));
+            let wiring = format!("left right table\na {other} ");
+            let net = String::from_utf8(made(&sheet).expect("a tree")).expect("ASCII");
+            assert!(net.contains(&wiring) && net.lines().count() == 5);
+            assert_eq!(numbered(&sheet, 1), Err(of_neither(17, 1)));
+        }
+    }
 }
 
 /// Least and greatest by turns can be wired in one way only where each gate is of
@@ -326,7 +376,7 @@ fn assert_refused_as_by_making(sheet: &[u8], number: u64, out: usize) {
             assert!(count > 0 || due.expect_err("no tree").number == 16);
             assert_eq!(output, [9; NET_SHEET]);
         }
-        // all net sheets of one header are equally long
+        // all net sheets of one header on the same leaves are equally long
         (Ok(_), due) => {
             assert_eq!(tree, due);
             assert!(due.is_ok() || output == [9; NET_SHEET]);

@@ -81,20 +81,17 @@ fn tables_are_made_or_refused_as_their_kind_tells() {
                 | TableKind::OneInkChanged
                 | TableKind::FewCells
                 | TableKind::ThreeMatter => {}
+                // a table of two inputs has a gate
+                TableKind::TwoMatter => assert!(result.is_ok(), "{m} {n}"),
                 _ => assert!(result.is_ok(), "{m} {n} {kind:?}"),
             }
         }
     }
 }
 
-/// Whether some two assignments that differ at this input alone differ in ink.
-fn matters(table: &Table, input: usize) -> bool {
-    let (m, n) = (table.m, table.n);
-    let weight = m.pow((n - 1 - input) as u32);
-    (0..table.inks.len()).any(|index| {
-        let level = index / weight % m;
-        table.inks[index] != table.inks[index - level * weight]
-    })
+/// How many inputs of a table matter.
+fn count_mattering(table: &Table) -> u32 {
+    mattering(table.m, table.n, &table.inks).count_ones()
 }
 
 #[test]
@@ -108,11 +105,35 @@ fn few_cells_near_the_end_and_three_inputs_that_matter() {
         assert!((1..=4).contains(&others));
         assert!(zeros + inks.len().div_ceil(8) >= inks.len());
         let table = generator.table(m, n, TableKind::ThreeMatter);
-        let matter = (0..n).filter(|&input| matters(&table, input)).count();
-        assert!(matter <= 3);
+        assert!(count_mattering(&table) <= 3);
+        let table = generator.table(m, n, TableKind::TwoMatter);
+        assert!(count_mattering(&table) <= 2);
+        let table = generator.table(m, n, TableKind::OfSomeInputs);
+        assert!(n == 2 || count_mattering(&table) < n as u32);
     }
     let table = generator.table(2, 11, TableKind::ThreeMatter);
-    assert!((0..11).any(|input| matters(&table, input)));
+    assert!(count_mattering(&table) > 0);
+}
+
+/// Nets of every number of used inputs turn up, and tables in which none, one and
+/// two inputs matter.
+#[test]
+fn nets_that_leave_inputs_out() {
+    let seed = 93;
+    println!("seed {seed}");
+    let mut generator = Generator::new(seed);
+    let mut used = [0; 8];
+    let mut matter = [0; 3];
+    for _ in 0..500 {
+        let net = generator.net(2, 7);
+        assert_eq!(net.used_inputs().len(), net.gates.len() + 1);
+        used[net.used_inputs().len()] += 1;
+        let table = generator.table(2, 7, TableKind::TwoMatter);
+        matter[count_mattering(&table) as usize] += 1;
+    }
+    println!("inputs used: {used:?}, that matter: {matter:?}");
+    assert!(used[2..].iter().all(|&count| count > 10));
+    assert!(matter.iter().all(|&count| count > 50));
 }
 
 /// The end of the run of bytes that starts at the refused place.
@@ -169,7 +190,7 @@ fn judge_both(sheet: &[u8], answers: &mut HashMap<u8, usize>) {
 /// Every number of a sheet turns up, and so does acceptance.
 fn assert_all_answers(answers: &HashMap<u8, usize>) {
     println!("answers: {answers:?}");
-    for number in 0..=8 {
+    for number in (0..=8).chain([26]) {
         assert!(answers.contains_key(&number), "{number}");
     }
 }

@@ -105,6 +105,59 @@ fn refusal_23_at_the_first_gate_by_number() {
     }
 }
 
+/// Wirings that leave out inputs that do not matter; those that they have need not
+/// matter either.
+#[test]
+fn wirings_that_leave_inputs_out() {
+    let names = "a b c d";
+    let pair = inks_of(2, 4, |x| x[1] & x[3]);
+    assert_keeps(names, "b d 0110", &pair, "b d 0001", 2);
+    assert_keeps(names, "d b 0001", &pair, "d b 0001", 0);
+    // a is read and does not matter: its classes are one
+    assert_keeps(names, "d b 1001/a 1 0110", &pair, "d b 0001/a 1 0101", 6);
+    assert_keeps(names, "a d 0000/1 b 0000", &pair, "a d 0101/1 b 0001", 6);
+    assert_keeps(
+        names,
+        "a c 0110/b d 0110/1 2 0110",
+        &pair,
+        "a c 0000/b d 0001/1 2 0100",
+        14,
+    );
+    let zeros = [0; 16];
+    assert_keeps(names, "c d 0110", &zeros, "c d 0000", 2);
+    let single = inks_of(2, 4, |x| x[2]);
+    assert_keeps(names, "d c 0110", &single, "d c 0101", 2);
+}
+
+/// "A kept wiring that leaves out an input that matters is refused with 23 at place
+/// 0, before its gates are judged."
+#[test]
+fn refusal_23_at_0_before_the_gates() {
+    let most = |x: &[usize]| usize::from(x.iter().sum::<usize>() >= 2);
+    // of these gates the first would have too many classes
+    let table = rule_sheet(2, "a b c d", |x| most(&x[..3]));
+    for (gates, place) in [
+        ("a b 0001", 0),
+        ("a b 0001/1 d 0001", 0),
+        ("d c 0001/1 b 0001", 0),
+        ("a b 0001/1 c 0001", 1),
+        ("d a 0001/1 b 0001/2 c 0001", 2),
+    ] {
+        let net = net_sheet(2, "a b c d", gates);
+        let (mut cells, mut out) = ([9; CELLS], [9; NET_SHEET]);
+        let answer = keep(&net, &table, &mut cells, &mut out);
+        assert_eq!(answer, Err(of_neither(23, place)), "{gates}");
+        // it leaves the cells written
+        assert_eq!(cells[..16], inks_of(2, 4, |x| most(&x[..3])));
+        assert_eq!((cells[16], out), (9, [9; NET_SHEET]));
+        // 12 and 13 come first
+        let short = keep(&net, &table, &mut [9; 15], &mut out);
+        assert_eq!(short, Err(of_neither(13, 16)));
+        let other = net_sheet(2, "d c b a", "a b 0001");
+        assert_eq!(kept(&other, &table), Err(of_neither(12, 0)));
+    }
+}
+
 // ---- two levels: every filling of every wiring
 
 /// The wirings of a group of inputs: with every choice of sides.
@@ -154,10 +207,12 @@ fn gate_lines(wiring: &Wiring, right_first: bool, digits: &str) -> String {
     lines.join("/")
 }
 
-/// "Refused with 23 exactly when no filling of that wiring computes the table."
-fn assert_every_filling(n: usize, wiring_step: usize, table_step: usize) -> [usize; 2] {
-    let mut seen = [0; 2];
-    let wirings = all_wirings((1 << n) - 1);
+/// "Refused with 23 exactly when no filling of that wiring computes the table": at
+/// place 0 exactly when it leaves out an input that matters. Counts what was refused
+/// at 0, refused at a gate, and kept.
+fn assert_every_filling(n: usize, wiring_step: usize, table_step: usize) -> [usize; 3] {
+    let mut seen = [0; 3];
+    let wirings: Vec<Wiring> = all_leaves(n).flat_map(all_wirings).collect();
     for (at, wiring) in wirings.iter().enumerate().step_by(wiring_step) {
         let digits = if at % 3 == 0 { "0110" } else { "1011" };
         let net = net_sheet(2, names(n), &gate_lines(wiring, at % 2 == 0, digits));
@@ -165,17 +220,24 @@ fn assert_every_filling(n: usize, wiring_step: usize, table_step: usize) -> [usi
         let others = (0..=mask(n)).skip(at % table_step).step_by(table_step);
         let some = computed.iter().copied().take(40);
         for bits in others.chain(some) {
-            let table = table_sheet(2, names(n), &inks_of_bits(n, bits));
+            let inks = inks_of_bits(n, bits);
+            let table = table_sheet(2, names(n), &inks);
             let answer = kept(&net, &table);
             assert_eq!(answer.is_ok(), computed.contains(&bits));
-            match &answer {
-                Ok((new, changed)) => assert_kept(&net, &table, new, *changed),
+            let kind = match &answer {
+                Ok((new, changed)) => {
+                    assert_kept(&net, &table, new, *changed);
+                    2
+                }
                 Err(refusal) => {
                     assert_eq!(refusal.number, 23);
-                    assert!(1 <= refusal.place && refusal.place < n as u64);
+                    assert!(refusal.place < u64::from(wiring.group().count_ones()));
+                    let left_out = mattering(2, n, &inks) & !wiring.group();
+                    assert_eq!(refusal.place == 0, left_out != 0);
+                    usize::from(refusal.place > 0)
                 }
-            }
-            seen[usize::from(answer.is_ok())] += 1;
+            };
+            seen[kind] += 1;
         }
     }
     seen
@@ -183,13 +245,14 @@ fn assert_every_filling(n: usize, wiring_step: usize, table_step: usize) -> [usi
 
 #[test]
 fn tables_of_two_levels_against_every_filling() {
-    assert_eq!(assert_every_filling(2, 1, 1), [0, 2 * (16 + 16)]);
+    assert_eq!(assert_every_filling(2, 1, 1), [0, 0, 2 * (16 + 16)]);
     let three = assert_every_filling(3, 1, 1);
     let four = assert_every_filling(4, 7, 331);
     let five = assert_every_filling(5, 301, 20_000_001);
-    println!("refused and kept: {three:?} {four:?} {five:?}");
-    assert!(three[0] > 1_000 && four[0] > 1_000 && five[0] > 1_000);
-    assert!(three[1] > 1_000 && four[1] > 500 && five[1] > 100);
+    println!("refused at 0, at a gate, and kept: {three:?} {four:?} {five:?}");
+    assert!(three[0] > 1_000 && four[0] > 1_000 && five[0] > 500);
+    assert!(three[1] > 1_000 && four[1] > 1_000 && five[1] > 1_000);
+    assert!(three[2] > 1_000 && four[2] > 500 && five[2] > 100);
 }
 
 // ---- three levels: every filling of the inner gate
@@ -267,7 +330,7 @@ fn nets_of_every_size() {
             Ok((new, changed)) => assert_kept(&net, &other, &new, changed),
             Err(refusal) => {
                 assert_eq!(refusal, of_neither(23, refusal.place));
-                assert!(1 <= refusal.place && refusal.place < n as u64);
+                assert!(refusal.place < n as u64);
             }
         }
     }

@@ -1,4 +1,4 @@
-//! Refusals 1 to 8: the number, the place and the sheet named, in every call that
+//! Refusals 1 to 8 and 26: the number, the place and the sheet named, in every call that
 //! reads the sheet. In the sheets below `/` is a line feed and `^` marks the place
 //! (it is no part of the sheet).
 
@@ -163,8 +163,9 @@ fn refusal_1_in_the_gate_lines() {
             "levels inputs/2 3/a b c/left right table/a b ^/1 c 0001/",
             "levels inputs/2 3/a b c/left right table/a b 0110^ /1 c 0001/",
             "levels inputs/2 3/a b c/left right table/a b 0110^ 1 c 0001/",
-            "levels inputs/2 3/a b c/left right table/a b 0110/^",
             "levels inputs/2 3/a b c/left right table/a b 0110/^/1 c 0001/",
+            "levels inputs/2 3/a b c/left right table/a b 0110/^/",
+            "levels inputs/2 3/a b c/left right table/a b 0110/^ ",
             "levels inputs/2 3/a b c/left right table/a b 0110/1^",
             "levels inputs/2 3/a b c/left right table/a b 0110/1 c^",
             // The end.
@@ -442,6 +443,63 @@ fn refusal_8_used_before() {
             "levels inputs/2 3/a b c/left right table/a ^a 9/",
         ],
     );
+}
+
+/// "From 1 to n − 1 gate lines, and the sheet's end closes it; inputs may stay
+/// unused, earlier gates may not." "26, an earlier gate is never used, place the
+/// sheet's length, judged last in the net sheet."
+#[test]
+fn refusal_26_a_gate_that_is_never_used() {
+    assert_nets_refused(
+        26,
+        &[
+            "levels inputs/2 4/a b c d/left right table/a b 0110/c d 0001/^",
+            "levels inputs/2 5/a b c d e/left right table/a b 0110/1 c 0001/d e 0001/^",
+            "levels inputs/2 5/a b c d e/left right table/a b 0110/c d 0001/2 e 0001/^",
+            "levels inputs/2 5/a b c d e/left right table/a b 0110/c d 0001/1 e 0001/^",
+            "levels inputs/2 6/a b c d e f/left right table/a b 0110/c d 0001/e f 0110/^",
+        ],
+    );
+}
+
+/// 26 is judged last: any other fault of the sheet comes first.
+#[test]
+fn refusal_26_is_judged_last() {
+    let unused = "levels inputs/2 5/a b c d e/left right table/a b 0110/c d 0001/";
+    let judged = [
+        (1, "^ "),
+        (1, "^/"),
+        (1, "e ^/"),
+        (1, "1 2 0110^"),
+        (7, "^3 e 0110/"),
+        (8, "^a e 0110/"),
+        (6, "2 e ^011/"),
+        // a fourth line may still come, a fifth not
+        (1, "2 e 0110/1 3 0110/^3 4 0110/"),
+    ];
+    for (number, rest) in judged {
+        assert_nets_refused(number, &[&format!("{unused}{rest}")]);
+    }
+}
+
+/// Every number of gate lines from 1 to n − 1.
+#[test]
+fn inputs_may_stay_unused() {
+    let chain = "a b 0110/1 c 0110/2 d 0110/3 e 0110/";
+    for gates in 1..=4 {
+        let gates: String = chain.split_inclusive('/').take(gates).collect();
+        let sheet = format!("levels inputs/2 5/a b c d e/left right table/{gates}");
+        assert!(settled(&lines(&sheet)).is_ok(), "{sheet}");
+    }
+    for gates in [
+        "e d 0110/",
+        "d b 0110/e 1 0001/",
+        "a c 0110/b e 0110/2 1 0110/",
+    ] {
+        let sheet = format!("levels inputs/2 5/a b c d e/left right table/{gates}");
+        assert!(settled(&lines(&sheet)).is_ok(), "{sheet}");
+    }
+    assert_nets_refused(1, &["levels inputs/2 5/a b c d e/left right table/^"]);
 }
 
 #[test]

@@ -1,7 +1,7 @@
 //! Every sentence of "The settled net", held against the settled sheet itself at
-//! every size: the wiring, the order of the gate lines, the digits. And the same
-//! of the shallow net and of the other trees of the family, whose wiring alone is
-//! another.
+//! every size: the leaves, the wiring, the order of the gate lines, the digits. And
+//! the same of the shallow net and of the other trees of the family, whose wiring
+//! alone is another.
 
 mod common;
 
@@ -237,7 +237,8 @@ impl Made {
     /// All of it; answers the number of free digits.
     fn assert_rules(&self) -> usize {
         let output = self.gates.len().to_string();
-        let numbers: Vec<usize> = (1..self.n).collect();
+        assert_eq!(self.group(&output), leaves(self.m, self.n, &self.inks));
+        let numbers: Vec<usize> = (1..=self.gates.len()).collect();
         assert_eq!(self.due_order(&output), numbers);
         for (index, &ink) in self.inks.iter().enumerate() {
             let levels = levels_of(index, self.m, self.n);
@@ -265,9 +266,11 @@ fn assert_every_size(choice: Choice, seed: u64) -> (usize, usize) {
         let rounds = (4_000 / m.pow(n as u32)).clamp(4, 60);
         for round in 0..rounds {
             let kind = match round % 8 {
-                0 => TableKind::Constant,
+                0 => TableKind::OfSomeInputs,
                 1 => TableKind::MinMaxChain,
                 2 => TableKind::OneInkChanged,
+                3 => TableKind::TwoMatter,
+                4 => TableKind::Constant,
                 _ => TableKind::OfNet,
             };
             let inks = generator.table(m, n, kind).inks;
@@ -284,19 +287,19 @@ fn assert_every_size(choice: Choice, seed: u64) -> (usize, usize) {
 #[test]
 fn every_settled_sheet_keeps_the_rules() {
     let (sheets, free) = assert_every_size(Choice::Settled, 141);
-    assert!(sheets > 500 && free > 500);
+    assert!(sheets > 500 && free > 100);
 }
 
 #[test]
 fn every_shallow_sheet_keeps_the_rules() {
     let (sheets, free) = assert_every_size(Choice::Shallow, 142);
-    assert!(sheets > 500 && free > 500);
+    assert!(sheets > 500 && free > 100);
 }
 
 #[test]
 fn other_trees_of_the_family_keep_the_rules() {
     for (choice, seed) in [(Choice::Last, 143), (Choice::Middle, 144)] {
         let (sheets, free) = assert_every_size(choice, seed);
-        assert!(sheets > 500 && free > 500);
+        assert!(sheets > 500 && free > 100);
     }
 }

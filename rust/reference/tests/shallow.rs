@@ -1,5 +1,5 @@
-//! Shallow making and settling, against every wiring of a table's inputs: at
-//! small sizes each one is tried, and which of them compute the table is told
+//! Shallow making and settling, against every wiring of any of a table's inputs:
+//! at small sizes each one is tried, and which of them compute the table is told
 //! without the library's groups and marks.
 
 mod common;
@@ -12,27 +12,15 @@ use reference::sheet::read_net_sheet;
 use reference::{allowed_sizes, make, make_shallow, settle, settle_shallow};
 use std::collections::BTreeMap;
 
-/// Every wiring over a group, the part with the first-listed input on the left.
-fn wirings(group: usize) -> Vec<Wiring> {
-    if group.is_power_of_two() {
-        return vec![Wiring::Leaf(group.trailing_zeros() as usize)];
-    }
-    let first = group & group.wrapping_neg();
-    let mut all = Vec::new();
-    for a in (1..group).filter(|a| a & !group == 0 && a & first != 0) {
-        let rights = wirings(group - a);
-        for left in wirings(a) {
-            for right in &rights {
-                all.push(Wiring::node(left.clone(), right.clone()));
-            }
-        }
-    }
-    all
+/// Every wiring of any of n inputs.
+fn all_wirings(n: usize) -> Vec<Wiring> {
+    all_leaves(n).flat_map(wirings).collect()
 }
 
 /// Holds a shallow sheet and its count against the joints of all wirings that
-/// compute the table: no tree has fewer layers, and none has a gate for the same
-/// inputs with fewer layers below it, or as few and a left part of lower number.
+/// compute the table, whatever their leaves: no tree has fewer layers, and none has
+/// a gate for the same inputs with fewer layers below it, or as few and a left part
+/// of lower number.
 fn assert_shallowest(net: &[u8], count: usize, computing: &[&Vec<Joint>]) {
     let shallow = Wiring::of_sheet(net);
     let layers = |joints: &Vec<Joint>| joints.last().expect("a gate").layers;
@@ -56,6 +44,7 @@ fn assert_table(m: usize, n: usize, inks: &[u8], computing: &[&Vec<Joint>]) -> b
     match made_shallow(&sheet) {
         Ok((net, layers)) => {
             assert_shallowest(&net, layers, computing);
+            assert_eq!(Wiring::of_sheet(&net).group(), leaves(m, n, inks));
             assert_eq!(table_written(&net), Ok(sheet.clone()));
             assert_eq!(settled_shallow(&net), Ok((net, layers)));
             let settled = made(&sheet).expect("a tree");
@@ -74,7 +63,7 @@ fn assert_table(m: usize, n: usize, inks: &[u8], computing: &[&Vec<Joint>]) -> b
 /// For every table that has a tree, the joints of each wiring that computes it.
 fn by_filling(n: usize) -> BTreeMap<Bits, Vec<Vec<Joint>>> {
     let mut computing: BTreeMap<Bits, Vec<Vec<Joint>>> = BTreeMap::new();
-    for wiring in wirings((1 << n) - 1) {
+    for wiring in all_wirings(n) {
         for table in tables_of(&wiring, n) {
             computing.entry(table).or_default().push(wiring.joints());
         }
@@ -103,9 +92,9 @@ fn tables_of_two_levels_against_every_filling() {
     // as many have a tree as trees.rs finds
     assert_eq!(assert_trees(2, 1), (16, 0));
     assert_eq!(assert_trees(3, 1), (152, 0));
-    assert_eq!(assert_trees(4, 1), (2_680, 536));
+    assert_eq!(assert_trees(4, 1), (2_680, 202));
     let (trees, spared) = assert_trees(5, 7);
-    assert!(trees == 68_968 && spared > 1_000);
+    assert!(trees == 68_968 && spared > 900);
 }
 
 #[test]
@@ -120,7 +109,7 @@ fn a_table_without_a_tree_is_refused_as_by_making() {
     for n in [3, 4] {
         let computing = by_filling(n);
         let without = (0..=mask(n)).filter(|table| !computing.contains_key(table));
-        for table in without.step_by(if n == 3 { 1 } else { 37 }) {
+        for table in without {
             assert_table(2, n, &inks_of_bits(n, table), &[]);
         }
     }
@@ -128,7 +117,8 @@ fn a_table_without_a_tree_is_refused_as_by_making() {
 
 // ---- any levels: a wiring computes a table when its wires can carry it
 
-/// The joints of the wirings whose gates have at most m columns each.
+/// The joints of the wirings that have every input that matters as a leaf, and
+/// whose gates have at most m columns each.
 fn by_columns<'a>(
     m: usize,
     n: usize,
@@ -136,10 +126,12 @@ fn by_columns<'a>(
     wirings: &'a [Vec<Joint>],
 ) -> Vec<&'a Vec<Joint>> {
     let fits = carried(m, n, inks);
-    wirings
-        .iter()
-        .filter(|joints| joints.iter().all(|joint| fits[joint.group]))
-        .collect()
+    let mattering = mattering(m, n, inks);
+    let computes = |joints: &&Vec<Joint>| {
+        let output = joints.last().expect("a gate");
+        mattering & !output.group == 0 && joints.iter().all(|joint| fits[joint.group])
+    };
+    wirings.iter().filter(computes).collect()
 }
 
 #[test]
@@ -162,7 +154,7 @@ fn tables_of_more_levels_against_every_wiring() {
         (3, 6, 4),
         (2, 7, 4),
     ] {
-        let wirings: Vec<Vec<Joint>> = wirings((1 << n) - 1).iter().map(Wiring::joints).collect();
+        let wirings: Vec<Vec<Joint>> = all_wirings(n).iter().map(Wiring::joints).collect();
         for kind in TableKind::ALL {
             for _ in 0..rounds {
                 let inks = generator.table(m, n, kind).inks;
@@ -230,13 +222,15 @@ fn nets_of_every_size() {
             assert_eq!(settled_shallow(&shallow), Ok((shallow.clone(), layers)));
             assert_eq!(table_written(&shallow), Ok(table));
             assert_eq!(settled(&shallow), settled(&net));
-            // sheets under one header that use each input and each gate but
-            // the last once are of one length
-            assert_eq!(shallow.len(), net.len());
-            let layers_of = |sheet| read_net_sheet(sheet).expect("a net").1.layers();
-            assert_eq!(layers_of(&shallow), layers);
-            assert!(layers <= layers_of(&net));
-            assert!(layers <= layers_of(&settled(&net).expect("a good net sheet")));
+            // both use the same inputs, and each gate but the last, once
+            let settled = settled(&net).expect("a good net sheet");
+            assert_eq!(shallow.len(), settled.len());
+            let [of_shallow, of_net, of_settled] =
+                [&shallow, &net, &settled].map(|sheet| read_net_sheet(sheet).expect("a net").1);
+            assert!(of_shallow.gates.len() <= of_net.gates.len());
+            assert_eq!(of_shallow.layers(), layers);
+            assert!(layers <= of_net.layers());
+            assert!(layers <= of_settled.layers());
         }
     }
 }

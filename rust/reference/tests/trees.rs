@@ -1,4 +1,5 @@
-//! 2 levels, 3 and 4 inputs: every table against every wiring and every gate.
+//! 2 levels, 3 and 4 inputs: every table against every wiring of any of the inputs
+//! and every gate.
 //!
 //! A table of n inputs is a number here, its bit p the ink at index p, so that a
 //! tree is filled and evaluated for all assignments at once. Nothing of the
@@ -128,14 +129,41 @@ fn stuck_group(table: u16, n: usize, computable: &[HashSet<u16>]) -> Option<usiz
     })
 }
 
-/// Holds making against the enumeration for one table; whether it was made.
+/// The inputs that a net sheet's gate lines refer to.
+fn used_inputs(net: &[u8], names: &str) -> usize {
+    let text = std::str::from_utf8(net).expect("ASCII");
+    let gates = text.lines().skip(4);
+    let references: Vec<&str> = gates.flat_map(|line| line.split(' ').take(2)).collect();
+    let used = (0..)
+        .zip(names.split(' '))
+        .filter(|(_, name)| references.contains(name));
+    used.map(|(input, _)| 1 << input).sum()
+}
+
+/// Holds making against the enumeration for one table; whether it was made. "A
+/// table is refused for want of a tree exactly when none stands on those leaves",
+/// which is when none stands on any; and no tree has fewer gates.
 fn assert_table(table: u16, n: usize, names: &str, computable: &[HashSet<u16>]) -> bool {
     let inks: Vec<u8> = (0..1 << n).map(|p| (table >> p & 1) as u8).collect();
     let sheet = table_sheet(2, names, &inks);
-    let has_tree = computable.last().expect("all inputs").contains(&table);
+    let leaves = leaves(2, n, &inks);
+    let several = (1..1 << n).filter(|inputs: &usize| inputs.count_ones() >= 2);
+    let with_a_tree: Vec<usize> = several
+        .filter(|&inputs| computable[inputs].contains(&table))
+        .collect();
+    let has_tree = !with_a_tree.is_empty();
+    assert_eq!(has_tree, with_a_tree.contains(&leaves), "{table}");
+    assert_eq!(has_tree, with_a_tree.contains(&((1 << n) - 1)), "{table}");
     match made(&sheet) {
         Ok(net) => {
             assert!(has_tree, "{table} was made and has no tree");
+            assert_eq!(used_inputs(&net, names), leaves, "{table}");
+            let fewest = with_a_tree
+                .iter()
+                .map(|inputs| inputs.count_ones() as usize - 1)
+                .min();
+            let gates = net.iter().filter(|&&byte| byte == b'\n').count() - 4;
+            assert_eq!(Some(gates), fewest, "{table}");
             assert_eq!(table_written(&net), Ok(sheet), "{table}");
             assert_eq!(settled(&net), Ok(net), "{table}");
         }

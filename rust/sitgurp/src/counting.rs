@@ -68,7 +68,7 @@ pub fn multiplicities(sheet: &[u8]) -> Result<Vec<usize>, Refusal> {
 /// It is the least k for which the whole group has mark 2 when k stands in place of m in the rule for marks, an input being a leaf
 /// whatever k is. The output is one of the wires, so k is not below the number of distinct inks. Where there is no tree that makes no
 /// difference, since the inks are at most m: each way to wire the inputs then has a wire below the last gate that must carry k levels
-/// or more, and one way has none that must carry more than k.
+/// or more, and one way has none that must carry more than k. Inputs that never matter may be wired or left out: k stays the same.
 ///
 /// If a sheet may have k levels with so many inputs, the tree is had as a sheet too: the same rule with k levels, where an input above
 /// m - 1 acts as m - 1, is made. Refusals are the sheet's, 1 to 6.

@@ -1,5 +1,5 @@
-//! The family of a table's trees: every wiring that computes the table, each under just one number. Nets that differ only in which side is
-//! left, in gate numbers or in gate tables are one wiring.
+//! The family of a table's trees: every wiring that computes the table and has the inputs of the settled net as leaves, each under just one number. Nets that
+//! differ only in which side is left, in gate numbers or in gate tables are one wiring.
 
 use crate::{answered, ffi, with_buffers, Named, Refusal, MOST_CELLS, MOST_MARKS};
 use std::iter::FusedIterator;

@@ -57,12 +57,14 @@ pub enum Kind {
     JobDone = 21,
     /// Finishing a job that is not done; the place is the groups still to go.
     JobUnfinished = 22,
-    /// No gate tables give the wiring the table; the place is a gate's number.
+    /// No gate tables give the wiring the table; the place is a gate's number, or 0 where the wiring leaves out an input that matters.
     Wiring = 23,
     /// A picture's side, the number of its cells, or a cell's level.
     Picture = 24,
     /// An offset is missing, one too many, or too far.
     Offsets = 25,
+    /// A net sheet: an earlier gate is never used; the place is the sheet's length.
+    UnusedGate = 26,
     /// A number that this version of the crate has no name for.
     Unknown = 0,
 }
@@ -95,6 +97,7 @@ impl Kind {
         Kind::Wiring,
         Kind::Picture,
         Kind::Offsets,
+        Kind::UnusedGate,
     ];
 
     /// The kind of a refusal's number.

@@ -104,11 +104,11 @@ pub enum Verdict {
     Differ(usize),
 }
 
-/// The answer of a call that takes one sheet or none: 1 to 8 and 20 are that sheet's.
+/// The answer of a call that takes one sheet or none: 1 to 8, 20 and 26 are that sheet's.
 fn answered(answer: ffi::Answer, named: Named, sheet: &[u8]) -> Result<usize, Refusal> {
     match answer.number {
         0 => Ok(answer.value),
-        number @ (1..=8 | 20) => Err(Refusal::new(number, answer.value, named, sheet)),
+        number @ (1..=8 | 20 | 26) => Err(Refusal::new(number, answer.value, named, sheet)),
         number => Err(Refusal::new(number, answer.value, Named::Neither, sheet)),
     }
 }
@@ -148,7 +148,7 @@ pub fn mark_of(marks: &[u8], group: usize) -> u8 {
 }
 
 /// Settles a net sheet: its table into `cells`, its marks into `marks`, the settled net sheet into `output`. Answers the sheet's
-/// length.
+/// length. The settled net uses just the inputs that matter; where fewer than two do, the first-listed others make up two.
 pub fn settle(
     sheet: &[u8],
     cells: &mut [u8],

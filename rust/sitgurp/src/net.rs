@@ -27,7 +27,8 @@ pub struct Gate {
     pub digits: Vec<u8>,
 }
 
-/// A net sheet that the library has accepted: a tree of two-input gates, the last of which is the output.
+/// A net sheet that the library has accepted: a tree of two-input gates, the last of which is the output. Of n inputs it has 1 to n − 1 gates, and inputs
+/// may stay unused.
 ///
 /// ```
 /// use sitgurp::{Net, Wire};
@@ -38,6 +39,9 @@ pub struct Gate {
 /// assert_eq!(net.value(&[1, 0, 1]), Some(0));
 /// assert_eq!(net.layers(), 2);
 /// assert_eq!(net.settled().to_string(), "levels inputs\n2 3\na b c\nleft right table\nb c 0110\na 1 0110\n");
+///
+/// let pair: Net = "levels inputs\n2 3\na b c\nleft right table\nc a 0001\n".parse()?;
+/// assert_eq!((pair.gates().len(), pair.unused()), (1, vec![1]));
 /// # Ok::<(), sitgurp::Refusal>(())
 /// ```
 #[derive(Clone, PartialEq, Eq, Hash)]
@@ -49,7 +53,7 @@ pub struct Net {
 }
 
 impl Net {
-    /// Reads a net sheet. Refusals are the sheet's, 1 to 4 and 6 to 8.
+    /// Reads a net sheet. Refusals are the sheet's, 1 to 4, 6 to 8 and 26.
     pub fn read(sheet: &[u8]) -> Result<Net, Refusal> {
         let lines = Lister::start(sheet)?;
         let table = Table::written(table_of(sheet)?);
@@ -83,6 +87,13 @@ impl Net {
         &self.gates
     }
 
+    /// The inputs that no gate refers to, by their places in [`names`](Net::names).
+    pub fn unused(&self) -> Vec<usize> {
+        let reads = |wire| move |gate: &Gate| gate.left == wire || gate.right == wire;
+        let is_unused = |&input: &usize| !self.gates.iter().any(reads(Wire::Input(input)));
+        (0..self.names().len()).filter(is_unused).collect()
+    }
+
     /// The sheet itself.
     pub fn as_str(&self) -> &str {
         &self.sheet
@@ -98,7 +109,7 @@ impl Net {
         self.table.clone()
     }
 
-    /// The settled net of the same table. Two nets with the same header settle to the same sheet exactly when they have the same table.
+    /// The settled net of the same table, on the inputs that matter. Two nets with the same header settle to the same sheet exactly when they have the same table.
     pub fn settled(&self) -> Net {
         Net::written(settled(self.sheet.as_bytes()).expect("an accepted sheet"))
     }

@@ -33,7 +33,7 @@ pub struct Refusal {
 
 impl Refusal {
     pub(crate) fn new(number: usize, place: usize, named: Named, sheet: &[u8]) -> Refusal {
-        let of_a_sheet = matches!(number, 1..=8 | 18..=20);
+        let of_a_sheet = matches!(number, 1..=8 | 18..=20 | 26);
         let position = of_a_sheet.then(|| position(sheet, place));
         let inputs = match number {
             16 => names_of(sheet, place),
@@ -81,6 +81,7 @@ impl Refusal {
             23 => "no gate tables give this wiring the table",
             24 => "a side is not 1 to 64, the cells are not width times height, or a cell's level is not below levels",
             25 => "there are not two offsets for each input, or one is not from -2 to 2",
+            26 => "an earlier gate is never used",
             _ => "unknown refusal",
         }
     }
@@ -127,6 +128,7 @@ impl fmt::Display for Refusal {
             (16, _) => write!(f, " at group {}: {})", self.place, self.inputs.join(", ")),
             (17, _) => write!(f, " at number {})", self.place),
             (22, _) => write!(f, "; {} groups are still to go)", self.place),
+            (23, _) if self.place == 0 => write!(f, "; it leaves out an input that matters)"),
             (23, _) => write!(f, " at gate {})", self.place),
             _ => write!(f, ")"),
         }

@@ -139,7 +139,8 @@ impl Table {
         (0..self.inks.len()).map(|index| self.row(index).expect("an index below the count"))
     }
 
-    /// The settled net, or refusal 16 where no tree computes the table.
+    /// The settled net, or refusal 16 where no tree computes the table. It uses just the inputs that matter; where fewer than two do, the first-listed
+    /// others make up two.
     pub fn settled(&self) -> Result<Net, Refusal> {
         made(self.sheet.as_bytes()).map(Net::written)
     }
@@ -151,7 +152,7 @@ impl Table {
         Ok(Shallow { net, layers })
     }
 
-    /// Every tree that computes the table, each wiring once, from number 0, the settled net; none where there is no tree.
+    /// Every tree on the inputs of the settled net that computes the table, each wiring once, from number 0, the settled net; none where there is no tree.
     ///
     /// ```
     /// let sum = sitgurp::Table::from_rule(2, &["a", "b", "c"], |levels| levels.iter().sum::<u8>() % 2)?;

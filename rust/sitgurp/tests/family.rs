@@ -8,7 +8,7 @@ use reference::damage::byte_damages;
 use reference::generate::{Generator, TableKind};
 use reference::net::Table;
 use reference::sheet::{print_table_sheet, Header};
-use sitgurp::{Family, MOST_CELLS, MOST_MARKS, MOST_NET_SHEET};
+use sitgurp::{Family, Lister, MOST_CELLS, MOST_MARKS, MOST_NET_SHEET};
 use std::collections::HashSet;
 
 const SEED: u64 = 13_749_310_575;
@@ -88,17 +88,17 @@ fn every_size_and_kind_of_table() {
         }
     }
     println!("{several} tables have several trees, {none} none");
-    assert!(several > 80 && none > 30);
+    assert!(several > 60 && none > 30);
 }
 
-/// 1, 3, 15, .. to the largest size: every wiring computes a constant.
+/// 1, 3, 15, .. to the largest size: every wiring of all inputs computes their sum.
 #[test]
-fn constants_have_every_wiring() {
+fn sums_have_every_wiring() {
     let mut count = 1;
     for n in 2..=12 {
         count *= 2 * n as u64 - 3;
         for m in (2..=9).filter(|m: &usize| m.pow(n as u32) <= MOST_CELLS) {
-            let sheet = sheet_of(&Table::of(m, n, |_| m as u8 - 1));
+            let sheet = sum(m, n);
             let family = Family::of(&sheet).expect("a good sheet");
             assert_eq!(family.size(), count);
             assert_eq!(family.tree(0), sitgurp::made(&sheet));
@@ -122,6 +122,21 @@ fn constants_have_every_wiring() {
         }
     }
     assert_eq!(count, 13_749_310_575);
+}
+
+/// One wiring on two leaves, however many inputs there are.
+#[test]
+fn constants_have_one_wiring() {
+    for (m, n) in sizes() {
+        let sheet = sheet_of(&Table::of(m, n, |_| m as u8 - 1));
+        assert_eq!(same_count(&sheet, MOST_CELLS, MOST_MARKS), Ok(1));
+        let family = Family::of(&sheet).expect("a good sheet");
+        assert_eq!(family.tree(0), sitgurp::made(&sheet));
+        let net = family.tree(0).expect("a number below the count");
+        let gate = Lister::start(&net).expect("a net sheet").next();
+        assert!(gate.is_some_and(|line| line.starts_with(b"a b ")));
+        assert_eq!(family.tree(1).map_err(|refusal| refusal.number), Err(17));
+    }
 }
 
 #[test]
@@ -164,7 +179,7 @@ fn whole_families() {
         }
     }
     println!("{walked} trees");
-    assert!(walked > 2_000);
+    assert!(walked > 1_000);
 }
 
 // ---- the walk over a family

@@ -75,7 +75,7 @@ fn own_tables_of_every_size() {
 #[test]
 fn tables_of_every_kind_and_size() {
     let mut generator = Generator::new(SEED + 1);
-    let (mut kept, mut refused) = (0, 0);
+    let (mut kept, mut refused, mut left_out) = (0, 0, 0);
     for (m, n) in sizes() {
         for kind in TableKind::ALL {
             let (net, table) = sheets(&mut generator, m, n, kind);
@@ -86,14 +86,15 @@ fn tables_of_every_kind_and_size() {
                 }
                 Err((number, place, named)) => {
                     assert_eq!((number, named), (23, Named::Neither));
-                    assert!((1..n).contains(&place));
+                    assert!(place < n);
                     refused += 1;
+                    left_out += usize::from(place == 0);
                 }
             }
         }
     }
-    println!("{kept} kept, {refused} refused");
-    assert!(kept > 50 && refused > 50);
+    println!("{kept} kept, {refused} refused, {left_out} of them leave out an input that matters");
+    assert!(kept > 50 && refused - left_out > 50 && left_out > 50);
 }
 
 fn binary_sheet(n: usize, number: usize) -> Vec<u8> {
@@ -104,7 +105,7 @@ fn binary_sheet(n: usize, number: usize) -> Vec<u8> {
     print_table_sheet(&Header { m: 2, n, names }, &Table { m: 2, n, inks })
 }
 
-/// Every table of three inputs with each wiring and each order of sides, and tables of four.
+/// Every table of three inputs with each wiring of all or of some of them and each order of sides, and tables of four.
 #[test]
 fn tables_of_two_levels() {
     let head = "levels inputs\n2 3\na b c\nleft right table\n";
@@ -115,6 +116,9 @@ fn tables_of_two_levels() {
         "c a 0000\n1 b 1111\n",
         "b c 1001\na 1 0110\n",
         "c b 0011\n1 a 0101\n",
+        "a b 0110\n",
+        "c a 0001\n",
+        "b c 0000\n",
     ] {
         for number in 0..256 {
             same(
@@ -130,6 +134,8 @@ fn tables_of_two_levels() {
         "a c 0110\nd b 0110\n1 2 0110\n",
         "c b 0100\n1 a 0110\nd 2 0010\n",
         "a d 0001\n1 c 0111\n2 b 0001\n",
+        "b d 0110\nc 1 0001\n",
+        "d a 0110\n",
     ] {
         for number in (0..1 << 16).step_by(29) {
             same(

@@ -481,7 +481,7 @@ fn the_document_has_the_listed_examples() {
     }
     assert_eq!(shown.len(), listed.len());
     let numbers: BTreeSet<usize> = listed.iter().map(|e| e.number_and_place().0).collect();
-    assert_eq!(numbers, (1..=25).collect(), "each number has an example");
+    assert_eq!(numbers, (1..=26).collect(), "each number has an example");
 }
 
 #[test]
@@ -502,11 +502,11 @@ fn every_mark_stands_at_its_place() {
         let (number, place) = example.number_and_place();
         match number {
             // the end of a sheet, after a line feed, is marked in the line after it
-            1..=8 | 18..=20 if place == body.len() && body.ends_with('\n') => {
+            1..=8 | 18..=20 | 26 if place == body.len() && body.ends_with('\n') => {
                 let last_line = body.trim_end().rfind('\n').map_or(0, |feed| feed + 1);
                 assert_eq!(marked, Some(last_line));
             }
-            1..=8 | 18..=20 => assert_eq!(marked, Some(place), "{example:?}"),
+            1..=8 | 18..=20 | 26 => assert_eq!(marked, Some(place), "{example:?}"),
             // a cell and the space after it are two bytes of the line after the first
             10 => {
                 let start = body.find('\n').expect("two lines") + 1;
@@ -555,7 +555,18 @@ fn a_refusal_in_words() {
             family.size()
         )
     );
-    let job = Job::of(include_bytes!("../../../examples/majority.table"));
+    let unused = b"levels inputs\n2 4\na b c d\nleft right table\na b 0001\nc d 0001\n";
+    assert_eq!(
+        said(sitgurp::settled(unused)),
+        "net sheet: an earlier gate is never used (refusal 26 at byte 61, line 7, column 1)"
+    );
+    let one_gate = b"levels inputs\n2 3\na b c\nleft right table\na b 0001\n";
+    let majority = include_bytes!("../../../examples/majority.table");
+    assert_eq!(
+        said(sitgurp::kept(one_gate, majority)),
+        "no gate tables give this wiring the table (refusal 23; it leaves out an input that matters)"
+    );
+    let job = Job::of(majority);
     assert_eq!(
         said(job.expect("a table sheet").finished()),
         "the job is not done (refusal 22; 7 groups are still to go)"

@@ -8,7 +8,7 @@ use reference::damage::byte_damages;
 use reference::generate::{Generator, TableKind};
 use reference::net::Table;
 use reference::sheet::{print_table_sheet, read_net_sheet, Header};
-use sitgurp::{shallower, Layered};
+use sitgurp::{shallower, Layered, MOST_CELLS, MOST_MARKS, MOST_NET_SHEET};
 
 const SEED: u64 = 2_048;
 
@@ -174,9 +174,9 @@ fn with_buffers_of_its_own() {
         let refusal = |answer: Result<(Vec<u8>, usize), _>| got(answer).err();
         let settled = due(reference::settle(
             &damaged,
-            &mut [0; 4_000],
-            &mut [0; 4_000],
-            &mut [0; 600],
+            &mut [0; MOST_CELLS],
+            &mut [0; MOST_MARKS],
+            &mut [0; MOST_NET_SHEET],
         ));
         assert_eq!(refusal(sitgurp::settled_shallow(&damaged)), settled.err());
         let random = generator.table_sheet(m, n, TableKind::Random);

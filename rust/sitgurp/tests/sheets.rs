@@ -1,11 +1,13 @@
-//! Settling, making, checking, table writing and the lister, held against the second implementation: every allowed size, tables
-//! with and without trees, damaged sheets, buffers of every length around each need and full of other bytes.
+//! Settling, making, checking, table writing and the lister, held against the second implementation: every allowed size, every table of four inputs with
+//! two levels, tables with and without trees, nets that leave inputs out, damaged sheets, buffers of every length around each need and full of other bytes.
 
 mod common;
 
 use common::{around, due, full, got, same_call, sizes, Lengths, ENOUGH};
-use reference::damage::byte_damages;
+use reference::damage::{byte_damages, Damage};
 use reference::generate::{Generator, TableKind};
+use reference::net::Table;
+use reference::sheet::{print_net_sheet, print_table_sheet, Header};
 use sitgurp::MOST_CELLS;
 
 const SEED: u64 = 65_536;
@@ -78,6 +80,72 @@ fn every_size_and_kind_of_table() {
             assert!(made.is_ok() || made.unwrap_err().0 == 16);
         }
     }
+}
+
+/// All 65,536: what is made, and what has no tree.
+#[test]
+fn every_table_of_four_inputs() {
+    let names = (0..4).map(|input| vec![b'a' + input]).collect();
+    let header = Header { m: 2, n: 4, names };
+    let mut made = 0;
+    for number in 0..1_u32 << 16 {
+        let inks = (0..16).map(|index| (number >> index & 1) as u8).collect();
+        let table = Table { m: 2, n: 4, inks };
+        let sheet = print_table_sheet(&header, &table);
+        match same_make(&sheet, Lengths(16, 4, 110)) {
+            Ok(_) => made += 1,
+            Err(refusal) => assert_eq!(refusal.0, 16),
+        }
+    }
+    assert_eq!(made, 2_680);
+}
+
+/// Nets that leave inputs out, through every call that reads a net sheet alone or beside a table sheet.
+#[test]
+fn nets_that_leave_inputs_out() {
+    let mut generator = Generator::new(SEED + 6);
+    for (m, n) in sizes() {
+        for _ in 0..3 {
+            let header = generator.header(m, n);
+            let net = print_net_sheet(&header, &generator.net_of_some_inputs(m, n));
+            let length = same_settle(&net, ENOUGH).expect("a good net sheet");
+            same_settle(&net, Lengths(m.pow(n as u32), (1 << n) / 4, length - 1)).expect_err("15");
+            same_lines(&net);
+            same_write(&net, sitgurp::MOST_TABLE_SHEET);
+            let table = sitgurp::table_of(&net).expect("a good net sheet");
+            same_check(&net, &table, MOST_CELLS);
+            assert_eq!(sitgurp::made(&table), sitgurp::settled(&net));
+        }
+    }
+}
+
+/// Gates that are never used, lines too few and lines too many.
+#[test]
+fn lines_taken_and_added() {
+    let mut generator = Generator::new(SEED + 7);
+    let (mut unused, mut good) = (0, 0);
+    for (m, n) in sizes() {
+        for damage in [
+            Damage::DropLastLine,
+            Damage::AddGate,
+            Damage::OtherReference,
+        ] {
+            for _ in 0..4 {
+                let mut sheet = generator.net_sheet(m, n);
+                for _ in 0..2 {
+                    sheet = generator.damage(&sheet, damage);
+                    let answer = same_settle(&sheet, ENOUGH);
+                    same_lines(&sheet);
+                    same_write(&sheet, 60_000);
+                    same_check(&sheet, b"", 0);
+                    unused += usize::from(answer.is_err_and(|refusal| refusal.0 == 26));
+                    good += usize::from(answer.is_ok());
+                }
+            }
+        }
+    }
+    println!("{unused} with unused gates, {good} good");
+    assert!(unused > 50 && good > 100);
 }
 
 #[test]

@@ -154,8 +154,9 @@ fn an_assignment_that_is_none_has_no_value() {
 
 #[test]
 fn a_family_is_walked_as_nets() {
-    let zero = Table::from_rule(2, &["a", "b", "c", "d"], |_| 0).expect("a good rule");
-    let trees = zero.family();
+    let sum = |levels: &[u8]| levels.iter().sum::<u8>() % 2;
+    let sum = Table::from_rule(2, &["a", "b", "c", "d"], sum).expect("a good rule");
+    let trees = sum.family();
     assert_eq!((trees.size(), trees.clone().count()), (15, 15));
     let distinct: BTreeSet<String> = trees.clone().map(|net| net.to_string()).collect();
     assert_eq!(distinct.len(), 15);
@@ -171,6 +172,40 @@ fn a_family_is_walked_as_nets() {
     assert_eq!(majority.family().next(), None);
     let refused = majority.settled().expect_err("no tree");
     assert_eq!((refused.kind(), refused.place), (Kind::NoTree, 7));
+}
+
+/// A net of some inputs: a value for every assignment of all of them, and a settled net of those that matter.
+#[test]
+fn inputs_that_stay_unused() {
+    let net: Net = "levels inputs\n2 4\na b c d\nleft right table\nd b 0111\n1 a 0011\n"
+        .parse()
+        .expect("a good sheet");
+    assert_eq!((net.gates().len(), net.unused()), (2, vec![2]));
+    assert_eq!(net.value(&[1, 0, 1, 1]), Some(1));
+    assert_eq!(net.value(&[1, 0, 1]), None);
+    assert_eq!(net.layers(), 2);
+    let settled = net.settled();
+    assert_eq!(settled.unused(), [0, 2]);
+    assert_eq!(
+        settled.as_str().lines().last(),
+        Some("b d 0111"),
+        "a does not matter"
+    );
+    assert_eq!(settled.table(), net.table());
+    let zero = Table::from_rule(2, &["a", "b", "c"], |_| 0).expect("a good rule");
+    assert_eq!(
+        (
+            zero.family().size(),
+            zero.settled().expect("a tree").unused()
+        ),
+        (1, vec![2])
+    );
+    let sheet = "levels inputs\n2 4\na b c d\nleft right table\na b 0001\nc d 0001\n";
+    let refused = sheet.parse::<Net>().expect_err("gate 1 is not used");
+    assert_eq!(
+        (refused.kind(), refused.place),
+        (Kind::UnusedGate, sheet.len())
+    );
 }
 
 #[test]

@@ -60,7 +60,7 @@ impl Lent {
         let table = generator.table(m, n, kind);
         let sheet = print_table_sheet(&header, &table);
         let arrivals = generator.arrival_sheet(&header);
-        let mut other = || print_net_sheet(&header, &generator.net(m, n));
+        let mut other = || print_net_sheet(&header, &generator.net_of_all_inputs(m, n));
         let job = JobParts {
             lines: vec![0; 128],
             cells: vec![0; 4_096],

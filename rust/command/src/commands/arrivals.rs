@@ -13,7 +13,7 @@ pub static COMMAND: Command = Command {
     summary: "when a net's output settles, from when its inputs arrive",
     help: "\
 An arrival sheet has the line `name from to`, then a line for each input, in order: its name and between which two times it
-arrives, in whole quarters of a microsecond, 0 to 65535.
+arrives, in whole quarters of a microsecond, 0 to 65535. An input that the net does not use has a line too, and does not count.
 
   --delay Q     what every gate takes, 0 to 255 quarters of a microsecond
 ",

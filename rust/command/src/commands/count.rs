@@ -12,8 +12,9 @@ pub static COMMAND: Command = Command {
     usage: "[TABLE]",
     summary: "how many trees compute a table",
     help: "\
-Trees that differ only in which side is left, in gate numbers or in gate tables count once. A table with no tree has 0, and
-`sitgurp why TABLE` says what to change; `sitgurp make TABLE --number K` writes each of them.
+Counted are the trees of the inputs that `make` uses. Trees that differ only in which side is left, in gate numbers or in gate
+tables count once. A table with no tree has 0, and `sitgurp why TABLE` says what to change; `sitgurp make TABLE --number K` writes
+each of them.
 ",
     sheets: 1,
     more: false,

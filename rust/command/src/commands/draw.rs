@@ -12,7 +12,7 @@ pub static COMMAND: Command = Command {
     usage: "[NET] [--dot]",
     summary: "a net as a picture (SVG)",
     help: "\
-Inputs stand at the left, the output at the right, each gate with its table, shaded by level.
+Inputs stand at the left, the output at the right, each gate with its table, shaded by level. An input that is not used is dashed.
 
   --dot         the net for Graphviz instead
 ",

@@ -2,6 +2,7 @@
 
 use super::Command;
 use crate::call::Call;
+use crate::excerpt::line_start;
 use crate::input::{sheets, Sheet};
 use crate::json::Json;
 use crate::outcome::{Answer, Failure};
@@ -16,7 +17,7 @@ pub static COMMAND: Command = Command {
     help: "\
 Writes the net sheet with the gate tables that give it the table; which gate joins what, on which side and in which line stays as it is.
 The gates whose tables are new are told on standard error. Where no gate tables give this wiring the table, it is refused, and the gate at
-fault is told.
+fault is told, or the inputs that the net leaves out and the table needs.
 ",
     sheets: 2,
     more: false,
@@ -60,8 +61,48 @@ fn told(changed: &[usize]) -> String {
     }
 }
 
+/// What another wiring comes to.
+fn next(table: &Table, operand: &str) -> String {
+    let program = words::program();
+    match table.settled() {
+        Ok(_) => format!("`{program} make{operand}` makes a tree of another wiring"),
+        Err(_) => {
+            format!("no other wiring has it either; `{program} why{operand}` says what to change")
+        }
+    }
+}
+
+/// The inputs that the net leaves out, and the table needs.
+fn left_out(net: (&Sheet, &Net), table: (&Sheet, &Table), refusal: Refusal) -> Refused {
+    let (sheet, net) = net;
+    let (table_sheet, table) = table;
+    // an input matters where its levels are not all of one class
+    let matters = |input: &usize| {
+        table
+            .multiplicity(1 << input)
+            .is_ok_and(|classes| classes > 1)
+    };
+    let inputs = net.unused().into_iter().filter(matters);
+    let names: Vec<&str> = inputs.map(|input| net.names()[input].as_str()).collect();
+    let verb = if names.len() == 1 {
+        "matters"
+    } else {
+        "matter"
+    };
+    let sentence = format!(
+        "this net leaves out {}, which {verb} in {}: no gate tables give this wiring that table",
+        list(&names),
+        table_sheet.name
+    );
+    let hint = next(table, &words::operand(&table_sheet.name));
+    Refused::of_file(sheet, refusal, sentence).hinted(hint)
+}
+
 /// The gate that cannot tell its classes apart.
 fn of_wiring(net: (&Sheet, &Net), table: (&Sheet, &Table), refusal: Refusal) -> Refused {
+    if refusal.place == 0 {
+        return left_out(net, table, refusal);
+    }
     let (sheet, net) = net;
     let (table_sheet, table) = table;
     let gate = refusal.place;
@@ -76,15 +117,10 @@ fn of_wiring(net: (&Sheet, &Net), table: (&Sheet, &Table), refusal: Refusal) -> 
         count(net.levels(), "level")
     );
     let (program, operand) = (words::program(), words::operand(&table_sheet.name));
-    let next = match table.settled() {
-        Ok(_) => format!("`{program} make{operand}` makes a tree of another wiring"),
-        Err(_) => {
-            format!("no other wiring has it either; `{program} why{operand}` says what to change")
-        }
-    };
     let hint = format!(
-        "`{program} matrix{operand} --group {}` shows the classes; {next}",
-        names.join(",")
+        "`{program} matrix{operand} --group {}` shows the classes; {}",
+        names.join(","),
+        next(table, &operand)
     );
     Refused::at(sheet, line_start(&sheet.bytes, gate + 3), refusal, sentence).hinted(hint)
 }
@@ -106,10 +142,4 @@ fn names(net: &Net, group: usize) -> Vec<&str> {
     let names = net.names().iter().enumerate();
     let names = names.filter(|(input, _)| group >> input & 1 == 1);
     names.map(|(_, name)| name.as_str()).collect()
-}
-
-/// Where a line begins, counted from 0.
-fn line_start(sheet: &[u8], line: usize) -> usize {
-    let lines = sheet.split_inclusive(|&byte| byte == b'\n');
-    lines.take(line).map(<[u8]>::len).sum()
 }

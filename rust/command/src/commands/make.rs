@@ -14,8 +14,8 @@ pub static COMMAND: Command = Command {
     usage: "[TABLE] [--shallow | --number K]",
     summary: "the tree of a table sheet, as a net sheet",
     help: "\
-Writes the settled net of the table: of all trees that compute it the one that fixed rules choose. A table that no tree
-computes is refused, and `sitgurp why TABLE` says what to change.
+Writes the settled net of the table: of all trees that compute it the one that fixed rules choose. It uses just the inputs that
+matter, two at least. A table that no tree computes is refused, and `sitgurp why TABLE` says what to change.
 
   --shallow     a tree of fewest layers instead
   --number K    the tree of number K, from 0; `sitgurp count TABLE` says how many there are, and 0 is the settled one

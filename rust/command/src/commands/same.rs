@@ -15,8 +15,8 @@ pub static COMMAND: Command = Command {
     usage: "NET [NET]",
     summary: "whether two nets compute the same table",
     help: "\
-Two nets of the same levels, inputs and names are the same where they settle to the same sheet, whatever their wiring. Where
-they are not, the first row at which they differ is told, and the status is 1.
+Two nets of the same levels, inputs and names are the same where they settle to the same sheet, whatever their wiring and whichever
+inputs they use. Where they are not, the first row at which they differ is told, and the status is 1.
 ",
     sheets: 2,
     more: false,

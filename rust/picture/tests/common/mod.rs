@@ -8,7 +8,7 @@ use reference::sheet::print_net_sheet;
 pub const SEED: u64 = 1_971;
 const NETS_OF_A_SIZE: usize = 20;
 
-/// Net sheets of every allowed size: random ones, and the two chains, which are the deepest trees.
+/// Net sheets of every allowed size: random ones, some of which leave inputs out, and the two chains, which are the deepest trees.
 pub fn net_sheets() -> Vec<Vec<u8>> {
     println!("seed {SEED}");
     let mut generator = Generator::new(SEED);
@@ -20,7 +20,7 @@ pub fn net_sheets() -> Vec<Vec<u8>> {
         }
         for left in [true, false] {
             let header = generator.header(m, n);
-            let net = chain(generator.net(m, n), left);
+            let net = chain(generator.net_of_all_inputs(m, n), left);
             sheets.push(print_net_sheet(&header, &net));
         }
     }
@@ -89,9 +89,9 @@ impl Drawn {
         }
     }
 
-    /// The boxes of inputs and gates.
+    /// The boxes of inputs, used and unused, and gates.
     pub fn boxes(&self) -> Vec<&Rect> {
-        let is_box = |rect: &&Rect| rect.class == "input" || rect.class == "gate";
+        let is_box = |rect: &&Rect| ["input", "unused", "gate"].contains(&rect.class.as_str());
         self.rects.iter().filter(is_box).collect()
     }
 

@@ -63,6 +63,28 @@ pub fn count_of_columns(m: usize, n: usize, inks: &[u8], group: usize) -> usize 
     columns.into_values().collect::<HashSet<_>>().len()
 }
 
+/// The inputs that matter, as a group: some two cells that differ at this input
+/// alone differ in ink.
+pub fn mattering(m: usize, n: usize, inks: &[u8]) -> usize {
+    let matters = |input: &usize| {
+        let weight = m.pow((n - 1 - input) as u32);
+        (0..inks.len()).any(|index| inks[index] != inks[index - index / weight % m * weight])
+    };
+    (0..n).filter(matters).map(|input| 1 << input).sum()
+}
+
+/// The leaves, as a group: "the inputs that matter [..]; if fewer than two do, the
+/// first-listed others make up two".
+pub fn leaves(m: usize, n: usize, inks: &[u8]) -> usize {
+    let mut leaves = mattering(m, n, inks);
+    for input in 0..n {
+        if leaves.count_ones() < 2 {
+            leaves |= 1 << input;
+        }
+    }
+    leaves
+}
+
 /// A table sheet from m, the names parted by spaces, and the inks.
 pub fn table_sheet(m: usize, names: &str, inks: &[u8]) -> Vec<u8> {
     let n = names.split(' ').count();

@@ -71,6 +71,30 @@ impl Wiring {
     }
 }
 
+/// Every wiring over a group, sides and gate numbers aside: the part with the
+/// first-listed input stands on the left.
+pub fn wirings(group: usize) -> Vec<Wiring> {
+    if group.is_power_of_two() {
+        return vec![Wiring::Leaf(group.trailing_zeros() as usize)];
+    }
+    let first = group & group.wrapping_neg();
+    let mut all = Vec::new();
+    for a in (1..group).filter(|a| a & !group == 0 && a & first != 0) {
+        let rights = wirings(group - a);
+        for left in wirings(a) {
+            for right in &rights {
+                all.push(Wiring::node(left.clone(), right.clone()));
+            }
+        }
+    }
+    all
+}
+
+/// The groups of n inputs that a net may have as leaves: two inputs at least.
+pub fn all_leaves(n: usize) -> impl Iterator<Item = usize> {
+    (1..1_usize << n).filter(|group| group.count_ones() >= 2)
+}
+
 /// The names `a`, `b` and so on of n inputs.
 pub fn names(n: usize) -> &'static str {
     &"a b c d e f g h i j k l"[..2 * n - 1]

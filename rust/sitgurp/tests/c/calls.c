@@ -51,6 +51,13 @@ static int failures = 0;
 #define BAD_NAMES "levels inputs\n2 3\na b b ink\n"
 /* input a twice */
 #define BAD_NET HEADER "left right table\na a 0110\n"
+/* 2 levels, a b c, the sum of b and c modulo 2: a and the second gate do nothing; as it settles; and its table */
+#define IDLE HEADER "left right table\nc b 0110\na 1 0101\n"
+#define PAIR HEADER "left right table\nb c 0110\n"
+#define PAIR_TABLE                                                                                                           \
+    "levels inputs\n2 3\na b c ink\n0 0 0 0\n0 0 1 1\n0 1 0 1\n0 1 1 0\n1 0 0 0\n1 0 1 1\n1 1 0 1\n1 1 1 0\n"
+/* gate 1 is never used */
+#define UNUSED_GATE HEADER4 "left right table\na b 0110\nc d 0110\n"
 
 static const uint8_t sum_cells[8] = {0, 1, 1, 0, 1, 0, 0, 1};
 /* four marks a byte: 0 2 2 2 and 2 2 2 2 */
@@ -58,6 +65,8 @@ static const uint8_t sum_marks[2] = {0xa8, 0xaa};
 static const uint8_t majority_cells[8] = {0, 0, 0, 1, 0, 1, 1, 1};
 /* 0 2 2 0 and 2 0 0 1 */
 static const uint8_t majority_marks[2] = {0x28, 0x42};
+
+static const uint8_t pair_cells[8] = {0, 1, 1, 0, 0, 1, 1, 0};
 
 static const uint8_t sum4_cells[16] = {0, 1, 1, 0, 1, 0, 0, 1, 1, 0, 0, 1, 0, 1, 1, 0};
 static const uint8_t sum4_marks[4] = {0xa8, 0xaa, 0xaa, 0xaa};
@@ -311,6 +320,43 @@ static void keep(void) {
     HOLDS(output_holds(SETTLED));
 }
 
+/* inputs that never matter stay unused in what is made, and may stay so in what is read; an earlier gate may not */
+static void idle_inputs(void) {
+    const size_t length = sizeof(PAIR) - 1;
+    const size_t unused = sizeof(UNUSED_GATE) - 1;
+    static const char kept[] = HEADER "left right table\nb c 0110\n1 a 0011\n";
+    fill();
+    HOLDS(is(sitgurp_settle(TEXT(IDLE), cells, 8, marks, 2, output, sizeof output), 0, length));
+    HOLDS(cells_hold(pair_cells, 8) && marks_hold(sum_marks, 2) && output_holds(PAIR));
+    fill();
+    HOLDS(is(sitgurp_make(TEXT(PAIR_TABLE), cells, 8, marks, 2, output, length), 0, length));
+    HOLDS(cells_hold(pair_cells, 8) && marks_hold(sum_marks, 2) && output_holds(PAIR));
+    fill();
+    HOLDS(has(sitgurp_settle_shallow(TEXT(IDLE), cells, 8, marks, 2, output, length), 0, length, 1) && output_holds(PAIR));
+    HOLDS(is(sitgurp_family_count(TEXT(PAIR_TABLE), cells, 8, marks, 2), 0, 1));
+    HOLDS(is(sitgurp_write_table(TEXT(PAIR), output, sizeof output), 0, sizeof(PAIR_TABLE) - 1) && output_holds(PAIR_TABLE));
+    HOLDS(says(sitgurp_check(TEXT(PAIR), TEXT(PAIR_TABLE), cells, 8), 0, 0, 0, 0));
+    HOLDS(turns(sitgurp_gate_line(TEXT(PAIR), 1), 0, 0, 0));
+    HOLDS(is_part(sitgurp_shallower(TEXT(IDLE), TEXT(PAIR)), 2, length));
+    /* a arrives last, and is not used */
+    HOLDS(settles(sitgurp_arrivals(TEXT(PAIR), TEXT("name from to\na 99 99\nb 0 4\nc 2 2\n"), 4), 1.5, 2.0));
+    /* a wiring may have an input that does not matter, and may not leave out one that does */
+    fill();
+    HOLDS(is_kept(sitgurp_keep(TEXT(HEADER "left right table\nb c 0001\n1 a 0001\n"), TEXT(PAIR_TABLE), cells, 8, output, sizeof output), 0, 0,
+                  sizeof(kept) - 1, 6));
+    HOLDS(output_holds(kept));
+    fill();
+    HOLDS(is_kept(sitgurp_keep(TEXT(PAIR), TEXT(MAJORITY), cells, 8, output, sizeof output), 0, 23, 0, 0));
+    HOLDS(cells_hold(majority_cells, 8) && output_holds(""));
+    fill();
+    HOLDS(is(sitgurp_settle(TEXT(UNUSED_GATE), cells, 0, marks, 0, output, 0), 26, unused));
+    HOLDS(is(sitgurp_settle(TEXT(HEADER "left right table\n"), cells, 0, marks, 0, output, 0), 1, sizeof(HEADER "left right table\n") - 1));
+    HOLDS(says(sitgurp_check(TEXT(UNUSED_GATE), TEXT(""), cells, 0), 2, 1, 26, unused));
+    HOLDS(turns(sitgurp_gate_line(TEXT(UNUSED_GATE), 0), 2, 26, unused));
+    HOLDS(turned_back(sitgurp_arrivals(TEXT(UNUSED_GATE), TEXT(""), 4), 1, 26, unused));
+    HOLDS(untouched());
+}
+
 /* two gates lie on the way from a and from b, one on the way from c */
 static void arrivals(void) {
     HOLDS(settles(sitgurp_arrivals(TEXT(NET), TEXT("name from to\na 0 4\nb 2 2\nc 10 12\n"), 4), 3.5, 4.0));
@@ -447,6 +493,7 @@ int main(void) {
     write_table();
     tidy();
     gate_line();
+    idle_inputs();
     largest();
     return failures == 0 ? 0 : 1;
 }
