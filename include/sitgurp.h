@@ -13,6 +13,10 @@
  * A sheet is any bytes. Levels are written m and inputs n below. A refusal of a sheet (1 to 8, 18 to 20, 26) has a place in it, a byte from 0;
  * docs/REFUSALS.md says what each number means. Refusals are listed in the order in which they are judged. Where a buffer is
  * longer than needed, its further bytes are kept.
+ *
+ * A table sheet may leave cells open, for assignments that cannot occur: `-` is their ink, and a cell holds m for it, a bare cell too. sitgurp_check passes
+ * over them and sitgurp_tidy carries them over. What counts classes, marks groups or fills gates needs a full table, and refuses others with 27 (the value is the
+ * lowest index of an open cell), which changes no byte.
  */
 #ifndef SITGURP_H
 #define SITGURP_H
@@ -37,7 +41,7 @@ enum sitgurp_refusal {
     SITGURP_REFUSED_UNKNOWN_REFERENCE = 7,  /* a reference to no input and no earlier gate */
     SITGURP_REFUSED_USED_REFERENCE = 8,     /* a reference used before */
     SITGURP_REFUSED_BARE_SIZE = 9,          /* bare cells: m, n or the number of cells */
-    SITGURP_REFUSED_BARE_CELL = 10,         /* a bare cell not below m; the place is its index */
+    SITGURP_REFUSED_BARE_CELL = 10,         /* a bare cell above m; the place is its index */
     SITGURP_REFUSED_GROUP = 11,             /* no such group */
     SITGURP_REFUSED_HEADERS_DIFFER = 12,    /* two sheets differ in m, n or names */
     SITGURP_REFUSED_CELLS_SHORT = 13,       /* the cells buffer is short; the place is the length needed */
@@ -53,7 +57,8 @@ enum sitgurp_refusal {
     SITGURP_REFUSED_WIRING = 23,            /* no gate tables give the wiring the table; the place is a gate's number, or 0 */
     SITGURP_REFUSED_PICTURE = 24,           /* a picture's side, the number of its cells, or a cell's level */
     SITGURP_REFUSED_OFFSETS = 25,           /* an offset missing, one too many, or one too far */
-    SITGURP_REFUSED_UNUSED_GATE = 26        /* a net sheet's earlier gate is never used; the place is the sheet's length */
+    SITGURP_REFUSED_UNUSED_GATE = 26,       /* a net sheet's earlier gate is never used; the place is the sheet's length */
+    SITGURP_REFUSED_OPEN_CELL = 27          /* an open cell where a full table is needed; the place is the lowest index of one */
 };
 
 /* Buffers that always suffice: cells, marks, a net sheet, a table sheet, a picture. */
@@ -156,14 +161,14 @@ typedef struct sitgurp_mark {
 /*
  * The number of classes of a group, however large; within the sizes of a sheet it is at most 625.
  * Bare cells: m levels, n inputs, and one byte a cell in index order. A group is the sum of 2 to the power i over its members.
- * Refusals: 9 (m, n or the number of cells), 10 (a cell not below m; value is its index), 11 (the group).
+ * Refusals: 9 (m, n or the number of cells), 10 (a cell above m; value is its index), 27 (an open cell), 11 (the group).
  */
 sitgurp_answer sitgurp_multiplicity(size_t m, size_t n, const uint8_t *cells, size_t cells_length, size_t group);
 
 /*
  * Writes every group's mark and answers the whole group's. Marks are packed four to a byte: that of group g is
  * marks[g / 4] >> (g % 4 * 2) & 3. Needs 2 to the power n, divided by 4, bytes; further bytes are kept. A refusal changes no byte.
- * Refusals: 9, 10, and 14 (marks too short; value is the length needed).
+ * Refusals: 9, 10, 27, and 14 (marks too short; value is the length needed).
  */
 sitgurp_answer sitgurp_marking(size_t m, size_t n, const uint8_t *cells, size_t cells_length, uint8_t *marks, size_t marks_length);
 
@@ -180,7 +185,7 @@ sitgurp_answer sitgurp_settle(const uint8_t *sheet, size_t sheet_length, uint8_t
 /*
  * Makes the settled net sheet of a table sheet, with the buffers of sitgurp_settle: the table's inks into cells, the marks into
  * marks, the settled net sheet into output. Answers that sheet's length.
- * Refusals: 1 to 6 (the sheet), 13, 14, 16 (no tree computes the table; value is the group of fewest members, then lowest number,
+ * Refusals: 1 to 6 (the sheet), 27 (an open cell), 13, 14, 16 (no tree computes the table; value is the group of fewest members, then lowest number,
  * with mark 1), 15. 16 and 15 leave cells and marks written and output as it was; every other refusal changes no byte.
  */
 sitgurp_answer sitgurp_make(const uint8_t *sheet, size_t sheet_length, uint8_t *cells, size_t cells_length, uint8_t *marks,
@@ -205,7 +210,8 @@ sitgurp_shallow sitgurp_make_shallow(const uint8_t *sheet, size_t sheet_length, 
  * How many trees compute the table of a table sheet, with the cells and the marks of sitgurp_make and no output. Counted are the trees on the inputs
  * that the settled net uses. Trees that differ only in which side is left, in gate numbers or in gate tables count once. A table with no tree has
  * count 0, and is not refused. The count is 64 bits wide; within the sizes of a sheet it is at most 13,749,310,575.
- * Refusals: 1 to 6 (the sheet), 13 (cells too short), 14 (marks too short); the value of 13 and 14 is the length needed. A refusal changes no byte.
+ * Refusals: 1 to 6 (the sheet), 27 (an open cell), 13 (cells too short), 14 (marks too short); the value of 13 and 14 is the length needed. A refusal changes
+ * no byte.
  */
 sitgurp_answer sitgurp_family_count(const uint8_t *sheet, size_t sheet_length, uint8_t *cells, size_t cells_length, uint8_t *marks,
                                     size_t marks_length);
@@ -213,7 +219,7 @@ sitgurp_answer sitgurp_family_count(const uint8_t *sheet, size_t sheet_length, u
 /*
  * Makes the net sheet of the tree of that number, from 0, with the buffers of sitgurp_make. Number 0 is the settled net. Answers the sheet's length.
  * The number is 64 bits wide, and so is the value of 17.
- * Refusals: 1 to 6 (the sheet), 13, 14, 17 (the number is not below the count of trees; value is the number), 15. 17 and 15 leave cells and marks
+ * Refusals: 1 to 6 (the sheet), 27 (an open cell), 13, 14, 17 (the number is not below the count of trees; value is the number), 15. 17 and 15 leave cells and marks
  * written and output as it was; every other refusal changes no byte.
  */
 sitgurp_answer sitgurp_family_tree(const uint8_t *sheet, size_t sheet_length, uint64_t number, uint8_t *cells, size_t cells_length,
@@ -226,8 +232,8 @@ sitgurp_answer sitgurp_family_tree(const uint8_t *sheet, size_t sheet_length, ui
 sitgurp_which sitgurp_shallower(const uint8_t *first, size_t first_length, const uint8_t *second, size_t second_length);
 
 /*
- * Checks a net sheet against a table sheet, and writes the table sheet's inks into cells, whether they agree or not. Needs m to the
- * power n bytes.
+ * Checks a net sheet against a table sheet, and writes the table sheet's inks into cells, whether they agree or not. Open cells are passed over: the
+ * sheets agree where they agree at all others, and the lowest index that differs is that of no open cell. Needs m to the power n bytes.
  * Refusals: 1 to 4, 6 to 8 and 26 (the net sheet), 1 to 6 (the table sheet), 12 (the sheets differ in m, n or names; value 0), 13 (cells too short;
  * value is the length needed). A refusal changes no byte. 12 and 13 name neither sheet.
  */
@@ -238,10 +244,10 @@ sitgurp_verdict sitgurp_check(const uint8_t *net_sheet, size_t net_sheet_length,
  * Keeps the wiring of a net sheet, and fills its gates anew so that the net has the table of a table sheet: writes that sheet's inks into cells and the net
  * sheet into output. Left and right of every gate line stay as they are, and so do the lines' order and the header; gate tables follow the rule of the settled
  * net. Needs m to the power n bytes, and the net sheet's length.
- * Refusals: 1 to 4, 6 to 8 and 26 (the net sheet), 1 to 6 (the table sheet), 12 (the sheets differ in m, n or names; value 0), 13 (cells too short), 23 (no gate
- * tables give this wiring that table; value is 0 where it leaves out an input that matters, otherwise the number of the first gate whose group has more than m
- * classes), 15 (output too short); the value of 13 and 15 is the length needed. 23 and 15 leave cells written and output as it was; every other refusal changes no
- * byte. 12, 13, 15 and 23 name neither sheet.
+ * Refusals: 1 to 4, 6 to 8 and 26 (the net sheet), 1 to 6 (the table sheet), 12 (the sheets differ in m, n or names; value 0), 27 (an open cell), 13 (cells too
+ * short), 23 (no gate tables give this wiring that table; value is 0 where it leaves out an input that matters, otherwise the number of the first gate whose group
+ * has more than m classes), 15 (output too short); the value of 13 and 15 is the length needed. 23 and 15 leave cells written and output as it was; every other
+ * refusal changes no byte. 27 names the table sheet; 12, 13, 15 and 23 name neither.
  */
 sitgurp_kept sitgurp_keep(const uint8_t *net_sheet, size_t net_sheet_length, const uint8_t *table_sheet, size_t table_sheet_length,
                           uint8_t *cells, size_t cells_length, uint8_t *output, size_t output_length);
@@ -254,7 +260,7 @@ sitgurp_answer sitgurp_write_table(const uint8_t *sheet, size_t sheet_length, ui
 
 /*
  * Tidies a loose table sheet, in which fields are parted by one or more spaces, spaces may stand before a line feed, and rows stand in any order: writes
- * its inks into cells, in index order, and its table sheet into output, and answers that sheet's length. Needs m to the power n bytes, and the table
+ * its inks into cells, in index order, and its table sheet into output, with the sign of open cells as it is, and answers that sheet's length. Needs m to the power n bytes, and the table
  * sheet's length.
  * Refusals: 1 to 6 and 20 (the sheet; 5 is an input field that is no digit below m, 20 a row whose assignment an earlier row gave), 13 (cells too short),
  * 15 (output too short); the value of 13 and 15 is the length needed. 15 leaves cells written and output as it was; every other refusal changes no byte.
@@ -291,7 +297,7 @@ sitgurp_answer sitgurp_job_finish_parts(const uint8_t *lines, const uint8_t *own
 
 /*
  * Opens a job on a table sheet, and writes every byte of it. Answers 0. A sheet that is refused opens the empty job: no inputs, no groups, already done.
- * Refusals: 1 to 6 (the sheet).
+ * Refusals: 1 to 6 (the sheet), 27 (an open cell).
  */
 static inline sitgurp_answer sitgurp_job_open(const uint8_t *sheet, size_t sheet_length, sitgurp_job *job) {
     return sitgurp_job_open_parts(sheet, sheet_length, job->lines, job->cells, job->marks, &job->passed);
@@ -316,8 +322,8 @@ static inline sitgurp_mark sitgurp_job_mark(const sitgurp_job *job, size_t group
 /*
  * What sitgurp_make comes to on the sheet that the job was opened on, from the job's own names and cells, with the same buffers. The job stays as it was,
  * and may be finished again.
- * Refusals: 9 (an empty job; value 0), 10 (a cell not below m, which no job that was opened has), 22 (the job is not done; value is the groups still to
- * go), and then sitgurp_make's 13, 14, 16, 15. 9, 10 and 22 change no byte.
+ * Refusals: 9 (an empty job; value 0), 10 and 27 (a cell above m, and an open one, which no job that was opened has), 22 (the job is not done; value is the
+ * groups still to go), and then sitgurp_make's 13, 14, 16, 15. 9, 10, 27 and 22 change no byte.
  */
 static inline sitgurp_answer sitgurp_job_finish(const sitgurp_job *job, uint8_t *cells, size_t cells_length, uint8_t *marks,
                                                 size_t marks_length, uint8_t *output, size_t output_length) {

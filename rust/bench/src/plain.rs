@@ -179,10 +179,13 @@ fn add_gates(table: &Table, group: usize, gates: &mut Vec<Gate>) -> Wire {
     Wire::Gate(gates.len())
 }
 
-/// A table sheet's settled net sheet, or nothing where there is no tree.
+/// A table sheet's settled net sheet, or nothing where there is no tree, or a cell is open.
 pub fn making(sheet: &[u8]) -> Option<Vec<u8>> {
     let (header, inks) = read_table(sheet)?;
     let (m, n) = (header.m, header.n);
+    if inks.iter().any(|&ink| usize::from(ink) == m) {
+        return None;
+    }
     let mut marks = vec![0; 1 << n];
     if marking(m, n, &inks, &mut marks) != 2 {
         return None;

@@ -1,5 +1,6 @@
 //! Sheets in plain Rust: a table is read field by field, or quicker by rows, each compared whole with the row that is due; a net is run over
-//! the cells with its wires in one array. Only whether a sheet is good is told, not what is wrong with one that is not.
+//! the cells with its wires in one array. Only whether a sheet is good is told, not what is wrong with one that is not. A cell that is left open holds
+//! the number of levels.
 
 use reference::limits::cell_count;
 use reference::sheet::Header;
@@ -71,7 +72,10 @@ pub fn read_table_by_fields(sheet: &[u8]) -> Option<(Header, Vec<u8>)> {
                 return None;
             }
         }
-        let ink = decimal(rest.field(b'\n')?).filter(|&ink| ink < m)?;
+        let ink = match rest.field(b'\n')? {
+            b"-" => m,
+            field => decimal(field).filter(|&ink| ink < m)?,
+        };
         inks.push(ink as u8);
         for level in levels.iter_mut().rev() {
             *level += 1;
@@ -100,10 +104,11 @@ pub fn read_table(sheet: &[u8]) -> Option<(Header, Vec<u8>)> {
     for row in rest.0.chunks_exact(due.len() + 2) {
         let (levels, end) = row.split_at(due.len());
         let ink = end[0].wrapping_sub(b'0');
-        if levels != due || usize::from(ink) >= m || end[1] != b'\n' {
+        let open = end[0] == b'-';
+        if levels != due || (usize::from(ink) >= m && !open) || end[1] != b'\n' {
             return None;
         }
-        inks.push(ink);
+        inks.push(if open { m as u8 } else { ink });
         for input in (0..n).rev() {
             due[2 * input] += 1;
             if usize::from(due[2 * input] - b'0') < m {
@@ -178,7 +183,7 @@ pub fn check(net: &[u8], table: &[u8], cells: &mut [u8]) -> Option<Option<usize>
             let at = usize::from(wires[gate.left]) * m + usize::from(wires[gate.right]);
             wires[n + k] = gate.digits[at];
         }
-        if wires[output] != ink {
+        if wires[output] != ink && usize::from(ink) != m {
             return Some(Some(index));
         }
         for input in (0..n).rev() {

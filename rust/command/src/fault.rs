@@ -43,10 +43,10 @@ pub struct Apart {
 }
 
 impl<'a> Fault<'a> {
-    /// None where the table has a tree.
+    /// None where the table has a tree, or is no full table.
     pub fn of(table: &'a Table) -> Option<Fault<'a>> {
-        let refusal = table.settled().err()?;
-        debug_assert_eq!(refusal.kind(), Kind::NoTree);
+        let no_tree = |refusal: &Refusal| refusal.kind() == Kind::NoTree;
+        let refusal = table.settled().err().filter(no_tree)?;
         let mut splits: Vec<Split> = parts(refusal.place)
             .map(|part| split(table, [part, refusal.place - part]))
             .collect();
@@ -54,7 +54,7 @@ impl<'a> Fault<'a> {
         Some(Fault {
             table,
             splits,
-            fewest: table.fewest_levels(),
+            fewest: table.fewest_levels().expect("a full table"),
             refusal,
         })
     }

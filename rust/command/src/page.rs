@@ -3,10 +3,10 @@
 use crate::commands::why::paragraphs;
 use crate::fault::Fault;
 use crate::mend::mend;
-use crate::words::{count, list};
+use crate::words::{count, list, thousands};
 use picture::elements::shade;
 use picture::{matrix, svg};
-use sitgurp::{Net, Table};
+use sitgurp::{Kind, Net, Table};
 use std::path::Path;
 
 const STYLE: &str = "\
@@ -24,7 +24,14 @@ th { position: sticky; top: 0; background: #f5f7fa; }
 pre { font: .9rem/1.4 'DejaVu Sans Mono', Menlo, Consolas, monospace; background: #f5f7fa; padding: .6rem .8rem; overflow-x: auto; border-radius: .4rem; }
 code, li { font-family: 'DejaVu Sans Mono', Menlo, Consolas, monospace; font-size: .9rem; overflow-wrap: anywhere; }
 ul { padding-left: 1.2rem; }
+.open { color: #9aa5b1; }
 @media print { .rows { max-height: none; overflow: visible; } }
+";
+
+/// What is said in place of a tree where cells are open.
+const OPEN: &str = "\
+<h2>Open cells</h2>
+<p>Some cells are open: their assignments cannot occur. A tree is made of a full table, so there is none here; a net can be checked against the cells that are not open.</p>
 ";
 
 /// How many lines of a list a page has.
@@ -37,8 +44,12 @@ pub fn page(name: &str, table: &Table) -> String {
         .unwrap_or_default()
         .to_string_lossy();
     let title = text(&title);
+    let open = match table.open().len() {
+        0 => String::new(),
+        cells => format!(", {} open", thousands(cells)),
+    };
     let facts = format!(
-        "{} levels, {}: {}; {}",
+        "{} levels, {}: {}; {}{open}",
         table.levels(),
         count(table.names().len(), "input"),
         table.names().join(", "),
@@ -47,6 +58,7 @@ pub fn page(name: &str, table: &Table) -> String {
     let body = match (table.settled(), Fault::of(table)) {
         (Ok(net), _) => tree(table, &net),
         (_, Some(fault)) => refused(&fault),
+        (Err(refusal), None) if refusal.kind() == Kind::OpenCell => OPEN.to_string(),
         (Err(refusal), None) => format!("<p>{}</p>\n", text(&refusal.to_string())),
     };
     format!(
@@ -58,7 +70,7 @@ pub fn page(name: &str, table: &Table) -> String {
 
 /// The tree, its layers and how many there are.
 fn tree(table: &Table, net: &Net) -> String {
-    let trees = table.family().size();
+    let trees = table.family().map_or(0, |trees| trees.size());
     let fewest = table.shallow().map_or(0, |shallow| shallow.layers);
     let layers = net.layers();
     let shallower = match fewest < layers {
@@ -137,13 +149,18 @@ fn rows(table: &Table) -> String {
             .iter()
             .map(|level| format!("<td>{level}</td>"))
             .collect();
-        let shade = shade(row.ink, table.levels());
-        html += &format!(
-            "<tr>{levels}<td style=\"background:{shade}\">{}</td></tr>\n",
-            row.ink
-        );
+        html += &format!("<tr>{levels}{}</tr>\n", ink(row.ink, table.levels()));
     }
     html + "</table>\n</div>\n"
+}
+
+/// An ink in its shade, or that the cell is open.
+fn ink(ink: u8, levels: usize) -> String {
+    if usize::from(ink) == levels {
+        return "<td class=\"open\">open</td>".to_string();
+    }
+    let shade = shade(ink, levels);
+    format!("<td style=\"background:{shade}\">{ink}</td>")
 }
 
 /// Words in which what stands between backquotes is code.

@@ -6,7 +6,7 @@ use crate::input::Sheet;
 use crate::json::Json;
 use crate::loose::Loose;
 use crate::sentence::{sentence, Due, Front};
-use crate::words;
+use crate::words::{self, thousands};
 use sitgurp::{Kind, Net, Refusal, Table};
 use std::fmt;
 
@@ -117,8 +117,27 @@ impl Refused {
         }
     }
 
-    /// Of an accepted table that has no tree, or none of this number.
+    /// Of an accepted table that has open cells.
+    fn of_open_cells(sheet: &Sheet, table: &Table, refusal: Refusal) -> Refused {
+        let others = match table.open().len() {
+            1 => String::new(),
+            cells => format!(", the first of {}", thousands(cells)),
+        };
+        let sentence = format!("this cell is open{others}, and a full table is needed here");
+        // behind the row's levels, each with a space after it
+        let row = line_start(&sheet.bytes, refusal.place + 3);
+        let place = row + 2 * table.names().len();
+        let (program, operand) = (words::program(), words::operand(&sheet.name));
+        Refused::at(sheet, place, refusal, sentence).hinted(format!(
+            "`{program} check NET{operand}` passes over open cells"
+        ))
+    }
+
+    /// Of an accepted table that has open cells, no tree, or none of this number.
     pub fn of_table(sheet: &Sheet, table: &Table, refusal: Refusal) -> Refused {
+        if refusal.kind() == Kind::OpenCell {
+            return Refused::of_open_cells(sheet, table, refusal);
+        }
         let none = "no tree of two-input gates computes this table";
         let (program, operand) = (words::program(), words::operand(&sheet.name));
         let why = format!("`{program} why{operand}` says what to change");
@@ -127,7 +146,7 @@ impl Refused {
                 let inputs = words::list(&refusal.inputs);
                 (format!("{none}; at fault are {inputs} together"), Some(why))
             }
-            Kind::NoSuchTree => match table.family().size() {
+            Kind::NoSuchTree => match table.family().map_or(0, |trees| trees.size()) {
                 0 => (
                     format!("{none}, so it has no number {}", refusal.place),
                     Some(why),
@@ -252,6 +271,16 @@ fn any_net(inputs: &[String]) -> Vec<u8> {
 /// Reads a table sheet, or says in words why not.
 pub fn table(sheet: &Sheet) -> Result<Table, Refused> {
     Table::read(&sheet.bytes).map_err(|refusal| Refused::of_sheet(Due::Table, sheet, refusal, &[]))
+}
+
+/// Reads a table sheet that leaves no cell open, or says in words why not.
+pub fn full_table(sheet: &Sheet) -> Result<Table, Refused> {
+    let table = table(sheet)?;
+    // whatever needs a full table is refused alike
+    match table.multiplicity(1) {
+        Err(refusal) => Err(Refused::of_table(sheet, &table, refusal)),
+        Ok(_) => Ok(table),
+    }
 }
 
 /// Reads a net sheet, or says in words why not.

@@ -157,7 +157,7 @@ pub fn sentence(kind: Kind, front: &Front) -> String {
         Kind::RepeatedRow => repeated(front),
         Kind::Digits if front.due != Due::Net => {
             format!(
-                "an ink should be one digit from 0 to {}, not `{field}`",
+                "an ink should be one digit from 0 to {}, or `-` for an open cell, not `{field}`",
                 front.levels - 1
             )
         }

@@ -31,11 +31,17 @@ fn gate(net: &Net, gate: &Gate) -> Json {
     ])
 }
 
+/// The ink of an open cell is null.
 pub fn table(table: &Table) -> Json {
+    let ink = |&ink: &u8| match usize::from(ink) == table.levels() {
+        true => Json::Null,
+        false => Json::Number(ink.into()),
+    };
+    let inks = table.inks().iter().map(ink).collect();
     Json::object([
         ("levels", Json::number(table.levels())),
         ("inputs", Json::texts(table.names())),
-        ("inks", Json::numbers(table.inks())),
+        ("inks", Json::List(inks)),
         ("sheet", Json::text(table.as_str())),
     ])
 }

@@ -114,7 +114,7 @@ fn check() {
     );
     answers(
         folder.run("check sum.net sum.table --json"),
-        "{\"agree\":true}\n",
+        "{\"agree\":true,\"open\":0}\n",
     );
     let no = folder.run("check sum.net other.table");
     assert_eq!((no.status, no.err.as_str()), (1, ""));
@@ -125,7 +125,7 @@ fn check() {
     let no = folder.run("check sum.net other.table --json");
     assert_eq!(
         no.out,
-        "{\"agree\":false,\"at\":{\"a\":1,\"b\":1,\"c\":0},\"line\":10,\"net\":0,\"table\":1}\n"
+        "{\"agree\":false,\"at\":{\"a\":1,\"b\":1,\"c\":0},\"line\":10,\"net\":0,\"table\":1,\"open\":0}\n"
     );
     refuses(
         folder.run("check chain.net sum.table"),

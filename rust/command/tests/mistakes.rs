@@ -286,7 +286,7 @@ fn sizes_and_names() {
         with("a b c", "a b a"),
         "my.table:3:5: the name `a` stands twice (refusal 4)\n    a b a ink\n        ^\n",
     );
-    of_table("ink", with("1 1 1 1", "1 1 1 2"), "my.table:11:7: an ink should be one digit from 0 to 1, not `2` (refusal 6)\n    1 1 1 2\n          ^\n");
+    of_table("ink", with("1 1 1 1", "1 1 1 2"), "my.table:11:7: an ink should be one digit from 0 to 1, or `-` for an open cell, not `2` (refusal 6)\n    1 1 1 2\n          ^\n");
 }
 
 #[test]

@@ -71,7 +71,7 @@ fn refusals_stand_where_they_are_in_the_file() {
     );
     refused(
         "0,0,0\r\n1,\"1\",7\r\n",
-        "my.csv:5:7: an ink should be one digit from 0 to 1, not `7` (refusal 6)\n    1,\"1\",7\\r\n          ^\n",
+        "my.csv:5:7: an ink should be one digit from 0 to 1, or `-` for an open cell, not `7` (refusal 6)\n    1,\"1\",7\\r\n          ^\n",
     );
     refused(
         "0,0,0\r\n2,0,1\r\n",

@@ -99,7 +99,8 @@ fn what_it_says_is_so() {
             json.contains(&format!("\"group\":[{}]", names.join(","))),
             "{json}"
         );
-        assert_eq!(numbers_of(&json, "fewest_levels"), [table.fewest_levels()]);
+        let fewest = table.fewest_levels().expect("a full table");
+        assert_eq!(numbers_of(&json, "fewest_levels"), [fewest]);
         splits_are_so(&table, refusal.place, &json);
         pairs_are_so(&table, &json);
         let lines = numbers_of(&json, "line");

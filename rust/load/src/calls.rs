@@ -54,21 +54,21 @@ impl Kind {
     /// two is had without a number.
     pub fn refusals(self) -> &'static [usize] {
         match self {
-            Kind::Multiplicity => &[9, 10, 11],
-            Kind::Multiplicities | Kind::FewestLevels => &[1, 2, 3, 4, 5, 6],
-            Kind::Marking => &[9, 10, 14],
+            Kind::Multiplicity => &[9, 10, 11, 27],
+            Kind::Multiplicities | Kind::FewestLevels => &[1, 2, 3, 4, 5, 6, 27],
+            Kind::Marking => &[9, 10, 14, 27],
             Kind::Settle | Kind::SettleShallow => &[1, 2, 3, 4, 6, 7, 8, 13, 14, 15, 26],
-            Kind::Make | Kind::MakeShallow => &[1, 2, 3, 4, 5, 6, 13, 14, 15, 16],
+            Kind::Make | Kind::MakeShallow => &[1, 2, 3, 4, 5, 6, 13, 14, 15, 16, 27],
             Kind::Shallower => &[],
-            Kind::FamilyCount => &[1, 2, 3, 4, 5, 6, 13, 14],
-            Kind::FamilyTree => &[1, 2, 3, 4, 5, 6, 13, 14, 15, 17],
+            Kind::FamilyCount => &[1, 2, 3, 4, 5, 6, 13, 14, 27],
+            Kind::FamilyTree => &[1, 2, 3, 4, 5, 6, 13, 14, 15, 17, 27],
             Kind::Check => &[1, 2, 3, 4, 5, 6, 7, 8, 12, 13, 26],
             Kind::Arrivals => &[1, 2, 3, 4, 6, 7, 8, 18, 19, 26],
             Kind::WriteTable => &[1, 2, 3, 4, 6, 7, 8, 15, 26],
             Kind::Listing => &[1, 2, 3, 4, 6, 7, 8, 26],
             Kind::Tidy => &[1, 2, 3, 4, 5, 6, 13, 15, 20],
-            Kind::Job => &[1, 2, 3, 4, 5, 6, 9, 11, 13, 14, 15, 16, 21, 22],
-            Kind::Keep => &[1, 2, 3, 4, 5, 6, 7, 8, 12, 13, 15, 23, 26],
+            Kind::Job => &[1, 2, 3, 4, 5, 6, 9, 11, 13, 14, 15, 16, 21, 22, 27],
+            Kind::Keep => &[1, 2, 3, 4, 5, 6, 7, 8, 12, 13, 15, 23, 26, 27],
             Kind::Glyph => &[1, 2, 3, 4, 6, 7, 8, 15, 24, 25, 26],
         }
     }

@@ -94,15 +94,22 @@ impl Inputs {
     }
 
     pub fn table_sheet(&mut self) -> Vec<u8> {
-        let kind = *self.generator.rng.pick(&TableKind::ALL);
-        let good = self.generator.table_sheet(self.m, self.n, kind);
+        let good = self.any_table_sheet();
         self.perhaps_damaged(good)
+    }
+
+    /// A good table sheet; one in eight leaves cells open.
+    fn any_table_sheet(&mut self) -> Vec<u8> {
+        let kind = *self.generator.rng.pick(&TableKind::ALL);
+        match self.below(8) {
+            0 => self.generator.open_table_sheet(self.m, self.n, kind),
+            _ => self.generator.table_sheet(self.m, self.n, kind),
+        }
     }
 
     /// A loosely laid table sheet, good half of the time.
     pub fn loose_sheet(&mut self) -> Vec<u8> {
-        let kind = *self.generator.rng.pick(&TableKind::ALL);
-        let strict = self.generator.table_sheet(self.m, self.n, kind);
+        let strict = self.any_table_sheet();
         let mut sheet = self.generator.loosened(&strict);
         match self.below(8) {
             0..4 => {}
@@ -152,7 +159,7 @@ impl Inputs {
         }
     }
 
-    /// A net sheet and a table sheet: the net's own table, the same with an ink changed, or a table sheet of another header.
+    /// A net sheet and a table sheet: the net's own table, the same with an ink changed or with cells left open, or a table sheet of another header.
     pub fn net_and_table_sheet(&mut self) -> (Vec<u8>, Vec<u8>) {
         let header = self.generator.header(self.m, self.n);
         let net = self.generator.net(self.m, self.n);
@@ -160,6 +167,9 @@ impl Inputs {
         if self.below(2) == 0 {
             let cell = self.below(table.inks.len());
             table.inks[cell] = self.generator.rng.level(self.m);
+        }
+        if self.below(4) == 0 {
+            table = self.generator.with_open_cells(table);
         }
         let table_sheet = match self.below(8) {
             0 => self.other_table_sheet(),
@@ -275,16 +285,15 @@ impl Inputs {
 
     fn one_thing_wrong(&mut self, mut bare: Bare) -> Bare {
         let odd = *self.generator.rng.pick(&ODD_NUMBERS);
-        match self.below(6) {
+        let place = self.below(bare.cells.len());
+        match self.below(7) {
             0 => bare.m = odd,
             1 => bare.n = odd,
             2 => bare.group = odd,
             3 => bare.group = self.groups(),
-            4 => bare.cells.truncate(self.below(bare.cells.len())),
-            _ => {
-                let place = self.below(bare.cells.len());
-                bare.cells[place] = (self.m + self.below(256 - self.m)) as u8;
-            }
+            4 => bare.cells.truncate(place),
+            5 => bare.cells[place] = (self.m + self.below(256 - self.m)) as u8,
+            _ => bare.cells[place] = self.m as u8,
         }
         bare
     }

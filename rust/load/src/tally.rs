@@ -5,7 +5,7 @@ use std::collections::BTreeSet;
 use std::fmt;
 
 /// Refusals are numbered from 1; 0 stands for an accepted call.
-const ENDS: usize = 27;
+const ENDS: usize = 28;
 
 #[derive(Clone, Default)]
 struct Row {
@@ -108,6 +108,7 @@ mod tests {
             (Kind::Multiplicity, 0),
             (Kind::Listing, 8),
             (Kind::Settle, 26),
+            (Kind::Marking, 27),
         ] {
             assert_eq!(all_but(kind, number).unseen(), [(kind, number)]);
         }

@@ -3,7 +3,10 @@
 //! "15 and 16 leave cells and marks written where the call has them, the output
 //! untouched. Every other refusal changes no buffer." "Longer buffers keep their
 //! further bytes." 17 "takes the place of 16 in the second call" of a family "and
-//! leaves what 16 leaves".
+//! leaves what 16 leaves". "Everything that counts classes, marks groups or fills
+//! gates needs a full table": 27, "open cell where a full table is needed, place the
+//! lowest such index, judged after 12 and before 13, for bare cells between 10 and
+//! 11".
 
 use crate::arrivals::{self, Settling};
 use crate::family::{self, family_net};
@@ -13,7 +16,7 @@ use crate::kept::{changed, refilled};
 use crate::limits::cell_count;
 use crate::marks::{self, first_stuck, marks_of};
 use crate::net::{Net, Table};
-use crate::refusal::{self, require, Refusal};
+use crate::refusal::{self, require, Refusal, Sheet};
 use crate::settled::settled_net;
 use crate::shallow::shallow_net;
 use crate::sheet::{
@@ -45,9 +48,10 @@ pub struct Kept {
 }
 
 /// "The multiplicity call gives the true number of classes, however large."
-/// Refusals 9, 10, 11.
+/// Refusals 9, 10, 27, 11.
 pub fn multiplicity(m: u64, n: u64, cells: &[u8], group: u64) -> Result<u64, Refusal> {
     let table = bare_table(m, n, cells)?;
+    require_full(&table)?;
     if group == 0 || group > whole(table.n) as u64 {
         return Err(Refusal::new(refusal::GROUP, 0));
     }
@@ -55,23 +59,24 @@ pub fn multiplicity(m: u64, n: u64, cells: &[u8], group: u64) -> Result<u64, Ref
 }
 
 /// Every group's multiplicity, at its number, of a table sheet; 0 for group 0,
-/// which has none. Refusals 1 to 6.
+/// which has none. Refusals 1 to 6, 27.
 pub fn multiplicities(sheet: &[u8]) -> Result<Vec<usize>, Refusal> {
-    let (_, table) = read_table_sheet(sheet)?;
+    let (_, table) = read_full_table_sheet(sheet)?;
     Ok(groups::multiplicities(&table))
 }
 
 /// The fewest levels that the gates' wires would have to carry for a table
-/// sheet to have a tree: at most m exactly when it has one. Refusals 1 to 6.
+/// sheet to have a tree: at most m exactly when it has one. Refusals 1 to 6, 27.
 pub fn fewest_levels(sheet: &[u8]) -> Result<usize, Refusal> {
-    let (_, table) = read_table_sheet(sheet)?;
+    let (_, table) = read_full_table_sheet(sheet)?;
     Ok(marks::fewest_levels(&table))
 }
 
 /// "Marking takes bare cells, writes the marks buffer and answers the whole
-/// group's mark." Refusals 9, 10, 14.
+/// group's mark." Refusals 9, 10, 27, 14.
 pub fn marking(m: u64, n: u64, cells: &[u8], marks: &mut [u8]) -> Result<u8, Refusal> {
     let table = bare_table(m, n, cells)?;
+    require_full(&table)?;
     require(refusal::MARKS_SHORT, marks.len(), marks::needed(table.n))?;
     let of_groups = marks_of(&table);
     marks::store(&of_groups, marks);
@@ -92,14 +97,14 @@ pub fn settle(
 }
 
 /// A table sheet to the settled net sheet of its table.
-/// Refusals 1 to 6, 13, 14, 16, 15.
+/// Refusals 1 to 6, 27, 13, 14, 16, 15.
 pub fn make(
     sheet: &[u8],
     cells: &mut [u8],
     marks: &mut [u8],
     out: &mut [u8],
 ) -> Result<usize, Refusal> {
-    let (header, table) = read_table_sheet(sheet)?;
+    let (header, table) = read_full_table_sheet(sheet)?;
     let written = write_tree(settled_net, &header, &table, cells, marks, out)?;
     Ok(written.length)
 }
@@ -118,22 +123,22 @@ pub fn settle_shallow(
 }
 
 /// A table sheet to the sheet of the shallow net of its table.
-/// Refusals 1 to 6, 13, 14, 16, 15.
+/// Refusals 1 to 6, 27, 13, 14, 16, 15.
 pub fn make_shallow(
     sheet: &[u8],
     cells: &mut [u8],
     marks: &mut [u8],
     out: &mut [u8],
 ) -> Result<Layered, Refusal> {
-    let (header, table) = read_table_sheet(sheet)?;
+    let (header, table) = read_full_table_sheet(sheet)?;
     write_tree(shallow_net, &header, &table, cells, marks, out)
 }
 
 /// "One call takes a table sheet with making's cells and marks buffers, no
 /// output, and answers the count of the trees." "A table with no tree gets count
-/// 0, never 16." Refusals 1 to 6, 13, 14.
+/// 0, never 16." Refusals 1 to 6, 27, 13, 14.
 pub fn family_count(sheet: &[u8], cells: &mut [u8], marks: &mut [u8]) -> Result<u64, Refusal> {
-    let (_, table) = read_table_sheet(sheet)?;
+    let (_, table) = read_full_table_sheet(sheet)?;
     let of_groups = write_marks(&table, cells, marks)?;
     Ok(family::count(&table, &of_groups))
 }
@@ -141,7 +146,7 @@ pub fn family_count(sheet: &[u8], cells: &mut [u8], marks: &mut [u8]) -> Result<
 /// "The other takes a table sheet, an order number and all of making's buffers,
 /// and writes the tree of that number, from 0." 17: "order number not below the
 /// count, place the number, judged after 14 and before 15".
-/// Refusals 1 to 6, 13, 14, 17, 15.
+/// Refusals 1 to 6, 27, 13, 14, 17, 15.
 pub fn family_tree(
     sheet: &[u8],
     number: u64,
@@ -149,7 +154,7 @@ pub fn family_tree(
     marks: &mut [u8],
     out: &mut [u8],
 ) -> Result<usize, Refusal> {
-    let (header, table) = read_table_sheet(sheet)?;
+    let (header, table) = read_full_table_sheet(sheet)?;
     let of_groups = write_marks(&table, cells, marks)?;
     let net = family_net(&table, &of_groups, number)
         .ok_or_else(|| Refusal::new(refusal::ORDER_NUMBER, number))?;
@@ -214,14 +219,16 @@ fn no_tree(marks: &[u8], n: usize) -> Refusal {
 }
 
 /// A net sheet against a table sheet. It "puts the table sheet's inks in the
-/// cells buffer", whether they agree or not.
+/// cells buffer", whether they agree or not. "A check passes over open assignments,
+/// for its agreement and for the lowest index that differs."
 /// Refusals: the net's 1 to 8 and 26, the table's 1 to 6, 12, 13.
 pub fn check(net_sheet: &[u8], table_sheet: &[u8], cells: &mut [u8]) -> Result<Verdict, Refusal> {
     let (_, net, table) = read_both(net_sheet, table_sheet)?;
     require(refusal::CELLS_SHORT, cells.len(), table.inks.len())?;
     put(cells, &table.inks);
     let values = net.table().inks;
-    let differing = (0..values.len()).find(|&index| values[index] != table.inks[index]);
+    let differs = |&index: &usize| !table.is_open(index) && values[index] != table.inks[index];
+    let differing = (0..values.len()).find(differs);
     Ok(match differing {
         Some(index) => Verdict::Differ(index as u64),
         None => Verdict::Agree,
@@ -234,7 +241,7 @@ pub fn check(net_sheet: &[u8], table_sheet: &[u8], cells: &mut [u8]) -> Result<V
 /// more than m classes, judged after 12 and 13 and before 15"; it "leaves the cells
 /// written". A wiring "that leaves out an input that matters is refused with 23 at
 /// place 0, before its gates are judged". Refusals: the net's 1 to 8 and 26, the
-/// table's 1 to 6, 12, 13, 23, 15.
+/// table's 1 to 6, 12, the table's 27, 13, 23, 15.
 pub fn keep(
     net_sheet: &[u8],
     table_sheet: &[u8],
@@ -242,6 +249,7 @@ pub fn keep(
     out: &mut [u8],
 ) -> Result<Kept, Refusal> {
     let (header, old, table) = read_both(net_sheet, table_sheet)?;
+    require_full(&table).map_err(|refusal| refusal.naming(Sheet::Table))?;
     require(refusal::CELLS_SHORT, cells.len(), table.inks.len())?;
     put(cells, &table.inks);
     let new = refilled(&old, &table).map_err(|gate| Refusal::new(refusal::WIRING, gate as u64))?;
@@ -295,7 +303,7 @@ pub fn write_table(net_sheet: &[u8], out: &mut [u8]) -> Result<usize, Refusal> {
 
 /// A loosely laid table sheet to the table sheet of document 01. It "puts the inks
 /// in the cells buffer and writes the table sheet"; "13 and 15 follow" the sheet's
-/// refusals. Refusals 1 to 6, 20, 13, 15.
+/// refusals. "Tidying carries the sign." Refusals 1 to 6, 20, 13, 15.
 pub fn tidy(sheet: &[u8], cells: &mut [u8], out: &mut [u8]) -> Result<usize, Refusal> {
     let (header, table) = read_loose_table_sheet(sheet)?;
     require(refusal::CELLS_SHORT, cells.len(), table.inks.len())?;
@@ -337,13 +345,28 @@ fn put(buffer: &mut [u8], bytes: &[u8]) {
     buffer[..bytes.len()].copy_from_slice(bytes);
 }
 
+/// A table sheet of a full table. Refusals 1 to 6, 27; each names the sheet.
+pub(crate) fn read_full_table_sheet(sheet: &[u8]) -> Result<(Header, Table), Refusal> {
+    let (header, table) = read_table_sheet(sheet)?;
+    require_full(&table).map_err(|refusal| refusal.naming(Sheet::Table))?;
+    Ok((header, table))
+}
+
+/// 27, "open cell where a full table is needed, place the lowest such index".
+fn require_full(table: &Table) -> Result<(), Refusal> {
+    match table.first_open() {
+        Some(index) => Err(Refusal::new(refusal::OPEN_CELL, index as u64)),
+        None => Ok(()),
+    }
+}
+
 /// Bare cells as a table. 9: "m, n or the cell count outside a sheet's bounds,
-/// or length not m to the n". 10: "bare cell not below m; place its index".
+/// or length not m to the n". "Bare cells may be m, so 10 now means above m."
 fn bare_table(m: u64, n: u64, cells: &[u8]) -> Result<Table, Refusal> {
     if cell_count(m, n) != Some(cells.len() as u64) {
         return Err(Refusal::new(refusal::BARE_SIZE, 0));
     }
-    if let Some(index) = cells.iter().position(|&cell| u64::from(cell) >= m) {
+    if let Some(index) = cells.iter().position(|&cell| u64::from(cell) > m) {
         return Err(Refusal::new(refusal::BARE_CELL, index as u64));
     }
     Ok(Table {

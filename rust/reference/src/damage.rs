@@ -1,5 +1,6 @@
 //! Damaged sheets: what the readers of sheets are tried on.
 
+use crate::fields::OPEN;
 use crate::generate::Generator;
 use std::collections::HashSet;
 use std::ops::Range;
@@ -20,10 +21,11 @@ pub enum Damage {
     DropLastLine,
     AddGate,
     OtherReference,
+    OpenCell,
 }
 
 impl Damage {
-    pub const ALL: [Damage; 13] = [
+    pub const ALL: [Damage; 14] = [
         Damage::ChangeByte,
         Damage::DropByte,
         Damage::DoubleByte,
@@ -37,13 +39,14 @@ impl Damage {
         Damage::DropLastLine,
         Damage::AddGate,
         Damage::OtherReference,
+        Damage::OpenCell,
     ];
 }
 
-/// Bytes that tell readers apart: separators, look-alikes of separators, digits,
-/// letters, and bytes outside ASCII.
-pub const TELLING_BYTES: [u8; 13] = [
-    b' ', b'\n', b'\r', b'\t', 0, b'0', b'1', b'9', b'a', b'i', b'A', 0x80, 0xff,
+/// Bytes that tell readers apart: separators, look-alikes of separators, the sign
+/// of an open cell, digits, letters, and bytes outside ASCII.
+pub const TELLING_BYTES: [u8; 14] = [
+    b' ', b'\n', b'\r', b'\t', 0, b'-', b'0', b'1', b'9', b'a', b'i', b'A', 0x80, 0xff,
 ];
 
 impl Generator {
@@ -74,6 +77,7 @@ impl Generator {
             Damage::DropLastLine => drop_last_line(sheet),
             Damage::AddGate => self.add_gate(sheet),
             Damage::OtherReference => self.other_reference(sheet),
+            Damage::OpenCell => self.open_cell(sheet),
         }
     }
 
@@ -171,6 +175,16 @@ impl Generator {
         }
         let name = self.rng.pick(&names).clone();
         replace(sheet, &fields[self.rng.below(2)], &name)
+    }
+
+    /// The last field of some line made the sign of an open cell: a table sheet is
+    /// then often still good.
+    fn open_cell(&mut self, sheet: &[u8]) -> Vec<u8> {
+        let line = self.rng.below(lines(sheet).len());
+        match fields_of_line(sheet, line).last() {
+            Some(field) => replace(sheet, field, &[OPEN]),
+            None => sheet.to_vec(),
+        }
     }
 
     /// Some line again, before some line or at the end.

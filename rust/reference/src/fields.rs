@@ -98,8 +98,12 @@ pub fn level_field(field: &[u8], m: usize) -> Judged<u8> {
     one_digit_below(field, m).ok_or(refusal::COUNT)
 }
 
-/// An ink is one digit below m: how an ink field is judged is said here alone.
+/// An ink is one digit below m, or `-` where the cell is left open, and "a cell
+/// holds m for it": how an ink field is judged is said here alone.
 pub fn ink_field(field: &[u8], m: usize) -> Judged<u8> {
+    if field == [OPEN] {
+        return Ok(m as u8);
+    }
     one_digit_below(field, m).ok_or(refusal::DIGITS)
 }
 
@@ -128,7 +132,18 @@ pub fn time_field(field: &[u8], least: u64) -> Judged<u64> {
         .ok_or(refusal::TIME)
 }
 
+/// "Its maker writes `-` as their ink."
+pub const OPEN: u8 = b'-';
+
 /// The one byte that a level is written as.
 pub fn digit(level: u8) -> u8 {
     b'0' + level
+}
+
+/// The one byte that an ink is written as.
+pub fn ink_byte(ink: u8, m: usize) -> u8 {
+    if usize::from(ink) == m {
+        return OPEN;
+    }
+    digit(ink)
 }

@@ -182,6 +182,18 @@ impl Generator {
         }
     }
 
+    /// The table with a few of its cells left open, or with many.
+    pub fn with_open_cells(&mut self, table: Table) -> Table {
+        let mut table = table;
+        let cells = table.inks.len();
+        let most = *self.rng.pick(&[1, 3, cells, 4 * cells]);
+        for _ in 0..1 + self.rng.below(most) {
+            let cell = self.rng.below(cells);
+            table.inks[cell] = table.m as u8;
+        }
+        table
+    }
+
     fn one_ink_changed(&mut self, m: usize, n: usize) -> Table {
         let mut table = self.net_of_all_inputs(m, n).table();
         let cell = self.rng.below(table.inks.len());
@@ -274,7 +286,14 @@ impl Generator {
         }
     }
 
-    /// A good table sheet.
+    /// A good table sheet with open cells.
+    pub fn open_table_sheet(&mut self, m: usize, n: usize, kind: TableKind) -> Vec<u8> {
+        let header = self.header(m, n);
+        let table = self.table(m, n, kind);
+        print_table_sheet(&header, &self.with_open_cells(table))
+    }
+
+    /// A good sheet of a full table.
     pub fn table_sheet(&mut self, m: usize, n: usize, kind: TableKind) -> Vec<u8> {
         let header = self.header(m, n);
         let table = self.table(m, n, kind);

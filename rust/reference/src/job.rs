@@ -1,12 +1,12 @@
 //! "Marking that yields to the pen": marking as a job that goes one group further
 //! at each step.
 
-use crate::calls::write_settled;
+use crate::calls::{read_full_table_sheet, write_settled};
 use crate::groups::whole;
 use crate::marks::{mark_of, NONE};
 use crate::net::Table;
 use crate::refusal::{self, Refusal};
-use crate::sheet::{read_table_sheet, Header};
+use crate::sheet::Header;
 
 /// A job "keeps its own copy of names, cells and marks". The groups from 1 up to
 /// `passed` have been passed, and every other mark in it is 0.
@@ -19,10 +19,11 @@ pub struct Job {
 }
 
 impl Job {
-    /// A job on a table sheet. "A sheet that is turned back opens an empty job
-    /// beside its refusal." Refusals 1 to 6.
+    /// A job on a table sheet, which "needs a full table [..] at its opening". "A
+    /// sheet that is turned back opens an empty job beside its refusal."
+    /// Refusals 1 to 6, 27.
     pub fn open(sheet: &[u8]) -> (Job, Option<Refusal>) {
-        match read_table_sheet(sheet) {
+        match read_full_table_sheet(sheet) {
             Ok((header, table)) => (Job::of(header, table), None),
             Err(refusal) => (Job::empty(), Some(refusal)),
         }

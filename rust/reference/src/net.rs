@@ -27,7 +27,8 @@ pub struct Net {
     pub gates: Vec<Gate>,
 }
 
-/// An ink for every assignment, in index order.
+/// An ink for every assignment, in index order. "Some assignments cannot occur": such
+/// a cell is left open, and "holds m for it".
 #[derive(Clone, Debug, PartialEq, Eq)]
 pub struct Table {
     pub m: usize,
@@ -137,6 +138,16 @@ impl Table {
                 return Table { m, n, inks };
             }
         }
+    }
+
+    /// Whether the cell of this index is left open.
+    pub fn is_open(&self, index: usize) -> bool {
+        usize::from(self.inks[index]) == self.m
+    }
+
+    /// The lowest index of an open cell; none of a full table.
+    pub fn first_open(&self) -> Option<usize> {
+        (0..self.inks.len()).find(|&index| self.is_open(index))
     }
 
     /// The ink at an assignment: "a cell's index is its line's place in that

@@ -5,8 +5,8 @@
 /// "A call that refuses either of two sheets judges the net first, and names
 /// the sheet it refuses; 12 names neither." Numbers 1 to 8 are about a sheet
 /// and name it, in the calls with one sheet too; 18 and 19 are about an arrival
-/// sheet and name it, 20 is about a table sheet, 26 about a net sheet; 9 to 17
-/// and 21 to 25 name neither.
+/// sheet and name it, 20 is about a table sheet, 26 about a net sheet, 27 about a
+/// table sheet or about bare cells; 9 to 17 and 21 to 25 name neither.
 #[derive(Clone, Copy, Debug, PartialEq, Eq)]
 pub enum Sheet {
     Net,
@@ -49,6 +49,7 @@ pub const WIRING: u8 = 23;
 pub const PICTURE: u8 = 24;
 pub const OFFSETS: u8 = 25;
 pub const UNUSED_GATE: u8 = 26;
+pub const OPEN_CELL: u8 = 27;
 
 impl Refusal {
     /// A refusal that names no sheet (yet).

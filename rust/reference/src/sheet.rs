@@ -6,7 +6,7 @@
 
 use crate::arrivals::Arrival;
 use crate::fields::{
-    count_field, digit, digits_field, fixed_word, ink_field, inputs_field, level_field,
+    count_field, digit, digits_field, fixed_word, ink_byte, ink_field, inputs_field, level_field,
     levels_field, name_field, next_input_field, reference_field, time_field, Judged,
 };
 use crate::net::{all_inputs, count_up, place_in_count, Gate, Net, Table, Wire};
@@ -335,8 +335,8 @@ pub fn print_table_sheet(header: &Header, table: &Table) -> Vec<u8> {
     let inputs = all_inputs(header.n);
     let mut levels = vec![0; header.n];
     for &ink in &table.inks {
-        let row: Vec<u8> = levels.iter().chain([&ink]).map(|&l| digit(l)).collect();
-        let fields: Vec<Vec<u8>> = row.iter().map(|&byte| vec![byte]).collect();
+        let mut fields: Vec<Vec<u8>> = levels.iter().map(|&level| vec![digit(level)]).collect();
+        fields.push(vec![ink_byte(ink, header.m)]);
         push_line(&mut sheet, &fields);
         count_up(&mut levels, &inputs, header.m);
     }

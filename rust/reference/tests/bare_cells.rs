@@ -58,9 +58,10 @@ fn refusal_9_bare_lengths() {
     }
 }
 
+/// "10 now means above m."
 #[test]
-fn refusal_10_the_lowest_cell_not_below_m() {
-    for bad in [3, 4, 9, 255] {
+fn refusal_10_the_lowest_cell_above_m() {
+    for bad in [4, 9, 255] {
         for index in 0..9 {
             let mut cells = [2; 9];
             cells[index..].fill(bad);

@@ -343,7 +343,7 @@ fn the_net_sheet_then_the_table_sheet_then_12() {
     let net = net_sheet(2, "a b", "a b 0110");
     let table = table_sheet(2, "a b", &[0, 1, 1, 0]);
     let bad_net = net_sheet(2, "a b", "a a 0110");
-    let bad_table = table_sheet(2, "a b", &[0, 1, 1, 2]);
+    let bad_table = table_sheet(2, "a b", &[0, 1, 1, 3]);
     assert_eq!(kept(&bad_net, &bad_table), Err(of_net(8, 41)));
     assert_eq!(kept(&bad_net, &table), Err(of_net(8, 41)));
     assert_eq!(kept(&net, &bad_table), Err(of_table(6, 48)));

@@ -56,7 +56,11 @@ fn sheets_of_every_size() {
     let mut generator = Generator::new(seed);
     for (m, n) in allowed_sizes() {
         for kind in TableKind::ALL {
-            let strict = generator.table_sheet(m as usize, n as usize, kind);
+            let (m, n) = (m as usize, n as usize);
+            let strict = match generator.rng.below(3) {
+                0 => generator.open_table_sheet(m, n, kind),
+                _ => generator.table_sheet(m, n, kind),
+            };
             assert_eq!(tidied(&strict).as_ref(), Ok(&strict));
             for loose in [
                 generator.rows_shuffled(&strict),
@@ -75,10 +79,12 @@ fn sheets_of_every_size() {
 fn equal_exactly_when_the_inks_are() {
     let mut generator = Generator::new(2_021);
     let (mut equal, mut unlike) = (0, 0);
-    for _ in 0..300 {
+    for _ in 0..1_500 {
         let m = 2 + generator.rng.below(2);
+        // with 2 levels a third of the cells is open
         let inks = |generator: &mut Generator| -> Vec<u8> {
-            (0..m * m).map(|_| generator.rng.level(2)).collect()
+            let most = if m == 2 { 3 } else { 2 };
+            (0..m * m).map(|_| generator.rng.level(most)).collect()
         };
         let (first, second) = (inks(&mut generator), inks(&mut generator));
         let loose = |generator: &mut Generator, inks: &[u8]| {
@@ -232,7 +238,8 @@ fn refusal_6_inks() {
             "levels inputs/2 2/a b ink/1 1   ^2/",
             "levels inputs/2 2/a b ink/1 1 ^01/",
             "levels inputs/2 2/a b ink/1 1 ^x/",
-            "levels inputs/2 2/a b ink/1 1 ^-  /",
+            "levels inputs/2 2/a b ink/1 1 ^--  /",
+            "levels inputs/2 2/a b ink/1 1 -/1 0 ^-0/",
             "levels inputs/2 2/a b ink/1 1 ^0\r/",
             "levels inputs/3 2/a b ink/0 1 2/2 1 ^3",
         ],

@@ -30,7 +30,7 @@ fn main() -> Result<(), Box<dyn Error>> {
     println!(
         "{} layers, {} trees in all",
         net.layers(),
-        table.family().size()
+        table.family()?.size()
     );
     Ok(())
 }

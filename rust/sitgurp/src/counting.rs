@@ -1,6 +1,6 @@
 //! For the designer of a refused table: how many classes each group has, and how many levels would do.
 
-use crate::{make, multiplicity, Refusal, MOST_CELLS, MOST_MARKS};
+use crate::{make, multiplicity, tidy, Kind, Refusal, MOST_CELLS, MOST_MARKS};
 
 /// Levels, inputs and inks of a table sheet.
 struct Bare {
@@ -9,7 +9,7 @@ struct Bare {
     cells: Vec<u8>,
 }
 
-/// Reads a table sheet by making it with no output. An accepted sheet is then refused with 16 or 15, and both leave the cells written;
+/// Reads a full table sheet by making it with no output. An accepted sheet is then refused with 16 or 15, and both leave the cells written;
 /// any other refusal is the sheet's.
 fn bare(sheet: &[u8]) -> Result<Bare, Refusal> {
     let mut cells = vec![0; MOST_CELLS];
@@ -39,16 +39,29 @@ fn decimal(field: &[u8]) -> usize {
     digits.fold(0, |value, digit| value * 10 + digit)
 }
 
-/// The inks of a table sheet, in the order of its rows. Refusals are the sheet's, 1 to 6.
+/// The inks of a table sheet, in the order of its rows, m for an open cell. Refusals are the sheet's, 1 to 6.
 pub(crate) fn inks_of(sheet: &[u8]) -> Result<Vec<u8>, Refusal> {
-    bare(sheet).map(|bare| bare.cells)
+    match bare(sheet) {
+        Err(refusal) if refusal.kind() == Kind::OpenCell => Ok(open_inks(sheet)),
+        bare => bare.map(|bare| bare.cells),
+    }
+}
+
+/// The inks of an accepted sheet with open cells: tidied with no output it is refused with 15, which leaves the cells written.
+fn open_inks(sheet: &[u8]) -> Vec<u8> {
+    let mut cells = vec![0; MOST_CELLS];
+    let refusal = tidy(sheet, &mut cells, &mut []).expect_err("no output");
+    debug_assert_eq!(refusal.kind(), Kind::OutputShort);
+    let (m, n) = size(sheet);
+    cells.truncate(m.pow(n as u32));
+    cells
 }
 
 /// Every group's number of classes, of a table sheet: entry g is the [`multiplicity`] of group g. The empty group has none (the call
 /// refuses it with 11), and entry 0 is 0.
 ///
 /// A gate that joins just the inputs of a group has to tell its classes apart, so entry g is the fewest levels that the gate's wire
-/// must carry. Refusals are the sheet's, 1 to 6.
+/// must carry. Refusals are the sheet's, 1 to 6 and 27.
 ///
 /// ```
 /// // 2 levels, ink 1 when at least two of three inputs are 1: any two of them need a wire of three levels
@@ -71,7 +84,7 @@ pub fn multiplicities(sheet: &[u8]) -> Result<Vec<usize>, Refusal> {
 /// or more, and one way has none that must carry more than k. Inputs that never matter may be wired or left out: k stays the same.
 ///
 /// If a sheet may have k levels with so many inputs, the tree is had as a sheet too: the same rule with k levels, where an input above
-/// m - 1 acts as m - 1, is made. Refusals are the sheet's, 1 to 6.
+/// m - 1 acts as m - 1, is made. Refusals are the sheet's, 1 to 6 and 27.
 pub fn fewest_levels(sheet: &[u8]) -> Result<usize, Refusal> {
     let counts = multiplicities(sheet)?;
     // of each group the fewest that a tree over it needs; a part has a lower number, so it is there already

@@ -71,7 +71,7 @@ pub struct Family<'a> {
 }
 
 impl<'a> Family<'a> {
-    /// The family of a table sheet, from number 0. Refusals are the sheet's, 1 to 6; a table without a tree has an empty family.
+    /// The family of a table sheet, from number 0. Refusals are the sheet's, 1 to 6 and 27; a table without a tree has an empty family.
     pub fn of(sheet: &'a [u8]) -> Result<Family<'a>, Refusal> {
         let size = family_count(sheet, &mut [0; MOST_CELLS], &mut [0; MOST_MARKS])?;
         let left = 0..size;

@@ -30,7 +30,7 @@ pub struct Job {
 }
 
 impl Job {
-    /// A job on a table sheet. A sheet that is refused, 1 to 6, opens the empty job beside its refusal.
+    /// A job on a full table sheet. A sheet that is refused, 1 to 6 or 27, opens the empty job beside its refusal.
     pub fn open(sheet: &[u8]) -> (Job, Option<Refusal>) {
         let mut job = Job {
             lines: [0; LINES],

@@ -23,7 +23,7 @@ pub enum Kind {
     Name = 4,
     /// A row's input level is not the next in the count.
     Row = 5,
-    /// An ink, or a gate's table, is not made of digits below levels.
+    /// An ink is no digit below levels and not `-`, or a gate's table is not made of digits below levels.
     Digits = 6,
     /// A reference is to no input and to no earlier gate.
     UnknownReference = 7,
@@ -31,7 +31,7 @@ pub enum Kind {
     UsedReference = 8,
     /// Bare cells: levels, inputs or the number of cells is out of bounds.
     BareSize = 9,
-    /// A bare cell is not below levels; the place is its index.
+    /// A bare cell is above levels; the place is its index.
     BareCell = 10,
     /// The group is empty, or no group of these inputs.
     Group = 11,
@@ -65,6 +65,8 @@ pub enum Kind {
     Offsets = 25,
     /// A net sheet: an earlier gate is never used; the place is the sheet's length.
     UnusedGate = 26,
+    /// A cell is left open where a full table is needed; the place is the lowest index of one.
+    OpenCell = 27,
     /// A number that this version of the crate has no name for.
     Unknown = 0,
 }
@@ -98,6 +100,7 @@ impl Kind {
         Kind::Picture,
         Kind::Offsets,
         Kind::UnusedGate,
+        Kind::OpenCell,
     ];
 
     /// The kind of a refusal's number.

@@ -104,16 +104,16 @@ pub enum Verdict {
     Differ(usize),
 }
 
-/// The answer of a call that takes one sheet or none: 1 to 8, 20 and 26 are that sheet's.
+/// The answer of a call that takes one sheet or none: 1 to 8, 20, 26 and 27 are that sheet's.
 fn answered(answer: ffi::Answer, named: Named, sheet: &[u8]) -> Result<usize, Refusal> {
     match answer.number {
         0 => Ok(answer.value),
-        number @ (1..=8 | 20 | 26) => Err(Refusal::new(number, answer.value, named, sheet)),
+        number @ (1..=8 | 20 | 26 | 27) => Err(Refusal::new(number, answer.value, named, sheet)),
         number => Err(Refusal::new(number, answer.value, Named::Neither, sheet)),
     }
 }
 
-/// The number of classes of a group of a table given as bare cells, however large.
+/// The number of classes of a group of a table given as bare cells, however large. A cell of m is open, and refused with 27.
 pub fn multiplicity(m: usize, n: usize, cells: &[u8], group: usize) -> Result<usize, Refusal> {
     let answer = unsafe { ffi::sitgurp_multiplicity(m, n, cells.as_ptr(), cells.len(), group) };
     answered(answer, Named::Neither, &[])
@@ -159,7 +159,7 @@ pub fn settle(
     answered(answer, Named::Net, sheet)
 }
 
-/// Makes the settled net of a table sheet, with the same buffers as [`settle`].
+/// Makes the settled net of a table sheet, with the same buffers as [`settle`]. A table with open cells is refused with 27.
 pub fn make(
     sheet: &[u8],
     cells: &mut [u8],
@@ -191,7 +191,7 @@ fn lent<A>(
     }
 }
 
-/// Checks a net sheet against a table sheet, and puts the table sheet's inks in `cells`.
+/// Checks a net sheet against a table sheet, and puts the table sheet's inks in `cells`. Open cells, which hold m there, are passed over.
 pub fn check(net_sheet: &[u8], table_sheet: &[u8], cells: &mut [u8]) -> Result<Verdict, Refusal> {
     let verdict = unsafe {
         ffi::sitgurp_check(

@@ -61,11 +61,11 @@ impl Refusal {
             3 => "inputs is not a number from 2 to 12, or there are over 4,096 cells",
             4 => "a name is malformed, is `ink`, or is repeated",
             5 => "a row's input level is not the next in the count, or in a loose sheet no digit below levels",
-            6 => "an ink, or a gate's table, is not made of digits below levels",
+            6 => "an ink is no digit below levels and not `-`, or a gate's table is not made of digits below levels",
             7 => "a reference is to no input and to no earlier gate",
             8 => "a reference was used before",
             9 => "levels, inputs or the number of cells is out of bounds, or the cells are not levels to the power inputs",
-            10 => "a cell is not below levels",
+            10 => "a cell is above levels",
             11 => "the group is empty, or no group of these inputs",
             12 => "the two sheets differ in levels, inputs or names",
             13 => "the cells buffer is too short",
@@ -82,6 +82,7 @@ impl Refusal {
             24 => "a side is not 1 to 64, the cells are not width times height, or a cell's level is not below levels",
             25 => "there are not two offsets for each input, or one is not from -2 to 2",
             26 => "an earlier gate is never used",
+            27 => "a cell is left open, and a full table is needed",
             _ => "unknown refusal",
         }
     }
@@ -122,7 +123,7 @@ impl fmt::Display for Refusal {
             (_, Some((line, column))) => {
                 write!(f, " at byte {}, line {line}, column {column})", self.place)
             }
-            (10, _) => write!(f, " at index {})", self.place),
+            (10 | 27, _) => write!(f, " at index {})", self.place),
             (13..=15, _) if self.place == 1 => write!(f, "; 1 byte is needed)"),
             (13..=15, _) => write!(f, "; {} bytes are needed)", self.place),
             (16, _) => write!(f, " at group {}: {})", self.place, self.inputs.join(", ")),

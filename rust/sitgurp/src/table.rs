@@ -7,7 +7,8 @@ use std::fmt;
 use std::iter::FusedIterator;
 use std::str::FromStr;
 
-/// A table sheet that the library has accepted: levels, input names, and an ink for every assignment.
+/// A table sheet that the library has accepted: levels, input names, and an ink for every assignment. Cells may be left open, for assignments that cannot
+/// occur: `-` on the sheet, and the ink is then [`levels`](Table::levels). A check passes over them; whatever makes trees needs a full table.
 ///
 /// ```
 /// use sitgurp::{Kind, Table};
@@ -18,6 +19,12 @@ use std::str::FromStr;
 /// let net = table.settled()?;
 /// assert_eq!(net.gates().len(), 1);
 /// assert_eq!(net.check(&table)?, sitgurp::Verdict::Agree);
+///
+/// // near 0 and near 1 do not occur
+/// let open = Table::from_rule(4, &["weight", "near"], |levels| if levels[1] < 2 { 4 } else { levels[0] })?;
+/// assert_eq!((open.open().len(), open.ink(&[1, 0])), (8, Some(4)));
+/// assert_eq!(net.check(&open)?, sitgurp::Verdict::Differ(2));
+/// assert_eq!(open.settled().unwrap_err().kind(), Kind::OpenCell);
 ///
 /// // a sheet is the library's to judge
 /// let refusal = "levels inputs\n2 2\na b ink\n0 0 5\n".parse::<Table>().unwrap_err();
@@ -31,7 +38,7 @@ pub struct Table {
     inks: Vec<u8>,
 }
 
-/// One row of a table: a level for each input, and the ink.
+/// One row of a table: a level for each input, and the ink, which is the number of levels where the cell is open.
 #[derive(Clone, Debug, PartialEq, Eq, Hash)]
 pub struct Row {
     pub levels: Vec<u8>,
@@ -58,8 +65,8 @@ impl Table {
         })
     }
 
-    /// The table of a rule, which is asked for the ink of every assignment. Levels, names and inks are the library's to judge: refusals are those of
-    /// the sheet that has this table.
+    /// The table of a rule, which is asked for the ink of every assignment; `levels` leaves the cell open. Levels, names and inks are the library's to judge:
+    /// refusals are those of the sheet that has this table.
     pub fn from_rule<N: AsRef<str>>(
         levels: usize,
         names: &[N],
@@ -82,7 +89,10 @@ impl Table {
                 for level in assignment {
                     sheet += &format!("{level} ");
                 }
-                sheet += &format!("{ink}\n");
+                match usize::from(ink) == header.levels {
+                    true => sheet += "-\n",
+                    false => sheet += &format!("{ink}\n"),
+                }
             }
         }
         Table::read(sheet.as_bytes())
@@ -110,7 +120,7 @@ impl Table {
         &self.header.names
     }
 
-    /// The inks, in the order of the rows.
+    /// The inks, in the order of the rows; [`levels`](Table::levels) for an open cell.
     pub fn inks(&self) -> &[u8] {
         &self.inks
     }
@@ -120,7 +130,18 @@ impl Table {
         &self.sheet
     }
 
-    /// The ink of an assignment; None where that has not one level below [`levels`](Table::levels) for each input.
+    /// The indices of the open cells.
+    pub fn open(&self) -> Vec<usize> {
+        let is_open = |&index: &usize| usize::from(self.inks[index]) == self.levels();
+        (0..self.inks.len()).filter(is_open).collect()
+    }
+
+    /// Whether no cell is open.
+    pub fn is_full(&self) -> bool {
+        self.open().is_empty()
+    }
+
+    /// The ink of an assignment, [`levels`](Table::levels) for an open cell; None where that has not one level below [`levels`](Table::levels) for each input.
     pub fn ink(&self, assignment: &[u8]) -> Option<u8> {
         self.header
             .index_of(assignment)
@@ -139,13 +160,13 @@ impl Table {
         (0..self.inks.len()).map(|index| self.row(index).expect("an index below the count"))
     }
 
-    /// The settled net, or refusal 16 where no tree computes the table. It uses just the inputs that matter; where fewer than two do, the first-listed
+    /// The settled net, or refusal 16 where no tree computes the table, or 27 where a cell is open. It uses just the inputs that matter; where fewer than two do, the first-listed
     /// others make up two.
     pub fn settled(&self) -> Result<Net, Refusal> {
         made(self.sheet.as_bytes()).map(Net::written)
     }
 
-    /// A tree of fewest layers, or refusal 16.
+    /// A tree of fewest layers, or refusal 16 or 27.
     pub fn shallow(&self) -> Result<Shallow, Refusal> {
         let (sheet, layers) = made_shallow(self.sheet.as_bytes())?;
         let net = Net::written(sheet);
@@ -153,26 +174,28 @@ impl Table {
     }
 
     /// Every tree on the inputs of the settled net that computes the table, each wiring once, from number 0, the settled net; none where there is no tree.
+    /// Refusal 27 where a cell is open.
     ///
     /// ```
     /// let sum = sitgurp::Table::from_rule(2, &["a", "b", "c"], |levels| levels.iter().sum::<u8>() % 2)?;
-    /// assert_eq!(sum.family().size(), 3);
-    /// assert_eq!(sum.family().next(), Some(sum.settled()?));
-    /// assert!(sum.family().all(|net| net.table() == sum));
+    /// assert_eq!(sum.family()?.size(), 3);
+    /// assert_eq!(sum.family()?.next(), Some(sum.settled()?));
+    /// assert!(sum.family()?.all(|net| net.table() == sum));
     /// # Ok::<(), sitgurp::Refusal>(())
     /// ```
-    pub fn family(&self) -> Trees<'_> {
-        Trees(Family::of(self.sheet.as_bytes()).expect("an accepted sheet"))
+    pub fn family(&self) -> Result<Trees<'_>, Refusal> {
+        Family::of(self.sheet.as_bytes()).map(Trees)
     }
 
-    /// The number of classes of a group of inputs: bit i of its number is input i. Refusal 11 where it is none.
+    /// The number of classes of a group of inputs: bit i of its number is input i. Refusal 27 where a cell is open, 11 where it is no group.
     pub fn multiplicity(&self, group: usize) -> Result<usize, Refusal> {
         crate::multiplicity(self.levels(), self.names().len(), &self.inks, group)
     }
 
     /// The fewest levels that the wires between gates would have to carry for a tree to compute the table: see [`fewest_levels`](crate::fewest_levels).
-    pub fn fewest_levels(&self) -> usize {
-        crate::fewest_levels(self.sheet.as_bytes()).expect("an accepted sheet")
+    /// Refusal 27 where a cell is open.
+    pub fn fewest_levels(&self) -> Result<usize, Refusal> {
+        crate::fewest_levels(self.sheet.as_bytes())
     }
 }
 

@@ -309,6 +309,11 @@ fn holds(example: &Example) {
     let numbers = &example.numbers;
     let (number, place) = example.number_and_place();
     let due = |named| (number, place, named);
+    // 27 is the table sheet's, where a call is given one
+    let state = match number {
+        27 => Named::Table,
+        _ => Named::Neither,
+    };
     let (mut cells, mut marks, mut output) = (nines(100), nines(100), nines(600));
     match &example.kind[..] {
         "net" => {
@@ -415,7 +420,7 @@ fn holds(example: &Example) {
         "count" => {
             (cells, marks) = (nines(numbers[0]), nines(numbers[1]));
             let counted = sitgurp::family_count(texts[0], &mut cells, &mut marks);
-            assert_eq!(refused(counted), due(Named::Neither));
+            assert_eq!(refused(counted), due(state));
             assert_eq!(cells, bytes(&example.texts[1]));
             assert_eq!(marks, marks_bytes(&example.texts[2]));
             (cells, marks) = (nines(0), nines(0));
@@ -424,7 +429,7 @@ fn holds(example: &Example) {
             (cells, marks, output) = (nines(numbers[1]), nines(numbers[2]), nines(numbers[3]));
             let number = numbers[0] as u64;
             let tree = sitgurp::family_tree(texts[0], number, &mut cells, &mut marks, &mut output);
-            assert_eq!(refused(tree), due(Named::Neither));
+            assert_eq!(refused(tree), due(state));
             assert_eq!(cells, bytes(&example.texts[1]));
             assert_eq!(marks, marks_bytes(&example.texts[2]));
             (cells, marks) = (nines(0), nines(0));
@@ -437,7 +442,7 @@ fn holds(example: &Example) {
         "keep" => {
             (cells, output) = (nines(numbers[0]), nines(numbers[1]));
             let kept = sitgurp::keep(texts[0], texts[1], &mut cells, &mut output);
-            assert_eq!(refused(kept), due(Named::Neither));
+            assert_eq!(refused(kept), due(state));
             assert_eq!(cells, bytes(&example.texts[2]));
             cells = nines(0);
         }
@@ -459,7 +464,7 @@ fn holds(example: &Example) {
                     false => refused(call(texts[0], &mut cells, &mut marks, &mut output)),
                     true => refused(shallow(texts[0], &mut cells, &mut marks, &mut output)),
                 };
-                assert_eq!(answer, due(Named::Neither));
+                assert_eq!(answer, due(state));
                 assert_eq!(cells, bytes(&example.texts[1]));
                 assert_eq!(marks, marks_bytes(&example.texts[2]));
                 assert_eq!(output, nines(numbers[2]));
@@ -481,7 +486,7 @@ fn the_document_has_the_listed_examples() {
     }
     assert_eq!(shown.len(), listed.len());
     let numbers: BTreeSet<usize> = listed.iter().map(|e| e.number_and_place().0).collect();
-    assert_eq!(numbers, (1..=26).collect(), "each number has an example");
+    assert_eq!(numbers, (1..=27).collect(), "each number has an example");
 }
 
 #[test]
@@ -508,7 +513,7 @@ fn every_mark_stands_at_its_place() {
             }
             1..=8 | 18..=20 | 26 => assert_eq!(marked, Some(place), "{example:?}"),
             // a cell and the space after it are two bytes of the line after the first
-            10 => {
+            10 | 27 if example.kind == "bare" => {
                 let start = body.find('\n').expect("two lines") + 1;
                 assert_eq!(marked, Some(start + 2 * place));
             }
@@ -527,8 +532,18 @@ fn a_refusal_in_words() {
         "net sheet: inputs is not a number from 2 to 12, or there are over 4,096 cells (refusal 3 at byte 16, line 2, column 3)"
     );
     assert_eq!(
-        said(sitgurp::multiplicity(2, 2, &[0, 1, 1, 2], 1)),
-        "a cell is not below levels (refusal 10 at index 3)"
+        said(sitgurp::multiplicity(2, 2, &[0, 1, 1, 3], 1)),
+        "a cell is above levels (refusal 10 at index 3)"
+    );
+    assert_eq!(
+        said(sitgurp::multiplicity(2, 2, &[0, 1, 2, 2], 1)),
+        "a cell is left open, and a full table is needed (refusal 27 at index 2)"
+    );
+    assert_eq!(
+        said(sitgurp::made(
+            b"levels inputs\n2 2\na b ink\n0 0 -\n0 1 0\n1 0 0\n1 1 1\n"
+        )),
+        "table sheet: a cell is left open, and a full table is needed (refusal 27 at index 0)"
     );
     let (mut cells, mut marks, mut output) = (nines(4), nines(0), nines(512));
     assert_eq!(

@@ -7,7 +7,7 @@ use crate::json::Json;
 use crate::outcome::{Answer, Failure};
 use crate::refused::{self, Refused};
 use crate::sheets::at;
-use crate::words::{assignment, count};
+use crate::words::{assignment, count, thousands};
 use sitgurp::Verdict;
 
 pub static COMMAND: Command = Command {
@@ -16,7 +16,7 @@ pub static COMMAND: Command = Command {
     summary: "whether a net computes a table, and the first row that differs",
     help: "\
 Both sheets have the same levels, inputs and names, in the same order. Where they differ, the first such row is told by its inputs,
-with the net's ink and the table's, and the status is 1.
+with the net's ink and the table's, and the status is 1. Rows that the table leaves open, with the ink `-`, are passed over.
 ",
     sheets: 2,
     more: false,
@@ -33,15 +33,10 @@ fn run(call: &Call) -> Result<Answer, Failure> {
         let differ = refused::headers(&net.table(), &table);
         Refused::of_headers(&net_sheet, &table_sheet, refusal, differ)
     })?;
+    let open = table.open().len();
     let Verdict::Differ(index) = verdict else {
-        let words = format!(
-            "yes: the net has this table, all {}\n",
-            count(table.inks().len(), "row")
-        );
-        return Ok(Answer::new(
-            words,
-            Json::object([("agree", Json::Bool(true))]),
-        ));
+        let json = Json::object([("agree", Json::Bool(true)), ("open", Json::number(open))]);
+        return Ok(Answer::new(yes(table.inks().len(), open), json));
     };
     let row = table.row(index).expect("an index of the table");
     let value = net.value(&row.levels).expect("an assignment of the net");
@@ -58,6 +53,23 @@ fn run(call: &Call) -> Result<Answer, Failure> {
         ("line", Json::number(line)),
         ("net", Json::Number(value.into())),
         ("table", Json::Number(row.ink.into())),
+        ("open", Json::number(open)),
     ]);
     Ok(Answer::new(words, json).no())
+}
+
+/// A net that agrees, in so many rows of which so many are open.
+fn yes(rows: usize, open: usize) -> String {
+    match open {
+        0 => format!("yes: the net has this table, all {}\n", count(rows, "row")),
+        _ => format!(
+            "yes: the net has this table in {} of {}; {} open\n",
+            thousands(rows - open),
+            count(rows, "row"),
+            match open {
+                1 => "the other is".to_string(),
+                _ => format!("the other {} are", thousands(open)),
+            }
+        ),
+    }
 }

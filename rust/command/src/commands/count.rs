@@ -25,7 +25,8 @@ each of them.
 
 fn run(call: &Call) -> Result<Answer, Failure> {
     let [sheet] = sheets(call)?;
-    let trees = refused::table(&sheet)?.family().size();
+    let table = refused::full_table(&sheet)?;
+    let trees = table.family().expect("a full table").size();
     let json = Json::object([("trees", Json::Number(trees))]);
     Ok(Answer::new(format!("{trees}\n"), json))
 }

@@ -36,6 +36,7 @@ fn run(call: &Call) -> Result<Answer, Failure> {
                 let differ = refused::headers(&net.table(), &table);
                 Refused::of_headers(&net_sheet, &table_sheet, refusal, differ)
             }
+            Kind::OpenCell => Refused::of_table(&table_sheet, &table, refusal),
             _ => of_wiring((&net_sheet, &net), (&table_sheet, &table), refusal),
         })?;
     let kept = Net::read(&kept).expect("a sheet that the library has written");

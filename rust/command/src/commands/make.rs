@@ -15,7 +15,8 @@ pub static COMMAND: Command = Command {
     summary: "the tree of a table sheet, as a net sheet",
     help: "\
 Writes the settled net of the table: of all trees that compute it the one that fixed rules choose. It uses just the inputs that
-matter, two at least. A table that no tree computes is refused, and `sitgurp why TABLE` says what to change.
+matter, two at least. A table that no tree computes is refused, and `sitgurp why TABLE` says what to change. Every cell has an ink:
+one that is left open, with the ink `-`, is refused.
 
   --shallow     a tree of fewest layers instead
   --number K    the tree of number K, from 0; `sitgurp count TABLE` says how many there are, and 0 is the settled one
@@ -33,9 +34,9 @@ fn run(call: &Call) -> Result<Answer, Failure> {
         return Err(call.wrong("--shallow and --number do not go together".to_string()));
     }
     let [sheet] = sheets(call)?;
-    let table = refused::table(&sheet)?;
+    let table = refused::full_table(&sheet)?;
     let made = match number {
-        Some(number) => table.family().tree(number),
+        Some(number) => table.family().and_then(|trees| trees.tree(number)),
         None if call.has("--shallow") => table.shallow().map(|shallow| shallow.net),
         None => settled(call, &table),
     };
@@ -61,7 +62,7 @@ fn settled(call: &Call, table: &Table) -> Result<Net, Refusal> {
 
 /// The settled net by a job, which tells now and then how many groups it has passed.
 fn stepped(table: &Table, mut tell: impl FnMut(usize)) -> Result<Net, Refusal> {
-    let mut job = Job::of(table.as_ref()).expect("an accepted sheet");
+    let mut job = Job::of(table.as_ref())?;
     let often = job.groups().div_ceil(TELLINGS);
     for (group, _) in job.passing() {
         if group.is_multiple_of(often) {

@@ -33,7 +33,7 @@ fn run(call: &Call) -> Result<Answer, Failure> {
         );
     };
     let [sheet] = sheets(call)?;
-    let table = refused::table(&sheet)?;
+    let table = refused::full_table(&sheet)?;
     let group = group(call, &table, &names)?;
     let classes = table.multiplicity(group).expect("a group of the table");
     let svg = picture::matrix::draw(&table, group);

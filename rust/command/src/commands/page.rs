@@ -14,7 +14,8 @@ pub static COMMAND: Command = Command {
     summary: "a table and its tree, or why it has none, as one page (HTML)",
     help: "\
 The page stands by itself: nothing is fetched, and no script runs. It shows the table, its tree with the shades, the layers and how many
-trees there are; of a table with no tree what `why` says, with the matrices of the inputs at fault.
+trees there are; of a table with no tree what `why` says, with the matrices of the inputs at fault. Of a table with open cells it shows the
+table alone, with these as such.
 ",
     sheets: 1,
     more: false,

@@ -14,7 +14,8 @@ pub static COMMAND: Command = Command {
     usage: "[FILE] [--csv]",
     summary: "a loosely laid table as a table sheet",
     help: "\
-Takes one or more spaces between fields, spaces at a line's end, and rows in any order; every row stands there once.
+Takes one or more spaces between fields, spaces at a line's end, and rows in any order; every row stands there once. The ink `-` of
+a row that is left open stays.
 
   --csv         what a spreadsheet writes: commas, semicolons or tabs between fields, quotes, CR LF, a byte order mark
 ",

@@ -35,9 +35,9 @@ const FEW: usize = 12;
 
 fn run(call: &Call) -> Result<Answer, Failure> {
     let [sheet] = sheets(call)?;
-    let table = refused::table(&sheet)?;
+    let table = refused::full_table(&sheet)?;
     let Some(fault) = Fault::of(&table) else {
-        let trees = table.family().size();
+        let trees = table.family().expect("a full table").size();
         let verb = if trees == 1 {
             "is 1 tree".to_string()
         } else {

@@ -85,7 +85,8 @@ pub fn leaves(m: usize, n: usize, inks: &[u8]) -> usize {
     leaves
 }
 
-/// A table sheet from m, the names parted by spaces, and the inks.
+/// A table sheet from m, the names parted by spaces, and the inks; m is the ink of
+/// an open cell.
 pub fn table_sheet(m: usize, names: &str, inks: &[u8]) -> Vec<u8> {
     let n = names.split(' ').count();
     let mut text = format!("levels inputs\n{m} {n}\n{names} ink\n");
@@ -93,7 +94,10 @@ pub fn table_sheet(m: usize, names: &str, inks: &[u8]) -> Vec<u8> {
         for level in levels_of(index, m, n) {
             text += &format!("{level} ");
         }
-        text += &format!("{ink}\n");
+        match usize::from(*ink) == m {
+            true => text += "-\n",
+            false => text += &format!("{ink}\n"),
+        }
     }
     text.into_bytes()
 }

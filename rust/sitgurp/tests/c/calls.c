@@ -51,6 +51,11 @@ static int failures = 0;
 #define BAD_NAMES "levels inputs\n2 3\na b b ink\n"
 /* input a twice */
 #define BAD_NET HEADER "left right table\na a 0110\n"
+/* the sum again, with the inks of index 2 and of index 5 left open; the same laid loosely */
+#define OPEN                                                                                                                 \
+    "levels inputs\n2 3\na b c ink\n0 0 0 0\n0 0 1 1\n0 1 0 -\n0 1 1 0\n1 0 0 1\n1 0 1 -\n1 1 0 0\n1 1 1 1\n"
+#define LOOSE_OPEN                                                                                                           \
+    "levels inputs\n2 3\na b c ink\n1 0 1   -\n0 0 0 0\n0 0 1 1\n0 1 0 -  \n0 1 1 0\n1 0 0 1\n1 1 0 0\n1 1 1 1\n"
 /* 2 levels, a b c, the sum of b and c modulo 2: a and the second gate do nothing; as it settles; and its table */
 #define IDLE HEADER "left right table\nc b 0110\na 1 0101\n"
 #define PAIR HEADER "left right table\nb c 0110\n"
@@ -67,6 +72,7 @@ static const uint8_t majority_cells[8] = {0, 0, 0, 1, 0, 1, 1, 1};
 static const uint8_t majority_marks[2] = {0x28, 0x42};
 
 static const uint8_t pair_cells[8] = {0, 1, 1, 0, 0, 1, 1, 0};
+static const uint8_t open_cells[8] = {0, 1, 2, 0, 1, 2, 0, 1};
 
 static const uint8_t sum4_cells[16] = {0, 1, 1, 0, 1, 0, 0, 1, 1, 0, 0, 1, 0, 1, 1, 0};
 static const uint8_t sum4_marks[4] = {0xa8, 0xaa, 0xaa, 0xaa};
@@ -135,7 +141,7 @@ static void multiplicity(void) {
     HOLDS(is(sitgurp_multiplicity(1, 3, sum_cells, 8, 3), 9, 0));
     HOLDS(is(sitgurp_multiplicity(2, 3, sum_cells, 7, 3), 9, 0));
     HOLDS(is(sitgurp_multiplicity(2, (size_t)-1, sum_cells, 8, 3), 9, 0));
-    HOLDS(is(sitgurp_multiplicity(2, 3, high, 8, 0), 10, 4));
+    HOLDS(is(sitgurp_multiplicity(2, 3, high, 8, 0), 10, 6));
     HOLDS(is(sitgurp_multiplicity(2, 3, sum_cells, 8, 0), 11, 0));
     HOLDS(is(sitgurp_multiplicity(2, 3, sum_cells, 8, 8), 11, 0));
 }
@@ -357,6 +363,36 @@ static void idle_inputs(void) {
     HOLDS(untouched());
 }
 
+/* open cells: a check passes over them, tidying carries them over, and what needs a full table is refused with 27 before any buffer is looked at */
+static void open(void) {
+    /* the level of c */
+    static const char unlike[] = HEADER "left right table\na c 0101\n";
+    static sitgurp_job job;
+    fill();
+    HOLDS(is(sitgurp_multiplicity(2, 3, open_cells, 8, 0), 27, 2));
+    HOLDS(is(sitgurp_multiplicity(2, 3, open_cells, 8, 3), 27, 2));
+    HOLDS(is(sitgurp_marking(2, 3, open_cells, 8, marks, 0), 27, 2));
+    HOLDS(is(sitgurp_make(TEXT(OPEN), cells, 8, marks, 2, output, sizeof output), 27, 2));
+    HOLDS(is(sitgurp_make(TEXT(OPEN), cells, 0, marks, 0, output, 0), 27, 2));
+    HOLDS(has(sitgurp_make_shallow(TEXT(OPEN), cells, 0, marks, 0, output, 0), 27, 2, 0));
+    HOLDS(is(sitgurp_family_count(TEXT(OPEN), cells, 0, marks, 0), 27, 2));
+    HOLDS(is(sitgurp_family_tree(TEXT(OPEN), 99, cells, 0, marks, 0, output, 0), 27, 2));
+    HOLDS(is(sitgurp_job_open(TEXT(OPEN), &job), 27, 2));
+    HOLDS(is(sitgurp_job_step(&job), 21, 0));
+    /* 27 names the table sheet, and 12 comes first */
+    HOLDS(is_kept(sitgurp_keep(TEXT(NET), TEXT(OPEN), cells, 0, output, 0), 2, 27, 2, 0));
+    HOLDS(is_kept(sitgurp_keep(TEXT(CHAIN), TEXT(OPEN), cells, 0, output, 0), 0, 12, 0, 0));
+    HOLDS(untouched());
+    HOLDS(says(sitgurp_check(TEXT(NET), TEXT(OPEN), cells, 7), 2, 0, 13, 8));
+    HOLDS(untouched());
+    HOLDS(says(sitgurp_check(TEXT(NET), TEXT(OPEN), cells, 8), 0, 0, 0, 0) && cells_hold(open_cells, 8));
+    /* it differs at 2, which is open, and at 3 */
+    HOLDS(says(sitgurp_check(TEXT(unlike), TEXT(OPEN), cells, 8), 1, 0, 0, 3) && cells_hold(open_cells, 8));
+    fill();
+    HOLDS(is(sitgurp_tidy(TEXT(LOOSE_OPEN), cells, 8, output, sizeof output), 0, sizeof(OPEN) - 1));
+    HOLDS(cells_hold(open_cells, 8) && output_holds(OPEN));
+}
+
 /* two gates lie on the way from a and from b, one on the way from c */
 static void arrivals(void) {
     HOLDS(settles(sitgurp_arrivals(TEXT(NET), TEXT("name from to\na 0 4\nb 2 2\nc 10 12\n"), 4), 3.5, 4.0));
@@ -494,6 +530,7 @@ int main(void) {
     tidy();
     gate_line();
     idle_inputs();
+    open();
     largest();
     return failures == 0 ? 0 : 1;
 }

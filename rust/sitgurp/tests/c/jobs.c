@@ -158,14 +158,16 @@ static void not_opened(void) {
     HOLDS(is(finish(&job, &into, all_lent), 9, 0) && untouched(&into));
     HOLDS(same(&job, &copy));
     HOLDS(is(sitgurp_job_open(TEXT(SUM), &job), 0, 0));
-    /* more groups passed than there are, a mark that no group has, a cell not below m */
+    /* more groups passed than there are, a mark that no group has, an open cell, a cell above m */
     job.passed = (size_t)-1;
     job.marks[5] = 77;
     HOLDS(is(sitgurp_job_step(&job), 21, 0));
     HOLDS(says(sitgurp_job_mark(&job, 5), 0, 77));
     HOLDS(as_made(&job, TEXT(SUM), all_lent));
     job.cells[6] = 2;
-    HOLDS(is(finish(&job, &into, all_lent), 10, 6) && untouched(&into));
+    HOLDS(is(finish(&job, &into, all_lent), 27, 6) && untouched(&into));
+    job.cells[7] = 3;
+    HOLDS(is(finish(&job, &into, all_lent), 10, 7) && untouched(&into));
 }
 
 int main(void) {
