@@ -1,18 +1,19 @@
--- The examples of docs/REFUSALS.md as one theorem, `refusals-hold`: every refusal, 1 to 26, by calls that give it, with its number, its
+-- The examples of docs/REFUSALS.md as one theorem, `refusals-hold`: every refusal, 1 to 27, by calls that give it, with its number, its
 -- place, and what each buffer lent to the call holds afterwards. They compute, so that a reader who believes nothing sees each number
 -- come out. The document's examples are these and no others (rust/sitgurp/tests/refusals.rs).
 -- Assumes nothing.
 use Prim.Native.Nat.{ℕ}
 use Prim.Native.String.{String}
 use mathlib.Core.Path.{_≡_, refl}
+use mathlib.Core.Bool.{true, false}
 use mathlib.Core.List.{List, [], _∷_}
 use lib.ListN.{replicate}
+use lib.Dec.{eqb}
 use lib.IntN.{ℤ}
 use Rattle.rules.specs.Text.{text}
 use Rattle.rules.specs.Sheets.{Net}
-use Rattle.rules.specs.Answers.{accepted, refused, onward, netNamed, tableNamed, neither}
+use Rattle.rules.specs.Answers.{Named, accepted, refused, onward, netNamed, tableNamed, neither}
 use Rattle.rules.specs.Reading.{readNet, readTable}
-use Rattle.rules.specs.BareCells.{bareCells}
 use Rattle.rules.specs.OpenCells.{fullCells, readFull}
 use Rattle.rules.specs.Multiplicity.{multiplicityCall}
 use Rattle.rules.specs.Marking.{markingCall}
@@ -110,9 +111,13 @@ pub loose-back : {sheet : List ℕ} {number place : ℕ} → readLoose sheet ≡
 unfolding tidyCall
 loose-back e = record { tidying = λ cells output. rw (e, tidyCall) }
 
-pub cells-back : {m n : ℕ} {cells : List ℕ} {number place : ℕ} → bareCells m n cells ≡ refused number place → CellsBack m n cells number place
-unfolding multiplicityCall markingCall onward fullCells
+pub cells-back : {m n : ℕ} {cells : List ℕ} {number place : ℕ} → fullCells m n cells ≡ refused number place → CellsBack m n cells number place
+unfolding multiplicityCall markingCall onward
 cells-back e = record { counting = λ g. rw (e, multiplicityCall); marking = λ marks. rw (e, markingCall) }
+
+-- 27 names the table sheet where two sheets are given; 12, 13, 15 and 23 name neither.
+unfoldable pub namedBy : ℕ → Named
+namedBy number = elim (eqb number 27) [ true ↦ tableNamed | false ↦ neither ]
 
 -- A buffer before the call: so many nines, a byte that no call writes.
 unfoldable pub nines : ℕ → List ℕ
@@ -213,10 +218,10 @@ Comes (finish sheet steps cells marks output number place cells-then marks-then)
         output = nines output;
       };
     }
--- a wiring of an accepted net sheet kept for an accepted table sheet, which names neither: cells as said, the output as it was
+-- a wiring of an accepted net sheet kept for an accepted table sheet: the sheet that is named, cells as said, the output as it was
 Comes (keep net-sheet table-sheet cells output number place cells-then) =
     keepCall (paper net-sheet) (paper table-sheet) (nines cells) (nines output)
-    ≡ record { answer = turnedAway neither number place; cells = digits (text cells-then); output = nines output }
+    ≡ record { answer = turnedAway (namedBy number) number place; cells = digits (text cells-then); output = nines output }
 -- a glyph: the output as it was
 Comes (glyph sheet picture offsets width height output number place) =
     glyphCall (paper sheet) width height (digits (text picture)) (signed offsets) (nines output)
@@ -266,6 +271,7 @@ refusals =
     ∷ loose "levels inputs/2 2/a b ink/1 2 0/" 5 28
     -- 6: an ink; a gate's table
     ∷ table "levels inputs/2 2/a b ink/0 0 2/" 6 30
+    ∷ table "levels inputs/2 2/a b ink/0 0 --/" 6 30
     ∷ net "levels inputs/2 2/a b/left right table/a b 000/" 6 43
     ∷ net "levels inputs/2 2/a b/left right table/a b 0002/" 6 43
     -- 7: a gate that is not earlier; no input
@@ -354,19 +360,27 @@ refusals =
     ∷ net "levels inputs/2 4/a b c d/left right table/a b 0001/c d 0001/" 26 61
     ∷ net "levels inputs/2 5/a b c d e/left right table/a b 0001/c d 0001/2 e 0001/" 26 72
     ∷ net "levels inputs/2 5/a b c d e/left right table/a b 0001/c d 0001/e a 0001/" 8 65
+    -- 27: an open cell, of bare cells after 10; of a sheet before any buffer; in keeping after 12; a job that was refused so is the empty one
+    ∷ bare 2 2 "0122" 27 2
+    ∷ bare 2 2 "2223" 10 3
+    ∷ make "levels inputs/2 2/a b ink/0 0 0/0 1 -/1 0 -/1 1 1/" 4 1 48 27 1 "9999" (nines 1)
+    ∷ count "levels inputs/2 2/a b ink/0 0 -/0 1 0/1 0 0/1 1 1/" 0 0 27 0 "" []
+    ∷ tree "levels inputs/2 2/a b ink/0 0 0/0 1 0/1 0 0/1 1 -/" 9 0 0 0 27 3 "" []
+    ∷ keep "levels inputs/2 2/a b/left right table/a b 0001/" "levels inputs/2 2/a b ink/0 0 0/0 1 -/1 0 0/1 1 1/" 0 0 27 1 ""
+    ∷ finish "levels inputs/2 2/a b ink/0 0 0/0 1 -/1 0 0/1 1 1/" 0 4 4 48 9 0 "9999" (nines 4)
     ∷ []
 
 pub refusals-hold : AllCome refusals
-unfolding computing lineEnds paper digits named nines jobAfter signedFrom signed
+unfolding computing lineEnds paper digits named nines namedBy jobAfter signedFrom signed
 refusals-hold =
     net-back refl and net-back refl and table-back refl and net-back refl and net-back refl and net-back refl and net-back refl
     and net-back refl and net-back refl and net-back refl and net-back refl and table-back refl and loose-back refl and loose-back refl and loose-back refl
     and loose-back refl and loose-back refl and net-back refl and net-back refl and net-back refl and table-back refl and net-back refl
-    and net-back refl and table-back refl and table-back refl and loose-back refl and table-back refl and net-back refl and net-back refl
+    and net-back refl and table-back refl and table-back refl and loose-back refl and table-back refl and table-back refl and net-back refl and net-back refl
     and net-back refl and net-back refl and net-back refl and net-back refl and cells-back refl and cells-back refl and cells-back refl
     and cells-back refl and refl and cells-back refl and refl and refl and refl and refl and refl and refl and refl and refl and refl
     and refl and refl and refl and refl and refl and refl and refl and refl and refl and refl and refl and refl and refl and refl and refl
     and refl and refl and refl and arrivals-back refl and arrivals-back refl and arrivals-back refl and arrivals-back refl
     and arrivals-back refl and arrivals-back refl and loose-back refl and loose-back refl and refl and refl and refl and refl and refl
-    and refl and refl and refl and refl and refl and refl and refl and refl and refl and refl and net-back refl and net-back refl and net-back refl
+    and refl and refl and refl and refl and refl and refl and refl and refl and refl and refl and net-back refl and net-back refl and net-back refl and cells-back refl and cells-back refl and refl and refl and refl and refl and refl
     and none
