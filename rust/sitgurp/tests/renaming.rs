@@ -207,7 +207,8 @@ impl Seen {
     /// The bytes are the same but for the last table, whose reached digits are renamed; the others are 0.
     fn nets(&mut self, renaming: &[u8], sheet: &[u8], other: &[u8]) {
         let ((lines, digits), (others, theirs)) = (last_table(sheet), last_table(other));
-        assert_eq!(lines, others);
+        let texts = [lines, others].map(String::from_utf8_lossy);
+        assert_eq!(texts[0], texts[1]);
         let reached = reached(&read_net_sheet(sheet).expect("a net sheet").1);
         assert!(read_net_sheet(other).is_ok());
         assert_eq!([digits.len(), theirs.len()], [reached.len(); 2]);
