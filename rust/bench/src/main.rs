@@ -63,7 +63,7 @@ fn main() {
     by_size("the last tree of the family / making", ratios::last_tree);
     for (how, words) in [
         (Laid::Strictly, "as a table sheet"),
-        (Laid::Reversed, "with its rows reversed"),
+        (Laid::Shuffled, "with its rows shuffled"),
         (Laid::Aligned, "so, with three spaces for one"),
     ] {
         by_size(

@@ -192,18 +192,24 @@ pub fn reading(m: usize, n: usize, kind: TableKind, against: Against) -> f64 {
 pub enum Laid {
     /// As a table sheet.
     Strictly,
-    /// With its rows from the last to the first.
-    Reversed,
+    /// With its rows shuffled.
+    Shuffled,
     /// So, and with three spaces for one.
     Aligned,
 }
 
+/// A prime that divides no number of cells: rows so many apart are shuffled, and each is taken once.
+const STRIDE: usize = 1237;
+
 fn laid(sheet: &[u8], laid: Laid) -> Vec<u8> {
     let text = std::str::from_utf8(sheet).expect("ASCII");
-    let mut lines: Vec<String> = text.lines().map(str::to_string).collect();
-    if laid != Laid::Strictly {
-        lines[3..].reverse();
-    }
+    let lines: Vec<&str> = text.lines().collect();
+    let (first, rows) = lines.split_at(3);
+    let shuffled = (0..rows.len()).map(|k| rows[k * STRIDE % rows.len()]);
+    let lines: Vec<&str> = match laid {
+        Laid::Strictly => lines,
+        Laid::Shuffled | Laid::Aligned => first.iter().copied().chain(shuffled).collect(),
+    };
     let text = lines.join("\n") + "\n";
     match laid {
         Laid::Aligned => text.replace(' ', "   ").into_bytes(),
