@@ -55,3 +55,8 @@ pub mod Glyphs
 pub mod OpenCells
 pub mod LeafInputs
 pub mod Leaves
+pub mod TableLines
+pub mod RenamedSheets
+pub mod Renaming
+pub mod RenamedFamilies
+pub mod RenamedKeeping

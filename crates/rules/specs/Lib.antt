@@ -8,7 +8,7 @@
 -- `FamilyCases`), the comparison of two assignments (`Differences`, with `DifferenceCases`), arrival times (`ArrivalSheet`, `Arrivals`, with
 -- `ArrivalCases`), loose table sheets (`LooseSheet`, `Tidying`, with `LooseCases`), marking as a job (`Jobs`, with `JobCases`), a wiring kept
 -- (`Keeping`, with `KeepingCases`), whole glyphs (`Glyphs`, with `GlyphCases`), inputs that never matter (`Leaves`, with `LeafCases`), cells left open (`OpenCells`, with
--- `OpenCases`).
+-- `OpenCases`) and shades swapped (`RenamingCases`).
 -- `Evaluation` lets all of it compute.
 -- Assumes nothing.
 pub mod Lists
@@ -60,6 +60,7 @@ pub mod ArrivalCases
 pub mod LooseCases
 pub mod JobCases
 pub mod KeepingCases
+pub mod RenamingCases
 pub mod GlyphCases
 pub mod LeafCases
 pub mod OpenCases

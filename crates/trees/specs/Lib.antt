@@ -62,3 +62,9 @@ pub mod Covers
 pub mod Reps
 pub mod Told
 pub mod TakenOff
+pub mod SameTests
+pub mod Renaming
+pub mod RenamedWirings
+pub mod ButLast
+pub mod RenamedGates
+pub mod RenamedNets

@@ -7,6 +7,7 @@ mod draw;
 mod eval;
 mod gates;
 mod glyph;
+mod invert;
 mod keep;
 mod make;
 mod matrix;
@@ -46,6 +47,7 @@ pub static ALL: &[&Command] = &[
     &why::COMMAND,
     &check::COMMAND,
     &tidy::COMMAND,
+    &invert::COMMAND,
     &table::COMMAND,
     &eval::COMMAND,
     &settle::COMMAND,

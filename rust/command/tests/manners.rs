@@ -7,11 +7,12 @@ use std::fs::{self, File};
 use std::os::unix::fs::{symlink, PermissionsExt};
 use std::process::Stdio;
 
-const COMMANDS: [&str; 17] = [
+const COMMANDS: [&str; 18] = [
     "make",
     "why",
     "check",
     "tidy",
+    "invert",
     "table",
     "eval",
     "settle",
