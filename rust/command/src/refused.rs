@@ -26,8 +26,8 @@ impl Refused {
     fn of_sheet(due: Due, sheet: &Sheet, refusal: Refusal, inputs: &[String]) -> Refused {
         let front = Front::of(due, &sheet.bytes, &refusal, inputs);
         // a gate that is never used is known at the sheet's end, and shown where it stands
-        let place = match front.unused_gates().first() {
-            Some(gate) if refusal.kind() == Kind::UnusedGate => line_start(&sheet.bytes, gate + 3),
+        let place = match refusal.kind() {
+            Kind::UnusedGate => line_start(&sheet.bytes, front.unused_gates()[0] + 3),
             _ => refusal.place,
         };
         Refused {
