@@ -10,8 +10,10 @@
 //! | `growth`       | what one more input costs                                     |
 //! | `steps`        | the longest step of a job                                     |
 //! | `glyphs`       | a glyph against plain Rust, gate by gate                      |
+//! | `calls`        | every call against the second implementation                  |
 //! | `timing`       | times, and tables of ratios                                   |
 
+mod calls;
 mod glyphs;
 mod growth;
 mod kinds;
@@ -89,4 +91,5 @@ fn main() {
         "checking a net against a table, proved / second implementation",
         |m, n, kind| ratios::checking(m, n, kind, Against::Second),
     );
+    calls::report();
 }

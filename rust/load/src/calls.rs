@@ -3,6 +3,7 @@
 use crate::given::{difference, Answer, Given};
 use crate::inputs::{Bare, Drawn, Inputs};
 use sitgurp::MOST_NET_SHEET;
+use std::time::{Duration, Instant};
 
 #[derive(Clone, Copy, Debug, PartialEq, Eq)]
 pub enum Kind {
@@ -74,13 +75,21 @@ impl Kind {
     }
 }
 
-/// One call: what it was given, in words, and what both gave back.
+/// One call: what it was given, in words, what both gave back, and how long each took.
 pub struct Call {
     pub kind: Kind,
     pub size: (usize, usize),
     pub asked: String,
     pub proved: Given,
     pub second: Given,
+    pub times: Times,
+}
+
+/// The library's time for a call, and the second implementation's.
+#[derive(Clone, Copy, Default)]
+pub struct Times {
+    pub proved: Duration,
+    pub second: Duration,
 }
 
 impl Call {
@@ -89,7 +98,12 @@ impl Call {
         let mut inputs = Inputs::new(seed);
         let kind = Kind::ALL[inputs.below(Kind::ALL.len())];
         let size = (inputs.m, inputs.n);
-        let (asked, proved, second) = match kind {
+        let Both {
+            asked,
+            proved,
+            second,
+            times,
+        } = match kind {
             Kind::Multiplicity => multiplicity(&mut inputs),
             Kind::Multiplicities => multiplicities(&mut inputs),
             Kind::FewestLevels => fewest_levels(&mut inputs),
@@ -116,6 +130,7 @@ impl Call {
             asked,
             proved,
             second,
+            times,
         }
     }
 
@@ -124,7 +139,13 @@ impl Call {
     }
 }
 
-type Both = (String, Given, Given);
+/// What both made of one call.
+struct Both {
+    asked: String,
+    proved: Given,
+    second: Given,
+    times: Times,
+}
 
 /// A call of either implementation on three buffers.
 type OnBuffers<T, R> = fn(&[u8], &mut [u8], &mut [u8], &mut [u8]) -> Result<T, R>;
@@ -160,29 +181,44 @@ fn both(
     proved: impl FnOnce(&mut [Vec<u8>]) -> Answer,
     second: impl FnOnce(&mut [Vec<u8>]) -> Answer,
 ) -> Both {
-    let mut ours = buffers.clone();
-    let mut theirs = buffers;
-    let proved = Given {
-        answer: proved(&mut ours),
-        buffers: ours,
+    let (proved, proved_time) = timed(buffers.clone(), proved);
+    let (second, second_time) = timed(buffers, second);
+    let times = Times {
+        proved: proved_time,
+        second: second_time,
     };
-    let second = Given {
-        answer: second(&mut theirs),
-        buffers: theirs,
-    };
-    (asked, proved, second)
+    Both {
+        asked,
+        proved,
+        second,
+        times,
+    }
+}
+
+fn timed(
+    mut buffers: Vec<Vec<u8>>,
+    call: impl FnOnce(&mut [Vec<u8>]) -> Answer,
+) -> (Given, Duration) {
+    let start = Instant::now();
+    let answer = call(&mut buffers);
+    let took = start.elapsed();
+    (Given { answer, buffers }, took)
 }
 
 fn multiplicity(inputs: &mut Inputs) -> Both {
     let bare = inputs.bare();
     let Bare { m, n, cells, group } = &bare;
-    let proved = sitgurp::multiplicity(*m, *n, cells, *group);
-    let second = reference::multiplicity(*m as u64, *n as u64, cells, *group as u64);
     both(
         bare_in_words(&bare, &[]),
         vec![],
-        |_| Answer::of_proved(proved, Answer::Value),
-        |_| Answer::of_second(second, |value| Answer::Value(value as usize)),
+        |_| {
+            let count = sitgurp::multiplicity(*m, *n, cells, *group);
+            Answer::of_proved(count, Answer::Value)
+        },
+        |_| {
+            let count = reference::multiplicity(*m as u64, *n as u64, cells, *group as u64);
+            Answer::of_second(count, |value| Answer::Value(value as usize))
+        },
     )
 }
 

@@ -1,11 +1,13 @@
-//! `load CALLS SEED [FIRST]`: that many calls, each by the proved library and by the second implementation. Ends with status 1 at
-//! the first difference, and says how to make that one call again.
+//! `load CALLS SEED [FIRST]`: that many calls, each by the proved library and by the second implementation, on all cores. Ends with
+//! status 1 where a call differs, and says how to make that one call again.
 
 use load::calls::Call;
 use load::seed_of;
 use load::tally::Tally;
 use std::panic::catch_unwind;
 use std::process::ExitCode;
+use std::sync::atomic::{AtomicU64, Ordering};
+use std::thread;
 
 /// Every so many calls a line on standard error.
 const PROGRESS: u64 = 100_000;
@@ -24,23 +26,57 @@ fn main() -> ExitCode {
 
 fn run(calls: u64, seed: u64, first: u64) -> ExitCode {
     println!("seed {seed}");
-    let mut tally = Tally::default();
-    for k in 0..calls {
-        match one(seed, first + k) {
-            Ok(call) => tally.add(&call),
-            Err(difference) => {
-                println!("{difference}");
-                println!("again: load 1 {seed} {}", first + k);
-                return ExitCode::FAILURE;
-            }
+    match on_all_cores(calls, seed, first) {
+        Ok(tally) => {
+            print!("{tally}");
+            println!("{calls} calls, none differs");
+            ExitCode::SUCCESS
         }
+        Err((number, difference)) => {
+            println!("{difference}");
+            println!("again: load 1 {seed} {number}");
+            ExitCode::FAILURE
+        }
+    }
+}
+
+/// A call that differs, by its number, and how.
+type Differs = (u64, String);
+
+/// Each core takes the next call that none has taken.
+fn on_all_cores(calls: u64, seed: u64, first: u64) -> Result<Tally, Differs> {
+    let next = AtomicU64::new(0);
+    let cores = thread::available_parallelism().map_or(1, usize::from);
+    let tallies: Vec<Result<Tally, Differs>> = thread::scope(|scope| {
+        let started: Vec<_> = (0..cores)
+            .map(|_| scope.spawn(|| take_calls(&next, calls, seed, first)))
+            .collect();
+        let ended = started.into_iter().map(|one| one.join());
+        ended.map(|one| one.expect("panics are caught")).collect()
+    });
+    let all = tallies.into_iter().reduce(both);
+    all.unwrap_or_else(|| Ok(Tally::default()))
+}
+
+/// Of two cores, the first one's difference goes before the other's.
+fn both(one: Result<Tally, Differs>, other: Result<Tally, Differs>) -> Result<Tally, Differs> {
+    Ok(one?.with(&other?))
+}
+
+/// Makes calls until all are taken, or one differs; then the other cores take no more.
+fn take_calls(next: &AtomicU64, calls: u64, seed: u64, first: u64) -> Result<Tally, Differs> {
+    let mut tally = Tally::default();
+    loop {
+        let k = next.fetch_add(1, Ordering::Relaxed);
+        if k >= calls {
+            return Ok(tally);
+        }
+        let call = one(seed, first + k).inspect_err(|_| next.store(calls, Ordering::Relaxed));
+        tally.add(&call.map_err(|difference| (first + k, difference))?);
         if (k + 1) % PROGRESS == 0 {
             eprintln!("{} calls", k + 1);
         }
     }
-    print!("{tally}");
-    println!("{calls} calls, none differs");
-    ExitCode::SUCCESS
 }
 
 /// One call, or what differs and what was asked. A panic counts as a difference.

@@ -32,6 +32,16 @@ impl Tally {
         }
     }
 
+    /// What both have counted.
+    pub fn with(mut self, other: &Tally) -> Tally {
+        for (row, more) in self.rows.iter_mut().zip(&other.rows) {
+            let ends = row.ends.iter_mut().zip(&more.ends);
+            ends.for_each(|(count, further)| *count += further);
+            row.sizes.extend(&more.sizes);
+        }
+        self
+    }
+
     /// The kinds that were never accepted (0), and the refusals of a kind that were never seen.
     fn unseen(&self) -> Vec<(Kind, usize)> {
         let mut unseen = Vec::new();
@@ -112,6 +122,16 @@ mod tests {
         ] {
             assert_eq!(all_but(kind, number).unseen(), [(kind, number)]);
         }
+    }
+
+    #[test]
+    fn two_tallies_are_one() {
+        let (mut one, mut other) = (Tally::default(), Tally::default());
+        one.count(Kind::Check, (2, 3), 0);
+        other.count(Kind::Check, (3, 2), 0);
+        other.count(Kind::Check, (3, 2), 12);
+        let text = one.with(&other).to_string();
+        assert!(text.contains("Check: 3 calls, 2 accepted at 2 sizes; refused:\n    12: 1\n"));
     }
 
     #[test]

@@ -24,7 +24,7 @@
 //! | `glyph`    | document 02, "Whole glyphs"                               |
 //! | `calls`    | every call with the buffers lent to it                    |
 //! | `lister`   | "Listing"                                                 |
-//! | `programs` | "Two programs"                                            |
+//! | `programs` | "Two programs", and the one that tidies                    |
 //! | `rng`, `generate`, `loose`, `damage` | seeded sheets, good, loose and  |
 //! |            | damaged, for tests                                        |
 //!
@@ -63,5 +63,5 @@ pub use calls::{
 pub use job::Job;
 pub use limits::allowed_sizes;
 pub use lister::Lister;
-pub use programs::{make_program, settle_program};
+pub use programs::{make_program, settle_program, tidy_program};
 pub use refusal::{Refusal, Sheet};

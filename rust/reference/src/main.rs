@@ -1,8 +1,8 @@
-//! `reference settle` and `reference make`: standard input to standard output,
-//! as the two programs of document 01 do.
+//! `reference settle`, `reference make` and `reference tidy`: standard input to standard output,
+//! as the programs do.
 
 use reference::limits::PROGRAM_BYTES;
-use reference::{make_program, settle_program};
+use reference::{make_program, settle_program, tidy_program};
 use std::io::{self, Read, Write};
 use std::process::ExitCode;
 
@@ -11,8 +11,9 @@ fn main() -> ExitCode {
     let program: fn(&[u8]) -> Vec<u8> = match arguments.as_slice() {
         [name] if name == "settle" => settle_program,
         [name] if name == "make" => make_program,
+        [name] if name == "tidy" => tidy_program,
         _ => {
-            eprintln!("usage: reference settle|make < sheet");
+            eprintln!("usage: reference settle|make|tidy < sheet");
             return ExitCode::from(2);
         }
     };

@@ -1,7 +1,7 @@
 //! "Two programs read standard input, at most its first 65,536 bytes, which are
-//! then the sheet: one settles, one makes."
+//! then the sheet: one settles, one makes." A third, of the same kind, tidies.
 
-use crate::calls::{make, settle};
+use crate::calls::{make, settle, tidy};
 use crate::limits::{MOST_CELLS, MOST_INPUTS, MOST_NET_SHEET_BYTES, PROGRAM_BYTES};
 use crate::marks;
 use crate::refusal::Refusal;
@@ -19,13 +19,27 @@ pub fn make_program(stdin: &[u8]) -> Vec<u8> {
     run(stdin, make)
 }
 
+/// The tidying program's whole output: it has room for as many bytes as it reads.
+pub fn tidy_program(stdin: &[u8]) -> Vec<u8> {
+    let mut cells = vec![0; MOST_CELLS as usize];
+    let mut out = vec![0; PROGRAM_BYTES];
+    match tidy(read_of(stdin), &mut cells, &mut out) {
+        Ok(length) => out[..length].to_vec(),
+        Err(refusal) => refusal_text(refusal),
+    }
+}
+
+/// What a program reads of its standard input.
+fn read_of(stdin: &[u8]) -> &[u8] {
+    &stdin[..stdin.len().min(PROGRAM_BYTES)]
+}
+
 /// The programs lend buffers that are long enough for every size.
 fn run(stdin: &[u8], call: Call) -> Vec<u8> {
-    let sheet = &stdin[..stdin.len().min(PROGRAM_BYTES)];
     let mut cells = vec![0; MOST_CELLS as usize];
     let mut marks = vec![0; marks::needed(MOST_INPUTS as usize)];
     let mut out = vec![0; MOST_NET_SHEET_BYTES];
-    match call(sheet, &mut cells, &mut marks, &mut out) {
+    match call(read_of(stdin), &mut cells, &mut marks, &mut out) {
         Ok(length) => out[..length].to_vec(),
         Err(refusal) => refusal_text(refusal),
     }

@@ -1,4 +1,4 @@
-//! `sheets net|table COUNT SEED FOLDER`: that many sheets, good and damaged, one a file.
+//! `sheets net|table|loose COUNT SEED FOLDER`: that many sheets, good and damaged, one a file.
 
 use load::inputs::Inputs;
 use std::path::Path;
@@ -15,7 +15,7 @@ fn main() -> ExitCode {
             ExitCode::FAILURE
         }
         None => {
-            eprintln!("usage: sheets net|table COUNT SEED FOLDER");
+            eprintln!("usage: sheets net|table|loose COUNT SEED FOLDER");
             ExitCode::from(2)
         }
     }
@@ -29,6 +29,7 @@ fn written(arguments: &[String]) -> Option<std::io::Result<()>> {
     let sheet: Sheet = match kind.as_str() {
         "net" => Inputs::net_sheet,
         "table" => Inputs::table_sheet,
+        "loose" => Inputs::loose_sheet,
         _ => return None,
     };
     let (count, seed) = (count.parse().ok()?, seed.parse().ok()?);

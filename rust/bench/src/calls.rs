@@ -1,0 +1,45 @@
+//! Every call against the second implementation, on accepted calls of the load run, which are of every size.
+
+use crate::timing::{geometric_mean, ratio};
+use load::calls::{Call, Kind, Times};
+use std::collections::BTreeMap;
+
+const CALLS: u64 = 40_000;
+const SEED: u64 = 21;
+
+/// The times of one kind of call, summed for each size.
+type BySize = BTreeMap<(usize, usize), Times>;
+
+/// One for each kind of call.
+fn times() -> Vec<BySize> {
+    let mut times = vec![BySize::new(); Kind::ALL.len()];
+    for k in 0..CALLS {
+        let call = Call::of(load::seed_of(SEED, k));
+        if call.proved.answer.number() == 0 {
+            let sum = times[call.kind as usize].entry(call.size).or_default();
+            sum.proved += call.times.proved;
+            sum.second += call.times.second;
+        }
+    }
+    times
+}
+
+/// A line for each call: the geometric mean over the sizes, the least and the greatest.
+pub fn report() {
+    println!("every call, proved / second implementation");
+    println!(
+        "{:16}{:>10}{:>10}{:>10}",
+        "call", "mean", "least", "greatest"
+    );
+    for (kind, times) in Kind::ALL.iter().zip(times()) {
+        let mut ratios: Vec<f64> = times
+            .values()
+            .map(|sum| ratio(sum.proved, sum.second))
+            .collect();
+        ratios.sort_by(f64::total_cmp);
+        let (mean, least) = (geometric_mean(&ratios), ratios[0]);
+        let (name, greatest) = (format!("{kind:?}"), ratios[ratios.len() - 1]);
+        println!("{name:16}{mean:>10.3}{least:>10.3}{greatest:>10.3}");
+    }
+    println!();
+}
