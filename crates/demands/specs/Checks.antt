@@ -135,7 +135,7 @@ pub record Agreeing (s r cells : List ℕ) : Type 0 where
   pub net : Net
   pub table : Table
   pub reads-net : readNet s ≡ accepted net
-  reads-table : readTable r ≡ accepted table
+  pub reads-table : readTable r ≡ accepted table
   pub header : net .header ≡ table .header
   pub long : table .header .levels ^ table .header .inputs ≤ length cells
   pub agrees : (p : ℕ) → p < table .header .levels ^ table .header .inputs → (inkIn (table .inks) p ≡ table .header .levels → ⊥)

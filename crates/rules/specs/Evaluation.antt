@@ -1,4 +1,4 @@
--- One name under which every definition of document 01 computes: a theorem that is proved by computing says `unfolding computing`. Each file
+-- One name under which every definition here computes: a theorem that is proved by computing says `unfolding computing`. Each file
 -- has such a name of its own; here they are gathered.
 -- Assumes nothing.
 use Rattle.rules.specs.Lists as lists

@@ -6,7 +6,7 @@ use mathlib.Core.Bool.{true, false, _||_}
 use mathlib.Core.List.{List, [], _∷_}
 use lib.ListN.{replicate, set}
 use lib.Dec.{eqb, leb, ltb}
-use Rattle.rules.specs.Sheets.{Header, Table}
+use Rattle.rules.specs.Sheets.{Table}
 use Rattle.rules.specs.Marks.{markIn, markOf}
 use Rattle.rules.specs.Answers.{Answer, accepted, inkIn, onward, refused}
 use Rattle.rules.specs.OpenCells.{fullCells, readFull}
@@ -105,7 +105,7 @@ pub record Finished : Type 0 where
   pub job : Job
   pub made : Made
 
--- Its cells are judged as bare cells are: "finishing it", an empty job, gives "9 at 0". 22: "finish on an unfinished one, place the groups still to go"
+-- Its cells are judged as bare cells of a full table are: "finishing it", an empty job, gives "9 at 0". 22: "finish on an unfinished one, place the groups still to go"
 unfoldable pub mayFinish : Job → Answer (Unit {0})
 mayFinish job =
     let t = job .table in

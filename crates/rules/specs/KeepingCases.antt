@@ -10,7 +10,7 @@ use Rattle.rules.specs.Sheets.{Table}
 use Rattle.rules.specs.Printed.{printedTable}
 use Rattle.rules.specs.Answers.{neither}
 use Rattle.rules.specs.Keeping.{rewritten, turnedAway, keepCall}
-use Rattle.rules.specs.Cases.{named, byRule, abc, abcd, oneIf, zeroTable, majority, lineEnds, paper}
+use Rattle.rules.specs.Cases.{named, byRule, abc, abcd, oneIf, zeroTable, lineEnds, paper}
 use Rattle.rules.specs.Evaluation.{computing}
 
 -- a buffer before the call

@@ -11,12 +11,12 @@ use Rattle.rules.specs.Sheets.{Gate}
 unfoldable pub gateWays : List (List ℕ) → Gate → List ℕ
 gateWays ways g = map suc (getD ways (g .left) [] ++ getD ways (g .right) [])
 
--- the ways to all references: to an input there is one, with no gate on it; then the gates', in order
+-- the ways to all references: those given, to the inputs; then the gates', in order
 unfoldable pub withWays : List (List ℕ) → List Gate → List (List ℕ)
 withWays ways [] = ways
 withWays ways (g ∷ gates) = withWays (ways ++ (gateWays ways g ∷ [])) gates
 
--- the ways "from an input to the output", which is the last gate
+-- the ways "from an input to the output", which is the last gate: to an input there is one way, with no gate on it
 unfoldable pub waysOf : ℕ → List Gate → List ℕ
 waysOf n gates = getD (withWays (map (λ _. 0 ∷ []) (range 0 n)) gates) (n + length gates - 1) []
 

@@ -2,12 +2,10 @@
 -- `Cases`, with `/` for the line feed.
 -- Assumes nothing.
 use Prim.Native.Nat.{ℕ}
-use Prim.Native.String.{String}
 use mathlib.Core.Path.{_≡_, refl}
 use mathlib.Core.List.{List, [], _∷_}
 use lib.ListN.{length, replicate}
-use Rattle.rules.specs.Sheets.{Table}
-use Rattle.rules.specs.Answers.{Answer, accepted, neither, onward, refused, tableNamed, written}
+use Rattle.rules.specs.Answers.{accepted, neither, onward, refused, tableNamed, written}
 use Rattle.rules.specs.Reading.{readTable}
 use Rattle.rules.specs.Multiplicity.{multiplicityCall}
 use Rattle.rules.specs.Marking.{markingCall}

@@ -28,8 +28,8 @@ field-before-byte = refl
 
 -- ---- bare cells
 
--- 9 before 10 and 11: one cell where four are due, not below m, and group 0
-pub length-before-cell : multiplicityCall 2 2 (2 ∷ []) 0 ≡ refused 9 0
+-- 9 before 10 and 11: one cell where four are due, above m, and group 0
+pub length-before-cell : multiplicityCall 2 2 (3 ∷ []) 0 ≡ refused 9 0
 unfolding computing
 length-before-cell = refl
 
@@ -118,7 +118,7 @@ pub headers-before-cells : checkCall (printedNet oneGate) (printedTable noTree) 
 unfolding computing oneGate noTree
 headers-before-cells = refl
 
--- ---- keeping a wiring: document 02, K10: both sheets, then 12, 13, 23, 15
+-- ---- keeping a wiring: document 02, K10 and K13: both sheets, then 12, 27, 13, 23, 15 (27 by the cases of `OpenCases`)
 
 -- the net of a, b and c that has `noTree`'s header
 unfoldable pub twoGates : Net

@@ -18,6 +18,7 @@ use Rattle.rules.specs.OpenCells.{fullCells, readFull}
 use Rattle.rules.specs.Multiplicity.{multiplicityCall}
 use Rattle.rules.specs.Marking.{markingCall}
 use Rattle.rules.specs.Settling.{settleCall, makeCall}
+use Rattle.rules.specs.ShallowSettling.{settleShallowCall, makeShallowCall}
 use Rattle.rules.specs.FamilyCalls.{familyCountCall, familyTreeCall}
 use Rattle.rules.specs.Checking.{turnedDown, checkCall}
 use Rattle.rules.specs.Keeping.{turnedAway, keepCall}
@@ -35,10 +36,13 @@ use Rattle.rules.specs.GlyphCases.{signedFrom, signed}
 
 -- ---- what an example says
 
--- A net sheet that is turned back: each call that takes one gives that refusal and changes no buffer, whatever else is lent to it.
+-- A net sheet that is turned back: each call that takes one gives that refusal and changes no buffer, whatever else is lent to it. (But the shallower of two sheets, which
+-- gives no number: `Shallower`.)
 pub record NetBack (sheet : List ℕ) (number place : ℕ) : Type 0 where
   pub settling : (cells marks output : List ℕ)
       → settleCall sheet cells marks output ≡ record { answer = refused number place; cells = cells; marks = marks; output = output }
+  pub settling-shallow : (cells marks output : List ℕ)
+      → settleShallowCall sheet cells marks output ≡ record { answer = refused number place; cells = cells; marks = marks; output = output }
   pub checking : (table-sheet cells : List ℕ)
       → checkCall sheet table-sheet cells ≡ record { answer = turnedDown netNamed number place; cells = cells }
   pub writing : (output : List ℕ) → writeTableCall sheet output ≡ record { answer = refused number place; output = output }
@@ -53,6 +57,8 @@ pub record NetBack (sheet : List ℕ) (number place : ℕ) : Type 0 where
 pub record TableBack (sheet : List ℕ) (number place : ℕ) : Type 0 where
   pub making : (cells marks output : List ℕ)
       → makeCall sheet cells marks output ≡ record { answer = refused number place; cells = cells; marks = marks; output = output }
+  pub making-shallow : (cells marks output : List ℕ)
+      → makeShallowCall sheet cells marks output ≡ record { answer = refused number place; cells = cells; marks = marks; output = output }
   pub counting : (cells marks : List ℕ) → familyCountCall sheet cells marks ≡ record { answer = refused number place; cells = cells; marks = marks }
   pub numbering : (order : ℕ) (cells marks output : List ℕ)
       → familyTreeCall sheet order cells marks output ≡ record { answer = refused number place; cells = cells; marks = marks; output = output }
@@ -78,10 +84,11 @@ pub record CellsBack (m n : ℕ) (cells : List ℕ) (number place : ℕ) : Type 
 
 -- What is read decides all of these.
 pub net-back : {sheet : List ℕ} {number place : ℕ} → readNet sheet ≡ refused number place → NetBack sheet number place
-unfolding settleCall checkCall writeTableCall listing onward arrivalsCall keepCall glyphCall
+unfolding settleCall settleShallowCall checkCall writeTableCall listing onward arrivalsCall keepCall glyphCall
 net-back e =
     record {
       settling = λ cells marks output. rw (e, settleCall);
+      settling-shallow = λ cells marks output. rw (e, settleShallowCall);
       checking = λ table-sheet cells. rw (e, checkCall);
       writing = λ output. rw (e, writeTableCall);
       turn = λ k. rw (e, listing);
@@ -91,10 +98,11 @@ net-back e =
     }
 
 pub table-back : {sheet : List ℕ} {number place : ℕ} → readTable sheet ≡ refused number place → TableBack sheet number place
-unfolding makeCall familyCountCall familyTreeCall checkCall openJob keepCall readFull onward
+unfolding makeCall makeShallowCall familyCountCall familyTreeCall checkCall openJob keepCall readFull onward
 table-back e =
     record {
       making = λ cells marks output. rw (e, readFull, makeCall);
+      making-shallow = λ cells marks output. rw (e, readFull, makeShallowCall);
       counting = λ cells marks. rw (e, readFull, familyCountCall);
       numbering = λ order cells marks output. rw (e, readFull, familyTreeCall);
       checking = λ net-sheet cells net a. rw (a, e, checkCall);
@@ -119,7 +127,7 @@ cells-back e = record { counting = λ g. rw (e, multiplicityCall); marking = λ 
 unfoldable pub namedBy : ℕ → Named
 namedBy number = elim (eqb number 27) [ true ↦ tableNamed | false ↦ neither ]
 
--- A buffer before the call: so many nines, a byte that no call writes.
+-- A buffer before the call: so many nines, a byte that none of the calls here writes.
 unfoldable pub nines : ℕ → List ℕ
 nines k = replicate k 9
 

@@ -1,4 +1,4 @@
--- Document 01, section 'Settling and making': the two calls, with '.. because of the state'. Their answer, and what each buffer lent to
+-- Document 01, section 'Settling and making': the two calls, with what is 'Turned back because of the state'. Their answer, and what each buffer lent to
 -- them holds afterwards, on accepted and on refused inputs alike. What follows the reading is said of any net that may be made of a table, so
 -- that a call which makes another net has the same order of refusals.
 -- Assumes nothing.

@@ -9,7 +9,7 @@ use Rattle.rules.specs.Sheets.{Table}
 use Rattle.rules.specs.Limits.{mostCells, mostInputs, mostSettled}
 use Rattle.rules.specs.Printed.{printedTable}
 use Rattle.rules.specs.Marks.{marksLength}
-use Rattle.rules.specs.Answers.{Answer, accepted, refused, onward}
+use Rattle.rules.specs.Answers.{Answer, accepted, onward}
 use Rattle.rules.specs.Programs.{makeProgram, zeros}
 use Rattle.rules.specs.ShallowSettling.{LayeredMade, makeShallowCall, settleShallowCall}
 use Rattle.rules.specs.Shallower.{Which, firstSheet, secondSheet, noSheet, layersIn, whichOf}
@@ -83,7 +83,7 @@ cases =
     ∷ hands deep flat secondSheet
     ∷ hands flat deep firstSheet
     ∷ hands deep deep firstSheet
-    -- whatever their m, n and names: a shorter sheet may have the deeper net
+    -- whatever their m, n and names: level, so the first; of fewer layers, the second
     ∷ hands "levels inputs/2 3/x y z/left right table/x y 0001/1 z 0001/" flat firstSheet
     ∷ hands deep "levels inputs/3 2/x y/left right table/x y 000000000/" secondSheet
     ∷ hands unreadable deep secondSheet

@@ -1,4 +1,4 @@
--- Wirings: which two things each gate joins. A wiring is a value, apart from how it was chosen (`Settled`) and from its gates' digits
+-- Wirings: which two things each gate joins. A wiring is a value, apart from how it was chosen (`Settled`, `Shallow`, `Family`) and from its gates' digits
 -- (`Filling`): as a tree (`Wiring`), or as gate lines without their tables (`Link`).
 -- Assumes nothing.
 use Prim.Native.Nat.{ℕ, zero, suc, _+_, _-_, _^_}
