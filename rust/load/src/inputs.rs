@@ -30,6 +30,9 @@ const OF_GATES: [Damage; 3] = [
     Damage::OtherReference,
 ];
 
+/// Sizes of so many inputs take most of a run's time, and come about a third as often as the others.
+const MANY_INPUTS: usize = 10;
+
 /// The most bytes of a sheet that is no sheet.
 const MOST_NOISE: usize = 300;
 
@@ -43,7 +46,10 @@ impl Inputs {
     /// Inputs of some allowed size.
     pub fn new(seed: u64) -> Inputs {
         let mut generator = Generator::new(seed);
-        let (m, n) = generator.size();
+        let (mut m, mut n) = generator.size();
+        if n >= MANY_INPUTS && generator.rng.below(4) > 0 {
+            (m, n) = generator.size();
+        }
         Inputs { generator, m, n }
     }
 
