@@ -8,7 +8,8 @@ cd "$(dirname "$0")/../.."
 seed=${1:-1}
 sheets=100
 calls=3000
-tool=(valgrind --quiet --error-exitcode=99 --leak-check=full)
+# what is only possibly lost is a record that Rust's library keeps of the main thread
+tool=(valgrind --quiet --error-exitcode=99 --leak-check=full --show-leak-kinds=definite --errors-for-leak-kinds=definite)
 folder=$(mktemp -d)
 trap 'rm -rf "$folder"' EXIT
 (cd rust && cargo build --offline --quiet --release -p load -p reference -p command)
