@@ -97,10 +97,11 @@ module _ (c : tie.After-trees-on Inv-loop μ-loop) where
   abbrev turn : In-loop
   turn = t n
 
+  has-two : markIn (marks turn) (part n) ≡ 2
+  has-two = omega (arith, c .before .before .before .mark-at .ensures, c .before .before .if1 .left)
+
   twos : TwosTo (marks turn) (g turn) (part n)
-  twos =
-      twos-next (marks turn) (g turn) (turn .before .loop .part) (part n) (n .next-part .ensures)
-      (sym (c .before .before .before .mark-at .ensures) ∙ c .before .before .if1 .left) (turn .before .loop .inv .3)
+  twos = twos-next (marks turn) (g turn) (turn .before .loop .part) (part n) (n .next-part .ensures) has-two (turn .before .loop .inv .3)
 
   is-count : (k : ℕ) → part n < 2 ^ k → c .trees-on .result ≡ counted k (marks turn) (part n)
   is-count k part< =
