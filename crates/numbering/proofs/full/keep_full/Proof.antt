@@ -1,13 +1,12 @@
 -- `numbering::full::keep_full` meets its contract. The loop's invariant: what is kept is right, and the parts that are passed have mark 2, so that the next one, if it has
 -- mark 2, is full. Assumes nothing.
 use Prim.Native.Nat.{ℕ, _-_, _^_, _≤_, _<_}
-use mathlib.Core.Path.{_≡_, refl, sym, ap, _∙_}
+use mathlib.Core.Path.{_≡_, refl, ap, _∙_}
 use mathlib.Core.List.{List}
 use native.Mathlib.Omega.{arith}
 use lib.Bits.{and-self}
 use lib.ListN.{length, length-set}
 use Rattle.rules.specs.Limits.{mostInputs}
-use Rattle.rules.specs.Groups.{size}
 use Rattle.rules.specs.Marks.{markIn}
 use Rattle.trees.specs.Members.{size-le}
 use Rattle.trees.specs.FamilyCounts.{counted}
