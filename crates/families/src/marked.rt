@@ -9,7 +9,7 @@ ghost use Rattle.families.specs.Marked.{NoneKnown, MarkedCount};
 use leaves::group;
 use lines::put::copy;
 use marking::all;
-use numbering::counts;
+use numbering::full;
 use radix::powers;
 
 // The count is 0 where the table has no tree. `own` is for the call's own marks, and `counts` comes in with nothing known.
@@ -30,5 +30,5 @@ pub fn count_marked(
     all::mark_and_store(m, n, inks, own, marks);
     let end = powers::power(2, n);
     let leaves = group::leaves(m, n, inks);
-    counts::group_count(&own[0..end], counts, leaves)
+    full::tree_count(&own[0..end], counts, leaves)
 }

@@ -1,3 +1,5 @@
 pub mod Counts
+pub mod Full
 pub mod Numbered
+pub mod PartSums
 pub mod Walk

@@ -62,3 +62,15 @@ pub fn split_count(marks: &[u8], counts: &mut [u64], g: usize, a: usize) -> u64
     let right = group_count(marks, counts, g - a);
     left * right
 }
+
+// The same, from what is kept where both groups are known.
+pub fn known_split(marks: &[u8], counts: &mut [u64], g: usize, a: usize) -> u64
+    requires { ⌜ Splittable (now marks) (now counts) g a ⌝ }
+    ensures { λ r. ⌜ SplitKept (now (marks .entry)) g a r (now (counts .exit)) ⌝ }
+{
+    let product = kept_product(counts, g, a);
+    if product != 0 {
+        return product;
+    }
+    split_count(marks, counts, g, a)
+}

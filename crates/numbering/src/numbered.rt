@@ -26,7 +26,7 @@ fn numbered_split(marks: &[u8], counts: &mut [u64], g: usize, r: u64) -> Numbere
     let mut left: u64 = r;
     let mut part: usize = 0;
     while part < rest {
-        let count = counts::split_count(marks, counts, g, first + part);
+        let count = counts::known_split(marks, counts, g, first + part);
         if left < count {
             return Numbered {
                 part: first + part,

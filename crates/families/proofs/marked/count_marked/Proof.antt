@@ -25,13 +25,13 @@ at-copy c = c .before .before .before .before .before
 abbrev at-marks : tie.After-power → tie.After-mark-and-store
 at-marks c = c .before .before .before .before .before
 
-abbrev at-leaves : tie.After-group-count-arg2 → tie.After-leaves
+abbrev at-leaves : tie.After-tree-count-arg2 → tie.After-leaves
 at-leaves c = c .before .before .before
 
-abbrev at-power : tie.After-group-count-arg2 → tie.After-power
+abbrev at-power : tie.After-tree-count-arg2 → tie.After-power
 at-power c = at-leaves c .before
 
-abbrev at-count : tie.After-slice-known8 → tie.After-group-count
+abbrev at-count : tie.After-slice-known8 → tie.After-tree-count
 at-count c = c .before .before
 
 abbrev marks-start : tie.After-mark-and-store → tie.Start
@@ -67,17 +67,17 @@ power-requires c κs =
 leaves-requires : tie.Need-leaves-requires
 leaves-requires c κs = search needs
 
-sub-group-count : tie.Need-sub-group-count
-sub-group-count c = search needs
+sub-tree-count : tie.Need-sub-tree-count
+sub-tree-count c = search needs
 
-part-group-count-start : tie.Need-part-group-count-start
-part-group-count-start c = search needs
+part-tree-count-start : tie.Need-part-tree-count-start
+part-tree-count-start c = search needs
 
-part-group-count-end : tie.Need-part-group-count-end
-part-group-count-end c = search needs
+part-tree-count-end : tie.Need-part-tree-count-end
+part-tree-count-end c = search needs
 
-group-count-requires : tie.Need-group-count-requires
-group-count-requires c κs =
+tree-count-requires : tie.Need-tree-count-requires
+tree-count-requires c κs =
     let power = at-power c in
     let s = start power in
     subst⁻¹ (Countable (own power) (s .args .counts .now)) (at-leaves c .leaves .ensures)
@@ -102,11 +102,11 @@ returns c =
     let s = start power in
     let did = at-marks power .mark-and-store in
     record {
-      count = leaves-counted (s .args .m) (s .args .n) (s .pre .0) (f power) (own power) (is-own power) _ (at-leaves (found .before) .leaves .ensures) (found .group-count .result) _ (found .group-count .ensures);
+      count = leaves-counted (s .args .m) (s .args .n) (s .pre .0) (f power) (own power) (is-own power) _ (at-leaves (found .before) .leaves .ensures) (found .tree-count .result) _ (found .tree-count .ensures);
       copied = put-wrote (s .pre .2) (at-copy (at-marks power) .copy .ensures) .text;
       front = did .ensures .own .front;
       marked = did .ensures .buffer;
-      kept = subst (λ (marks : List ℕ). CountsKept marks (found .group-count .last .1 .0)) (is-own power) (found .group-count .ensures .kept);
+      kept = subst (λ (marks : List ℕ). CountsKept marks (found .tree-count .last .1 .0)) (is-own power) (found .tree-count .ensures .kept);
     }
 
 pub count-marked-spec : {M : Type 1} → statement M
@@ -117,10 +117,10 @@ count-marked-spec =
     mark-and-store-requires
     power-requires
     leaves-requires
-    sub-group-count
-    part-group-count-start
-    part-group-count-end
-    group-count-requires
+    sub-tree-count
+    part-tree-count-start
+    part-tree-count-end
+    tree-count-requires
     same-length
     same-length-2
     same-length-3

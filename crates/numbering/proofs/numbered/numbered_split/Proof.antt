@@ -19,14 +19,14 @@ Inv-loop marks counts₀ g r rest first left₀ part₀ counts left part =
 abbrev μ-loop : tie.MeasureT-loop
 μ-loop marks counts₀ g r rest first left₀ part₀ counts left part = rest - part
 
--- the start from the call of `without_first`; a turn from its call of `split_count`, and that from what follows
+-- the start from the call of `without_first`; a turn from its call of `known_split`, and that from what follows
 abbrev at-start : tie.After-without-first Inv-loop μ-loop → tie.Start Inv-loop μ-loop
 at-start c = c .before .before .before
 
-abbrev at-turn : tie.After-split-count Inv-loop μ-loop → tie.In-loop Inv-loop μ-loop
+abbrev at-turn : tie.After-known-split Inv-loop μ-loop → tie.In-loop Inv-loop μ-loop
 at-turn c = c .before .before
 
-abbrev at-split : tie.After-slice-known2 Inv-loop μ-loop → tie.After-split-count Inv-loop μ-loop
+abbrev at-split : tie.After-slice-known2 Inv-loop μ-loop → tie.After-known-split Inv-loop μ-loop
 at-split c = c .before .before
 
 without-first-requires : tie.Need-without-first-requires Inv-loop μ-loop
@@ -76,18 +76,18 @@ module _ (c : tie.In-loop Inv-loop μ-loop) where
       looked (marks f) (g f) (rest f) (group f .some) (is-rest f) (counts f) (c .before .loop .counts) (group f) (at-start f .pre .1) (c .before .loop .inv .0)
       (c .before .loop .inv .1) part (c .loop-test .taken) (c .before .loop .inv .2)
 
-add-split-count : tie.Need-add-split-count Inv-loop μ-loop
-add-split-count c = omega (arith, here (c .before) .less, here (c .before) .group .below)
+add-known-split : tie.Need-add-known-split Inv-loop μ-loop
+add-known-split c = omega (arith, here (c .before) .less, here (c .before) .group .below)
 
-split-count-requires : tie.Need-split-count-requires Inv-loop μ-loop
-split-count-requires c κs = here (c .before)
+known-split-requires : tie.Need-known-split-requires Inv-loop μ-loop
+known-split-requires c κs = here (c .before)
 
 -- the number falls in this split
 add-t14 : tie.Need-add-t14 Inv-loop μ-loop
 add-t14 c = let t = at-turn (at-split (c .before)) in omega (arith, here t .less, here t .group .below)
 
 same-length : tie.Need-same-length Inv-loop μ-loop
-same-length c = let split = at-split (c .before) in split .split-count .kept .1 .0 ∙ at-turn split .before .loop .inv .0
+same-length c = let split = at-split (c .before) in split .known-split .kept .1 .0 ∙ at-turn split .before .loop .inv .0
 
 returns : tie.Need-returns Inv-loop μ-loop
 returns c =
@@ -95,9 +95,9 @@ returns c =
     let t = at-turn split in
     let l = t .before .loop in
     record {
-      is = left-here (marks (f t)) (g (f t)) (rest (f t)) (group (f t) .some) (is-rest (f t)) (r (f t)) (part t) (l .left) (split .split-count .result) (t .loop-test .taken)
-          (l .inv .2) (l .inv .3) (split .split-count .ensures .count) (group (f t) .below) (c .if1 .taken);
-      kept = split .split-count .ensures .kept;
+      is = left-here (marks (f t)) (g (f t)) (rest (f t)) (group (f t) .some) (is-rest (f t)) (r (f t)) (part t) (l .left) (split .known-split .result) (t .loop-test .taken)
+          (l .inv .2) (l .inv .3) (split .known-split .ensures .count) (group (f t) .below) (c .if1 .taken);
+      kept = split .known-split .ensures .kept;
     }
 
 -- it falls later
@@ -114,11 +114,11 @@ loop-again c =
     let split = at-split (c .before .before) in
     let t = at-turn split in
     let l = t .before .loop in (
-      split .split-count .kept .1 .0 ∙ l .inv .0,
-      split .split-count .ensures .kept,
+      split .known-split .kept .1 .0 ∙ l .inv .0,
+      split .known-split .ensures .kept,
       passed-next (rest (f t)) (part t) (c .next-part .result) (t .loop-test .taken) (c .next-part .ensures),
-      left-later (marks (f t)) (g (f t)) (rest (f t)) (group (f t) .some) (is-rest (f t)) (r (f t)) (part t) (l .left) (split .split-count .result) (t .loop-test .taken)
-          (l .inv .2) (l .inv .3) (split .split-count .ensures .count) (c .next-part .result) (c .next-part .ensures) (c .before .if1 .left),
+      left-later (marks (f t)) (g (f t)) (rest (f t)) (group (f t) .some) (is-rest (f t)) (r (f t)) (part t) (l .left) (split .known-split .result) (t .loop-test .taken)
+          (l .inv .2) (l .inv .3) (split .known-split .ensures .count) (c .next-part .result) (c .next-part .ensures) (c .before .if1 .left),
     )
 
 -- it falls in none
@@ -143,8 +143,8 @@ numbered-split-spec =
     without-first-requires
     sub-first
     loop-holds
-    add-split-count
-    split-count-requires
+    add-known-split
+    known-split-requires
     add-t14
     same-length
     returns
