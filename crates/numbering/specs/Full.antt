@@ -27,10 +27,9 @@ use Rattle.laws.specs.Sums.{sumTo, sum-same}
 use Rattle.trees.specs.Members.{member-zero, inside-member, member-inside, inside-le, member-rest, size-zero, size-suc, size-le, size-pos}
 use Rattle.trees.specs.MarkTwo.{isA}
 use Rattle.trees.specs.FamilyCounts.{counted, splitCounted, count-single, count-several}
-use Rattle.trees.specs.FamilyBounds.{overSets, treesOn}
+use Rattle.trees.specs.FamilyBounds.{overSets, inFirst, over-firsts, treesOn, splitTrees}
 use Rattle.trees.specs.Families.{split-sizes, a-below, b-below}
 use Rattle.radix.specs.Parts.{Part, Next, inside-part, part-inside}
-use Rattle.numbering.specs.PartSums.{inFirst, over-firsts}
 
 -- ---- sums
 
@@ -65,10 +64,6 @@ sum-end f j (suc k) h none = go (ℕ-discrete j (suc k)) (sum-end f j k)
     go (no other) below = omega (arith, below (omega arith) (λ i low high. none i low (omega arith)), none k (omega arith) (omega arith))
 
 -- ---- the trees of k inputs, by splits
-
--- the trees of the two groups of a split, from the size of A
-splitTrees : ℕ → ℕ → ℕ
-splitTrees k j = treesOn j * treesOn (k - j)
 
 -- over all splits of k members, for k from 2 up to the limit
 splits-are : all (λ k. eqb (overSets (k - 1) (λ j. splitTrees k (suc j))) (treesOn k)) (range 2 (mostInputs - 1)) ≡ true

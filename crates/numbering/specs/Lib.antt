@@ -1,5 +1,4 @@
 pub mod Counts
 pub mod Full
 pub mod Numbered
-pub mod PartSums
 pub mod Walk

@@ -74,7 +74,7 @@ inPart : ℕ → ℕ → (ℕ → ℕ) → ℕ → ℕ
 inPart n g h a = cond (inside n a g) (h (size n a)) 0
 
 -- .. that holds the first-listed input of g
-inFirst : ℕ → ℕ → (ℕ → ℕ) → ℕ → ℕ
+unfoldable pub inFirst : ℕ → ℕ → (ℕ → ℕ) → ℕ → ℕ
 inFirst n g h a = cond (inside n a g && member (firstInput n g) a) (h (size n a)) 0
 
 module _ (n g : ℕ) (h : ℕ → ℕ) (b : ℕ) where
@@ -130,7 +130,7 @@ module _ (n g : ℕ) (h : ℕ → ℕ) (b : ℕ) where
   first-even-odd e = rw (inside-half, odd-low, e)
 
 -- over those: over all sets of the other members, A having one more
-over-firsts : (n g : ℕ) (h : ℕ → ℕ) → g < 2 ^ n → 0 < g → sumTo (inFirst n g h) (2 ^ n) ≡ overSets (size n g - 1) (λ j. h (suc j))
+pub over-firsts : (n g : ℕ) (h : ℕ → ℕ) → g < 2 ^ n → 0 < g → sumTo (inFirst n g h) (2 ^ n) ≡ overSets (size n g - 1) (λ j. h (suc j))
 over-firsts zero g h g< some = absurd (omega arith)
 over-firsts (suc n) g h g< some = rw (twice, sum-pairs) (go (member 0 g) refl (over-firsts n (g / 2) h (omega arith)))
   where
@@ -156,7 +156,7 @@ treesOn (suc zero) = 1
 treesOn (suc (suc k)) = (k + k + 1) * treesOn (suc k)
 
 -- the trees of the two groups of a split, from the size of A
-splitTrees : ℕ → ℕ → ℕ
+unfoldable pub splitTrees : ℕ → ℕ → ℕ
 splitTrees k j = treesOn j * treesOn (k - j)
 
 -- over all splits of k members, up to the limit
