@@ -1,7 +1,7 @@
 -- A net's table block by block: in a block the last inputs run through all their assignments, and the first ones stay.
 -- Assumes nothing.
-use Prim.Native.Nat.{ℕ, _+_, _-_, _*_, _/_, _%_, _^_, _≤_, _<_}
-use mathlib.Core.Path.{_≡_, refl, sym, ap, ap₂, _∙_}
+use Prim.Native.Nat.{ℕ, _+_, _-_, _*_, _^_, _≤_, _<_}
+use mathlib.Core.Path.{_≡_, sym, ap, ap₂, _∙_}
 use mathlib.Core.List.{List, _++_, map}
 use native.Mathlib.Nat.{zero-add, zero-mul, suc-mul, mod-lt, mul-le-mul, mul-le-mul-right}
 use native.Mathlib.Numerals.{add-one}
@@ -11,7 +11,7 @@ use lib.ListN.{length, getD, take, drop, set, replicate, length-set, length-drop
 use lib.Seq.{ext-getD, getD-take, getD-drop, length-take-le, getD-set-same, getD-set-other, sets}
 use lib.Pow.{pow-add}
 use Rattle.rules.specs.Lists.{range}
-use Rattle.rules.specs.Limits.{mostInputs, mostLevels}
+use Rattle.rules.specs.Limits.{mostInputs}
 use Rattle.rules.specs.Sheets.{level, levelsAt}
 use Rattle.rules.specs.Answers.{written}
 use Rattle.rules.specs.Value.{value, tableOf}

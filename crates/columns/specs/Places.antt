@@ -1,6 +1,6 @@
 -- The places of an index: its digit of weight m to the k is the level of the input with k inputs after it.
 -- Assumes nothing.
-use Prim.Native.Nat.{ℕ, zero, suc, _+_, _-_, _*_, _/_, _%_, _^_, _≤_, _<_}
+use Prim.Native.Nat.{ℕ, zero, suc, _+_, _*_, _/_, _%_, _^_, _<_}
 use mathlib.Core.Path.{_≡_, sym, ap, _∙_}
 use native.Mathlib.Nat.{pow-zero, pow-suc, pow-succ', div-one, div-div-eq-div-mul, div-eq-of-lt, zero-mod, mod-eq-of-lt, mul-add-mod-self-right, mul-add-div-right, mul-assoc}
 use native.Mathlib.Omega.{arith}

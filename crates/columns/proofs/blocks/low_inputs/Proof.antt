@@ -1,6 +1,6 @@
 -- `columns::blocks::low_inputs` meets its contract. The loop's invariant: the last `low` inputs have `size` assignments, which a block has room for.
 -- Assumes nothing.
-use Prim.Native.Nat.{_+_, _-_, _*_, _^_, _≤_, _<_}
+use Prim.Native.Nat.{_-_, _*_, _^_, _≤_}
 use mathlib.Core.Path.{_≡_, sym}
 use native.Mathlib.Nat.{pow-zero, pow-suc, mul-le-mul}
 use native.Mathlib.Numerals.{add-one}

@@ -1,11 +1,7 @@
 -- `columns::blocks::starts_of` meets its contract. The loop's invariant: the first i inputs have their starts. Assumes nothing.
-use Prim.Native.Nat.{ℕ, _+_, _-_, _*_, _≤_, _<_}
-use mathlib.Core.Path.{_≡_, refl, _∙_}
-use native.Mathlib.Decide.{ℕ-discrete}
+use Prim.Native.Nat.{_-_, _*_, _≤_}
+use mathlib.Core.Path.{_≡_, refl}
 use native.Mathlib.Omega.{arith}
-use lib.ListN.{length, getD, length-set}
-use lib.Seq.{getD-set-same, getD-set-other}
-use Rattle.nets.specs.Room.{mostWires}
 use Rattle.columns.specs.Laying.{mostBlock}
 use Rattle.columns.specs.Blocks.{StartsSoFar, starts-none, starts-more}
 use Rattle.columns.proofs.blocks.starts_of.Statement.{statement}

@@ -1,6 +1,6 @@
 -- `columns::gate::two_level_values` meets its contract. The loop's invariant: the gate has its first p values. Assumes nothing.
-use Prim.Native.Nat.{_-_, _+_, _*_, _≤_, _<_}
-use mathlib.Core.Path.{_≡_, _∙_}
+use Prim.Native.Nat.{_-_, _+_, _≤_, _<_}
+use mathlib.Core.Path.{_∙_}
 use native.Mathlib.Omega.{arith}
 use lib.ListN.{length, getD}
 use Rattle.columns.specs.Gates.{GateDone, gate-none, gate-more, read-below, four-digits}

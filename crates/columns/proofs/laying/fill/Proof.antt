@@ -1,8 +1,7 @@
 -- `columns::laying::fill` meets its contract. The loop's invariant: the first p cells of the run are written. Assumes nothing.
-use Prim.Native.Nat.{_+_, _-_, _≤_, _<_}
+use Prim.Native.Nat.{_-_, _≤_}
 use mathlib.Core.Path.{refl}
 use native.Mathlib.Omega.{arith}
-use lib.ListN.{length}
 use Rattle.columns.specs.Runs.{Run, run-none, run-more, run-all}
 use Rattle.columns.proofs.laying.fill.Statement.{statement}
 use Rattle.columns.proofs.laying.fill.Tie as tie

@@ -1,5 +1,5 @@
 -- `columns::laying::lay_high` meets its contract. The loop's invariant: the columns of the first i inputs are laid. Assumes nothing.
-use Prim.Native.Nat.{_+_, _-_, _*_, _≤_, _<_}
+use Prim.Native.Nat.{_+_, _-_, _*_, _≤_}
 use mathlib.Core.Path.{_≡_}
 use native.Mathlib.Omega.{arith}
 use lib.ListN.{length}

@@ -1,8 +1,7 @@
 -- `columns::laying::lay_low` meets its contract. The loop's invariant: the columns of the last t inputs are laid. Assumes nothing.
-use Prim.Native.Nat.{_+_, _-_, _*_, _^_, _≤_, _<_}
+use Prim.Native.Nat.{_-_, _≤_}
 use mathlib.Core.Path.{_≡_}
 use native.Mathlib.Omega.{arith}
-use lib.ListN.{length}
 use Rattle.columns.specs.Laying.{LowLaid, laid-none, wider-within, widen-ready, laid-more}
 use Rattle.columns.proofs.laying.lay_low.Statement.{statement}
 use Rattle.columns.proofs.laying.lay_low.Tie as tie

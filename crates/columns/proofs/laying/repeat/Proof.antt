@@ -1,7 +1,7 @@
 -- `columns::laying::repeat` meets its contract. The loop's invariant: the first p cells are put once more. Assumes nothing.
-use Prim.Native.Nat.{_+_, _-_, _≤_, _<_}
+use Prim.Native.Nat.{_+_, _-_, _≤_}
 use native.Mathlib.Omega.{arith}
-use lib.ListN.{length, getD}
+use lib.ListN.{getD}
 use Rattle.columns.specs.Runs.{Run, run-none, run-more, run-all}
 use Rattle.columns.proofs.laying.repeat.Statement.{statement}
 use Rattle.columns.proofs.laying.repeat.Tie as tie

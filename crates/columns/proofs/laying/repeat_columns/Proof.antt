@@ -1,7 +1,6 @@
 -- `columns::laying::repeat_columns` meets its contract. The loop's invariant: the first k columns are done. Assumes nothing.
-use Prim.Native.Nat.{_+_, _-_, _*_, _≤_, _<_}
-use mathlib.Core.Path.{_≡_, sym}
-use native.Mathlib.Nat.{zero-mul}
+use Prim.Native.Nat.{_+_, _-_, _*_, _≤_}
+use mathlib.Core.Path.{_≡_}
 use native.Mathlib.Omega.{arith}
 use lib.ListN.{length}
 use Rattle.columns.specs.Laying.{mostBlock, Repeated, repeated-none, column-there, repeated-more}

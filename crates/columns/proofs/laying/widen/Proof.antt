@@ -1,11 +1,8 @@
 -- `columns::laying::widen` meets its contract. The loop's invariant: with l levels of the new input the columns are laid, for `to` cells. Assumes nothing.
 use Prim.Native.Nat.{ℕ, _+_, _-_, _*_, _≤_, _<_}
 use mathlib.Core.Path.{_≡_, refl, sym, ap, _∙_}
-use mathlib.Core.List.{List}
 use native.Mathlib.Nat.{one-mul, mul-comm}
 use native.Mathlib.Omega.{arith}
-use lib.ListN.{length}
-use Rattle.rules.specs.Limits.{mostLevels}
 use Rattle.columns.specs.Laying.{mostBlock, Laid, width-within, widen-first, part-within, part-room, to-more, widen-more}
 use Rattle.columns.proofs.laying.widen.Statement.{statement}
 use Rattle.columns.proofs.laying.widen.Tie as tie

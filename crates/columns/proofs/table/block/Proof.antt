@@ -1,10 +1,8 @@
 -- `columns::table::block` meets its contract: the first inputs' columns, the net's values, and these to the cells. Assumes nothing.
-use Prim.Native.Nat.{ℕ, _+_, _-_, _*_, _≤_}
-use mathlib.Core.Path.{_≡_, sym, ap, _∙_}
-use mathlib.Core.List.{List}
+use Prim.Native.Nat.{_+_, _*_, _≤_}
 use native.Mathlib.Omega.{arith}
 use borrow.Author.Needs.{needs}
-use lib.ListN.{length, take, drop}
+use lib.ListN.{length}
 use Rattle.columns.specs.Blocks.{high-ready, values-ready, lent-long, block-done}
 use Rattle.columns.proofs.table.block.Statement.{statement}
 use Rattle.columns.proofs.table.block.Tie as tie

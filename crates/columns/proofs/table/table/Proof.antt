@@ -1,13 +1,12 @@
 -- `columns::table::table` meets its contract. The loop's invariant: the first q blocks have their values, and `levels` has the first inputs' levels in the
 -- next one. Assumes nothing.
-use Prim.Native.Nat.{ℕ, _+_, _-_, _*_, _^_, _≤_, _<_}
+use Prim.Native.Nat.{ℕ, _-_, _^_, _≤_, _<_}
 use mathlib.Core.Path.{_≡_, refl, sym, ap, _∙_}
 use native.Mathlib.Nat.{pow-le-pow-right}
 use native.Mathlib.Omega.{arith}
 use borrow.Author.Needs.{needs}
-use lib.ListN.{length}
 use Rattle.nets.specs.Sound.{sound-size, levels-pos}
-use Rattle.columns.specs.Blocks.{blockCells, TableReady, BlocksDone, blocks-none, block-ready, blocks-more, count-fits, table-done}
+use Rattle.columns.specs.Blocks.{TableReady, BlocksDone, blocks-none, block-ready, blocks-more, count-fits, table-done}
 use Rattle.columns.proofs.table.table.Statement.{statement}
 use Rattle.columns.proofs.table.table.Tie as tie
 
