@@ -6,7 +6,7 @@ ghost use Rattle.columns.specs.Laying.{ColumnsRoom, Repeated, WidenReady
 use crate::limits::MOST_BLOCK;
 
 // Puts the level at `count` cells from `at` on.
-pub fn fill(level: u8, at: usize, count: usize, wires: &mut [u8])
+fn fill(level: u8, at: usize, count: usize, wires: &mut [u8])
     requires { ⌜ at + count ≤ length (now wires) ⌝ }
     ensures { λ _. ⌜ Run at count (λ _. level) (now (wires .entry)) (now (wires .exit)) ⌝ }
 {
