@@ -8,10 +8,10 @@ use crate::verdict::Verdict;
 use crate::verdict::compare_into;
 use answers::named::Named;
 use answers::outcome::Outcome;
+use columns::table;
 use net_reading::net::read_net;
 use nets::forms::Header;
 use nets::forms::Net;
-use nets::values;
 use radix::limits::MOST_CELLS;
 use radix::powers::power;
 use table_reading::sheet::read_table;
@@ -47,7 +47,7 @@ fn check_accepted(
         };
     }
     let mut table = [0u8; MOST_CELLS];
-    values::table(net, &mut table);
+    table::table(net, &mut table);
     compare_into(&table[0..count], &inks[0..count], cells, other.levels)
 }
 

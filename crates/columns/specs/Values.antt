@@ -5,7 +5,7 @@ use mathlib.Core.Path.{_≡_, refl, sym, ap, ap₂, _∙_}
 use mathlib.Core.List.{List, [], _∷_, _++_, map}
 use native.Mathlib.Nat.{zero-add, add-zero, zero-mul, suc-mul, add-assoc, mul-le-mul-right}
 use native.Mathlib.Numerals.{add-one}
-use native.Mathlib.Decide.{ℕ-discrete, decLt}
+use native.Mathlib.Decide.{ℕ-discrete}
 use native.Mathlib.Omega.{arith}
 use lib.ListN.{length, getD, drop, set, length-set}
 use lib.Seq.{getD-set-same, getD-set-other, getD-take, getD-drop}
@@ -32,11 +32,12 @@ pub record ValuesReady (net : Net) (starts : List ℕ) (base count : ℕ) (wires
   pub sound : Sound net
   pub inputs-there : (i : ℕ) → i < net .inputs → getD starts i 0 + count ≤ base
   pub room : base + net .gates * count ≤ length wires
-  pub levels : (q : ℕ) → q < base → getD wires q 0 < net .levels
+  pub levels : (i p : ℕ) → i < net .inputs → p < count → getD wires (getD starts i 0 + p) 0 < net .levels
 
--- from `last` on stands the net's value at each assignment
-pub record ValuesDone (net : Net) (starts : List ℕ) (count : ℕ) (before after : List ℕ) (last : ℕ) : Type 0 where
+-- what stands before `base` is kept, and from `last` on stands the net's value at each assignment
+pub record ValuesDone (net : Net) (starts : List ℕ) (base count : ℕ) (before after : List ℕ) (last : ℕ) : Type 0 where
   pub same : length after ≡ length before
+  pub kept : (q : ℕ) → q < base → getD after q 0 ≡ getD before q 0
   pub there : last + count ≤ length after
   pub values : (p : ℕ) → p < count → getD after (last + p) 0 ≡ valueWith (net .levels) (net .inputs) (gatesOf net) (levelsIn before starts (net .inputs) p)
 
@@ -44,10 +45,11 @@ pub record ValuesDone (net : Net) (starts : List ℕ) (count : ℕ) (before afte
 pub record GatesDone (net : Net) (starts₀ : List ℕ) (base count : ℕ) (before : List ℕ) (k : ℕ) (starts : List ℕ) (to : ℕ) (wires : List ℕ) : Type 0 where
   pub low : k ≤ net .gates
   pub same : length wires ≡ length before
+  pub kept : (q : ℕ) → q < base → getD wires q 0 ≡ getD before q 0
   pub starts-room : length starts ≡ mostWires
   pub reached : to ≡ base + k * count
   pub there : (j : ℕ) → j < net .inputs + k → getD starts j 0 + count ≤ to
-  pub levels : (q : ℕ) → q < to → getD wires q 0 < net .levels
+  pub levels : (j p : ℕ) → j < net .inputs + k → p < count → getD wires (getD starts j 0 + p) 0 < net .levels
   pub values : (p : ℕ) → p < count
       → levelsIn wires starts (net .inputs + k) p ≡ withGates (net .levels) (levelsIn before starts₀ (net .inputs) p) (map (gateOf net) (range 0 k))
 
@@ -58,10 +60,11 @@ module _ (net : Net) (starts₀ : List ℕ) (base count : ℕ) (before : List �
       record {
         low = omega arith;
         same = refl;
+        kept = λ q h. refl;
         starts-room = room;
         reached = rw (zero-mul, add-zero);
         there = λ j h. ready .inputs-there j (omega arith);
-        levels = ready .levels;
+        levels = λ j p h l. ready .levels j p (omega arith) l;
         values = λ p h. rw add-zero;
       }
 
@@ -91,7 +94,8 @@ module _ (net : Net) (starts₀ : List ℕ) (base count : ℕ) (before : List �
           left-there = done .there (getD (net .left) k 0) (back .0);
           right-there = done .there (getD (net .right) k 0) (back .1);
           room = gate-room;
-          levels = done .levels;
+          left-levels = λ p h. done .levels (getD (net .left) k 0) p (back .0) h;
+          right-levels = λ p h. done .levels (getD (net .right) k 0) p (back .1) h;
         }
 
     -- the next gate's digits
@@ -108,7 +112,7 @@ module _ (net : Net) (starts₀ : List ℕ) (base count : ℕ) (before : List �
         known-at j h = map-range-at (λ j. getD wires (getD starts j 0 + p) 0) 0 (net .inputs + k) j 0 h ∙ ap (λ (i : ℕ). getD wires (getD starts i 0 + p) 0) (zero-add j)
 
         known-below : (j : ℕ) → j < net .inputs + k → getD known j 0 < m
-        known-below j h = rw (known-at j h) (done .levels (getD starts j 0 + p) (omega (arith, done .there j h)))
+        known-below j h = rw (known-at j h) (done .levels j p h low)
 
         -- the digit that stands there is the gate's value
         gate-value : getD after (to + p) 0 ≡ gateValue m known (gateOf net k)
@@ -136,10 +140,11 @@ module _ (net : Net) (starts₀ : List ℕ) (base count : ℕ) (before : List �
           record {
             low = omega arith;
             same = gate .same ∙ done .same;
+            kept = λ q h. gate .kept q (omega (arith, done .reached)) ∙ done .kept q h;
             starts-room = length-set starts (net .inputs + k) to ∙ done .starts-room;
             reached = rw (add-one, suc-mul) (omega (arith, done .reached));
             there = λ j h. start-there j h (ℕ-discrete j (net .inputs + k));
-            levels = λ q h. level-there q h (decLt q to);
+            levels = λ j p h l. level-there j p h l (ℕ-discrete j (net .inputs + k));
             values = values-more;
           }
         where
@@ -156,9 +161,12 @@ module _ (net : Net) (starts₀ : List ℕ) (base count : ℕ) (before : List �
           start-there j h (yes e) = rw (e, own) (omega arith)
           start-there j h (no other) = let l : j < net .inputs + k = omega arith in rw (earlier j l) (omega (arith, done .there j l))
 
-          level-there : (q : ℕ) → q < to + count → Dec (q < to) → getD after q 0 < m
-          level-there q h (yes l) = rw (gate .kept q l) (done .levels q l)
-          level-there q h (no l) = let e : q ≡ to + (q - to) = omega arith in rw e (gate-below (q - to) (omega arith))
+          level-there : (j p : ℕ) → j < net .inputs + (k + 1) → p < count → Dec (j ≡ net .inputs + k)
+              → getD after (getD (set starts (net .inputs + k) to) j 0 + p) 0 < m
+          level-there j p h l (yes e) = rw (e, own) (gate-below p l)
+          level-there j p h l (no other) =
+              let less : j < net .inputs + k = omega arith in
+              rw (earlier j less, gate .kept (getD starts j 0 + p) (omega (arith, done .there j less))) (done .levels j p less l)
 
           values-more : (p : ℕ) → p < count
               → levelsIn after (set starts (net .inputs + k) to) (net .inputs + (k + 1)) p
@@ -176,7 +184,7 @@ module _ (net : Net) (starts₀ : List ℕ) (base count : ℕ) (before : List �
 
   -- all gates have their values
   module _ (starts : List ℕ) (to : ℕ) (wires : List ℕ) (k : ℕ) (done : GatesDone net starts₀ base count before k starts to wires) (all : net .gates ≤ k) where
-    pub gates-done : ValuesDone net starts₀ count before wires (getD starts (net .inputs + net .gates - 1) 0)
+    pub gates-done : ValuesDone net starts₀ base count before wires (getD starts (net .inputs + net .gates - 1) 0)
     unfolding valueWith gatesOf
     gates-done =
         let is : k ≡ net .gates = omega (arith, done .low) in
@@ -184,6 +192,7 @@ module _ (net : Net) (starts₀ : List ℕ) (base count : ℕ) (before : List �
         let end : to ≤ length wires = rw (done .reached, is, done .same) (ready .room) in
         record {
           same = done .same;
+          kept = done .kept;
           there = omega (arith, done .there (net .inputs + net .gates - 1) last, end);
           values = λ p h.
               sym (map-range-at (λ j. getD wires (getD starts j 0 + p) 0) 0 (net .inputs + k) (net .inputs + net .gates - 1) 0 last

@@ -14,7 +14,7 @@ pub fn values(
     wires: &mut [u8],
 ) -> usize
     requires { ⌜ ValuesReady net starts base count (now wires) ⌝ }
-    ensures { λ r. ⌜ ValuesDone net starts count (now (wires .entry)) (now (wires .exit)) r ⌝ }
+    ensures { λ r. ⌜ ValuesDone net starts base count (now (wires .entry)) (now (wires .exit)) r ⌝ }
 {
     let left = net.left;
     let right = net.right;

@@ -121,12 +121,14 @@ module _ (net : Net) (width height : ℕ) (picture : List ℕ) (offsets : List �
             let small : placesOf width height ≤ (mostSide - 1) * span + mostSide = omega (arith, wide, high, ready .picture-is .along .some) in
             let all : net .gates * placesOf width height ≤ mostGates * ((mostSide - 1) * span + mostSide) = mul-le-mul few small in
             omega (arith, all, long, framed .same);
-        levels = levels;
+        levels = λ i p low h.
+            levels (getD starts i 0 + p)
+            (omega (arith, each i low, across-near (net .inputs) offsets (ready .offsets-are) i low, down-near (net .inputs) offsets (ready .offsets-are) i low, wide, high, ready .picture-is .along .some));
       }
 
   -- ---- the values, row by row
 
-  module _ (after : List ℕ) (start : ℕ) (done : ValuesDone net starts (placesOf width height) wires after start) where
+  module _ (after : List ℕ) (start : ℕ) (done : ValuesDone net starts frameSize (placesOf width height) wires after start) where
     pub rows-ready : RowsReady after start width height out
     rows-ready =
         record {

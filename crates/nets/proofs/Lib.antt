@@ -1,4 +1,2 @@
-mod Cells
 mod Depths
-mod Gates
 mod Stepping

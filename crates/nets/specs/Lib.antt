@@ -6,4 +6,3 @@ pub mod References
 pub mod Tables
 pub mod Evaluating
 pub mod Values
-pub mod Counting

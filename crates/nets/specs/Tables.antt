@@ -24,12 +24,6 @@ module _ (f : ℕ → Gate) where
       let e : from + suc k ≡ suc from + k = omega arith in
       rw e (table-at m (suc from) count k (omega arith) (t .1))
 
-  pub tables-front : (m from k count : ℕ) → k ≤ count → Tables m (map f (range from count)) → Tables m (map f (range from k))
-  unfolding range
-  tables-front m from zero count h t = tt
-  tables-front m from (suc k) zero h t = absurd (omega arith)
-  tables-front m from (suc k) (suc count) h t = (t .0, tables-front m (suc from) k count (omega arith) (t .1))
-
 -- ---- the gate with k gates before it
 
 module _ (net : Net) (sound : Sound net) (k : ℕ) (turn : k < net .gates) where

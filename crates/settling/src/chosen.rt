@@ -6,10 +6,10 @@ ghost use Rattle.synthesis.specs.Outcomes.{netBy};
 ghost use Rattle.settling.specs.Calls.{settlesBy, makesBy};
 use answers::layered::Layered;
 use answers::outcome::Outcome;
+use columns::table;
 use net_reading::net;
 use nets::forms::Header;
 use nets::forms::Net;
-use nets::values;
 use radix::limits;
 use radix::powers;
 use synthesis::into;
@@ -31,7 +31,7 @@ fn settle_net(
         ≡ settlesBy (netBy choice) (now (s .entry)) (now (cells .entry)) (now (marks .entry)) (now (out .entry)) ⌝ }
 {
     let mut inks = [0u8; limits::MOST_CELLS];
-    let count = values::table(gates, &mut inks);
+    let count = table::table(gates, &mut inks);
     into::settle_into(choice, s, header, &inks[0..count], cells, marks, out)
 }
 

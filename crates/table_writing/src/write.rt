@@ -5,10 +5,10 @@ ghost use Rattle.table_writing.specs.Writing.{writtenOf};
 ghost use Rattle.accepted.specs.Taken.{NetTaken};
 use answers::answer::Answer;
 use answers::outcome::Outcome;
+use columns::table;
 use net_reading::net::read_net;
 use nets::forms::Header;
 use nets::forms::Net;
-use nets::values;
 use radix::limits::MOST_CELLS;
 use radix::powers::power;
 use table_printing::lengths::table_length;
@@ -28,7 +28,7 @@ fn write_accepted(sheet: &[u8], header: Header, net: Net, out: &mut [u8]) -> Ans
         };
     }
     let mut cells = [0u8; MOST_CELLS];
-    values::table(net, &mut cells);
+    table::table(net, &mut cells);
     Answer::Accepted(print_table(sheet, header, &cells[0..count], out))
 }
 
