@@ -16,9 +16,9 @@ use radix::limits;
 use radix::powers;
 
 // The inputs and the cells of a table for which small work arrays will do, and its groups.
-const FEW_INPUTS: usize = 6;
+pub const FEW_INPUTS: usize = 6;
 
-const FEW_GROUPS: usize = 1 << FEW_INPUTS;
+pub const FEW_GROUPS: usize = 1 << FEW_INPUTS;
 
 const FEW_CELLS: usize = 1024;
 
@@ -66,16 +66,7 @@ fn mark_small(m: usize, n: usize, cells: &[u8], marks: &mut [u8]) -> u8
     let mut kept = [0u16; FEW_GROUPS * limits::MOST_LEVELS];
     let mut xs = [0u16; FEW_CELLS];
     let mut ys = [0u16; FEW_CELLS];
-    mark_with(
-        m,
-        n,
-        cells,
-        &mut counts,
-        &mut kept,
-        &mut xs,
-        &mut ys,
-        marks,
-    )
+    mark_with(m, n, cells, &mut counts, &mut kept, &mut xs, &mut ys, marks)
 }
 
 // The same with arrays for any table.
@@ -87,16 +78,7 @@ fn mark_large(m: usize, n: usize, cells: &[u8], marks: &mut [u8]) -> u8
     let mut kept = [0u16; limits::MOST_KEPT];
     let mut xs = [0u16; limits::MOST_CELLS];
     let mut ys = [0u16; limits::MOST_CELLS];
-    mark_with(
-        m,
-        n,
-        cells,
-        &mut counts,
-        &mut kept,
-        &mut xs,
-        &mut ys,
-        marks,
-    )
+    mark_with(m, n, cells, &mut counts, &mut kept, &mut xs, &mut ys, marks)
 }
 
 // Marks every group in `marks`, the call's own, and answers the whole group's mark.
