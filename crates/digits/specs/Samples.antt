@@ -17,7 +17,6 @@ use Rattle.rules.specs.Wirings.{firstInput}
 use Rattle.rules.specs.Filling.{carried, classNumber}
 use Rattle.laws.specs.Ranges.{map-range-length, map-range-at}
 use Rattle.radix.specs.Fronts.{Front}
-use Rattle.groups.specs.Firsts.{Counted}
 use Rattle.laws.specs.Places.{mem-getD}
 use Rattle.trees.specs.Members.{member-single, size-one}
 use Rattle.trees.specs.Levels.{level-below, level-part-in}
@@ -38,12 +37,6 @@ level-points-length m w = map-range-length (λ l. l * w) 0 m
 pub weight-fits : (m n i : ℕ) → 0 < m → i < n → m * m ^ (n - 1 - i) ≤ m ^ n
 weight-fits m n i pos h =
     subst⁻¹ (λ (k : ℕ). k ≤ m ^ n) (mul-comm m (m ^ (n - 1 - i)) ∙ sym (pow-suc m (n - 1 - i))) (pow-le-pow-right pos (omega arith))
-
--- a count of classes that did not stop
-pub counted-all : (m : ℕ) (list : List ℕ) (count : ℕ) (out : List ℕ) → length list ≤ m → Counted m list count out → Front list count out
-counted-all m list count out few found =
-    let e : count ≡ length list = found .few few in
-    record { count = e; is = found .found (omega arith) }
 
 module _ (m n : ℕ) (f : ℕ → ℕ) (g : ℕ) (g< : g < 2 ^ n) where
   -- a group of one member

@@ -14,7 +14,7 @@ use Rattle.rules.specs.Answers.{accepted, refused, inkIn, written}
 use Rattle.rules.specs.OpenCells.{fullCells}
 use Rattle.answers.specs.declared.answer.Answer.{Answer}
 use Rattle.answers.specs.Answers.{answerOf}
-use Rattle.marking.specs.Marking.{MarkedInto}
+use Rattle.marking.specs.Marking.{Stored}
 
 abbrev pub markedOf : Answer → List ℕ → Marked
 markedOf r marks = record { answer = answerOf r; marks = marks }
@@ -45,9 +45,9 @@ module _ (m n : ℕ) (cells buffer : List ℕ) where
     marks-short h =
         rw (← is-need, lt-ltb (length buffer) need h, markedInto) (λ i. record { answer = refused 14 (is-need i); marks = buffer })
 
-    pub marks-written : need ≤ length buffer → (mark : ℕ) (marks after : List ℕ) → MarkedInto m n (inkIn cells) buffer mark marks after
+    pub marks-written : need ≤ length buffer → (mark : ℕ) (after : List ℕ) → Stored m n (inkIn cells) buffer mark after
         → record { answer = accepted mark; marks = after } ≡ markedInto m n cells buffer
     unfolding markedInto
-    marks-written h mark marks after did =
+    marks-written h mark after did =
         rw (← is-need, le-ltb (length buffer) need h, markedInto)
-        (λ i. record { answer = accepted (did .own .answer i); marks = did .buffer i })
+        (λ i. record { answer = accepted (did .answer i); marks = did .buffer i })

@@ -24,6 +24,14 @@ pub record MarkedInto (m n : ℕ) (f : ℕ → ℕ) (before : List ℕ) (mark : 
   pub own : Marking m n f mark marks
   pub buffer : after ≡ written before (storedMarks (marksOf m n f))
 
+-- what of it a caller sees
+pub record Stored (m n : ℕ) (f : ℕ → ℕ) (before : List ℕ) (mark : ℕ) (after : List ℕ) : Type 0 where
+  pub answer : mark ≡ markIn (marksOf m n f) (wholeGroup n)
+  pub buffer : after ≡ written before (storedMarks (marksOf m n f))
+
+pub marked-stored : {m n : ℕ} {f : ℕ → ℕ} {before : List ℕ} {mark : ℕ} {marks after : List ℕ} → MarkedInto m n f before mark marks after → Stored m n f before mark after
+marked-stored did = record { answer = did .own .answer; buffer = did .buffer }
+
 -- what storing them asks and gives
 module _ {m n : ℕ} {f : ℕ → ℕ} {mark : ℕ} {marks : List ℕ} (did : Marking m n f mark marks) where
   pub marked-small : 0 < m → InTwoBits (2 ^ n) marks

@@ -1,6 +1,6 @@
 -- The mark of a group from what is kept of it, and what is known afterwards.
 -- Assumes nothing.
-use Prim.Native.Nat.{ℕ, _+_, _-_, _^_, _≤_, _<_}
+use Prim.Native.Nat.{ℕ, _+_, _-_, _*_, _^_, _≤_, _<_}
 use mathlib.Core.Path.{_≡_, ap, _∙_, subst, subst⁻¹}
 use mathlib.Core.List.{List}
 use native.Mathlib.Decide.{decLt}
@@ -34,6 +34,13 @@ found-mark {m} {n} {f} {marks} {g} {count} {mark} pos g< found by = go (decLt 0 
     go (no none) _ = by .empty (omega arith) ∙ mark-empty m n f marks g (omega arith)
     go (yes some) (no none) = by .many (omega arith) ∙ many-mark m n f marks g (found-many found pos g< (omega arith))
     go (yes some) (yes h) = by .few some h n g< ∙ few-mark m n f marks g (λ e. omega arith) (found-few found pos g< h)
+
+-- work arrays that are long enough
+pub record Lent (m n : ℕ) (counts kept xs ys : List ℕ) : Type 0 where
+  pub for-counts : 2 ^ n ≤ length counts
+  pub for-kept : 2 ^ n * m ≤ length kept
+  pub for-xs : m ^ n ≤ length xs
+  pub for-ys : m ^ n ≤ length ys
 
 -- ---- the whole group
 

@@ -1,10 +1,13 @@
 // The marking call.
 ghost use mathlib.Core.Path.{_≡_};
 ghost use mathlib.Core.Bool.{true};
-ghost use Prim.Native.Nat.{_^_};
+ghost use Prim.Native.Nat.{_^_, _≤_};
 ghost use lib.ListN.{length};
 ghost use Rattle.rules.specs.Limits.{sizeFits};
+ghost use Rattle.rules.specs.Marks.{marksLength};
+ghost use Rattle.rules.specs.Answers.{inkIn};
 ghost use Rattle.rules.specs.Marking.{markingCall};
+ghost use Rattle.marking.specs.Marking.{Stored};
 ghost use Rattle.marking.specs.Answers.{markedOf, markedInto};
 use crate::all;
 use answers::answer::Answer;
@@ -12,6 +15,24 @@ use answers::outcome::Outcome;
 use groups::bare;
 use marks::own;
 use marks::stored;
+
+// Marks every group, with own marks for few groups, and stores the marks.
+fn store_small(m: usize, n: usize, cells: &[u8], buffer: &mut [u8]) -> u8
+    requires { ⌜ (sizeFits m n ≡ true) × (m ^ n ≤ length (now cells)) × (marksLength n ≤ length (now buffer)) × (n ≤ 6) ⌝ }
+    ensures { λ r. ⌜ Stored m n (inkIn (now (cells .entry))) (now (buffer .entry)) r (now (buffer .exit)) ⌝ }
+{
+    let mut marks = [0u8; all::FEW_GROUPS];
+    all::mark_and_store(m, n, cells, &mut marks, buffer)
+}
+
+// The same with own marks for any number of groups.
+fn store_large(m: usize, n: usize, cells: &[u8], buffer: &mut [u8]) -> u8
+    requires { ⌜ (sizeFits m n ≡ true) × (m ^ n ≤ length (now cells)) × (marksLength n ≤ length (now buffer)) ⌝ }
+    ensures { λ r. ⌜ Stored m n (inkIn (now (cells .entry))) (now (buffer .entry)) r (now (buffer .exit)) ⌝ }
+{
+    let mut marks = [0u8; own::MOST_GROUPS];
+    all::mark_and_store(m, n, cells, &mut marks, buffer)
+}
 
 // Refusal 14, or all marks stored.
 fn mark_into(m: usize, n: usize, cells: &[u8], buffer: &mut [u8]) -> Answer
@@ -25,8 +46,12 @@ fn mark_into(m: usize, n: usize, cells: &[u8], buffer: &mut [u8]) -> Answer
             place: need,
         };
     }
-    let mut marks = [0u8; own::MOST_GROUPS];
-    Answer::Accepted(all::mark_and_store(m, n, cells, &mut marks, buffer) as usize)
+    if all::FEW_INPUTS < n {
+        let mark = store_large(m, n, cells, buffer) as usize;
+        return Answer::Accepted(mark);
+    }
+    let mark = store_small(m, n, cells, buffer) as usize;
+    Answer::Accepted(mark)
 }
 
 // Writes every group's mark and answers the whole group's. Any arguments may come in.

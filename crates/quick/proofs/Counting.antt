@@ -23,6 +23,7 @@ use Rattle.trees.specs.Told.{Told}
 use Rattle.groups.specs.Firsts.{classesOver}
 use Rattle.groups.specs.Within.{Within}
 use Rattle.radix.specs.Widths.{mostMembers}
+use Rattle.quick.specs.Columns.{Column}
 use Rattle.quick.specs.Copies.{Copied}
 use Rattle.quick.specs.Rows.{RowsFit, RowFirsts}
 use Rattle.quick.specs.Steps.{Judged}
@@ -36,6 +37,10 @@ front-listed m n pos f g out count room cover =
     (covers-same m n pos f g count _ _ (λ k k<. sym (getD-take count out k 0 k<)) cover))
 
 module _ {m n : ℕ} {f : ℕ → ℕ} {g : ℕ} (pos : 0 < m) (g< : g < 2 ^ n) (us vs : List ℕ) (rows : Listed m n f g us) (columns : Listed m n f (others n g) vs) where
+  -- a column is an assignment of the other inputs
+  column-own : (y : ℕ) → Column vs y → part m n (others n g) y ≡ y
+  column-own y (k, k<, e) = subst (λ (x : ℕ). part m n (others n g) x ≡ x) e (columns .own k k<)
+
   -- a row and a column are an index
   pub counting-within : (cells : ℕ) → m ^ n ≤ cells → (p : ℕ) → part m n g p ≡ p → Within cells vs p
   counting-within cells room p own k k< =
@@ -95,7 +100,7 @@ module _ {m n : ℕ} {f : ℕ → ℕ} {g : ℕ} (pos : 0 < m) (g< : g < 2 ^ n) 
           levels = pos;
           inputs = inputs;
           some = columns-some (columns .every 0 .1);
-          small = λ k k<. subst (λ (x : ℕ). x < m ^ n) (columns .own k k<) (part-below m n pos (others n g) (getD vs k 0));
+          small = λ y is. subst (λ (x : ℕ). x < m ^ n) (column-own y is) (part-below m n pos (others n g) y);
           room = room;
           within = λ j j≤. counting-within cells fit (getD fs j 0) (counting-own j (omega arith));
           unlike = λ j k h k≤. subst₂ (λ (x y : ℕ). alikeOver f vs x y ≡ false) (getD-take count fs k 0 (omega arith)) (getD-take count fs j 0 (omega arith))
@@ -110,18 +115,18 @@ module _ {m n : ℕ} {f : ℕ → ℕ} {g : ℕ} (pos : 0 < m) (g< : g < 2 ^ n) 
     counting-many over {s} told =
         record {
           row = λ j. getD fs j 0;
-          base = getD vs (told .base) 0;
+          base = told .base;
           apart = λ i j h j<.
               let tells = told .tells i j h (omega arith) in
               record {
-                column = getD vs (tells .place) 0;
+                column = tells .column;
                 same = tells .same;
-                differ = λ e. tells .differ (sym (at (tells .place) (tells .there) j (omega arith)) ∙ sym e ∙ at (tells .place) (tells .there) i (omega arith));
+                differ = λ e. tells .differ (sym (at (tells .column) (tells .there) j (omega arith)) ∙ sym e ∙ at (tells .column) (tells .there) i (omega arith));
               };
         }
       where
-        at : (k : ℕ) → k < length vs → (j : ℕ) → j < count → f (mix m n g (getD fs j 0) (getD vs k 0)) ≡ f (getD fs j 0 + getD vs k 0)
-        at k k< j j< = ap f (row-column m n pos f g (getD fs j 0) (getD vs k 0) (counting-own j j<) (columns .own k k<))
+        at : (y : ℕ) → Column vs y → (j : ℕ) → j < count → f (mix m n g (getD fs j 0) y) ≡ f (getD fs j 0 + y)
+        at y is j j< = ap f (row-column m n pos f g (getD fs j 0) y (counting-own j j<) (column-own y is))
 
 -- ---- what is kept of it
 

@@ -13,6 +13,7 @@ use Rattle.rules.specs.Groups.{alikeOver, firsts}
 use Rattle.trees.specs.Firsts.{firsts-append}
 use Rattle.groups.specs.Firsts.{classesOver, firsts-known, firsts-new}
 use Rattle.groups.specs.Within.{Within}
+use Rattle.quick.specs.Columns.{Column}
 use Rattle.quick.specs.Rows.{RowsFit, RowFirsts}
 
 module _ (f : ℕ → ℕ) (cells : ℕ) (ys xs : List ℕ) (m : ℕ) where
@@ -21,7 +22,7 @@ module _ (f : ℕ → ℕ) (cells : ℕ) (ys xs : List ℕ) (m : ℕ) where
     pub low : i ≤ length xs
     pub some : 0 < count
     pub few : count ≤ m
-    pub place : hint < length ys
+    pub place : Column ys hint
     pub room : m < length fs
     pub kept : take count fs ≡ classesOver f ys (take i xs)
     pub inside : (j : ℕ) → j < count → Within cells ys (getD fs j 0)
@@ -41,14 +42,14 @@ module _ (f : ℕ → ℕ) (cells : ℕ) (ys xs : List ℕ) (m : ℕ) where
       at (no ne) = subst⁻¹ (Within cells ys) (getD-set-other fs count j p 0 ne) (old j (omega arith))
 
   -- the first row
-  pub looked-one : (fs : List ℕ) → RowsFit cells xs ys m (length fs) → Looked (set fs 0 (getD xs 0 0)) 1 0 1
+  pub looked-one : (fs : List ℕ) → RowsFit cells xs ys m (length fs) → {hint : ℕ} → Column ys hint → Looked (set fs 0 (getD xs 0 0)) 1 hint 1
   unfolding classesOver firsts any
-  looked-one fs fit =
+  looked-one fs fit place =
       record {
         low = fit .rows;
         some = omega arith;
         few = fit .levels;
-        place = fit .columns;
+        place = place;
         room = omega (arith, fit .room, length-set fs 0 (getD xs 0 0));
         kept = take-suc-set fs 0 (getD xs 0 0) (omega (arith, fit .room)) ∙ ap (firsts (alikeOver f ys) []) (sym (take-suc xs 0 0 (fit .rows)));
         inside = set-inside fs 0 (getD xs 0 0) (omega (arith, fit .room)) (fit .within 0 (fit .rows)) (λ j h. absurd (omega arith));
@@ -93,7 +94,7 @@ module _ {f : ℕ → ℕ} {cells : ℕ} {ys xs : List ℕ} {m : ℕ} {fs : List
           ∙ firsts-new (alikeOver f ys) (take count fs) (getD xs i 0) [] (omega (arith, kept-length)))
 
       -- joins those that are kept, ..
-      pub looked-new : count < m → Within cells ys (getD xs i 0) → {next : ℕ} → next < length ys → Looked f cells ys xs m (set fs count (getD xs i 0)) (count + 1) next (i + 1)
+      pub looked-new : count < m → Within cells ys (getD xs i 0) → {next : ℕ} → Column ys next → Looked f cells ys xs m (set fs count (getD xs i 0)) (count + 1) next (i + 1)
       looked-new h within place =
           record {
             low = omega arith;

@@ -10,7 +10,7 @@ use native.Mathlib.Omega.{arith}
 use lib.Bits.{bitAnd, and-le-r}
 use borrow.Author.Tests.{eqb-true}
 use lib.ListN.{length, getD, take, set}
-use lib.Pow.{pow-mono, pow-pos}
+use lib.Pow.{pow-lt, pow-pos}
 use lib.Seq.{getD-set-same}
 use Rattle.rules.specs.Groups.{member, size, wholeGroup, others}
 use Rattle.rules.specs.Marks.{inside}
@@ -18,22 +18,19 @@ use Rattle.trees.specs.Members.{member-single, single-below, member-inside, mem
 use Rattle.trees.specs.Trees.{Apart}
 use Rattle.trees.specs.MarkTwo.{inside-trans}
 use Rattle.trees.specs.TakenOff.{off-inside, off-apart, alone-le}
+use Rattle.trees.specs.Carried.{first-single}
+use Rattle.rules.specs.Wirings.{firstInput}
+use Rattle.quick.specs.Columns.{columnsOf}
 use Rattle.trees.specs.Covers.{Covers, covers-same, empty-cover}
 use Rattle.trees.specs.Reps.{Listed}
 use Rattle.trees.specs.Told.{Told, told-on}
-use Rattle.radix.specs.Fronts.{rest-others}
 use Rattle.radix.specs.Parts.{Part, part-inside, inside-part}
 use Rattle.quick.specs.Known.{Few, Base, Known, Found, places-before}
 use Rattle.quick.specs.Covering.{Covering, Covered}
 use Rattle.quick.specs.Sources.{PassesOn, OneOf, has-member}
 use Rattle.quick.specs.Steps.{Work, Next, Judged, Stepped}
-use Rattle.quick.proofs.Agreeing.{shifted}
+use Rattle.quick.proofs.LastInputs.{run-listed}
 use Rattle.quick.proofs.Counting.{front-listed, judged-many}
-
--- no input from s on is a member of a group of the first s inputs
-no-member : (s i g : ℕ) → g < 2 ^ s → s ≤ i → member i g ≡ false
-unfolding member
-no-member s i g g< h = rw (div-eq-of-lt (lt-of-lt-of-le g< (pow-mono h)))
 
 module _ {m n : ℕ} {f : ℕ → ℕ} {cells weights counts kept xs ys firsts : List ℕ} {g past : ℕ}
     (work : Work m n cells weights counts kept xs ys firsts) (next : Next m n f counts kept g past) where
@@ -84,47 +81,50 @@ module _ {m n : ℕ} {f : ℕ → ℕ} {cells weights counts kept xs ys firsts :
     pub step-others-lower : past - 1 - g < g
     step-others-lower = omega (arith, next .above, next .near .half some)
 
-    -- (all other inputs, as the code has them)
-    pub step-others : 1 * 2 ^ n % 2 ^ 64 - 1 - g ≡ others n g
-    step-others = rest-others n g (1 * 2 ^ n % 2 ^ 64) (shifted n (work .inputs))
+    -- .. which is what those of a power of two leave
+    step-before : past - 1 - g ≡ 2 ^ next .near .end - 1 - g
+    step-before = ap (λ (k : ℕ). k - 1 - g) (next .near .is)
 
-    -- .. inside that of all other inputs
-    pub step-others-inside : inside n (past - 1 - g) (others n g) ≡ true
-    unfolding others wholeGroup
-    step-others-inside = member-inside n (past - 1 - g) (others n g) (λ i i< is. member-others i n g i< (next .group) ∙ at i i< is (decLt i (next .near .end)))
+    -- the last member comes right before that power, and the run is its weight
+    pub step-run : {end : ℕ} → ((k : ℕ) → past < 2 ^ k → end ≡ firstInput k past) → (0 < end) × (end - 1 < n) × (getD weights (end - 1) 0 ≡ m ^ (n - next .near .end))
+    step-run {end} first =
+        let is : end ≡ next .near .end =
+        first (n + 1) (omega (arith, next .near .is, pow-lt {i = next .near .end} {j = n + 1} (omega (arith, next .near .low))))
+        ∙ ap (firstInput (n + 1)) (next .near .is)
+        ∙ first-single (n + 1) (next .near .end) (omega (arith, next .near .low)) in
+        let some-end : 0 < end = has-end (decLt 0 end) is in
+        let place : n - 1 - (end - 1) ≡ n - next .near .end = omega arith in
+        (some-end, omega (arith, next .near .low), work .weighed (end - 1) (omega (arith, next .near .low)) ∙ ap (λ (k : ℕ). m ^ k) place)
       where
-        g<s : g < 2 ^ (next .near .end)
-        g<s = omega (arith, next .above, next .near .is)
+        has-end : {end : ℕ} → Dec (0 < end) → end ≡ next .near .end → 0 < end
+        has-end (yes h) is = h
+        has-end (no h) is =
+            let none : next .near .end ≡ 0 = omega arith in
+            absurd (omega (arith, next .above, next .near .is, ap (λ (k : ℕ). 2 ^ k) none))
 
-        before : past - 1 - g ≡ others (next .near .end) g
-        before = ap (λ (k : ℕ). k - 1 - g) (next .near .is)
-
-        at : (i : ℕ) → i < n → member i (past - 1 - g) ≡ true → Dec (i < next .near .end) → not (member i g) ≡ true
-        at i i< is (yes h) = sym (member-others i (next .near .end) g h g<s) ∙ ap (member i) (sym before) ∙ is
-        at i i< is (no h) = absurd (false≢true (sym (no-member (next .near .end) i (past - 1 - g) (omega (arith, next .near .is, pow-pos (next .near .end))) (omega arith)) ∙ is))
-
-    -- so a group of few classes inside it can be spread to them
+    -- a group of few classes inside it can be spread to it
     module _ {below : ℕ} (part : Part below (past - 1 - g)) (counted : 0 < getD counts below 0) where
       below< : below < g
       below< = omega (arith, and-le-r below (past - 1 - g), part, step-others-lower)
 
-      step-in-others : (inside n below (others n g) ≡ true) × (below ≤ others n g)
-      unfolding others wholeGroup
-      step-in-others = (
-        inside-trans n below (past - 1 - g) (others n g) (part-inside n below (past - 1 - g) part) step-others-inside,
-        omega (arith, and-le-r below (past - 1 - g), part, next .near .is, pow-mono (next .near .low)),
-      )
+      low : below ≤ past - 1 - g
+      low = omega (arith, and-le-r below (past - 1 - g), part)
 
-      pub step-columns : {out : List ℕ} → m ^ n ≤ length out → Covering m n weights counts kept below (1 * 2 ^ n % 2 ^ 64 - 1 - g) out
-      step-columns {out} room =
-          subst⁻¹ (λ (to : ℕ). Covering m n weights counts kept below to out) step-others
-          (step-covering below< counted (step-in-others .0) (step-in-others .1) (others-below n g) room)
+      to< : past - 1 - g < 2 ^ n
+      to< = omega (arith, step-others-lower, next .group)
 
-      -- and then covers them
-      pub step-columns-listed : {out : List ℕ} {count : ℕ} → Covered m n counts kept below (1 * 2 ^ n % 2 ^ 64 - 1 - g) out count → Listed m n f (others n g) (take (count - 0) out)
-      step-columns-listed {out} {count} covered =
-          front-listed m n step-level f (others n g) out count (covered .inside-out)
-          (subst (λ (to : ℕ). Covers m n f to count (λ k. getD out k 0)) step-others (covered .cover f (step-cover below< counted (step-in-others .0) (step-in-others .1) (others-below n g))))
+      pub step-columns : {out : List ℕ} → m ^ n ≤ length out → Covering m n weights counts kept below (past - 1 - g) out
+      step-columns room = step-covering below< counted (part-inside n below (past - 1 - g) part) low to< room
+
+      -- and then, with a run, covers all other inputs
+      pub step-columns-listed : {out : List ℕ} {count run : ℕ} → run ≡ m ^ (n - next .near .end) → Covered m n counts kept below (past - 1 - g) out count
+          → Listed m n f (others n g) (columnsOf run (take (count - 0) out))
+      step-columns-listed {out} {count} {run} is-run covered =
+          subst⁻¹ (λ (r : ℕ). Listed m n f (others n g) (columnsOf r (take (count - 0) out))) is-run
+          (run-listed m n step-level f (next .near .end) (next .near .low) g (omega (arith, next .above, next .near .is)) (take (count - 0) out)
+          (subst (λ (to : ℕ). Listed m n f to (take (count - 0) out)) step-before
+          (front-listed m n step-level f (past - 1 - g) out count (covered .inside-out)
+          (covered .cover f (step-cover below< counted (part-inside n below (past - 1 - g) part) low to<)))))
 
   -- ---- what is found
 

@@ -1,17 +1,20 @@
 -- Columns that tell rows apart, and the inputs at which they have the levels of one of them.
 -- Assumes nothing.
 use Prim.Native.Nat.{ℕ, _+_, _-_, _^_, _≤_, _<_}
-use mathlib.Core.Path.{_≡_, refl, subst⁻¹}
+use mathlib.Core.Path.{_≡_, refl, sym, _∙_, subst⁻¹}
 use mathlib.Core.Logic.{_≢_}
-use mathlib.Core.Bool.{true, false}
+use mathlib.Core.Bool.{true, false, false≢true}
 use mathlib.Core.List.{List}
 use native.Mathlib.Decide.{ℕ-discrete}
 use native.Mathlib.Omega.{arith}
 use lib.ListN.{length, getD}
 use Rattle.rules.specs.Groups.{member, alikeOver}
+use Rattle.trees.specs.Members.{member-zero}
 use Rattle.trees.specs.Told.{SameAt}
 use Rattle.groups.specs.Within.{Within}
 use Rattle.radix.specs.Widths.{mostMembers}
+use Rattle.quick.specs.Columns.{Column}
+use Rattle.quick.specs.Rows.{unlike-column}
 
 -- every input of r is one of s
 pub record Fewer (n s r : ℕ) : Type 0 where
@@ -27,18 +30,18 @@ pub record Agreed (m n x y s r : ℕ) : Type 0 where
 pub record Telling (m n : ℕ) (f : ℕ → ℕ) (cells : ℕ) (ys : List ℕ) (base p q : ℕ) : Type 0 where
   pub levels : 0 < m
   pub inputs : n ≤ mostMembers
-  pub there : base < length ys
-  pub small : (k : ℕ) → k < length ys → getD ys k 0 < m ^ n
+  pub there : Column ys base
+  pub small : (y : ℕ) → Column ys y → y < m ^ n
   pub left : Within cells ys p
   pub right : Within cells ys q
   pub unlike : alikeOver f ys p q ≡ false
 
--- a column that tells p and q apart, with the levels of the column at place `base` at the inputs r
+-- a column that tells p and q apart, with the levels of the column `base` at the inputs r
 pub record Tells (m n : ℕ) (f : ℕ → ℕ) (ys : List ℕ) (base p q r : ℕ) : Type 0 where
-  pub place : ℕ
-  pub there : place < length ys
-  pub same : SameAt m n r (getD ys place 0) (getD ys base 0)
-  pub differ : f (p + getD ys place 0) ≢ f (q + getD ys place 0)
+  pub column : ℕ
+  pub there : Column ys column
+  pub same : SameAt m n r column base
+  pub differ : f (p + column) ≢ f (q + column)
 
 pub record ToldOne (m n : ℕ) (f : ℕ → ℕ) (ys : List ℕ) (base p q s r : ℕ) : Type 0 where
   pub fewer : Fewer n s r
@@ -53,15 +56,24 @@ fewer-on a b = record { low = omega (arith, a .low, b .low); inside = λ i i< is
 module _ {m n : ℕ} {f : ℕ → ℕ} {ys : List ℕ} {base p q : ℕ} where
   -- at fewer inputs the levels are the same too
   pub tells-fewer : {r t : ℕ} → Fewer n r t → Tells m n f ys base p q r → Tells m n f ys base p q t
-  tells-fewer fewer tells = record { place = tells .place; there = tells .there; same = λ i i< is. tells .same i i< (fewer .inside i i< is); differ = tells .differ }
+  tells-fewer fewer tells = record { column = tells .column; there = tells .there; same = λ i i< is. tells .same i i< (fewer .inside i i< is); differ = tells .differ }
 
-  -- the column at place `base` tells the two apart, ..
-  pub told-here : (s : ℕ) → base < length ys → f (p + getD ys base 0) ≢ f (q + getD ys base 0) → ToldOne m n f ys base p q s s
-  told-here s there differ = record { fewer = fewer-none n s; tells = record { place = base; there = there; same = λ i i< is. refl; differ = differ } }
+  -- the column `base` tells the two apart, ..
+  pub told-here : (s : ℕ) → Column ys base → f (p + base) ≢ f (q + base) → ToldOne m n f ys base p q s s
+  told-here s there differ = record { fewer = fewer-none n s; tells = record { column = base; there = there; same = λ i i< is. refl; differ = differ } }
 
-  -- .. or another does
-  pub told-there : {k s r : ℕ} → k < length ys → f (p + getD ys k 0) ≢ f (q + getD ys k 0) → Agreed m n (getD ys k 0) (getD ys base 0) s r → ToldOne m n f ys base p q s r
-  told-there {k} there differ agreed = record { fewer = agreed .fewer; tells = record { place = k; there = there; same = agreed .same; differ = differ } }
+  -- .. or another does, ..
+  pub told-there : {y s r : ℕ} → Column ys y → f (p + y) ≢ f (q + y) → Agreed m n y base s r → ToldOne m n f ys base p q s r
+  told-there {y} there differ agreed = record { fewer = agreed .fewer; tells = record { column = y; there = there; same = agreed .same; differ = differ } }
+
+  -- .. and of no input it is not asked which
+  pub told-any : {s : ℕ} → s ≡ 0 → alikeOver f ys p q ≡ false → ToldOne m n f ys base p q s 0
+  told-any {s} none unlike =
+      let (y, there, differ) = unlike-column f ys p q unlike in
+      record {
+        fewer = record { low = omega arith; inside = λ i i< is. absurd (false≢true (sym (member-zero i) ∙ is)) };
+        tells = record { column = y; there = there; same = λ i i< is. absurd (false≢true (sym (member-zero i) ∙ is)); differ = differ };
+      }
 
 pub record ToldRow (m n : ℕ) (f : ℕ → ℕ) (ys : List ℕ) (base p : ℕ) (firsts : List ℕ) (count s r : ℕ) : Type 0 where
   pub fewer : Fewer n s r
@@ -84,7 +96,7 @@ pub record RowsTold (m n : ℕ) (f : ℕ → ℕ) (cells : ℕ) (ys firsts : Lis
   pub levels : 0 < m
   pub inputs : n ≤ mostMembers
   pub some : 0 < length ys
-  pub small : (k : ℕ) → k < length ys → getD ys k 0 < m ^ n
+  pub small : (y : ℕ) → Column ys y → y < m ^ n
   pub room : m < length firsts
   pub within : (j : ℕ) → j ≤ m → Within cells ys (getD firsts j 0)
   pub unlike : (j k : ℕ) → j < k → k ≤ m → alikeOver f ys (getD firsts k 0) (getD firsts j 0) ≡ false
@@ -92,7 +104,7 @@ pub record RowsTold (m n : ℕ) (f : ℕ → ℕ) (cells : ℕ) (ys firsts : Lis
 pub record ToldAll (m n : ℕ) (f : ℕ → ℕ) (ys firsts : List ℕ) (r : ℕ) : Type 0 where
   pub low : r < 2 ^ 16
   pub base : ℕ
-  pub there : base < length ys
+  pub there : Column ys base
   pub tells : (j k : ℕ) → j < k → k ≤ m → Tells m n f ys base (getD firsts k 0) (getD firsts j 0) r
 
 -- the rows after the first k are told apart from those before them
@@ -116,5 +128,5 @@ module _ {m n : ℕ} {f : ℕ → ℕ} {ys firsts : List ℕ} {base : ℕ} where
       at j i h after i≤ (no ne) = tells-fewer (row .fewer) (so-far .tells j i h (omega arith) i≤)
 
   -- all rows
-  pub from-all : {k r : ℕ} → k ≤ 0 → base < length ys → ToldFrom m n f ys firsts base k r → ToldAll m n f ys firsts r
+  pub from-all : {k r : ℕ} → k ≤ 0 → Column ys base → ToldFrom m n f ys firsts base k r → ToldAll m n f ys firsts r
   from-all none there so-far = record { low = so-far .low; base = base; there = there; tells = λ j i h i≤. so-far .tells j i h (omega arith) i≤ }

@@ -6,32 +6,44 @@ ghost use Rattle.rules.specs.Lists.{firstPlace};
 ghost use Rattle.rules.specs.Groups.{alikeOver};
 ghost use Rattle.rules.specs.Answers.{inkIn};
 ghost use Rattle.groups.specs.Within.{Within};
+ghost use Rattle.quick.specs.Columns.{columnsOf, Column};
 ghost use Rattle.quick.specs.Rows.{PlaceApart, RowsFit, RowFirsts};
-use groups::alike;
-use groups::differences;
+use crate::runs;
 use groups::differences::Difference;
 
-// Is the ink the same at p and at q for each of the columns ys? The column at place `hint` is looked at first: it told other rows apart.
-fn alike_by(cells: &[u8], ys: &[u16], p: usize, q: usize, hint: usize) -> bool
-    requires { ⌜ (hint < length (now ys)) × (Within (length (now cells)) (now ys) p) × (Within (length (now cells)) (now ys) q) ⌝ }
-    ensures { λ r. ⌜ r ≡ alikeOver (inkIn (now (cells .entry))) (now (ys .entry)) p q ⌝ }
+// Is the ink the same at p and at q for each of the columns? The column `hint` is looked at first: it told other rows apart.
+fn alike_by(cells: &[u8], heads: &[u16], run: usize, p: usize, q: usize, hint: usize) -> bool
+    requires { ⌜ (0 < run) × (Column (columnsOf run (now heads)) hint) × (Within (length (now cells)) (columnsOf run (now heads)) p)
+        × (Within (length (now cells)) (columnsOf run (now heads)) q) ⌝ }
+    ensures { λ r. ⌜ r ≡ alikeOver (inkIn (now (cells .entry))) (columnsOf run (now (heads .entry))) p q ⌝ }
 {
-    let y = ys[hint] as usize;
-    if cells[p + y] != cells[q + y] {
+    if cells[p + hint] != cells[q + hint] {
         return false;
     }
-    alike::alike(cells, ys, p, q)
+    let found = runs::column_apart(cells, heads, run, p, q);
+    match found {
+        Difference::None => true,
+        Difference::At(_) => false,
+    }
 }
 
 // The number of p's class, where the front `count` of `firsts` are the first of each class; `count` where p is in none.
-fn class_of(cells: &[u8], ys: &[u16], firsts: &[u16], count: usize, p: usize, hint: usize) -> usize
-    requires { ⌜ (hint < length (now ys)) × (count ≤ length (now firsts)) × (Within (length (now cells)) (now ys) p)
-        × ((j : ℕ) → j < count → Within (length (now cells)) (now ys) (getD (now firsts) j 0)) ⌝ }
-    ensures { λ r. ⌜ r ≡ firstPlace (alikeOver (inkIn (now (cells .entry))) (now (ys .entry)) p) (take count (now (firsts .entry))) ⌝ }
+fn class_of(
+    cells: &[u8],
+    heads: &[u16],
+    run: usize,
+    firsts: &[u16],
+    count: usize,
+    p: usize,
+    hint: usize,
+) -> usize
+    requires { ⌜ (0 < run) × (Column (columnsOf run (now heads)) hint) × (count ≤ length (now firsts)) × (Within (length (now cells)) (columnsOf run (now heads)) p)
+        × ((j : ℕ) → j < count → Within (length (now cells)) (columnsOf run (now heads)) (getD (now firsts) j 0)) ⌝ }
+    ensures { λ r. ⌜ r ≡ firstPlace (alikeOver (inkIn (now (cells .entry))) (columnsOf run (now (heads .entry))) p) (take count (now (firsts .entry))) ⌝ }
 {
     let mut j: usize = 0;
     while j < count {
-        if alike_by(cells, ys, p, firsts[j] as usize, hint) {
+        if alike_by(cells, heads, run, p, firsts[j] as usize, hint) {
             return j;
         }
         j += 1;
@@ -39,31 +51,46 @@ fn class_of(cells: &[u8], ys: &[u16], firsts: &[u16], count: usize, p: usize, hi
     count
 }
 
-// A place among the columns at which p and q differ, or `other` where they are alike.
-pub fn place_apart(cells: &[u8], ys: &[u16], p: usize, q: usize, other: usize) -> usize
-    requires { ⌜ (other < length (now ys)) × (Within (length (now cells)) (now ys) p) × (Within (length (now cells)) (now ys) q) ⌝ }
-    ensures { λ r. ⌜ PlaceApart (inkIn (now (cells .entry))) (now (ys .entry)) p q r ⌝ }
+// A column at which p and q differ, or `other` where they are alike.
+pub fn place_apart(
+    cells: &[u8],
+    heads: &[u16],
+    run: usize,
+    p: usize,
+    q: usize,
+    other: usize,
+) -> usize
+    requires { ⌜ (0 < run) × (Column (columnsOf run (now heads)) other) × (Within (length (now cells)) (columnsOf run (now heads)) p)
+        × (Within (length (now cells)) (columnsOf run (now heads)) q) ⌝ }
+    ensures { λ r. ⌜ PlaceApart (inkIn (now (cells .entry))) (columnsOf run (now (heads .entry))) p q r ⌝ }
 {
-    let found = differences::first_difference(cells, ys, p, q);
+    let found = runs::column_apart(cells, heads, run, p, q);
     match found {
         Difference::None => other,
-        Difference::At(k) => k,
+        Difference::At(y) => y,
     }
 }
 
 // Goes through the rows xs and puts the first of each class to the front of `firsts`. Answers how many classes there are, or m + 1 as soon as so many
 // are found.
-pub fn row_firsts(cells: &[u8], xs: &[u16], ys: &[u16], m: usize, firsts: &mut [u16]) -> usize
-    requires { ⌜ RowsFit (length (now cells)) (now xs) (now ys) m (length (now firsts)) ⌝ }
-    ensures { λ r. ⌜ RowFirsts (inkIn (now (cells .entry))) (now (ys .entry)) (now (xs .entry)) m r (now (firsts .exit)) ⌝ }
+pub fn row_firsts(
+    cells: &[u8],
+    xs: &[u16],
+    heads: &[u16],
+    run: usize,
+    m: usize,
+    firsts: &mut [u16],
+) -> usize
+    requires { ⌜ RowsFit (length (now cells)) (now xs) (columnsOf run (now heads)) m (length (now firsts)) ⌝ }
+    ensures { λ r. ⌜ RowFirsts (inkIn (now (cells .entry))) (columnsOf run (now (heads .entry))) (now (xs .entry)) m r (now (firsts .exit)) ⌝ }
 {
     firsts[0] = xs[0];
     let mut count: usize = 1;
-    let mut hint: usize = 0;
+    let mut hint = heads[0] as usize;
     let mut i: usize = 1;
     while i < xs.len() {
         let p = xs[i];
-        if class_of(cells, ys, firsts, count, p as usize, hint) < count {
+        if class_of(cells, heads, run, firsts, count, p as usize, hint) < count {
             i += 1;
         } else {
             let q = firsts[count - 1];
@@ -71,7 +98,7 @@ pub fn row_firsts(cells: &[u8], xs: &[u16], ys: &[u16], m: usize, firsts: &mut [
             if count == m {
                 return m + 1;
             }
-            hint = place_apart(cells, ys, p as usize, q as usize, hint);
+            hint = place_apart(cells, heads, run, p as usize, q as usize, hint);
             count += 1;
             i += 1;
         }

@@ -5,11 +5,13 @@ ghost use lib.ListN.{length, getD, set};
 ghost use Rattle.rules.specs.Answers.{inkIn};
 ghost use Rattle.radix.specs.Parts.{Part};
 ghost use Rattle.radix.specs.Widths.{groupsEnd};
+ghost use Rattle.quick.specs.Columns.{columnsOf};
 ghost use Rattle.quick.specs.Steps.{Work, Near, Next, Judging, Judged, Stepped};
 use crate::cover;
 use crate::rows;
 use crate::source;
 use crate::told;
+use radix::members;
 
 // Keeps that a group has too many classes: the inputs s, and a group b of few classes inside it.
 fn put_many(kept: &mut [u16], at: usize, s: u16, b: u16)
@@ -20,24 +22,26 @@ fn put_many(kept: &mut [u16], at: usize, s: u16, b: u16)
     kept[at + 1] = b;
 }
 
-// Counts the classes of g among the rows xs, told by the columns ys, and keeps what is found. `from` is a group of few classes inside g.
+// Counts the classes of g among the rows xs, told by the columns of the heads ys and the run, and keeps what is found. `from` is a group of few classes inside g.
 fn judge(
     m: usize,
     n: usize,
     cells: &[u8],
     xs: &[u16],
     ys: &[u16],
+    run: usize,
     g: usize,
     from: usize,
     kept: &mut [u16],
     firsts: &mut [u16],
 ) -> usize
-    requires { ⌜ Judging m n (now cells) (now xs) (now ys) g from (now kept) (length (now firsts)) ⌝ }
+    requires { ⌜ Judging m n (now cells) (now xs) (columnsOf run (now ys)) g from (now kept) (length (now firsts)) ⌝ }
     ensures { λ r. ⌜ Judged m n (inkIn (now (cells .entry))) g from (now (kept .entry)) r (now (kept .exit)) ⌝ }
 {
-    let count = rows::row_firsts(cells, xs, ys, m, firsts);
+    let count = rows::row_firsts(cells, xs, ys, run, m, firsts);
     if m < count {
-        let s = told::tell_all(m, n, cells, ys, firsts);
+        let others = (1 << n) - 1 - g;
+        let s = told::tell_all(m, n, cells, ys, run, firsts, others);
         put_many(kept, g * m, s as u16, from as u16);
         return 0;
     }
@@ -45,7 +49,8 @@ fn judge(
     count
 }
 
-// Counts the classes of g: its rows from the group `from` inside it, the columns from what is kept of the other inputs below `past`.
+// Counts the classes of g: its rows from the group `from` inside it, the heads of the columns from what is kept of the other inputs below `past`. The inputs from
+// there on have the smallest weights: all their assignments are a run.
 fn count_group(
     m: usize,
     n: usize,
@@ -65,14 +70,17 @@ fn count_group(
     ensures { λ r. ⌜ Stepped m n (inkIn (now (cells .entry))) (now (counts .entry)) (now (kept .entry)) g r (now (kept .exit)) ⌝ }
 {
     let rows = cover::cover(m, n, weights, counts, kept, from, g, xs);
-    let below = cover::few_inside(m, counts, kept, past - 1 - g);
-    let columns = cover::cover(m, n, weights, counts, kept, below, (1 << n) - 1 - g, ys);
+    let before = past - 1 - g;
+    let below = cover::few_inside(m, counts, kept, before);
+    let heads = cover::cover(m, n, weights, counts, kept, below, before, ys);
+    let run = weights[members::first_of(past) - 1] as usize;
     judge(
         m,
         n,
         cells,
         &xs[0..rows],
-        &ys[0..columns],
+        &ys[0..heads],
+        run,
         g,
         from,
         kept,

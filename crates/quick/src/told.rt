@@ -7,6 +7,7 @@ ghost use Rattle.rules.specs.Groups.{alikeOver};
 ghost use Rattle.rules.specs.Answers.{inkIn};
 ghost use Rattle.groups.specs.Within.{Within};
 ghost use Rattle.radix.specs.Widths.{mostMembers};
+ghost use Rattle.quick.specs.Columns.{columnsOf};
 ghost use Rattle.quick.specs.Telling.{Agreed, Telling, ToldOne, ToldRow, ToldAll, RowsTold};
 use crate::rows;
 
@@ -33,26 +34,29 @@ fn agree(m: usize, n: usize, x: usize, y: usize, s: usize) -> usize
     rest
 }
 
-// The inputs of s at which a column that tells p and q apart has the levels of the column at place `base`: all, where that column does.
+// The inputs of s at which a column that tells p and q apart has the levels of the column `base`: all, where that column does. Where s has none, any will do.
 fn tell(
     m: usize,
     n: usize,
     cells: &[u8],
-    ys: &[u16],
+    heads: &[u16],
+    run: usize,
     p: usize,
     q: usize,
     base: usize,
     s: usize,
 ) -> usize
-    requires { ⌜ Telling m n (inkIn (now cells)) (length (now cells)) (now ys) base p q ⌝ }
-    ensures { λ r. ⌜ ToldOne m n (inkIn (now (cells .entry))) (now (ys .entry)) base p q s r ⌝ }
+    requires { ⌜ (0 < run) × Telling m n (inkIn (now cells)) (length (now cells)) (columnsOf run (now heads)) base p q ⌝ }
+    ensures { λ r. ⌜ ToldOne m n (inkIn (now (cells .entry))) (columnsOf run (now (heads .entry))) base p q s r ⌝ }
 {
-    let y = ys[base] as usize;
-    if cells[p + y] != cells[q + y] {
+    if s == 0 {
+        return 0;
+    }
+    if cells[p + base] != cells[q + base] {
         return s;
     }
-    let k = rows::place_apart(cells, ys, p, q, base);
-    agree(m, n, ys[k] as usize, y, s)
+    let y = rows::place_apart(cells, heads, run, p, q, base);
+    agree(m, n, y, base, s)
 }
 
 // The same for p and each of the front `count` of `firsts`.
@@ -60,35 +64,63 @@ fn tell_row(
     m: usize,
     n: usize,
     cells: &[u8],
-    ys: &[u16],
+    heads: &[u16],
+    run: usize,
     firsts: &[u16],
     count: usize,
     p: usize,
     base: usize,
     s: usize,
 ) -> usize
-    requires { ⌜ (count ≤ length (now firsts)) × ((j : ℕ) → j < count → Telling m n (inkIn (now cells)) (length (now cells)) (now ys) base p (getD (now firsts) j 0)) ⌝ }
-    ensures { λ r. ⌜ ToldRow m n (inkIn (now (cells .entry))) (now (ys .entry)) base p (now (firsts .entry)) count s r ⌝ }
+    requires { ⌜ (0 < run) × (count ≤ length (now firsts))
+        × ((j : ℕ) → j < count → Telling m n (inkIn (now cells)) (length (now cells)) (columnsOf run (now heads)) base p (getD (now firsts) j 0)) ⌝ }
+    ensures { λ r. ⌜ ToldRow m n (inkIn (now (cells .entry))) (columnsOf run (now (heads .entry))) base p (now (firsts .entry)) count s r ⌝ }
 {
     let mut rest = s;
     let mut j: usize = 0;
     while j < count {
-        rest = tell(m, n, cells, ys, p, firsts[j] as usize, base, rest);
+        rest = tell(m, n, cells, heads, run, p, firsts[j] as usize, base, rest);
         j += 1;
     }
     rest
 }
 
 // The same for each two of the first m + 1 of `firsts`.
-pub fn tell_all(m: usize, n: usize, cells: &[u8], ys: &[u16], firsts: &[u16]) -> usize
-    requires { ⌜ RowsTold m n (inkIn (now cells)) (length (now cells)) (now ys) (now firsts) ⌝ }
-    ensures { λ r. ⌜ ToldAll m n (inkIn (now (cells .entry))) (now (ys .entry)) (now (firsts .entry)) r ⌝ }
+pub fn tell_all(
+    m: usize,
+    n: usize,
+    cells: &[u8],
+    heads: &[u16],
+    run: usize,
+    firsts: &[u16],
+    s: usize,
+) -> usize
+    requires { ⌜ (RowsTold m n (inkIn (now cells)) (length (now cells)) (columnsOf run (now heads)) (now firsts)) × (s < 2 ^ 16) ⌝ }
+    ensures { λ r. ⌜ ToldAll m n (inkIn (now (cells .entry))) (columnsOf run (now (heads .entry))) (now (firsts .entry)) r ⌝ }
 {
-    let base = rows::place_apart(cells, ys, firsts[m] as usize, firsts[m - 1] as usize, 0);
-    let mut rest = ALL;
+    let base = rows::place_apart(
+        cells,
+        heads,
+        run,
+        firsts[m] as usize,
+        firsts[m - 1] as usize,
+        heads[0] as usize,
+    );
+    let mut rest = s;
     let mut k = m;
     while 0 < k {
-        rest = tell_row(m, n, cells, ys, firsts, k, firsts[k] as usize, base, rest);
+        rest = tell_row(
+            m,
+            n,
+            cells,
+            heads,
+            run,
+            firsts,
+            k,
+            firsts[k] as usize,
+            base,
+            rest,
+        );
         k -= 1;
     }
     rest

@@ -10,16 +10,17 @@ use lib.Seq.{length-take-le, getD-take}
 use Rattle.rules.specs.Lists.{firstPlace}
 use Rattle.rules.specs.Answers.{inkIn}
 use Rattle.rules.specs.Groups.{alikeOver}
+use Rattle.quick.specs.Columns.{columnsOf}
 use Rattle.laws.specs.Walks.{place-next, place-stop, place-end}
 use Rattle.quick.proofs.rows.class_of.Statement.{statement}
 use Rattle.quick.proofs.rows.class_of.Tie as tie
 
 abbrev Inv-loop : tie.InvT-loop
-Inv-loop cells ys firsts count p hint j₀ j =
-    (j ≤ count) × (j + firstPlace (alikeOver (inkIn cells) ys p) (drop j (take count firsts)) ≡ firstPlace (alikeOver (inkIn cells) ys p) (take count firsts))
+Inv-loop cells heads run firsts count p hint j₀ j =
+    (j ≤ count) × (j + firstPlace (alikeOver (inkIn cells) (columnsOf run heads) p) (drop j (take count firsts)) ≡ firstPlace (alikeOver (inkIn cells) (columnsOf run heads) p) (take count firsts))
 
 abbrev μ-loop : tie.MeasureT-loop
-μ-loop cells ys firsts count p hint j₀ j = count - j
+μ-loop cells heads run firsts count p hint j₀ j = count - j
 
 -- the start from the loop's head, and a turn's start from its call
 abbrev at-start : tie.At-loop Inv-loop μ-loop → tie.Start Inv-loop μ-loop
@@ -41,7 +42,7 @@ cast-alike-by : tie.Need-cast-alike-by Inv-loop μ-loop
 cast-alike-by c = omega (arith, c .shared-slice-known4 .given (c .before .before .loop .j))
 
 alike-by-requires : tie.Need-alike-by-requires Inv-loop μ-loop
-alike-by-requires c κs = let pre = at-start (c .before .before) .pre in (pre .0, pre .2, pre .3 (c .before .before .loop .j) (c .before .loop-test .taken))
+alike-by-requires c κs = let pre = at-start (c .before .before) .pre in (pre .0, pre .1, pre .3, pre .4 (c .before .before .loop .j) (c .before .loop-test .taken))
 
 -- what the code's test says of the front's entry j, which is there
 module _ (c : tie.After-alike-by Inv-loop μ-loop) where
@@ -49,15 +50,15 @@ module _ (c : tie.After-alike-by Inv-loop μ-loop) where
   start = at-start (at-turn c .before)
 
   says : (t : Bool) → c .alike-by .result ≡ t
-      → alikeOver (inkIn (start .args .cells .now)) (start .args .ys .now) (start .args .p) (getD (take (start .args .count) (start .args .firsts .now)) (at-turn c .before .loop .j) 0) ≡ t
+      → alikeOver (inkIn (start .args .cells .now)) (columnsOf (start .args .run) (start .args .heads .now)) (start .args .p) (getD (take (start .args .count) (start .args .firsts .now)) (at-turn c .before .loop .j) 0) ≡ t
   says t e =
-      ap (alikeOver (inkIn (start .args .cells .now)) (start .args .ys .now) (start .args .p))
+      ap (alikeOver (inkIn (start .args .cells .now)) (columnsOf (start .args .run) (start .args .heads .now)) (start .args .p))
       (getD-take (start .args .count) (start .args .firsts .now) (at-turn c .before .loop .j) 0 (at-turn c .loop-test .taken))
       ∙ sym (c .alike-by .ensures)
       ∙ e
 
   there : at-turn c .before .loop .j < length (take (start .args .count) (start .args .firsts .now))
-  there = omega (arith, length-take-le (start .args .count) (start .args .firsts .now) (start .pre .1), at-turn c .loop-test .taken)
+  there = omega (arith, length-take-le (start .args .count) (start .args .firsts .now) (start .pre .2), at-turn c .loop-test .taken)
 
 returns : tie.Need-returns Inv-loop μ-loop
 returns c =
@@ -82,7 +83,7 @@ returns-2 c =
     let l = c .before .loop in
     let all : a .count ≡ l .j = omega arith in
     all
-    ∙ sym (place-end _ (take (a .count) (a .firsts .now)) (l .j) (omega (arith, length-take-le (a .count) (a .firsts .now) (start .pre .1))))
+    ∙ sym (place-end _ (take (a .count) (a .firsts .now)) (l .j) (omega (arith, length-take-le (a .count) (a .firsts .now) (start .pre .2))))
     ∙ l .inv .1
 
 pub class-of-spec : {M : Type 1} → statement M

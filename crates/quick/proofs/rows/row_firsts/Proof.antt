@@ -1,23 +1,25 @@
 -- `quick::rows::row_firsts` meets its contract. The loop's invariant: what is kept are the first of each class among the rows that were looked at.
 -- Assumes nothing.
-use Prim.Native.Nat.{_-_}
-use mathlib.Core.Path.{_≡_, refl, _∙_}
+use Prim.Native.Nat.{_-_, _<_}
+use mathlib.Core.Path.{_≡_, refl, _∙_, subst}
+use native.Mathlib.Nat.{add-zero}
 use native.Mathlib.Omega.{arith}
 use lib.ListN.{length, length-set}
 use Rattle.rules.specs.Answers.{inkIn}
+use Rattle.quick.specs.Columns.{columnsOf, Column, columns-some, column-there}
 use Rattle.quick.proofs.Looking.{Looked, looked-one, looked-all, looked-known, looked-new, looked-over}
 use Rattle.quick.proofs.rows.row_firsts.Statement.{statement}
 use Rattle.quick.proofs.rows.row_firsts.Tie as tie
 
 abbrev Inv-loop : tie.InvT-loop
-Inv-loop cells xs ys m firsts₀ count₀ hint₀ i₀ firsts count hint i = (length firsts ≡ length firsts₀) × Looked (inkIn cells) (length cells) ys xs m firsts count hint i
+Inv-loop cells xs heads run m firsts₀ count₀ hint₀ i₀ firsts count hint i = (length firsts ≡ length firsts₀) × Looked (inkIn cells) (length cells) (columnsOf run heads) xs m firsts count hint i
 
 abbrev μ-loop : tie.MeasureT-loop
-μ-loop cells xs ys m firsts₀ count₀ hint₀ i₀ firsts count hint i = length xs - i
+μ-loop cells xs heads run m firsts₀ count₀ hint₀ i₀ firsts count hint i = length xs - i
 
 -- the start from the loop's head, and a turn's start from its call
 abbrev at-start : tie.At-loop Inv-loop μ-loop → tie.Start Inv-loop μ-loop
-at-start c = c .before .before .before .before .before .before
+at-start c = c .before .before .before .before .before .before .before
 
 abbrev at-turn : tie.After-class-of Inv-loop μ-loop → tie.In-loop Inv-loop μ-loop
 at-turn c = c .before .before .before
@@ -28,11 +30,25 @@ shared-slice-read-firsts c = omega arith
 slice-write-firsts : tie.Need-slice-write-firsts Inv-loop μ-loop
 slice-write-firsts c = omega arith
 
+-- there is a head, and a run
+heads-some : (c : tie.Start Inv-loop μ-loop) → (0 < length (c .args .heads .now)) × (0 < c .args .run)
+heads-some c = columns-some (c .args .run) (c .args .heads .now) (c .pre .columns)
+
+shared-slice-read-hint : tie.Need-shared-slice-read-hint Inv-loop μ-loop
+shared-slice-read-hint c = heads-some (c .before .before .before .before .before .before) .0
+
+cast-hint : tie.Need-cast-hint Inv-loop μ-loop
+cast-hint c = omega (arith, c .shared-slice-known5 .given 0)
+
 loop-holds : tie.Need-loop-holds Inv-loop μ-loop
 loop-holds c =
-    let start = c .before .before .before .before .before in
+    let start = c .before .before .before .before .before .before in
     let a = start .args in
-    (refl, looked-one (inkIn (a .cells .now)) (length (a .cells .now)) (a .ys .now) (a .xs .now) (a .m) (a .firsts .now) (start .pre))
+    let some = heads-some start in (
+      refl,
+      looked-one (inkIn (a .cells .now)) (length (a .cells .now)) (columnsOf (a .run) (a .heads .now)) (a .xs .now) (a .m) (a .firsts .now) (start .pre)
+          (subst (Column (columnsOf (a .run) (a .heads .now))) (add-zero _) (column-there (a .run) (a .heads .now) 0 0 (some .0) (some .1))),
+    )
 
 mul-p : tie.Need-mul-p Inv-loop μ-loop
 mul-p c = omega arith
@@ -41,13 +57,13 @@ shared-slice-read-p : tie.Need-shared-slice-read-p Inv-loop μ-loop
 shared-slice-read-p c = omega arith
 
 cast-class-of : tie.Need-cast-class-of Inv-loop μ-loop
-cast-class-of c = omega (arith, c .before .shared-slice-known5 .given (c .before .before .before .loop .i))
+cast-class-of c = omega (arith, c .before .shared-slice-known6 .given (c .before .before .before .loop .i))
 
 class-of-requires : tie.Need-class-of-requires Inv-loop μ-loop
 class-of-requires c κs =
     let turn = c .before .before in
     let l = turn .before .loop in
-    (l .inv .1 .place, omega (arith, l .inv .1 .few, l .inv .1 .room), at-start (turn .before) .pre .within (l .i) (turn .loop-test .taken), l .inv .1 .inside)
+    (heads-some (at-start (turn .before)) .1, l .inv .1 .place, omega (arith, l .inv .1 .few, l .inv .1 .room), at-start (turn .before) .pre .within (l .i) (turn .loop-test .taken), l .inv .1 .inside)
 
 add-i : tie.Need-add-i Inv-loop μ-loop
 add-i c = omega arith
@@ -95,7 +111,7 @@ returns c =
 cast-place-apart : tie.Need-cast-place-apart Inv-loop μ-loop
 cast-place-apart c =
     let reads = c .before .before .before .before .before in
-    omega (arith, reads .shared-slice-known5 .given (reads .before .before .loop .i))
+    omega (arith, reads .shared-slice-known6 .given (reads .before .before .loop .i))
 
 cast-place-apart-2 : tie.Need-cast-place-apart-2 Inv-loop μ-loop
 cast-place-apart-2 c =
@@ -106,7 +122,7 @@ place-apart-requires : tie.Need-place-apart-requires Inv-loop μ-loop
 place-apart-requires c κs =
     let turn = at-turn (c .before .before .before) in
     let l = turn .before .loop in
-    (l .inv .1 .place, at-start (turn .before) .pre .within (l .i) (turn .loop-test .taken), l .inv .1 .inside (l .count - 1) (omega (arith, l .inv .1 .some)))
+    (heads-some (at-start (turn .before)) .1, l .inv .1 .place, at-start (turn .before) .pre .within (l .i) (turn .loop-test .taken), l .inv .1 .inside (l .count - 1) (omega (arith, l .inv .1 .some)))
 
 add-count : tie.Need-add-count Inv-loop μ-loop
 add-count c = omega arith
@@ -142,6 +158,8 @@ row-firsts-spec =
     μ-loop
     shared-slice-read-firsts
     slice-write-firsts
+    shared-slice-read-hint
+    cast-hint
     loop-holds
     mul-p
     shared-slice-read-p

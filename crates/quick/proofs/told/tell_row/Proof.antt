@@ -3,6 +3,7 @@ use Prim.Native.Nat.{ℕ, _-_, _≤_}
 use mathlib.Core.Path.{_≡_, subst}
 use native.Mathlib.Omega.{arith}
 use Rattle.rules.specs.Answers.{inkIn}
+use Rattle.quick.specs.Columns.{columnsOf}
 use Rattle.quick.specs.Telling.{ToldRow, row-none, row-next}
 use Rattle.quick.proofs.told.tell_row.Statement.{statement}
 use Rattle.quick.proofs.told.tell_row.Tie as tie
@@ -11,10 +12,10 @@ use Rattle.quick.proofs.told.tell_row.Lts as lts
 use Rattle.quick.proofs.told.tell.Reads as tell-reads
 
 abbrev Inv-loop : tie.InvT-loop
-Inv-loop m n cells ys firsts count p base s rest₀ j₀ rest j = (j ≤ count) × ToldRow m n (inkIn cells) ys base p firsts j s rest
+Inv-loop m n cells heads run firsts count p base s rest₀ j₀ rest j = (j ≤ count) × ToldRow m n (inkIn cells) (columnsOf run heads) base p firsts j s rest
 
 abbrev μ-loop : tie.MeasureT-loop
-μ-loop m n cells ys firsts count p base s rest₀ j₀ rest j = count - j
+μ-loop m n cells heads run firsts count p base s rest₀ j₀ rest j = count - j
 
 -- the start, from the loop's head
 abbrev at-start : tie.At-loop Inv-loop μ-loop → tie.Start Inv-loop μ-loop
@@ -38,7 +39,7 @@ cast-tell c = omega (arith, c .shared-slice-known4 .given (c .before .before .lo
 
 -- src/told.rt:72:9
 tell-requires : tie.Need-tell-requires Inv-loop μ-loop
-tell-requires c κs = at-start (c .before .before) .pre .1 (c .before .before .loop .j) (c .before .loop-test .taken)
+tell-requires c κs = let pre = at-start (c .before .before) .pre in (pre .0, pre .2 (c .before .before .loop .j) (c .before .loop-test .taken))
 
 -- src/told.rt:73:9
 add-j : tie.Need-add-j Inv-loop μ-loop
@@ -58,7 +59,7 @@ returns c =
     let a = at-start (c .before) .args in
     let l = c .before .loop in
     let all : l .j ≡ a .count = omega arith in
-    subst (λ (k : ℕ). ToldRow (a .m) (a .n) (inkIn (a .cells .now)) (a .ys .now) (a .base) (a .p) (a .firsts .now) k (a .s) (l .rest)) all (l .inv .1)
+    subst (λ (k : ℕ). ToldRow (a .m) (a .n) (inkIn (a .cells .now)) (columnsOf (a .run) (a .heads .now)) (a .base) (a .p) (a .firsts .now) k (a .s) (l .rest)) all (l .inv .1)
 
 pub tell-row-spec : {M : Type 1} → statement M
 tell-row-spec =
