@@ -6,8 +6,12 @@ ghost use lib.ListN.{length, drop};
 ghost use Rattle.rules.specs.Limits.{sizeFits, mostLevels};
 ghost use Rattle.loose_reading.specs.Index.{IndexRead};
 ghost use Rattle.loose_reading.specs.Row.{RowReads, rowAs, inkOfRow};
+use crate::even::even_bytes;
+use crate::even::even_index;
+use crate::even::is_wide;
 use crate::inks::ink_field;
 use crate::levels::level_field;
+use fields::steps::Found;
 use fields::steps::Step;
 
 // What reading a row comes to.
@@ -23,8 +27,8 @@ pub enum RowRead {
     },
 }
 
-// The n input fields; a step onward has the index.
-pub fn index_fields(s: &[u8], at: usize, m: usize, n: usize) -> Step
+// The n input fields, one after the other; a step onward has the index.
+fn judged_index(s: &[u8], at: usize, m: usize, n: usize) -> Step
     requires { ⌜ sizeFits m n ≡ true ⌝ }
     ensures { λ r. ⌜ IndexRead (now (s .entry)) at m n r ⌝ }
 {
@@ -48,6 +52,21 @@ pub fn index_fields(s: &[u8], at: usize, m: usize, n: usize) -> Step
     Step::On {
         value: index,
         next: place,
+    }
+}
+
+// The same, where levels that stand evenly are seen at once.
+pub fn index_fields(s: &[u8], at: usize, m: usize, n: usize) -> Step
+    requires { ⌜ sizeFits m n ≡ true ⌝ }
+    ensures { λ r. ⌜ IndexRead (now (s .entry)) at m n r ⌝ }
+{
+    let wide = is_wide(s, at);
+    match even_index(s, at, m, n, wide) {
+        Found::Nowhere => judged_index(s, at, m, n),
+        Found::At(value) => Step::On {
+            value,
+            next: at + even_bytes(n, wide),
+        },
     }
 }
 
