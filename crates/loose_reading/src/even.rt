@@ -46,7 +46,7 @@ pub fn even_bytes(n: usize, wide: bool) -> usize
     2 * n
 }
 
-// Does a second space stand after the byte at `at`? So a row tells how it is laid.
+// Does a second space stand after the byte at `at`? So the first row tells how the rows are laid.
 pub fn is_wide(s: &[u8], at: usize) -> bool {
     if s.len() < 3 {
         return false;

@@ -6,9 +6,6 @@ use borrow.Author.Needs.{needs}
 use Rattle.loose_reading.proofs.row.index_fields.Statement.{statement}
 use Rattle.loose_reading.proofs.row.index_fields.Tie as tie
 
-is-wide-requires : tie.Need-is-wide-requires
-is-wide-requires c κs = search needs
-
 even-index-requires : tie.Need-even-index-requires
 even-index-requires c κs = search needs
 
@@ -22,7 +19,7 @@ enum-known-value : tie.Need-enum-known-value
 enum-known-value c = search needs
 
 even-bytes-requires : tie.Need-even-bytes-requires
-even-bytes-requires c κs = sized _ _ (c .before .before .before .before .before .before .pre) .inputs-most
+even-bytes-requires c κs = sized _ _ (c .before .before .before .before .before .pre) .inputs-most
 
 add-t10 : tie.Need-add-t10
 add-t10 c = omega (arith, c .even-bytes .ensures, c .before .before .before .before .even-index .ensures _ (c .before .before .value .given .1) .within)
@@ -37,7 +34,6 @@ pub index-fields-spec : {M : Type 1} → statement M
 index-fields-spec =
     tie.close
     (tie.spec
-    is-wide-requires
     even-index-requires
     enum-told
     judged-index-requires
