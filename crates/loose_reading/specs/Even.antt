@@ -43,6 +43,10 @@ pub width-least : (wide : Bool) → 2 ≤ widthOf wide
 width-least true = omega arith
 width-least false = omega arith
 
+pub zero-small : (wide : Bool) → zeroOf wide < 4294967296
+zero-small true = omega arith
+zero-small false = omega arith
+
 none-first : (at : ℕ) (wide : Bool) → at ≡ at + evenBytes 0 wide
 none-first at true = omega arith
 none-first at false = omega arith

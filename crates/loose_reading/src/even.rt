@@ -9,6 +9,7 @@ ghost use Rattle.loose_reading.specs.Even.{widthOf, evenBytes, zeroOf, s
 use fields::runs::SPACE;
 use fields::runs::ZERO;
 use fields::steps::Found;
+use std::num::wrapping_sub_usize;
 use table_reading::due::two_bytes;
 
 // The level 0 with one space after it, and with three, as one number.
@@ -86,14 +87,11 @@ pub fn even_index(s: &[u8], at: usize, m: usize, n: usize, wide: bool) -> Found
     let mut index: usize = 0;
     let mut i: usize = 0;
     while i < n {
-        let seen = seen_at(s, place, wide);
-        if seen < zero {
+        let level = wrapping_sub_usize(seen_at(s, place, wide), zero);
+        if m <= level {
             return Found::Nowhere;
         }
-        if m <= seen - zero {
-            return Found::Nowhere;
-        }
-        index = index * m + (seen - zero);
+        index = index * m + level;
         place += width;
         i += 1;
     }

@@ -9,7 +9,7 @@ use lib.ListN.{length, getD}
 use Rattle.rules.specs.Limits.{mostCells}
 use Rattle.laws.specs.Sizes.{Size, sized}
 use Rattle.table_reading.specs.Due.{no-ink, same-ink}
-use Rattle.loose_reading.specs.Even.{evenBytes, widthOf, Spaced, spaced, within-all, InEven, even-start, even-end, even-done, even-fits, even-next}
+use Rattle.loose_reading.specs.Even.{evenBytes, widthOf, zero-small, Spaced, spaced, within-all, InEven, even-start, even-end, even-done, even-fits, even-next}
 use Rattle.loose_reading.proofs.even.even_index.Statement.{statement}
 use Rattle.loose_reading.proofs.even.even_index.Tie as tie
 
@@ -23,7 +23,7 @@ abbrev μ-loop : tie.MeasureT-loop
 abbrev at-start : tie.At-loop Inv-loop μ-loop → tie.Start Inv-loop μ-loop
 at-start c = c .before .before .before .before .before .before .before
 
-abbrev at-turn : tie.Else4 Inv-loop μ-loop → tie.In-loop Inv-loop μ-loop
+abbrev at-turn : tie.Else3 Inv-loop μ-loop → tie.In-loop Inv-loop μ-loop
 at-turn c = c .before .before .before
 
 size : (c : tie.Start Inv-loop μ-loop) → Size (c .args .m) (c .args .n)
@@ -43,23 +43,23 @@ within c =
     (c .before .loop .inv .here) (c .loop-test .taken) (room (c .before))
 
 -- the level that a turn has seen
-level : (c : tie.Else4 Inv-loop μ-loop)
-    → Spaced (at-start (at-turn c .before) .args .s .now) (at-turn c .before .loop .place) (c .before .before .seen-at .result - at-turn c .before .before .before .zero-of .result) (at-start (at-turn c .before) .args .wide)
+level : (c : tie.Else3 Inv-loop μ-loop)
+    → Spaced (at-start (at-turn c .before) .args .s .now) (at-turn c .before .loop .place) (c .before .wrapping-sub-usize .result) (at-start (at-turn c .before) .args .wide)
 level c =
     let head = at-turn c .before in
     let start = at-start head in
     spaced (start .args .s .now) (head .loop .place) _ (start .args .wide)
     (λ k. omega (arith, head .before .before .before .before .before .before .shared-slice-known .given k))
-    (omega (arith, c .if4 .left, size start .levels-most)) (le-of-lt (within (at-turn c)))
-    (omega (arith, c .before .before .seen-at .ensures, head .before .before .zero-of .ensures, c .before .if3 .left))
+    (omega (arith, c .if3 .left, size start .levels-most)) (le-of-lt (within (at-turn c)))
+    (omega (arith, c .before .wrapping-sub-usize .ensures, c .before .before .seen-at .ensures, head .before .before .zero-of .ensures, zero-small (start .args .wide), c .if3 .left, size start .levels-most))
 
 -- the index stays below the number of cells
-fits : (c : tie.Else4 Inv-loop μ-loop)
-    → at-turn c .before .loop .index * at-start (at-turn c .before) .args .m + (c .before .before .seen-at .result - at-turn c .before .before .before .zero-of .result) < mostCells
+fits : (c : tie.Else3 Inv-loop μ-loop)
+    → at-turn c .before .loop .index * at-start (at-turn c .before) .args .m + (c .before .wrapping-sub-usize .result) < mostCells
 fits c =
     let head = at-turn c .before in
     let start = at-start head in
-    omega (arith, size start .cells-most, even-fits _ _ _ _ _ _ _ _ (head .loop .inv) (room head) (at-turn c .loop-test .taken) _ (c .if4 .left) (level c) (omega (arith, size start .levels-least)))
+    omega (arith, size start .cells-most, even-fits _ _ _ _ _ _ _ _ (head .loop .inv) (room head) (at-turn c .loop-test .taken) _ (c .if3 .left) (level c) (omega (arith, size start .levels-least)))
 
 returns : tie.Need-returns Inv-loop μ-loop
 returns c p e = no-ink p e
@@ -85,11 +85,11 @@ loop-holds c = even-start _ _ _ _ _
 seen-at-requires : tie.Need-seen-at-requires Inv-loop μ-loop
 seen-at-requires c κs = le-of-lt (within c)
 
+wrapping-sub-usize-requires : tie.Need-wrapping-sub-usize-requires Inv-loop μ-loop
+wrapping-sub-usize-requires c κs = search needs
+
 returns-3 : tie.Need-returns-3 Inv-loop μ-loop
 returns-3 c p e = no-ink p e
-
-returns-4 : tie.Need-returns-4 Inv-loop μ-loop
-returns-4 c p e = no-ink p e
 
 mul-index : tie.Need-mul-index Inv-loop μ-loop
 mul-index c = record { fits = omega (arith, fits c) }
@@ -110,20 +110,20 @@ loop-again : tie.Need-loop-again Inv-loop μ-loop
 loop-again c =
     let head = at-turn c .before in
     rw (head .before .width-of .ensures)
-    (even-next _ _ _ _ _ _ _ _ (head .loop .inv) (room head) (at-turn c .loop-test .taken) _ (c .if4 .left) (level c))
+    (even-next _ _ _ _ _ _ _ _ (head .loop .inv) (room head) (at-turn c .loop-test .taken) _ (c .if3 .left) (level c))
 
-shared-slice-read-if5 : tie.Need-shared-slice-read-if5 Inv-loop μ-loop
-shared-slice-read-if5 c =
+shared-slice-read-if4 : tie.Need-shared-slice-read-if4 Inv-loop μ-loop
+shared-slice-read-if4 c =
     let head = c .before .before in
     omega (arith, room head, even-end _ _ _ _ _ _ _ _ (head .loop .inv) (c .before .loop-test .left))
 
-returns-5 : tie.Need-returns-5 Inv-loop μ-loop
-returns-5 c p e = no-ink p e
+returns-4 : tie.Need-returns-4 Inv-loop μ-loop
+returns-4 c p e = no-ink p e
 
-returns-6 : tie.Need-returns-6 Inv-loop μ-loop
-returns-6 c p e =
+returns-5 : tie.Need-returns-5 Inv-loop μ-loop
+returns-5 c p e =
     let head = c .before .before .before in
-    rw (same-ink _ p e) (even-done _ _ _ _ _ _ _ _ (head .loop .inv) (room head) (c .before .before .loop-test .left) (c .if5 .left))
+    rw (same-ink _ p e) (even-done _ _ _ _ _ _ _ _ (head .loop .inv) (room head) (c .before .before .loop-test .left) (c .if4 .left))
 
 pub even-index-spec : {M : Type 1} → statement M
 even-index-spec =
@@ -139,14 +139,14 @@ even-index-spec =
     width-of-requires
     loop-holds
     seen-at-requires
+    wrapping-sub-usize-requires
     returns-3
-    returns-4
     mul-index
     add-index
     add-place
     add-i
     loop-less
     loop-again
-    shared-slice-read-if5
-    returns-5
-    returns-6)
+    shared-slice-read-if4
+    returns-4
+    returns-5)
