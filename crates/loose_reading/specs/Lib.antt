@@ -1,4 +1,5 @@
 pub mod Answers
+pub mod Even
 pub mod Index
 pub mod Levels
 pub mod Parts

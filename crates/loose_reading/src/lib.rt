@@ -1,4 +1,5 @@
 // Reading a loose table sheet: fields parted by one or more spaces, rows in any order.
+pub mod even;
 pub mod inks;
 pub mod levels;
 pub mod plain;

@@ -6,8 +6,11 @@ ghost use lib.ListN.{length, drop};
 ghost use Rattle.rules.specs.Limits.{sizeFits, mostLevels};
 ghost use Rattle.loose_reading.specs.Index.{IndexRead};
 ghost use Rattle.loose_reading.specs.Row.{RowReads, rowAs, inkOfRow};
+use crate::even::even_bytes;
+use crate::even::even_index;
 use crate::inks::ink_field;
 use crate::levels::level_field;
+use fields::steps::Found;
 use fields::steps::Step;
 
 // What reading a row comes to.
@@ -23,8 +26,8 @@ pub enum RowRead {
     },
 }
 
-// The n input fields; a step onward has the index.
-pub fn index_fields(s: &[u8], at: usize, m: usize, n: usize) -> Step
+// The n input fields, one after the other; a step onward has the index.
+fn judged_index(s: &[u8], at: usize, m: usize, n: usize) -> Step
     requires { ⌜ sizeFits m n ≡ true ⌝ }
     ensures { λ r. ⌜ IndexRead (now (s .entry)) at m n r ⌝ }
 {
@@ -51,6 +54,20 @@ pub fn index_fields(s: &[u8], at: usize, m: usize, n: usize) -> Step
     }
 }
 
+// The same, where levels that stand evenly are seen at once: with three spaces after each where `wide`, and else with one.
+pub fn index_fields(s: &[u8], at: usize, m: usize, n: usize, wide: bool) -> Step
+    requires { ⌜ sizeFits m n ≡ true ⌝ }
+    ensures { λ r. ⌜ IndexRead (now (s .entry)) at m n r ⌝ }
+{
+    match even_index(s, at, m, n, wide) {
+        Found::Nowhere => judged_index(s, at, m, n),
+        Found::At(value) => Step::On {
+            value,
+            next: at + even_bytes(n, wide),
+        },
+    }
+}
+
 // The rest of a row that names the assignment of this index.
 pub fn row_ink(s: &[u8], at: usize, m: usize, index: usize) -> RowRead
     requires { ⌜ m ≤ mostLevels ⌝ }
@@ -67,11 +84,11 @@ pub fn row_ink(s: &[u8], at: usize, m: usize, index: usize) -> RowRead
 }
 
 // A row, where `given` has a 0 at each index that no earlier row named.
-pub fn row(s: &[u8], at: usize, m: usize, n: usize, given: &[u8]) -> RowRead
+pub fn row(s: &[u8], at: usize, m: usize, n: usize, wide: bool, given: &[u8]) -> RowRead
     requires { ⌜ (sizeFits m n ≡ true) × (m ^ n ≤ length (now given)) ⌝ }
     ensures { λ r. ⌜ RowReads (now (s .entry)) at m n (now (given .entry)) r ⌝ }
 {
-    match index_fields(s, at, m, n) {
+    match index_fields(s, at, m, n, wide) {
         Step::Back { number, place } => RowRead::Turned { number, place },
         Step::On { value, next } => {
             if given[value] != 0 {

@@ -9,12 +9,16 @@ ghost use Rattle.lines.specs.Put.{Put, Room, Wrote};
 ghost use Rattle.table_printing.specs.Rows.{rowText};
 ghost use Rattle.nets.specs.Forms.{tableIn};
 ghost use Rattle.table_printing.specs.Tables.{TableInside};
+use crate::words::ZEROS;
+use crate::words::next_words;
+use crate::words::wide_row;
 use lines::header::print_names;
 use lines::header::print_pair;
 use lines::put::copy;
 use nets::forms::Header;
 use nets::levels::next_levels;
 use radix::limits::MOST_INPUTS;
+use table_reading::due::Words;
 
 // The byte of an ink: its digit, or the sign of an open cell.
 fn ink_byte(m: usize, ink: u8) -> u8
@@ -45,8 +49,8 @@ fn print_row(levels: &[u8], ink: u8, out: &mut [u8], at: usize) -> usize
     p + 2
 }
 
-// The rows of all cells.
-fn print_rows(m: usize, n: usize, inks: &[u8], out: &mut [u8], at: usize) -> usize
+// The rows of all cells, a level at a time.
+fn narrow_rows(m: usize, n: usize, inks: &[u8], out: &mut [u8], at: usize) -> usize
     requires { ⌜ (0 < m) × (m ≤ mostLevels) × (n ≤ mostInputs) × ((k : ℕ) → k < length (now inks) → getD (now inks) k 0 < 10) × Room (now out) at (printedRows m n 0 (now inks)) ⌝ }
     ensures { λ r. ⌜ Put (now (out .entry)) at (printedRows m n 0 (now (inks .entry))) (now (out .exit)) r ⌝ }
 {
@@ -60,6 +64,38 @@ fn print_rows(m: usize, n: usize, inks: &[u8], out: &mut [u8], at: usize) -> usi
         k += 1;
     }
     p
+}
+
+// The same, four levels at a time.
+fn wide_rows(m: usize, n: usize, inks: &[u8], out: &mut [u8], at: usize) -> usize
+    requires { ⌜ (0 < m) × (m ≤ mostLevels) × (4 ≤ n) × (n ≤ mostInputs) × ((k : ℕ) → k < length (now inks) → getD (now inks) k 0 < 10) × Room (now out) at (printedRows m n 0 (now inks)) ⌝ }
+    ensures { λ r. ⌜ Put (now (out .entry)) at (printedRows m n 0 (now (inks .entry))) (now (out .exit)) r ⌝ }
+{
+    let mut levels = [0u8; MOST_INPUTS];
+    let mut words = Words {
+        first: ZEROS,
+        middle: ZEROS,
+        last: ZEROS,
+    };
+    let mut k: usize = 0;
+    let mut p: usize = at;
+    while k < inks.len() {
+        let ink = ink_byte(m, inks[k]);
+        p = wide_row(words, n, ink, out, p);
+        words = next_words(m, n, words, &mut levels);
+        k += 1;
+    }
+    p
+}
+
+fn print_rows(m: usize, n: usize, inks: &[u8], out: &mut [u8], at: usize) -> usize
+    requires { ⌜ (0 < m) × (m ≤ mostLevels) × (n ≤ mostInputs) × ((k : ℕ) → k < length (now inks) → getD (now inks) k 0 < 10) × Room (now out) at (printedRows m n 0 (now inks)) ⌝ }
+    ensures { λ r. ⌜ Put (now (out .entry)) at (printedRows m n 0 (now (inks .entry))) (now (out .exit)) r ⌝ }
+{
+    if n < 4 {
+        return narrow_rows(m, n, inks, out, at);
+    }
+    wide_rows(m, n, inks, out, at)
 }
 
 // Writes the table sheet of the header's names and the inks to the front of `out`, and answers its length.

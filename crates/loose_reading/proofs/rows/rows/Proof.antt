@@ -12,11 +12,11 @@ use Rattle.loose_reading.proofs.rows.rows.Statement.{statement}
 use Rattle.loose_reading.proofs.rows.rows.Tie as tie
 
 abbrev Inv-loop : tie.InvT-loop
-Inv-loop s at m n cells₀ given₀ count place₀ k₀ cells given place k =
+Inv-loop s at m n cells₀ given₀ count wide place₀ k₀ cells given place k =
     (length cells ≡ length cells₀) × (length given ≡ mostCells) × InRows s at m n cells given place k
 
 abbrev μ-loop : tie.MeasureT-loop
-μ-loop s at m n cells₀ given₀ count place₀ k₀ cells given place k = m ^ n - k
+μ-loop s at m n cells₀ given₀ count wide place₀ k₀ cells given place k = m ^ n - k
 
 -- the start from the call of `power`, a turn's start from the row's read, and that read from the turn's end
 abbrev at-start : tie.After-power Inv-loop μ-loop → tie.Start Inv-loop μ-loop
@@ -30,7 +30,7 @@ at-row c = c .before .before .before
 
 -- the function's entry, seen from the loop's head
 abbrev start : tie.At-loop Inv-loop μ-loop → tie.Start Inv-loop μ-loop
-start c = at-start (c .before)
+start c = at-start (c .before .before)
 
 -- the size is within a sheet's bounds
 size : (c : tie.Start Inv-loop μ-loop) → Size (c .args .m) (c .args .n)
@@ -38,7 +38,7 @@ size c = sized (c .args .m) (c .args .n) (c .pre .0)
 
 -- a turn's row is due, and there is room for the cells and for their marks
 more : (c : tie.In-loop Inv-loop μ-loop) → c .before .loop .k < start (c .before) .args .m ^ start (c .before) .args .n
-more c = omega (arith, c .loop-test .taken, c .before .before .power .ensures)
+more c = omega (arith, c .loop-test .taken, c .before .before .before .power .ensures)
 
 room : (c : tie.At-loop Inv-loop μ-loop) → start c .args .m ^ start c .args .n ≤ length (c .loop .cells)
 room c = omega (arith, c .loop .inv .0, start c .pre .1)
@@ -49,9 +49,12 @@ marked c = omega (arith, c .loop .inv .1, size (start c) .cells-most)
 power-requires : tie.Need-power-requires Inv-loop μ-loop
 power-requires c κs = omega (arith, size (c .before .before))
 
+is-wide-requires : tie.Need-is-wide-requires Inv-loop μ-loop
+is-wide-requires c κs = search needs
+
 loop-holds : tie.Need-loop-holds Inv-loop μ-loop
 loop-holds c =
-    let from = at-start c in
+    let from = at-start (c .before) in
     (refl, length-replicate {A = ℕ} mostCells 0, rows-start _ _ _ _ _ _ (from .pre .2) (zeros-blank mostCells))
 
 slice-aggregate-row : tie.Need-slice-aggregate-row Inv-loop μ-loop
@@ -87,7 +90,7 @@ array-write-given c = omega (arith, at-row c .row .ensures .held _ _ _ (c .befor
 add-k : tie.Need-add-k Inv-loop μ-loop
 add-k c =
     let turn = at-turn (at-row c) in
-    omega (arith, turn .loop-test .taken, turn .before .before .power .ok)
+    omega (arith, turn .loop-test .taken, turn .before .before .before .power .ok)
 
 loop-less : tie.Need-loop-less Inv-loop μ-loop
 loop-less c = omega (arith, more (at-turn (at-row c)))
@@ -105,7 +108,7 @@ same-length-2 : tie.Need-same-length-2 Inv-loop μ-loop
 same-length-2 c = c .before .loop .inv .0
 
 returns-2 : tie.Need-returns-2 Inv-loop μ-loop
-returns-2 c = rows-done _ _ _ _ _ _ _ _ (c .before .loop .inv .2) (omega (arith, c .loop-test .left, c .before .before .power .ensures)) (room (c .before))
+returns-2 c = rows-done _ _ _ _ _ _ _ _ (c .before .loop .inv .2) (omega (arith, c .loop-test .left, c .before .before .before .power .ensures)) (room (c .before))
 
 pub rows-spec : {M : Type 1} → statement M
 rows-spec =
@@ -114,6 +117,7 @@ rows-spec =
     Inv-loop
     μ-loop
     power-requires
+    is-wide-requires
     loop-holds
     slice-aggregate-row
     row-requires

@@ -1,4 +1,4 @@
--- `table_printing::table::print_rows` meets its contract. The loop's invariant: `levels` begins with the levels of index k, and the rows
+-- `table_printing::table::narrow_rows` meets its contract. The loop's invariant: `levels` begins with the levels of index k, and the rows
 -- from k on are left to write at p.
 -- Assumes nothing.
 use Prim.Native.Nat.{ℕ, _+_, _-_, _≤_, _<_}
@@ -13,8 +13,8 @@ use Rattle.rules.specs.Printed.{printedRows}
 use Rattle.laws.specs.Levels.{zeros-front, levels-length, levels-below, front-next, front-kept}
 use Rattle.lines.specs.Put.{Room, Left, all-left, put-left, room-for, none-left}
 use Rattle.table_printing.specs.Rows.{rowText, rows-next, rows-end}
-use Rattle.table_printing.proofs.table.print_rows.Statement.{statement}
-use Rattle.table_printing.proofs.table.print_rows.Tie as tie
+use Rattle.table_printing.proofs.table.narrow_rows.Statement.{statement}
+use Rattle.table_printing.proofs.table.narrow_rows.Tie as tie
 
 abbrev Inv-loop : tie.InvT-loop
 Inv-loop m n inks out₀ at levels₀ k₀ p₀ out levels k p =
@@ -109,8 +109,8 @@ same-length c = c .before .loop .inv .2 .kept
 returns : tie.Need-returns Inv-loop μ-loop
 returns c = none-left (rw (rows-end (c .before .before .before .before .args .m) (c .before .before .before .before .args .n) (c .before .loop .k) (c .before .before .before .before .args .inks .now) (c .loop-test .left)) at (c .before .loop .inv .2))
 
-pub print-rows-spec : {M : Type 1} → statement M
-print-rows-spec =
+pub narrow-rows-spec : {M : Type 1} → statement M
+narrow-rows-spec =
     tie.close
     (tie.spec
     Inv-loop
