@@ -1,6 +1,6 @@
 /*
  * The calls of Sitgurp for C99, for Linux on x86-64, in libsitgurp.a (`./install PREFIX`; in the repository it is target/staticlib/libcapi.a, which
- * `rt staticlib capi` writes). Each is proved to meet an equation with document 01's definitions for every argument: see crates/capi/src/lib.rt.
+ * `rt staticlib capi` writes). Each is proved to meet an equation with the definitions in crates/rules/specs for every argument: see crates/capi/src/lib.rt.
  *
  * Each call depends on its arguments alone and writes to nothing but the buffers lent to it. It keeps nothing from one call to the next, so any
  * number of threads may call at once, each with buffers of its own; it allocates nothing, opens nothing and waits for nothing.

@@ -1,4 +1,4 @@
--- What the answers that calls share stand for in document 01's definitions: its number and values for each case.
+-- What the answers that calls share stand for in the definitions: the number and values for each case.
 -- Assumes nothing.
 use Prim.Native.Nat.{ℕ}
 use mathlib.Core.List.{List}

@@ -9,6 +9,7 @@ ghost use Rattle.capi.specs.JobMark.{flatReached};
 use jobs::asking;
 use jobs::asking::Reached;
 use jobs::job;
+use marks::own;
 
 // Kind 0: `value` is the group's mark. Kind 1: it is not reached. Kind 2: the group is refused with 11, at place `value`.
 #[repr(C)]
@@ -37,7 +38,7 @@ fn flat_reached(reached: Reached) -> SitgurpMark
 #[no_mangle]
 pub extern "C" fn sitgurp_job_mark_parts(
     lines: &[u8; job::MOST_LINES],
-    marks: &[u8; job::MOST_GROUPS],
+    marks: &[u8; own::MOST_GROUPS],
     passed: usize,
     group: usize,
 ) -> SitgurpMark

@@ -4,6 +4,7 @@ use crate::flat::SitgurpAnswer;
 use crate::job_step::flat_done;
 use jobs::job;
 use jobs::opening;
+use marks::own;
 use radix::limits;
 
 // Opens a job on a table sheet; beside a refusal the empty job. Number 0: accepted, with value 0.
@@ -12,7 +13,7 @@ pub extern "C" fn sitgurp_job_open_parts(
     sheet: &[u8],
     lines: &mut [u8; job::MOST_LINES],
     cells: &mut [u8; limits::MOST_CELLS],
-    marks: &mut [u8; job::MOST_GROUPS],
+    marks: &mut [u8; own::MOST_GROUPS],
     passed: &mut usize,
 ) -> SitgurpAnswer
     ensures { λ r. ⌜ FlatOpened (now (sheet .entry)) r (now (lines .exit)) (now (cells .exit)) (now (marks .exit)) (now (passed .exit)) ⌝ }

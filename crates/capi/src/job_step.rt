@@ -1,6 +1,5 @@
 // A step of a job for C, by its parts.
 ghost use mathlib.Core.Path.{_≡_};
-ghost use Rattle.jobs.specs.Forms.{jobIn};
 ghost use Rattle.answers.specs.Answers.{outcomeAs};
 ghost use Rattle.capi.specs.JobStep.{flatDone, FlatStepped};
 use crate::flat::SitgurpAnswer;
@@ -8,6 +7,7 @@ use answers::outcome::Outcome;
 use jobs::job;
 use jobs::next;
 use jobs::next::Next;
+use marks::own;
 use radix::limits;
 
 // Number 0 with value 0: accepted. Any other number: that refusal, and `value` is its place.
@@ -31,7 +31,7 @@ pub fn flat_done(outcome: Outcome) -> SitgurpAnswer
 pub extern "C" fn sitgurp_job_step_parts(
     lines: &[u8; job::MOST_LINES],
     cells: &[u8; limits::MOST_CELLS],
-    marks: &mut [u8; job::MOST_GROUPS],
+    marks: &mut [u8; own::MOST_GROUPS],
     passed: &mut usize,
 ) -> SitgurpAnswer
     ensures { λ r. ⌜ FlatStepped (now (lines .entry)) (now (cells .entry)) (now (marks .entry)) (now (passed .entry)) r (now (marks .exit)) (now (passed .exit)) ⌝ }

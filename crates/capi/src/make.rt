@@ -4,7 +4,7 @@ ghost use Rattle.capi.specs.Made.{FlatMade};
 use crate::flat::SitgurpAnswer;
 use crate::flat::flat;
 
-// Makes the settled net sheet of a table sheet, with the same buffers.
+// Makes the settled net sheet of a table sheet, with the buffers of sitgurp_settle.
 #[no_mangle]
 pub extern "C" fn sitgurp_make(
     sheet: &[u8],

@@ -4,7 +4,7 @@ ghost use Rattle.capi.specs.Layered.{FlatLayered};
 use crate::layered::SitgurpShallow;
 use crate::layered::flat_layered;
 
-// Makes the shallow net sheet of a table sheet, with the same buffers.
+// Makes the shallow net sheet of a table sheet, with the buffers of sitgurp_settle.
 #[no_mangle]
 pub extern "C" fn sitgurp_make_shallow(
     sheet: &[u8],

@@ -8,7 +8,6 @@ use mathlib.Core.List.{List, []}
 use lib.ListN.{length}
 use Rattle.rules.specs.Lists.{any}
 use Rattle.rules.specs.Sheets.{Table}
-use Rattle.rules.specs.Groups.{size}
 use Rattle.rules.specs.Marks.{marksLength}
 use Rattle.rules.specs.Answers.{accepted, refused}
 use Rattle.rules.specs.Settling.{makeCall}
@@ -16,10 +15,10 @@ use Rattle.rules.specs.FamilyCalls.{countOfTable, familyCountCall}
 use Rattle.laws.specs.Answers.{accepted-inj, not-refused}
 use Rattle.trees.specs.FamilyBounds.{treesOn}
 use Rattle.demands.specs.Numbers.{not-given, refuses}
-use Rattle.demands.specs.Makes.{leavesOfTable, HasTree, HasSheet, make-refuses, make-refuses-sheets}
+use Rattle.demands.specs.Makes.{HasTree, HasSheet, make-refuses, make-refuses-sheets}
 use Rattle.demands.specs.FamilyOutcomes.{made-answer, counted-answer, judgedNumbers, Judged, turned-back, goes-on, on-with, judge, marked-leaves, marked-numbers}
 use Rattle.demands.specs.FamilyNumbers.{family-count-numbers}
-use Rattle.demands.specs.FamilyTables.{none-counted, leaves-bound, table-bound, table-fits}
+use Rattle.demands.specs.FamilyTables.{none-counted, table-bound, table-fits}
 use Rattle.rules.specs.OpenCells.{readFull}
 use Rattle.demands.specs.FullSheets.{full-accepted}
 
@@ -94,11 +93,7 @@ module _ (s cells marks : List ℕ) where
 -- ---- an accepted sheet of a full table
 
 module _ (s : List ℕ) (t : Table) (reads : readFull s ≡ accepted t) where
-  -- there are at most (2k − 3)!! trees for k leaves, ..
-  pub count-leaves-most : countOfTable t ≤ treesOn (size (t .header .inputs) (leavesOfTable t))
-  count-leaves-most = leaves-bound t (full-accepted s t reads .1)
-
-  -- .. and so at most (2n − 3)!!
+  -- there are at most (2n − 3)!! trees
   pub count-most : countOfTable t ≤ treesOn (t .header .inputs)
   count-most = table-bound t (full-accepted s t reads .1)
 

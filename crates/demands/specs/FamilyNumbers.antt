@@ -35,11 +35,6 @@ module _ (s cells marks : List ℕ) where
   unfolding any
   family-count-never-16 place = not-given judgedNumbers _ family-count-numbers 16 place refl
 
-  -- .. and never 17
-  pub family-count-never-17 : (place : ℕ) → familyCountCall s cells marks .answer ≡ refused 17 place → ⊥
-  unfolding any
-  family-count-never-17 place = not-given judgedNumbers _ family-count-numbers 17 place refl
-
 module _ (s : List ℕ) (r : ℕ) (cells marks output : List ℕ) where
   -- the tree of a number: besides 17 and 15
   pub family-tree-numbers : Gives familyTreeNumbers (familyTreeCall s r cells marks output .answer)

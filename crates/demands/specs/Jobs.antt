@@ -14,7 +14,7 @@ use Rattle.rules.specs.Sheets.{Table}
 use Rattle.rules.specs.Marks.{markIn}
 use Rattle.rules.specs.Answers.{accepted, refused}
 use Rattle.rules.specs.Settling.{madeInto, settledNet, makeCall}
-use Rattle.rules.specs.Jobs.{Job, noTable, newJob, emptyJob, groupsOf, Opened, openJob, Stepped, stepJob, further, Asked, askJob, final, notReached, Finished, finishJob, mayFinish, Move, step, ask, moved, afterMoves}
+use Rattle.rules.specs.Jobs.{Job, noTable, newJob, emptyJob, groupsOf, Opened, openJob, Stepped, stepJob, further, askJob, final, notReached, finishJob, Move, step, ask, moved, afterMoves}
 use Rattle.laws.specs.Jobs.{open-refused, open-accepted, step-done, step-on, ask-empty, ask-over, ask-passed, ask-ahead, may-refused, may-22, may-on, finish-refused, finish-on}
 use Rattle.laws.specs.BareCells.{bare-size}
 use Rattle.laws.specs.OpenCells.{cells-kept, cells-refused}

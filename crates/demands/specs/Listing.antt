@@ -58,10 +58,6 @@ module _ (s : List ℕ) (net : Net) (reads : readNet s ≡ accepted net) where
   unfolding listing onward turnOf
   turn-none k h = rw (reads, listing, le-ltb k (length (net .gates)) h, turnOf)
 
-  -- .. so after n − 1 turns, whatever the net
-  pub turn-past : (k : ℕ) → net .header .inputs - 1 ≤ k → listing s k ≡ accepted noneLeft
-  turn-past k h = turn-none k (omega (arith, gate-count s net reads))
-
   given : (k : ℕ) (d : Gate) → k < length (net .gates) → givenBy s (listing s k) ≡ printedGate names (getD (net .gates) k d)
   unfolding givenBy
   given k d h = rw (turn-line k h) (gate-bytes s net reads k d h)

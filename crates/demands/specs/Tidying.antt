@@ -13,9 +13,9 @@ use Rattle.rules.specs.Text.{text, decimal}
 use Rattle.rules.specs.Lists.{range}
 use Rattle.rules.specs.Sheets.{Header, Table, levelsAt}
 use Rattle.rules.specs.Printed.{printedTable}
-use Rattle.rules.specs.Answers.{Answer, accepted, refused, written}
+use Rattle.rules.specs.Answers.{Answer, accepted, written}
 use Rattle.rules.specs.Reading.{readTable}
-use Rattle.rules.specs.LooseSheet.{Row, LooseTable, readLoose, inkNamed, tableOfLoose, looseFields, KeptLoose, IsLoose}
+use Rattle.rules.specs.LooseSheet.{Row, LooseTable, readLoose, inkNamed, tableOfLoose, looseFields, KeptLoose}
 use Rattle.rules.specs.Tidying.{Tidied, tidyCall}
 use Rattle.laws.specs.Answers.{accepted-inj, written-front}
 use Rattle.laws.specs.Assignments.{Assignment, indexOf, index-below, levels-index}
@@ -24,7 +24,7 @@ use Rattle.laws.specs.Tidying.{tidy-accepted, tidied-sheet, tidied-written}
 use Rattle.readback.specs.Decimals.{decimal-injective}
 use Rattle.readback.specs.ReadBack.{table-accepted, table-read-back}
 use Rattle.readback.specs.LooseSheets.{loose-sheets}
-use Rattle.readback.specs.LooseTables.{indices, ink-of-row, row-of, all-named, ink-at, index-named, loose-kept, inOrder, strict-read, strict-same}
+use Rattle.readback.specs.LooseTables.{ink-of-row, row-of, all-named, ink-at, index-named, loose-kept, inOrder, strict-read, strict-same}
 use Rattle.demands.specs.Settles.{sheetIn}
 
 -- the sheet that tidying wrote: "A call that writes a sheet answers its length, and the sheet is that many bytes from the front of the output."

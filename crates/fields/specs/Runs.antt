@@ -12,7 +12,7 @@ use lib.Seq.{drop-cons, drop-drop}
 use borrow.Author.Tests.{eq-eqb, ne-eqb}
 use Rattle.rules.specs.Text.{space, newline, spaceByte, newlineByte}
 use Rattle.rules.specs.Fields.{isSeparator, run, pastSpaces, spacesIn}
-use Rattle.laws.specs.Runs.{run-front, run-most, at-space, at-other, spaces-rest, spaces-most}
+use Rattle.laws.specs.Runs.{run-front, run-most, at-space, at-other, spaces-rest}
 
 pub is-space : (b : ℕ) → b ≡ spaceByte → isSeparator b ≡ true
 unfolding isSeparator space newline
@@ -79,7 +79,3 @@ module _ (s : List ℕ) (at : ℕ) where
   pub spaces-past : drop (spacesEnd s at) s ≡ pastSpaces (drop at s)
   unfolding spacesEnd
   spaces-past = sym (drop-drop (spacesIn (drop at s)) at s) ∙ spaces-rest (drop at s)
-
-  pub spaces-within : at ≤ length s → spacesEnd s at ≤ length s
-  unfolding spacesEnd
-  spaces-within h = omega (arith, spaces-most (drop at s), length-drop at s)

@@ -1,4 +1,4 @@
--- What the code's answers stand for in document 01's definitions.
+-- What the code's answers stand for in the definitions.
 -- Assumes nothing.
 use Prim.Native.Nat.{ℕ}
 use mathlib.Core.Bool.{Bool, cond}

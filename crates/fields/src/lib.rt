@@ -1,4 +1,4 @@
-// Reading a sheet field by field, as document 01 judges it, up to the end of line 3.
+// Reading a sheet field by field, strictly or loosely laid, up to the end of line 3.
 pub mod ends;
 pub mod header;
 pub mod lines;

@@ -5,7 +5,7 @@ ghost use Prim.Native.Nat.{_≤_, _<_};
 ghost use Rattle.rules.specs.Lists.{range, all, any, same};
 ghost use Rattle.rules.specs.Limits.{mostInputs};
 ghost use Rattle.rules.specs.Sheets.{isLetter, isName};
-ghost use Rattle.nets.specs.Forms.{nameIn, NameHeld, NamesHeld};
+ghost use Rattle.nets.specs.Forms.{nameIn, NamesHeld};
 ghost use Rattle.fields.specs.Names.{isNameByte, isNew};
 use crate::same::same_bytes;
 use nets::forms::Header;

@@ -14,21 +14,15 @@ use lib.ListN.{length, getD, take, drop, set, length-take, length-drop}
 use lib.Seq.{drop-cons, drop-length, take-suc-set, getD-take}
 use Rattle.rules.specs.Lists.{range}
 use Rattle.rules.specs.Sheets.{Gate}
-use Rattle.rules.specs.Limits.{mostInputs}
 use Rattle.rules.specs.Wirings.{Link}
 use Rattle.rules.specs.Filling.{gateDigits, inputGroups, filledFrom, filled}
 use Rattle.trees.specs.DigitRule.{Parts}
 use Rattle.trees.specs.Fillings.{Fillable, linkGroup}
 use Rattle.nets.specs.declared.forms.Net.{Net}
 use Rattle.nets.specs.Forms.{gateOf, gatesOf}
-use Rattle.nets.specs.Room.{mostGates}
 use Rattle.wirings.specs.declared.forms.Wiring.{Wiring}
 use Rattle.wirings.specs.Links.{linksIn}
 use Rattle.filling.specs.Growth.{Joined}
-
--- the references of a net: its inputs and its gates
-abbrev pub mostReferences : ℕ
-mostReferences = mostInputs + mostGates
 
 -- the net of a wiring
 pub record Filled (m n : ℕ) (f : ℕ → ℕ) (wiring : Wiring) (net : Net) : Type 0 where

@@ -14,13 +14,8 @@ ghost use Rattle.filling.specs.Growth.{Joined};
 ghost use Rattle.filling.specs.Filled.{Filled};
 use digits::gate;
 use nets::forms;
-use radix::limits::MOST_GATES;
-use radix::limits::MOST_INPUTS;
 use radix::powers;
 use wirings::forms as links;
-
-// The references of a net: its inputs and its gates.
-const MOST_REFERENCES: usize = MOST_INPUTS + MOST_GATES;
 
 // The net with one more gate, that joins groups a and b. Their references are left and right.
 fn join(
@@ -74,7 +69,7 @@ pub fn fill(m: usize, n: usize, cells: &[u8], wiring: links::Wiring) -> forms::N
     let lefts = wiring.left;
     let rights = wiring.right;
     let count = wiring.gates;
-    let mut groups = [0u16; MOST_REFERENCES];
+    let mut groups = [0u16; forms::MOST_WIRES];
     input_groups(n, &mut groups);
     let mut net = forms::no_gates(m, n);
     let mut k: usize = 0;

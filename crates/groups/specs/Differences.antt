@@ -1,4 +1,4 @@
--- What the comparison of two assignments answers, in document 02's terms.
+-- What the comparison of two assignments answers, in the definitions.
 -- Assumes nothing.
 use Prim.Native.Nat.{ℕ}
 use mathlib.Core.Option.{Option, none, some}

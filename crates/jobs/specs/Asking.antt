@@ -5,7 +5,7 @@ use mathlib.Core.Path.{_≡_, sym, ap, _∙_}
 use mathlib.Core.List.{List}
 use native.Mathlib.Decide.{ℕ-discrete}
 use native.Mathlib.Omega.{arith}
-use lib.ListN.{getD, take}
+use lib.ListN.{getD}
 use lib.Seq.{getD-take}
 use Rattle.rules.specs.Answers as answers
 use Rattle.rules.specs.Answers.{accepted, refused}

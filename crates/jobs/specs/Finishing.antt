@@ -1,18 +1,17 @@
 -- Finishing a job, by its parts: its outcomes, and what making from its table asks.
 -- Assumes nothing.
 use Prim.Native.Nat.{ℕ, _-_, _^_, _≤_, _<_}
-use mathlib.Core.Path.{_≡_, refl, sym, ap, _∙_, subst}
+use mathlib.Core.Path.{_≡_, refl, sym, ap, _∙_}
 use mathlib.Core.List.{List, []}
 use native.Mathlib.Nat.{sub-zero}
 use native.Mathlib.Omega.{arith}
-use lib.ListN.{length, take}
+use lib.ListN.{take}
 use Rattle.rules.specs.Limits.{levelsFit, sizeFits}
 use Rattle.rules.specs.Sheets.{Table}
-use Rattle.rules.specs.Kept.{KeptTable}
 use Rattle.rules.specs.Answers as answers
 use Rattle.rules.specs.Answers.{accepted, refused}
 use Rattle.rules.specs.OpenCells.{fullCells}
-use Rattle.rules.specs.Settling.{Made, settledNet, madeInto}
+use Rattle.rules.specs.Settling.{settledNet, madeInto}
 use Rattle.rules.specs.Jobs.{Job, noTable, groupsOf, mayFinish, Finished, finishJob}
 use Rattle.laws.specs.Answers.{not-refused}
 use Rattle.laws.specs.BareCells.{bare-size}
@@ -21,7 +20,7 @@ use Rattle.laws.specs.Jobs.{may-refused, may-22, may-on, finish-refused, finish
 use Rattle.nets.specs.declared.forms.Header.{Header}
 use Rattle.nets.specs.Forms.{headerOf, tableIn}
 use Rattle.accepted.specs.Taken.{Given, names-inside}
-use Rattle.jobs.specs.Forms.{Fronted, tableFrom, jobIn, front-job, front-kept, front-size}
+use Rattle.jobs.specs.Forms.{Fronted, tableFrom, jobIn, front-job, front-kept}
 
 -- ---- a job with no table
 

@@ -2,12 +2,11 @@
 -- last name, and where they are turned back it is a job with no inputs; its inks and marks are at the front of their arrays.
 -- Assumes nothing.
 use Prim.Native.Nat.{ℕ, _^_, _≤_}
-use mathlib.Core.Path.{_≡_, sym, _∙_}
+use mathlib.Core.Path.{_≡_, sym}
 use mathlib.Core.List.{List}
-use native.Mathlib.Omega.{arith}
-use lib.ListN.{length, take}
+use lib.ListN.{take}
 use lib.Pow.{pow-mono}
-use Rattle.rules.specs.Limits.{mostCells, mostInputs}
+use Rattle.rules.specs.Limits.{mostInputs}
 use Rattle.rules.specs.Text.{space}
 use Rattle.rules.specs.Fields.{read, turnedBack}
 use Rattle.rules.specs.Sheets as sheets

@@ -2,7 +2,7 @@
 -- the job that is opened.
 -- Assumes nothing.
 use Prim.Native.Nat.{ℕ, suc, _+_, _-_, _*_, _^_, _≤_}
-use mathlib.Core.Path.{_≡_, refl, sym, ap, ap₂, _∙_}
+use mathlib.Core.Path.{_≡_, refl, sym, ap, _∙_}
 use mathlib.Core.List.{List, [], _∷_, _++_, map, append-assoc}
 use native.Mathlib.Omega.{arith}
 use lib.ListN.{length, take, drop, replicate, length-append, length-replicate, replicate-append-replicate}
@@ -15,7 +15,7 @@ use Rattle.rules.specs.Sheets as sheets
 use Rattle.rules.specs.Sheets.{Table, headerLines}
 use Rattle.rules.specs.Printed.{line}
 use Rattle.rules.specs.Kept.{GoodNames, KeptHeader, KeptTable}
-use Rattle.rules.specs.Answers.{Answer, accepted, refused, written}
+use Rattle.rules.specs.Answers.{accepted, refused, written}
 use Rattle.rules.specs.OpenCells.{readFull}
 use Rattle.rules.specs.Jobs.{noTable, newJob, emptyJob}
 use Rattle.rules.specs.Evaluation.{computing}

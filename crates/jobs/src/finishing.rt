@@ -1,7 +1,7 @@
 // Finishing a job: what making comes to, from the job's own table.
 ghost use mathlib.Core.Path.{_≡_};
 ghost use mathlib.Core.List.{List};
-ghost use Prim.Native.Nat.{ℕ, _^_, _≤_};
+ghost use Prim.Native.Nat.{ℕ, _≤_};
 ghost use lib.ListN.{length};
 ghost use Rattle.rules.specs.Limits.{mostCells};
 ghost use Rattle.rules.specs.Jobs.{mayFinish, finishJob};
@@ -18,7 +18,7 @@ use nets::forms::Header;
 use radix::powers;
 use settling::table;
 
-// Refusals 9, 10 and 22, of the table `inks` with so many groups passed.
+// Refusals 9, 10, 27 and 22, of the table `inks` with so many groups passed.
 fn may_finish(lines: &[u8], h: Header, inks: &[u8], passed: usize) -> Outcome
     requires { ⌜ Fronted (now lines) h ⌝ }
     ensures { λ r. ⌜ ((marks : List ℕ) → outcomeAs tt r

@@ -1,8 +1,4 @@
 // A job by value, and its four calls. Any job may come in, whether it was opened or not.
-ghost use mathlib.Core.Path.{_≡_};
-ghost use Rattle.rules.specs.Jobs.{openJob, stepJob, askJob, finishJob};
-ghost use Rattle.answers.specs.Answers.{madeOf, outcomeAs};
-ghost use Rattle.jobs.specs.Forms.{jobOf};
 ghost use Rattle.jobs.specs.Calls.{OpenDone, StepDone, AskDone, FinishDone};
 use crate::asking;
 use crate::asking::Reached;
@@ -12,20 +8,18 @@ use crate::next::Next;
 use crate::opening;
 use answers::answer::Answer;
 use answers::outcome::Outcome;
+use marks::own;
 use radix::limits;
 
 // The first lines of a table sheet up to the last name and the space after it, 127 bytes at most.
 pub const MOST_LINES: usize = 128;
-
-// The groups of the most inputs.
-pub const MOST_GROUPS: usize = 1 << limits::MOST_INPUTS;
 
 // Its own copy of names, cells and marks, one byte a cell and a mark, each at the front of its array, and how many groups have been passed.
 // specs/Forms.antt says what it stands for.
 pub struct Job {
     pub lines: [u8; MOST_LINES],
     pub cells: [u8; limits::MOST_CELLS],
-    pub marks: [u8; MOST_GROUPS],
+    pub marks: [u8; own::MOST_GROUPS],
     pub passed: usize,
 }
 
@@ -95,7 +89,7 @@ impl Job {
         }
     }
 
-    // Refusals 9, 10 and 22, or what making comes to.
+    // Refusals 9, 10, 27 and 22, or what making comes to.
     pub fn finish(self, cells: &mut [u8], marks: &mut [u8], out: &mut [u8]) -> Finished
         ensures { λ r. ⌜ FinishDone self (now (cells .entry)) (now (marks .entry)) (now (out .entry)) r (now (cells .exit)) (now (marks .exit)) (now (out .exit)) ⌝ }
     {

@@ -13,6 +13,7 @@ use crate::job::Opened;
 use answers::outcome::Outcome;
 use lines::header;
 use lines::put::copy;
+use marks::own;
 use nets::forms::Header;
 use radix::limits;
 use radix::powers;
@@ -25,7 +26,7 @@ fn no_job() -> Job
     Job {
         lines: [0u8; job::MOST_LINES],
         cells: [0u8; limits::MOST_CELLS],
-        marks: [0u8; job::MOST_GROUPS],
+        marks: [0u8; own::MOST_GROUPS],
         passed: 0,
     }
 }
@@ -60,7 +61,7 @@ fn new_job(s: &[u8], h: Header, inks: &[u8]) -> Job
     Job {
         lines: own_lines(s, h),
         cells: own_cells(inks),
-        marks: [0u8; job::MOST_GROUPS],
+        marks: [0u8; own::MOST_GROUPS],
         passed: 0,
     }
 }

@@ -1,19 +1,19 @@
 -- The set of the gates that changed, gate by gate.
 -- Assumes nothing.
-use Prim.Native.Nat.{ℕ, suc, _+_, _-_, _*_, _^_, _≤_, _<_}
-use mathlib.Core.Path.{_≡_, refl, sym, ap, ap₂, _∙_, subst}
+use Prim.Native.Nat.{ℕ, suc, _+_, _-_, _*_, _^_, _<_}
+use mathlib.Core.Path.{_≡_, refl, sym, ap, ap₂, _∙_}
 use mathlib.Core.Bool.{Bool, true, false, cond, not}
 use mathlib.Core.List.{List, [], _∷_, _++_, map, map-map}
 use native.Mathlib.Nat.{add-zero, zero-add}
 use native.Mathlib.Numerals.{add-one}
 use native.Mathlib.Omega.{arith}
-use lib.ListN.{length, getD, take, drop}
+use lib.ListN.{getD, take, drop}
 use Rattle.rules.specs.Lists.{range, those, same, total}
 use Rattle.rules.specs.Sheets.{Gate}
 use Rattle.rules.specs.Keeping.{linkOf, gateLinks, tableAt, tableDiffers, changedGates}
 use Rattle.laws.specs.Places.{map-at}
 use Rattle.laws.specs.Ranges.{range-suc, range-shift, map-range-at}
-use Rattle.laws.specs.Totals.{total-parts, those-cons, those-append}
+use Rattle.laws.specs.Totals.{total-parts, those-append}
 use Rattle.trees.specs.GroupSum.{powers, powers-shift}
 use Rattle.trees.specs.ChangedGates.{powers-below}
 use Rattle.nets.specs.declared.forms.Net.{Net}

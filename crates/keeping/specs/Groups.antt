@@ -1,10 +1,10 @@
 -- The groups of a net's gates found one after the other, up to the first with too many classes.
 -- Assumes nothing.
-use Prim.Native.Nat.{ℕ, suc, _+_, _^_, _≤_, _<_}
+use Prim.Native.Nat.{ℕ, _+_, _^_, _≤_, _<_}
 use mathlib.Core.Path.{_≡_, sym, ap, ap₂, _∙_, subst}
 use mathlib.Core.Bool.{Bool, true, false, true≢false}
 use mathlib.Core.List.{List}
-use native.Mathlib.Nat.{zero-add, add-zero}
+use native.Mathlib.Nat.{zero-add}
 use native.Mathlib.Decide.{decLt, ℕ-discrete}
 use native.Mathlib.Omega.{arith}
 use lib.Dec.{ltb}
@@ -25,7 +25,7 @@ use Rattle.groups.specs.Firsts.{Counted, counted-over, counted-within}
 use Rattle.nets.specs.declared.forms.Net.{Net}
 use Rattle.nets.specs.Forms.{gateOf, gatesOf}
 use Rattle.nets.specs.Room.{mostWires}
-use Rattle.nets.specs.Sound.{Sound, gates-length, gates-count, wires-room}
+use Rattle.nets.specs.Sound.{Sound, gates-length, wires-room}
 use Rattle.nets.specs.References.{refers-back}
 
 -- a count of a group's classes that may stop past m says whether they are more

@@ -1,16 +1,14 @@
 -- An ink as a field of a row: a digit below m, or the sign of an open cell (document 02, K13).
 -- Assumes nothing.
-use Prim.Native.Nat.{ℕ, _-_, _≤_, _<_}
-use mathlib.Core.Path.{_≡_, refl}
+use Prim.Native.Nat.{ℕ, _-_}
+use mathlib.Core.Path.{_≡_}
 use mathlib.Core.Bool.{Bool, true, false}
 use mathlib.Core.List.{[], _∷_}
-use native.Mathlib.Omega.{arith}
 use lib.Dec.{eqb}
 use borrow.Author.Tests.{eq-eqb, ne-eqb}
 use Rattle.rules.specs.Text.{digitByte, openByte, isDigit}
 use Rattle.rules.specs.Fields.{Judged, good, bad, judged}
 use Rattle.rules.specs.Sheets.{inkField, inkByte}
-use Rattle.laws.specs.Digits.{digit-byte}
 
 -- ---- the byte that an ink is written as
 

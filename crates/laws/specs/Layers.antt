@@ -30,11 +30,6 @@ unfolding withDepths
 depths-snoc depths [] g = refl
 depths-snoc depths (x ∷ gates) g = depths-snoc (depths ++ (gateDepth depths x ∷ [])) gates g
 
-pub depths-length : (depths : List ℕ) (gates : List Gate) → length (withDepths depths gates) ≡ length depths + length gates
-unfolding withDepths
-depths-length depths [] = sym (add-zero (length depths))
-depths-length depths (g ∷ gates) = depths-length (depths ++ (gateDepth depths g ∷ [])) gates ∙ omega (arith, length-snoc depths (gateDepth depths g))
-
 -- ---- they are the most gates on a way
 
 -- there is a way to every reference

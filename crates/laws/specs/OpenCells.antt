@@ -7,10 +7,9 @@ use mathlib.Core.Bool.{true, false}
 use mathlib.Core.List.{List}
 use native.Mathlib.Decide.{decLt}
 use native.Mathlib.Omega.{arith}
-use lib.Dec.{ltb}
 use lib.ListN.{length, getD}
 use borrow.Author.Tests.{eqb-true, eqb-false, eq-eqb, ne-eqb, lt-ltb, le-ltb, leb-true}
-use Rattle.rules.specs.Lists.{all, firstPlace}
+use Rattle.rules.specs.Lists.{firstPlace}
 use Rattle.rules.specs.Limits.{sizeFits}
 use Rattle.rules.specs.Sheets.{Table}
 use Rattle.rules.specs.Kept.{KeptTable, FullTable}
@@ -23,7 +22,7 @@ use Rattle.laws.specs.Answers.{not-refused}
 use Rattle.laws.specs.BareCells.{bare-within, bare-accepted, bare-inks, bare-kept}
 use Rattle.laws.specs.FirstPlaces.{any-place, at-first, before-first}
 use Rattle.laws.specs.Places.{mem-getD}
-use Rattle.laws.specs.Tests.{all-each, all-mem}
+use Rattle.laws.specs.Tests.{all-mem}
 
 -- ---- a list of cells
 
@@ -144,9 +143,6 @@ module _ (m n : ℕ) (cells : List ℕ) where
       let (bare, shut) = cells-accepted e in
       let most = leb-true (getD cells k 0) m (all-mem _ (mem-getD cells k 0 h) (bare-inks m n cells bare)) in
       omega (arith, most, none-open m cells shut k h)
-
-  pub cells-inks : accepted tt ≡ fullCells m n cells → all (λ c. ltb c m) cells ≡ true
-  cells-inks e = all-each (λ c. ltb c m) 0 cells (λ k h. lt-ltb _ _ (cells-below e k h))
 
 -- the inks of a full table that keeps the rules are full cells
 pub cells-kept : (t : Table) → KeptTable t → FullTable t → fullCells (t .header .levels) (t .header .inputs) (t .inks) ≡ accepted tt

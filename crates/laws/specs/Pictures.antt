@@ -1,18 +1,16 @@
 -- The new picture, cell by cell: each is the entry of the net's table at the levels that are read.
 -- Assumes nothing.
-use Prim.Native.Nat.{ℕ, zero, suc, _+_, _*_, _^_, _≤_, _<_}
+use Prim.Native.Nat.{ℕ, _+_, _*_, _^_, _≤_, _<_}
 use mathlib.Core.Path.{_≡_, refl, sym, ap, _∙_}
 use mathlib.Core.Bool.{Bool, true, false, _&&_, and-false, and-eq-true-iff}
 use mathlib.Core.List.{List, map}
-use native.Mathlib.Nat.{zero-add, add-zero, mul-comm, mul-le-mul-right}
-use native.Mathlib.Numerals.{add-one}
-use native.Mathlib.Omega.{arith}
+use native.Mathlib.Nat.{zero-add, mul-comm}
 use lib.ListN.{length, getD}
 use lib.IntN.{ℤ, pos, negsuc, _+ℤ_}
 use lib.Dec.{ltb}
 use lib.Arith.{digits-lt}
 use borrow.Author.Tests.{ltb-true, lt-ltb, le-ltb}
-use Rattle.rules.specs.Lists.{range, concatMap}
+use Rattle.rules.specs.Lists.{range}
 use Rattle.rules.specs.Sheets.{Gate, Net, levelsAt}
 use Rattle.rules.specs.Value.{value, tableOf}
 use Rattle.rules.specs.Glyphs.{levelAt, across, down, levelsRead, valueWith, newCell, glyph}

@@ -5,7 +5,7 @@ use mathlib.Core.Path.{_≡_, refl}
 use mathlib.Core.List.{List}
 use borrow.Author.Tests.{lt-ltb, le-ltb}
 use Rattle.rules.specs.Sheets.{Net}
-use Rattle.rules.specs.Answers.{Answer, accepted, onward, refused}
+use Rattle.rules.specs.Answers.{accepted, onward, refused}
 use Rattle.rules.specs.Reading.{readNet}
 use Rattle.rules.specs.ShallowSettling.{netLayers}
 use Rattle.rules.specs.Shallower.{firstSheet, secondSheet, noSheet, layersIn, whichBy}

@@ -1,4 +1,4 @@
--- What the answers of `open` and `line` stand for in document 01's definitions.
+-- What the answers of `open` and `line` stand for in the definitions.
 -- Assumes nothing.
 use Prim.Native.Nat.{ℕ}
 use mathlib.Core.List.{List}

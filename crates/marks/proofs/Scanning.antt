@@ -1,18 +1,17 @@
 -- The loop of `fewest_of` over plain numbers: the parts of g that hold its first-listed input are passed up to the part `part` of the others.
 -- Assumes nothing.
 use Prim.Native.Nat.{ℕ, _+_, _-_, _^_, _≤_, _<_}
-use mathlib.Core.Path.{_≡_, refl, sym, ap, _∙_}
+use mathlib.Core.Path.{_≡_, refl, sym, _∙_}
 use mathlib.Core.Logic.{_⊎_, inl, inr, ⊎-elim}
-use mathlib.Core.Bool.{Bool, true}
+use mathlib.Core.Bool.{true}
 use mathlib.Core.List.{List}
 use native.Mathlib.Decide.{ℕ-discrete}
 use native.Mathlib.Omega.{arith, ne-cases}
 use lib.Bits.{and-self}
 use Rattle.rules.specs.Wirings.{firstInput}
 use Rattle.rules.specs.Shallow.{splitLayers, fewestOf}
-use Rattle.trees.specs.MarkTwo.{isA}
 use Rattle.radix.specs.Parts.{Part, Next}
-use Rattle.marks.specs.Fewest.{bothTwo, Fewer, LeastByFirst, least-by-first}
+use Rattle.marks.specs.Fewest.{bothTwo, Fewer, least-by-first}
 use Rattle.marks.specs.FirstParts.{settled-looked, is-part-of, part-at}
 
 -- the part of g that is the first-listed input and the part s of the others

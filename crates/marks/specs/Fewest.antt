@@ -2,9 +2,9 @@
 -- the rest of the group have as many layers as the rest and the part; and from the groups of mark 2 alone, since no other is a part.
 -- Assumes nothing.
 use Prim.Native.Nat.{ℕ, zero, suc, _+_, _-_, _^_, _≤_, _<_}
-use mathlib.Core.Path.{_≡_, refl, sym, ap, ap₂, _∙_}
+use mathlib.Core.Path.{_≡_, refl, sym, ap, _∙_}
 use mathlib.Core.Logic.{_⊎_, ⊎-elim}
-use mathlib.Core.Bool.{Bool, true, false, _&&_, and-eq-true-iff, true≢false}
+use mathlib.Core.Bool.{Bool, true, false, _&&_, and-eq-true-iff}
 use mathlib.Core.List.{List, [], _∷_, _++_, map, List·Memᴰ, List·Memᴰ·not-nil, Memᴰ·map, Memᴰ·of-map}
 use native.Mathlib.Nat.{le-antisymm, le-trans, le-of-eq}
 use native.Mathlib.Decide.{ℕ-discrete}
@@ -13,9 +13,9 @@ use lib.Dec.{eqb}
 use borrow.Author.Tests.{eq-eqb, ne-eqb}
 use lib.ListN.{length, getD, set, length-map}
 use lib.Seq.{getD-set-same, getD-set-other}
-use Rattle.rules.specs.Lists.{range, those, firstPlace}
-use Rattle.rules.specs.Groups.{member, size}
-use Rattle.rules.specs.Marks.{inside, markIn, partsAt}
+use Rattle.rules.specs.Lists.{range, those}
+use Rattle.rules.specs.Groups.{member}
+use Rattle.rules.specs.Marks.{markIn, partsAt}
 use Rattle.rules.specs.Wirings.{firstInput}
 use Rattle.rules.specs.Shallow.{least, splitLayers, fewestOf, fewestBelow, fewestLayers, shallowSplit}
 use Rattle.laws.specs.Ranges.{mem-range, range-mem}

@@ -2,7 +2,6 @@
 ghost use mathlib.Core.Path.{_≡_};
 ghost use Prim.Native.Nat.{_^_, _≤_, _<_};
 ghost use lib.ListN.{length};
-ghost use Rattle.rules.specs.Groups.{size};
 ghost use Rattle.rules.specs.Marks.{noTreePlace};
 ghost use Rattle.marks.specs.Place.{oneOf, lowest, foundBelow};
 ghost use Rattle.radix.specs.Widths.{mostMembers};

@@ -1,6 +1,6 @@
 // How marks are stored in the buffer that a caller lends: four to a byte. It is written here alone.
 ghost use mathlib.Core.Path.{_≡_};
-ghost use Prim.Native.Nat.{ℕ, _+_, _^_, _≤_, _<_};
+ghost use Prim.Native.Nat.{_+_, _^_, _≤_, _<_};
 ghost use lib.ListN.{length, take};
 ghost use Rattle.rules.specs.Marks.{marksLength, storedMarks};
 ghost use Rattle.rules.specs.Answers.{written};

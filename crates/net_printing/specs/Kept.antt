@@ -1,4 +1,4 @@
--- A net that keeps the rules of document 01 has what printing asks.
+-- A net that keeps the rules of a net sheet has what printing asks.
 -- Assumes nothing.
 use Prim.Native.Nat.{ℕ, zero, suc, _-_, _*_, _/_, _%_, _≤_, _<_}
 use mathlib.Core.Path.{_≡_, sym, ap, subst, _∙_}

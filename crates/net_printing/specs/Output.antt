@@ -5,11 +5,10 @@ use mathlib.Core.Path.{_≡_, sym, ap, _∙_, subst}
 use mathlib.Core.List.{List}
 use native.Mathlib.Omega.{arith}
 use lib.ListN.{length, take}
-use Rattle.rules.specs.Settling.{Made, writtenSheet}
+use Rattle.rules.specs.Settling.{writtenSheet}
 use Rattle.rules.specs.Answers.{accepted, refused, written}
 use Rattle.laws.specs.Settling.{sheet-15, sheet-written}
 use Rattle.radix.specs.Fronts.{front}
-use Rattle.answers.specs.Answers.{answerOf}
 use Rattle.lines.specs.Put.{Put, Wrote, put-wrote}
 use Rattle.laws.specs.Answers.{written-front}
 

@@ -1,4 +1,4 @@
--- What reading a net sheet answers, in document 01's definitions.
+-- What reading a net sheet answers, in the definitions.
 -- Assumes nothing.
 use Prim.Native.Nat.{ℕ, _-_, _≤_, _<_}
 use mathlib.Core.Path.{_≡_, refl, sym, ap, _∙_}

@@ -1,4 +1,4 @@
--- What the code's forms stand for in document 01's definitions.
+-- What the code's forms stand for in the definitions.
 -- Assumes nothing.
 use Prim.Native.Nat.{ℕ, _+_, _*_, _≤_, _<_}
 use mathlib.Core.Path.{_≡_}

@@ -1,4 +1,4 @@
-// The two forms, with room for the largest size that document 01 allows. specs/Forms.antt says what each stands for.
+// The two forms, with room for the largest allowed size. specs/Forms.antt says what each stands for.
 ghost use mathlib.Core.Path.{_≡_};
 ghost use Rattle.nets.specs.Forms.{noGates, noNames};
 use radix::limits::MOST_DIGITS;
@@ -16,7 +16,7 @@ pub struct Header {
     pub lens: [u8; MOST_INPUTS],
 }
 
-// A net's gates. References are numbered as in document 01's definitions: input i is i, from 0, and gate k, from 1, is
+// A net's gates. References are numbered as in the definitions: input i is i, from 0, and gate k, from 1, is
 // inputs + k - 1. The digits of the gate with `k` gates before it begin at k * levels * levels.
 pub struct Net {
     pub levels: usize,

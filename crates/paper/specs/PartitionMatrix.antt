@@ -18,8 +18,8 @@ use Rattle.trees.specs.Firsts.{firsts-map}
 use Rattle.trees.specs.Points.{points-length}
 
 -- "the Y|X partition matrix has m^|X| columns and m^|Y| rows labeled by all possible assignments of values to X and Y,
--- respectively. Each  contains the value of f for the assignment of values to X corresponding to the column labelling and
--- for the assignment of values to Y corresponding to the row labelling." Column p's  in row y is the ink at index p + y.
+-- respectively. Each square contains the value of f for the assignment of values to X corresponding to the column labelling and
+-- for the assignment of values to Y corresponding to the row labelling." Column p's square in row y is the ink at index p + y.
 unfoldable pub columns : ℕ → ℕ → (ℕ → ℕ) → ℕ → List (List ℕ)
 columns m n f x = map (λ p. map (λ y. f (p + y)) (points m n (others n x))) (points m n x)
 

@@ -7,7 +7,7 @@ pub const FEWEST_INPUTS: usize = 2;
 
 pub const MOST_INPUTS: usize = 12;
 
-// The gates of a net, one fewer than its inputs.
+// The gates of a net: at most one fewer than its inputs.
 pub const MOST_GATES: usize = MOST_INPUTS - 1;
 
 // The digits of all gates of a net: that none of an allowed size has more is shown in nets/specs/Room.antt.

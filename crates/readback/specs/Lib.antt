@@ -1,5 +1,5 @@
 -- Theorems about sheets: what was printed is read back, what was accepted is what would be printed (`ReadBack`), how long a sheet is (`Length`,
--- `TableLength`), with which numbers (`Among`, `Numbers`), where and by which bytes (`Fronts`, `Refused`) a sheet is refused, and what one comes to that
+-- `TableLength`), with which numbers (`Among`, `Numbers`), where and by which bytes (`Fronts`, `Refused`) a sheet is refused, when with 26 (`Unused`), and what one comes to that
 -- is cut (`Cuts`, `CutSheets`). The way to the first: what
 -- a reader reads is said once for both directions (`Spells`, `Collects`); then field by field (`Fields`, `Decimals`, `Judges`, `References`),
 -- line by line (`Names`, `Header`, `Ends`, `Gates`), sheet by sheet (`NetSheets`, `TableSheets`). `Lines` and `GateLines` take

@@ -3,15 +3,14 @@
 -- Assumes nothing.
 use Prim.Native.Nat.{ℕ, zero, suc, _+_}
 use mathlib.Core.Path.{_≡_, refl, sym, _∙_, ap}
-use mathlib.Core.Bool.{Bool, true, false, not, false≢true}
+use mathlib.Core.Bool.{Bool, true, false, false≢true}
 use mathlib.Core.List.{List, [], _∷_, _++_, append-assoc}
 use native.Mathlib.Omega.{arith}
 use lib.ListN.{replicate}
 use lib.Dec.{eqb}
 use borrow.Author.Tests.{eqb-true}
-use Rattle.rules.specs.Lists.{all}
 use Rattle.rules.specs.Text.{space, newline}
-use Rattle.rules.specs.Fields.{Read, read, turnedBack, then, Judge, isSeparator, separator, pastSpaces, spacesIn, spaces, loose, looseSeparator, fieldIn}
+use Rattle.rules.specs.Fields.{read, turnedBack, then, Judge, isSeparator, separator, pastSpaces, spacesIn, spaces, loose, looseSeparator, fieldIn}
 use Rattle.rules.specs.LooseSheet.{blanks}
 use Rattle.laws.specs.Tests.{all-iff}
 use Rattle.readback.specs.Spells.{SpellsBetween, Any, Spells, not-read}

@@ -2,7 +2,7 @@
 -- judged then, so that readers are looked at with a place that none of them stands before.
 -- Assumes nothing.
 use Prim.Native.Nat.{ℕ, zero, suc, _+_, _*_, _^_, _≤_}
-use mathlib.Core.Path.{_≡_, refl, sym, ap, _∙_}
+use mathlib.Core.Path.{_≡_, refl, ap, _∙_}
 use mathlib.Core.Bool.{Bool, true, false}
 use mathlib.Core.List.{List, [], _∷_, _++_}
 use native.Mathlib.Omega.{arith}
@@ -16,7 +16,6 @@ use Rattle.rules.specs.Answers.{refused}
 use Rattle.rules.specs.Reading.{answered}
 use Rattle.rules.specs.LooseSheet.{Row, LooseTable, anyLevel, indexFields, isOf, notGiven, rowFrom, looseRows, looseSheet, readLoose}
 use Rattle.laws.specs.Runs.{run-past}
-use Rattle.readback.specs.Spells.{not-read}
 use Rattle.readback.specs.LooseFields.{at-space, at-other}
 use Rattle.readback.specs.Refused.{PlacesWithin}
 

@@ -11,16 +11,15 @@ use lib.Seq.{append-snoc}
 use lib.Dec.{eqb}
 use Rattle.rules.specs.Lists.{all, any, same}
 use Rattle.rules.specs.Text.{space, newline, text, digitByte, decimal}
-use Rattle.rules.specs.Limits.{levelsFit, inputsFit, cellsFit}
-use Rattle.rules.specs.Fields.{Read, Reader, read, turnedBack, then, _>>=_, give, isSeparator, loose, fieldIn, theWord, closed}
-use Rattle.rules.specs.Sheets.{Header, isName, nameField, nameFieldsIn, headerLinesIn, inkField, inkByte, levelsAt}
+use Rattle.rules.specs.Fields.{Read, Reader, read, turnedBack, _>>=_, give, isSeparator, loose, fieldIn}
+use Rattle.rules.specs.Sheets.{Header, isName, nameField, nameFieldsIn, headerLinesIn, inkByte, levelsAt}
 use Rattle.rules.specs.Kept.{GoodNames, Distinct, KeptHeader}
-use Rattle.rules.specs.LooseSheet.{Row, LooseTable, anyLevel, indexFields, isOf, notGiven, rowFrom, looseRows, looseSheet, blanks, LooseLine, LooseLines, rowFields, looseFields, EachRow, KeptLoose, IsLoose}
+use Rattle.rules.specs.LooseSheet.{Row, LooseTable, indexFields, isOf, notGiven, rowFrom, looseRows, looseSheet, blanks, LooseLine, LooseLines, rowFields, looseFields, EachRow, IsLoose}
 use Rattle.rules.specs.LooseSheet.{readLoose}
 use Rattle.rules.specs.Answers.{accepted}
 use Rattle.readback.specs.ReadBack.{whole-back, whole-only}
 use Rattle.laws.specs.Fresh.{Fresh, fresh-first, fresh-last}
-use Rattle.laws.specs.Same.{same-comm, eqb-comm}
+use Rattle.laws.specs.Same.{eqb-comm}
 use Rattle.laws.specs.Tests.{any-same, any-map}
 use Rattle.laws.specs.Distinct.{Unlike}
 use Rattle.laws.specs.Sizes.{levels-fit}
@@ -157,11 +156,6 @@ head-text v w x y names c d e f = simp (append-assoc, append-nil)
 
 abbrev Heads : Type 0
 Heads = (h : Header) × (s : List ℕ) × KeptHeader h × HeadIn h s
-
-abbrev HeadFields : Type 0
-HeadFields =
-    (_ : Unit {0} × ℕ) × (_ : Unit {0} × ℕ) × (m : ((m : ℕ) × (levelsFit m ≡ true)) × ℕ)
-    × (n : ((n : ℕ) × (inputsFit n ≡ true) × (cellsFit (m .0 .0) n ≡ true)) × ℕ) × NamesIn [] (n .0 .0) × Unit {0}
 
 spells-loose-header : SpellsBetween NoSpace Any (headerLinesIn loose space) Heads (λ x. x .0) (λ x. x .1)
 unfolding headerLinesIn plain isWord all text isSeparator space newline

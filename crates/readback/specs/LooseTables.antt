@@ -2,27 +2,26 @@
 -- keeps the rules of a table sheet. A strict sheet is a loose one, with its rows in order, and is the sheet of its own table.
 -- Assumes nothing.
 use Prim.Native.Nat.{ℕ, zero, suc, _+_, _^_, _≤_, _<_}
-use mathlib.Core.Path.{_≡_, refl, sym, _∙_, ap, subst, subst⁻¹}
-use mathlib.Core.Bool.{Bool, true, false, false≢true, true≢false}
-use mathlib.Core.Logic.{_↔_}
+use mathlib.Core.Path.{_≡_, refl, sym, _∙_, ap, subst⁻¹}
+use mathlib.Core.Bool.{Bool, true, false, false≢true}
 use mathlib.Core.List.{List, [], _∷_, _++_, map, append-assoc}
 use native.Mathlib.Omega.{arith}
 use native.Mathlib.Nat.{zero-add}
 use lib.ListN.{length, getD, length-map}
 use lib.Seq.{ext-getD}
 use lib.Dec.{eqb}
-use borrow.Author.Tests.{eqb-true, eqb-false, eq-eqb, ne-eqb}
+use borrow.Author.Tests.{eqb-true, eq-eqb, ne-eqb}
 use Rattle.rules.specs.Lists.{range, any, find}
-use Rattle.rules.specs.Text.{space, newline, text, decimal}
-use Rattle.rules.specs.Sheets.{Header, Table, levelsAt}
+use Rattle.rules.specs.Text.{text, decimal}
+use Rattle.rules.specs.Sheets.{Table}
 use Rattle.rules.specs.Printed.{line, firstLines, printedRow, printedRows, printedTable}
 use Rattle.rules.specs.Kept.{Distinct, KeptTable}
 use Rattle.rules.specs.Answers.{accepted}
 use Rattle.rules.specs.Reading.{readTable}
-use Rattle.rules.specs.LooseSheet.{Row, LooseTable, isOf, inkOf, inkNamed, tableOfLoose, blanks, LooseLine, LooseLines, rowFields, looseFields, EachRow, KeptLoose, IsLoose, readLoose}
+use Rattle.rules.specs.LooseSheet.{Row, LooseTable, inkNamed, tableOfLoose, blanks, LooseLine, LooseLines, rowFields, looseFields, EachRow, KeptLoose, IsLoose, readLoose}
 use Rattle.laws.specs.Counts.{times-range}
 use Rattle.laws.specs.Distinct.{In, NotIn, not-in-cons, times-distinct, all-stand}
-use Rattle.laws.specs.Ranges.{range-length, map-range-length, map-range-at}
+use Rattle.laws.specs.Ranges.{map-range-length, map-range-at}
 use Rattle.readback.specs.ReadBack.{table-accepted}
 use Rattle.readback.specs.LooseSheets.{loose-sheets}
 
@@ -40,12 +39,6 @@ named-first row rows p e = rw (eq-eqb (row .index) p e, find) refl
 named-later : (row : Row) (rows : List Row) (p : ℕ) → (row .index ≡ p → ⊥) → inkNamed (row ∷ rows) p ≡ inkNamed rows p
 unfolding inkNamed find
 named-later row rows p e = rw (ne-eqb (row .index) p e, find) refl
-
--- the numbers named by rows at a place
-index-at : (rows : List Row) (k : ℕ) (d : Row) → k < length rows → getD (indices rows) k 0 ≡ getD rows k d .index
-index-at [] k d h = absurd (omega arith)
-index-at (row ∷ rows) zero d h = refl
-index-at (row ∷ rows) (suc k) d h = index-at rows k d (omega arith)
 
 -- each row gives its ink to the assignment that it names
 pub ink-of-row : (rows : List Row) → Distinct (indices rows) → (k : ℕ) (d : Row) → k < length rows → inkNamed rows (getD rows k d .index) ≡ getD rows k d .ink

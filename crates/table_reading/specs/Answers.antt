@@ -1,4 +1,4 @@
--- What reading a table sheet answers, in document 01's definitions.
+-- What reading a table sheet answers, in the definitions.
 -- Assumes nothing.
 use Prim.Native.Nat.{ℕ, suc, _^_}
 use mathlib.Core.Path.{_≡_}
@@ -10,7 +10,7 @@ use Rattle.rules.specs.Sheets as sheets
 use Rattle.rules.specs.Sheets.{Table, rowLines}
 use Rattle.rules.specs.Reading.{readTable}
 use Rattle.laws.specs.Bounds.{Below}
-use Rattle.nets.specs.Forms.{headerOf, tableIn}
+use Rattle.nets.specs.Forms.{tableIn}
 use Rattle.nets.specs.declared.forms.Header.{Header}
 use Rattle.fields.specs.Chained.{Answers}
 use Rattle.fields.specs.Header.{HeaderHeld}

@@ -12,7 +12,7 @@ use Rattle.rules.specs.Text.{space, newline, text, digitByte}
 use Rattle.rules.specs.Sheets.{Header, Gate, referenceText}
 use Rattle.rules.specs.Printed.{line, firstLines, printedGate, printedNet}
 use Rattle.rules.specs.Groups.{member}
-use Rattle.rules.specs.Keeping.{gateLinks, tableAt, changedGates}
+use Rattle.rules.specs.Keeping.{tableAt, changedGates}
 use Rattle.laws.specs.Tests.{two-ways}
 use Rattle.laws.specs.Concat.{map-append, concat-append}
 use Rattle.laws.specs.Places.{length-snoc}
@@ -37,13 +37,6 @@ module _ (gates others : List Gate) (but : ButLast gates others) where
   -- what is the same for both forms of the last gate is the same for both lists
   by-last : {A : Type 0} (what : List Gate → A) → what (with-last (withTable (but .last) (but .digits))) ≡ what (with-last (but .last)) → what others ≡ what gates
   by-last what same = ap what (but .theirs) ∙ same ∙ sym (ap what (but .ours))
-
-  pub but-last-length : length others ≡ length gates
-  but-last-length = by-last length (simp length-snoc)
-
-  -- "left and right throughout"
-  pub but-last-wiring : gateLinks others ≡ gateLinks gates
-  but-last-wiring = by-last gateLinks (simp map-append)
 
   -- "every table but the last"
   pub but-last-tables : (k : ℕ) → 0 < k → k < length gates → tableAt others k ≡ tableAt gates k

@@ -8,21 +8,17 @@ use native.Mathlib.Nat.{add-comm, add-zero, zero-add, sub-self, mul-comm, mul-as
 use native.Mathlib.Decide.{decLt}
 use native.Mathlib.Omega.{arith}
 use lib.Arith.{digits-lt, digits-div, digits-mod, sub-sub-self}
-use lib.ListN.{length, getD}
 use borrow.Author.Tests.{eq-eqb, ne-eqb}
 use Rattle.rules.specs.Sheets.{level}
-use Rattle.rules.specs.Groups.{member, part, points, wholeGroup, others, classes, multiplicity}
-use Rattle.rules.specs.Filling.{classNumber}
+use Rattle.rules.specs.Groups.{member, part, wholeGroup, others, multiplicity}
 use Rattle.laws.specs.Levels.{level-last, level-front}
-use Rattle.laws.specs.Places.{mem-getD, mem-place}
 use Rattle.laws.specs.Tests.{or-false-iff}
 use Rattle.trees.specs.Trees.{Alike, Apart, mix}
 use Rattle.trees.specs.Members.{member-zero, member-single, single-below, whole-below, member-join, member-others}
 use Rattle.trees.specs.Levels.{level-ext, level-part, level-part-in, level-mix, part-below, part-part, part-mix, mix-below}
-use Rattle.trees.specs.Points.{part-in-points, points-are-parts}
 use Rattle.trees.specs.Joins.{apart-sym}
 use Rattle.trees.specs.Alike.{alike-part, alike-sym, alike-trans, alike-join}
-use Rattle.trees.specs.Classes.{classes-are-points, class-below, class-listed, few-classes}
+use Rattle.trees.specs.Classes.{few-classes}
 
 -- e 0 to e (c - 1) are assignments of g, and every one of its assignments is alike to one of them
 pub record Covers (m n : ℕ) (f : ℕ → ℕ) (g c : ℕ) (e : ℕ → ℕ) : Type 0 where
@@ -121,16 +117,6 @@ factor-some (suc c) d k h = omega arith
 module _ (m n : ℕ) (pos : 0 < m) (f : ℕ → ℕ) where
   -- ---- what covers a group
 
-  -- all of its assignments
-  pub points-cover : (g : ℕ) → Covers m n f g (length (points m n g)) (λ k. getD (points m n g) k 0)
-  points-cover g =
-      record {
-        own = λ k h. points-are-parts m n pos g _ (mem-getD (points m n g) k 0 h) .0;
-        every = λ p.
-            let (k, k<, is) = mem-place (part m n g p) (points m n g) (part-in-points m n pos g p) in
-            (k, k<, alike-part m n pos f g p _ (sym (part-part m n pos g p) ∙ ap (part m n g) (sym is)));
-      }
-
   -- of the empty group, its one assignment
   pub empty-cover : Covers m n f 0 1 (λ _. 0)
   empty-cover =
@@ -152,14 +138,6 @@ module _ (m n : ℕ) (pos : 0 < m) (f : ℕ → ℕ) where
           mod-lt _ pos,
           alike-part m n pos f (2 ^ i) p _ (sym (part-part m n pos (2 ^ i) p) ∙ ap (part m n (2 ^ i)) (part-single m n i p h)),
         );
-      }
-
-  -- the first of each class
-  pub classes-cover : (g : ℕ) → g < 2 ^ n → Covers m n f g (multiplicity m n f g) (λ k. getD (classes m n f g) k 0)
-  classes-cover g g< =
-      record {
-        own = λ k h. points-are-parts m n pos g _ (classes-are-points m n pos f g g< k h) .0;
-        every = λ p. (classNumber m n f g p, class-below m n pos f g g< p, class-listed m n pos f g g< p);
       }
 
   -- of assignments that cover it, some to which the others are alike

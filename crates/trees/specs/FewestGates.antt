@@ -8,13 +8,11 @@ use mathlib.Core.Logic.{by-cases}
 use native.Mathlib.Omega.{arith}
 use native.Mathlib.Decide.{decLt}
 use lib.ListN.{length}
-use lib.Dec.{eqb}
-use Rattle.rules.specs.Lists.{any}
-use Rattle.rules.specs.Sheets.{Gate, usedBy}
+use Rattle.rules.specs.Sheets.{Gate}
 use Rattle.rules.specs.Groups.{size, wholeGroup}
 use Rattle.rules.specs.Marks.{marksOf}
 use Rattle.rules.specs.Wirings.{Wiring, groupOf, gatesIn}
-use Rattle.rules.specs.Leaves.{matters, mattering, leavesOf}
+use Rattle.rules.specs.Leaves.{mattering, leavesOf}
 use Rattle.rules.specs.Settled.{settledGates}
 use Rattle.rules.specs.Kept.{IsNet}
 use Rattle.trees.specs.Trees.{Tree, wiringIn, treeValue, EachOnce, EachGate, Computes}
@@ -78,10 +76,6 @@ module _ (m n : ℕ) (pos : 0 < m) (several : 1 < n) (f : ℕ → ℕ) where
           let net = settled-net m n pos several f inks two .0 in
           sym (net-size m n settled net)
           ∙ ap (size n) (net-group m n settled net (leavesOf m n f) (leaves-below m n pos f) (settled-leaves m n pos several f two))
-
-      -- and where two or more inputs matter it uses just those
-      pub settled-matter : 1 < length (mattering m n f) → (i : ℕ) → i < n → any (eqb i) (usedBy settled) ≡ matters m n f i
-      settled-matter enough i i< = settled-leaves m n pos several f two i i< ∙ leaves-matter m n pos f enough i i<
 
     -- No net that computes the table has fewer gates than the settled net.
     pub fewest-gates : (gates : List Gate) → IsNet m n gates → Computes m n gates f → length settled ≤ length gates

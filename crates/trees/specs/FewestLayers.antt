@@ -66,10 +66,6 @@ module _ (n : ℕ) (marks : List ℕ) where
   abbrev pub fewest : ℕ → ℕ
   fewest g = getD (fewestLayers n marks) g 0
 
-  pub fewest-length : length (fewestLayers n marks) ≡ 2 ^ n
-  unfolding fewestLayers
-  fewest-length = below-length (2 ^ n)
-
   -- each entry is the rule's, with all entries at hand
   pub fewest-rule : (g : ℕ) → g < 2 ^ n → fewest g ≡ fewestOf n marks (fewestLayers n marks) g
   unfolding fewestLayers

@@ -20,11 +20,11 @@ use Rattle.laws.specs.Ranges.{mem-range, range-mem, range-length}
 use Rattle.laws.specs.Counts.{count, count-cons}
 use Rattle.laws.specs.Distinct.{NotIn}
 use Rattle.laws.specs.Finds.{those-mem}
-use Rattle.laws.specs.Listed.{mem-those, those-pass, those-listed}
+use Rattle.laws.specs.Listed.{mem-those, those-pass}
 use Rattle.laws.specs.Totals.{any-mem, those-range-distinct}
 use Rattle.trees.specs.Trees.{Apart}
 use Rattle.trees.specs.Members.{member-single, member-zero, member-join, single-below, join-below, size-zero, size-single, size-join}
-use Rattle.trees.specs.Mattering.{Differing, Holding, matters-exactly}
+use Rattle.trees.specs.Mattering.{Holding}
 
 -- ---- distinct inputs as a group
 
@@ -177,44 +177,3 @@ module _ (m n : ℕ) (pos : 0 < m) (f : ℕ → ℕ) where
       go : (g : ℕ) → 1 < size n g → 0 < g
       go zero many = absurd (omega (arith, size-zero n))
       go (suc g) many = omega arith
-
--- ---- two tables with the same inks
-
-module _ (m n : ℕ) (pos : 0 < m) (f h : ℕ → ℕ) (same : (p : ℕ) → p < m ^ n → f p ≡ h p) where
-  -- two assignments that differ in one table's ink differ in the other's
-  differing-same : (i : ℕ) → Differing m n pos f i → Differing m n pos h i
-  differing-same i two =
-      record {
-        one = two .one;
-        other = two .other;
-        one-below = two .one-below;
-        other-below = two .other-below;
-        elsewhere = two .elsewhere;
-        inks = λ e. two .inks (same _ (two .one-below) ∙ e ∙ sym (same _ (two .other-below)));
-      }
-
-  -- so what matters to one matters to the other
-  matters-over : (i : ℕ) → i < n → matters m n f i ≡ true → matters m n h i ≡ true
-  matters-over i i< is = matters-exactly m n pos h i i< .1 (differing-same i (matters-exactly m n pos f i i< .0 is))
-
-module _ (m n : ℕ) (pos : 0 < m) (f h : ℕ → ℕ) (same : (p : ℕ) → p < m ^ n → f p ≡ h p) where
-  -- the same inputs matter, ..
-  pub matters-same : (i : ℕ) → i < n → matters m n f i ≡ matters m n h i
-  matters-same i i< =
-      two-ways _ _ (matters-over m n pos f h same i i<) (matters-over m n pos h f (λ p p<. sym (same p p<)) i i<)
-
-  pub mattering-same : mattering m n f ≡ mattering m n h
-  unfolding mattering
-  mattering-same = those-listed _ _ (range 0 n) (λ i is. let between = range-mem 0 n i is in matters-same i (omega arith))
-
-  -- .. and the same are leaves
-  pub leaf-inputs-same : leafInputs m n f ≡ leafInputs m n h
-  unfolding leafInputs
-  leaf-inputs-same =
-      let others : those (λ i. not (matters m n f i)) (range 0 n) ≡ those (λ i. not (matters m n h i)) (range 0 n) =
-      those-listed _ _ (range 0 n) (λ i is. let between = range-mem 0 n i is in ap not (matters-same i (omega arith))) in
-      rw (mattering-same, others)
-
-  pub leaves-same : leavesOf m n f ≡ leavesOf m n h
-  unfolding leavesOf
-  leaves-same = rw leaf-inputs-same

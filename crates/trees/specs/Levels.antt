@@ -11,7 +11,7 @@ use Rattle.rules.specs.Sheets.{level}
 use Rattle.rules.specs.Groups.{member, part, others, wholeGroup}
 use Rattle.laws.specs.Levels.{level-last, level-front}
 use Rattle.trees.specs.Trees.{Apart, mix}
-use Rattle.trees.specs.Members.{member-whole, whole-below, member-others, member-join, join-below}
+use Rattle.trees.specs.Members.{member-whole, member-others, member-join, join-below}
 
 -- ---- levels by the digits of an index
 

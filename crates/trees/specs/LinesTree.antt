@@ -2,13 +2,13 @@
 -- Assumes nothing.
 use Prim.Native.Nat.{ℕ, _+_, _-_, _<_}
 use native.Mathlib.Omega.{arith}
-use mathlib.Core.Path.{_≡_, refl, ap₂, _∙_}
-use mathlib.Core.Bool.{Bool, true, false}
+use mathlib.Core.Path.{_≡_, refl, _∙_}
+use mathlib.Core.Bool.{true}
 use mathlib.Core.List.{List, [], _∷_, _++_}
 use lib.ListN.{length, length-append, List·getD-append}
 use lib.Seq.{getD-append-seam}
 use Rattle.rules.specs.Sheets.{Gate}
-use Rattle.rules.specs.Wirings.{Wiring, input, gate, gatesIn, referenceTo, linksOf}
+use Rattle.rules.specs.Wirings.{Wiring, gatesIn, referenceTo, linksOf}
 use Rattle.rules.specs.Filling.{filled}
 use Rattle.laws.specs.Places.{length-snoc}
 use Rattle.trees.specs.Trees.{Tree, leaf, node, wiringIn, EachOnce, fill}

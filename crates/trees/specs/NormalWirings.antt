@@ -225,10 +225,6 @@ pub data Turned : Wiring → Wiring → Type 0 where
   straight : {a b c d : Wiring} → Turned a c → Turned b d → Turned (gate a b) (gate c d)
   crossed : {a b c d : Wiring} → Turned a d → Turned b c → Turned (gate a b) (gate c d)
 
-pub turned-own : (w : Wiring) → Turned w w
-turned-own (input i) = leaf
-turned-own (gate a b) = straight (turned-own a) (turned-own b)
-
 pub turned-back : {w v : Wiring} → Turned w v → Turned v w
 turned-back leaf = leaf
 turned-back (straight s t) = straight (turned-back s) (turned-back t)

@@ -10,7 +10,7 @@ use lib.Dec.{eqb, ltb}
 use Rattle.rules.specs.Lists.{range, any}
 use Rattle.rules.specs.Sheets.{Gate, Net, Table, usedBy}
 use Rattle.rules.specs.Leaves.{leavesOf}
-use Rattle.rules.specs.Marks.{marksOf, noTreePlace}
+use Rattle.rules.specs.Marks.{marksOf}
 use Rattle.rules.specs.Wirings.{Wiring, Link, linksOf}
 use Rattle.rules.specs.Filling.{inputGroups, filledFrom, filled}
 use Rattle.rules.specs.Layers.{gateWays, withWays, waysOf, most, layers}
@@ -48,10 +48,6 @@ module _ (m n : ℕ) (pos : 0 < m) (f h : ℕ → ℕ) (same : SameInks m n f h)
       → familyWiring n (marksOf m n f) (countsOf n (marksOf m n f)) n (leavesOf m n f) number
       ≡ familyWiring n (marksOf m n h) (countsOf n (marksOf m n h)) n (leavesOf m n h) number
   family-wiring-renamed number = by-marks (λ marks leaves. familyWiring n marks (countsOf n marks) n leaves number)
-
-  -- where there is no tree, there is none for the same group's sake
-  pub no-tree-renamed : noTreePlace n (marksOf m n f) ≡ noTreePlace n (marksOf m n h)
-  no-tree-renamed = ap (noTreePlace n) (marks-renamed m n pos f h same)
 
   -- ---- a wiring that is given
 

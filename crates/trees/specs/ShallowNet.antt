@@ -1,15 +1,14 @@
 -- The shallow net: where the whole group has mark 2 it is a net with the table, on the same leaves as the settled net, and "Every other tree computing that
--- table has at least as many layers", whatever its leaves. It depends on the table alone.
+-- table has at least as many layers", whatever its leaves.
 -- Assumes nothing.
 use Prim.Native.Nat.{ℕ, _^_, _≤_, _<_}
-use mathlib.Core.Path.{_≡_, sym, ap, _∙_}
-use mathlib.Core.Logic.{_↔_, by-cases}
+use mathlib.Core.Path.{_≡_, sym, _∙_}
+use mathlib.Core.Logic.{by-cases}
 use mathlib.Core.List.{List}
 use native.Mathlib.Omega.{arith}
 use native.Mathlib.Decide.{decLt}
 use lib.ListN.{length}
 use Rattle.rules.specs.Sheets.{Gate}
-use Rattle.rules.specs.Value.{tableOf}
 use Rattle.rules.specs.Groups.{wholeGroup}
 use Rattle.rules.specs.Marks.{marksOf}
 use Rattle.rules.specs.Wirings.{Wiring, input, gate, groupOf, gatesIn, linksOf}
@@ -17,11 +16,10 @@ use Rattle.rules.specs.Filling.{filled}
 use Rattle.rules.specs.Leaves.{mattering, leavesOf}
 use Rattle.rules.specs.Layers.{layers}
 use Rattle.rules.specs.Shallow.{shallowWiring, shallowGates}
-use Rattle.rules.specs.Answers.{inkIn}
 use Rattle.rules.specs.Kept.{IsNet}
 use Rattle.trees.specs.Trees.{Tree, wiringIn, treeValue, EachOnce, EachGate, WiringOf, Computes}
 use Rattle.trees.specs.Classes.{Few}
-use Rattle.trees.specs.NetTree.{net-several, net-tree, UsesJust}
+use Rattle.trees.specs.NetTree.{net-tree, UsesJust}
 use Rattle.trees.specs.MarkRule.{marked}
 use Rattle.trees.specs.Mattering.{Holding}
 use Rattle.trees.specs.LeafGroup.{leaves-below, leaves-hold, leaves-size, leaves-several, leaves-some}
@@ -29,7 +27,6 @@ use Rattle.trees.specs.CutWirings.{cut, leaves-marked}
 use Rattle.trees.specs.Existence.{several-gates, tree-few, computes-holds, filled-computes, filled-leaves}
 use Rattle.trees.specs.TreeExistence.{GateTree, net-gate-tree}
 use Rattle.trees.specs.FewestGates.{leaves-idle}
-use Rattle.trees.specs.Uniqueness.{table-length, table-at, table-is, net-inks, net-two}
 use Rattle.trees.specs.Depths.{depth}
 use Rattle.trees.specs.Layers.{net-layers, filled-layers}
 use Rattle.trees.specs.FewestLayers.{fewest, fewest-small}
@@ -122,38 +119,3 @@ module _ (m n : ℕ) (pos : 0 < m) (several : 1 < n) (f : ℕ → ℕ) where
     pub shallowest-tree : (t : Tree) → GateTree m n t → ((p : ℕ) → p < m ^ n → treeValue m n t p ≡ f p)
         → layers n (shallowGates m n f (marksOf m n f)) ≤ depth (wiringIn t)
     shallowest-tree t is has = rw shallow-layers (tree-at-least t is has)
-
--- ---- it depends on the table alone
-
--- the shallow net of the table that a gate list computes
-unfoldable pub shallowOf : ℕ → ℕ → List Gate → List Gate
-shallowOf m n gates = shallowGates m n (inkIn (tableOf m n gates)) (marksOf m n (inkIn (tableOf m n gates)))
-
-module _ (m n : ℕ) (pos : 0 < m) where
-  module _ (gates : List Gate) (net : IsNet m n gates) where
-    -- a net's shallow net is a net, ..
-    pub shallow-is-net : IsNet m n (shallowOf m n gates)
-    unfolding shallowOf
-    shallow-is-net = shallow-net m n pos (net-several m n gates net) (inkIn (tableOf m n gates)) (net-two m n pos gates net) (net-inks m n pos gates net) .0
-
-    -- .. with its table, ..
-    pub shallow-table : tableOf m n (shallowOf m n gates) ≡ tableOf m n gates
-    unfolding shallowOf
-    shallow-table =
-        table-is m n (shallowOf m n gates) (tableOf m n gates) (table-length m n gates)
-        (shallow-net m n pos (net-several m n gates net) (inkIn (tableOf m n gates)) (net-two m n pos gates net) (net-inks m n pos gates net) .1)
-
-    -- .. and no more layers
-    pub shallow-no-deeper : layers n (shallowOf m n gates) ≤ layers n gates
-    unfolding shallowOf
-    shallow-no-deeper =
-        shallowest-net m n pos (net-several m n gates net) (inkIn (tableOf m n gates)) (net-two m n pos gates net) gates net
-        (λ p h. sym (table-at m n gates p h))
-
-  -- Two nets have the same shallow net exactly when they compute the same table.
-  pub shallow-unique : (g h : List Gate) → IsNet m n g → IsNet m n h → (shallowOf m n g ≡ shallowOf m n h) ↔ (tableOf m n g ≡ tableOf m n h)
-  unfolding shallowOf
-  shallow-unique g h net-g net-h = (
-    λ e. sym (shallow-table g net-g) ∙ ap (tableOf m n) e ∙ shallow-table h net-h,
-    λ e. ap (λ (inks : List ℕ). shallowGates m n (inkIn inks) (marksOf m n (inkIn inks))) e,
-  )

@@ -1,14 +1,14 @@
 -- A group with one of its members taken off.
 -- Assumes nothing.
 use Prim.Native.Nat.{ℕ, suc, _+_, _-_, _^_, _≤_, _<_}
-use mathlib.Core.Path.{_≡_, refl, sym, ap, _∙_}
-use mathlib.Core.Bool.{true, false, not, _&&_, and-false}
+use mathlib.Core.Path.{_≡_, sym, ap, _∙_}
+use mathlib.Core.Bool.{true}
 use native.Mathlib.Omega.{arith}
-use borrow.Author.Tests.{eqb-true, eq-eqb}
+use borrow.Author.Tests.{eqb-true}
 use Rattle.rules.specs.Groups.{member, size}
 use Rattle.rules.specs.Marks.{inside}
 use Rattle.trees.specs.Trees.{Apart}
-use Rattle.trees.specs.Members.{member-single, single-below, member-inside, inside-le, member-rest, rest-apart, size-single, size-join}
+use Rattle.trees.specs.Members.{member-single, single-below, member-inside, inside-le, rest-apart, size-single, size-join}
 use Rattle.trees.specs.Joins.{apart-sym}
 use Rattle.trees.specs.MarkTwo.{rest-inside}
 
@@ -27,13 +27,6 @@ module _ (n g i : ℕ) (g< : g < 2 ^ n) (i< : i < n) (is : member i g ≡ true) 
   -- the rest is a part, ..
   pub off-inside : inside n (g - 2 ^ i) g ≡ true
   off-inside = rest-inside n (2 ^ i) g (single-below i n i<) g< alone-inside
-
-  -- .. without that member, ..
-  pub off-member : member i (g - 2 ^ i) ≡ false
-  off-member =
-      member-rest i n (2 ^ i) g (single-below i n i<) g< alone-inside i<
-      ∙ ap (λ t. member i g && not t) (member-single i i ∙ eq-eqb i i refl)
-      ∙ and-false (member i g)
 
   -- .. and has one member less
   pub off-size : size n g ≡ suc (size n (g - 2 ^ i))

@@ -7,7 +7,7 @@ ghost use Rattle.wirings.specs.Choice.{splitBy, LayersRoom};
 use marks::layers;
 use marks::split;
 
-// Document 01's settled wiring, or the shallow one.
+// The settled wiring, or the shallow one.
 pub enum Choice {
     Settled,
     Shallow,

@@ -1,4 +1,4 @@
-// A wiring by value, with room for the largest size that document 01 allows. specs/Links.antt says what it stands for.
+// A wiring by value, with room for the largest allowed size. specs/Links.antt says what it stands for.
 ghost use mathlib.Core.Path.{_≡_};
 ghost use Prim.Native.Nat.{_+_, _<_};
 ghost use Rattle.rules.specs.Limits.{mostInputs};

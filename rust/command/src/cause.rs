@@ -120,7 +120,7 @@ fn of_rows(front: &Front, kind: Kind) -> Option<String> {
         .split(|&byte| byte == b'\n')
         .skip(3)
         .filter(|line| !line.trim_ascii().is_empty())
-        .map(|line| index_of(front, line))
+        .map(|line| front.index_of(line))
         .collect();
     let known: BTreeSet<usize> = rows.iter().flatten().copied().collect();
     let here = rows.get(due).copied().flatten()?;
@@ -172,20 +172,5 @@ fn of_gates(front: &Front, kind: Kind) -> Option<String> {
     Some(match loose.len() - 1 {
         1 => format!("the last line is missing, which joins gates {numbers}"),
         lines => format!("the last {lines} lines are missing, which join gates {numbers}"),
-    })
-}
-
-/// The index of a row by its levels.
-fn index_of(front: &Front, line: &[u8]) -> Option<usize> {
-    let fields: Vec<&[u8]> = line
-        .split(|&byte| byte == b' ')
-        .filter(|f| !f.is_empty())
-        .collect();
-    let levels = fields.get(..front.inputs)?;
-    levels.iter().try_fold(0, |index, field| match field {
-        [digit] if digit.is_ascii_digit() && usize::from(digit - b'0') < front.levels => {
-            Some(index * front.levels + usize::from(digit - b'0'))
-        }
-        _ => None,
     })
 }

@@ -117,6 +117,21 @@ impl<'a> Front<'a> {
         levels
     }
 
+    /// The index of a row by its levels, whatever spaces part them.
+    pub fn index_of(&self, line: &[u8]) -> Option<usize> {
+        let fields: Vec<&[u8]> = line
+            .split(|&byte| byte == b' ')
+            .filter(|field| !field.is_empty())
+            .collect();
+        let levels = fields.get(..self.inputs)?;
+        levels.iter().try_fold(0, |index, field| match field {
+            [digit] if digit.is_ascii_digit() && usize::from(digit - b'0') < self.levels => {
+                Some(index * self.levels + usize::from(digit - b'0'))
+            }
+            _ => None,
+        })
+    }
+
     fn at_line_start(&self) -> bool {
         self.place == 0 || self.sheet[self.place - 1] == b'\n'
     }
@@ -367,7 +382,7 @@ fn repeated(front: &Front) -> String {
     let line = &front.sheet[front.place..];
     let line = line.split(|&byte| byte == b'\n').next().unwrap_or(&[]);
     let levels = fields_in(front.due, line);
-    let row = index_of(front, &levels);
+    let row = front.index_of(line);
     let earlier = rows_above(front)
         .into_iter()
         .find(|(one, _)| Some(*one) == row);
@@ -389,19 +404,10 @@ fn rows_above(front: &Front) -> Vec<(usize, usize)> {
         .skip(3)
         .take((front.line - 1).saturating_sub(3));
     let rows = lines.filter_map(|(k, line)| {
-        let row = index_of(front, &fields_in(front.due, line))?;
+        let row = front.index_of(line)?;
         Some((row, k + 1))
     });
     rows.collect()
-}
-
-/// The index of a row by its levels.
-fn index_of(front: &Front, fields: &[String]) -> Option<usize> {
-    let levels = fields.get(..front.inputs)?;
-    levels.iter().try_fold(0, |index, field| {
-        let level: usize = field.parse().ok()?;
-        (level < front.levels).then_some(index * front.levels + level)
-    })
 }
 
 fn gate_table(front: &Front, field: &str) -> String {

@@ -2,9 +2,9 @@
 //! 02 changes in it, written from their text alone. The proved implementation is
 //! held against this one.
 //!
-//! One module for one section of the document:
+//! One module for one section of document 01, or one request of document 02:
 //!
-//! | module     | document 01                                               |
+//! | module     | section or request                                        |
 //! |------------|-----------------------------------------------------------|
 //! | `limits`   | "Sheets": the bounds, each in one place                   |
 //! | `refusal`  | "Turned back": a number, a place, the sheet it names      |

@@ -15,8 +15,8 @@
 //! }
 //! ```
 //!
-//! Below them are the calls on bytes. Buffers are lent as in document 01, and
-//! [`settled`], [`made`] and [`table_of`] lend buffers of the sizes that always suffice. [`settled_shallow`] and [`made_shallow`] give the
+//! Below them are the calls on bytes, in buffers that the caller lends; [`settled`], [`made`] and [`table_of`] lend buffers of the sizes that
+//! always suffice. [`settled_shallow`] and [`made_shallow`] give the
 //! tree of fewest layers in place of the settled one, and [`Family`] walks every tree that computes a table. [`multiplicities`] and
 //! [`fewest_levels`] put together what calls of the library answer about a table without a tree. [`arrivals`] says when a net's output settles. [`tidied`] makes a
 //! table sheet of one that a spreadsheet exported.

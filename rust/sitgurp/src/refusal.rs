@@ -1,4 +1,4 @@
-//! A refusal: document 01's number and place, and what they say in words.
+//! A refusal: its number and place, and what they say in words.
 
 use crate::Kind;
 use std::fmt;

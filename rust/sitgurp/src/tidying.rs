@@ -1,4 +1,4 @@
-//! Tidying: from a loosely laid table sheet, as a spreadsheet exports it, to the table sheet of document 01.
+//! Tidying: from a loosely laid table sheet, as a spreadsheet exports it, to the table sheet with the same rows.
 
 use crate::{answered, ffi, Named, Refusal, MOST_CELLS, MOST_TABLE_SHEET};
 

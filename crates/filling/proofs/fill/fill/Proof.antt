@@ -12,11 +12,11 @@ use Rattle.rules.specs.Wirings.{Link}
 use Rattle.rules.specs.Answers.{inkIn}
 use Rattle.trees.specs.DigitRule.{Parts, join-small}
 use Rattle.nets.specs.Forms.{noGates}
-use Rattle.nets.specs.Room.{mostGates, gate-room}
+use Rattle.nets.specs.Room.{mostGates, mostWires, gate-room}
 use Rattle.wirings.specs.declared.forms.Wiring.{Wiring}
 use Rattle.wirings.specs.Links.{linkAt, linksIn, links-count, link-in}
 use Rattle.filling.specs.Growth.{Joined}
-use Rattle.filling.specs.Filled.{mostReferences, Going, going-start, no-gates, earlier, joins, going-next, going-end}
+use Rattle.filling.specs.Filled.{Going, going-start, no-gates, earlier, joins, going-next, going-end}
 use Rattle.filling.proofs.fill.fill.Statement.{statement}
 use Rattle.filling.proofs.fill.fill.Tie as tie
 
@@ -26,7 +26,7 @@ wiringOf count lefts rights = record { gates = count; left = lefts; right = righ
 
 abbrev Inv-loop : tie.InvT-loop
 Inv-loop m n cells lefts rights count groups₀ net₀ k₀ groups net k =
-    (k ≤ count) × (length groups ≡ mostReferences) × Going m n (inkIn cells) (linksIn (wiringOf count lefts rights)) k groups net
+    (k ≤ count) × (length groups ≡ mostWires) × Going m n (inkIn cells) (linksIn (wiringOf count lefts rights)) k groups net
 
 abbrev μ-loop : tie.MeasureT-loop
 μ-loop m n cells lefts rights count groups₀ net₀ k₀ groups net k = count - k
@@ -54,7 +54,7 @@ loop-holds c =
     let a = s .args in
     let written = c .before .before .input-groups in
     let none = c .no-gates .ensures in
-    let long : length (written .last .1 .0) ≡ mostReferences = search needs in (
+    let long : length (written .last .1 .0) ≡ mostWires = search needs in (
       omega arith,
       long,
       going-start (a .m) (a .n) (inkIn (a .cells .now)) (linksIn (a .wiring)) (written .last .1 .0) (c .no-gates .result)
@@ -113,7 +113,7 @@ module _ (c : tie.In-loop Inv-loop μ-loop) where
       (pow-mono {i = n} {j = 15} (omega (arith, s .pre .0 .inputs)))
 
   -- and so are the numbers of references
-  few : (n + k < mostReferences) × (k < mostGates)
+  few : (n + k < mostWires) × (k < mostGates)
   few = (omega (arith, s .pre .0 .inputs, s .pre .1, c .loop-test .taken), omega (arith, s .pre .0 .inputs, s .pre .1, c .loop-test .taken))
 
 array-read-left : tie.Need-array-read-left Inv-loop μ-loop

@@ -2,7 +2,6 @@
 use native.Mathlib.Omega.{arith}
 use Rattle.jobs.specs.Forms.{front-size, front-groups}
 use Rattle.jobs.specs.Asking.{asked-empty, asked-over, asked-ahead, asked-passed}
-use borrow.Author.Needs.{needs}
 use Rattle.jobs.proofs.asking.mark_under.Statement.{statement}
 use Rattle.jobs.proofs.asking.mark_under.Tie as tie
 

@@ -1,7 +1,5 @@
 -- `keeping::rewrite::rewrite` meets its contract: the wiring filled, the gates that changed, the sheet. Assumes nothing.
-use Prim.Native.Nat.{ℕ}
-use mathlib.Core.Path.{_≡_, _∙_}
-use mathlib.Core.List.{List}
+use mathlib.Core.Path.{_∙_}
 use native.Mathlib.Omega.{arith}
 use borrow.Author.Needs.{needs}
 use Rattle.rules.specs.Answers.{inkIn}
@@ -9,7 +7,7 @@ use Rattle.rules.specs.Keeping.{keptGates}
 use Rattle.nets.specs.Forms.{gatesOf}
 use Rattle.nets.specs.Sound.{Sound, gates-count}
 use Rattle.filling.specs.MadeNet.{NetOf}
-use Rattle.accepted.specs.Taken.{NetTaken, Given, sound}
+use Rattle.accepted.specs.Taken.{sound}
 use Rattle.synthesis.specs.Outcomes.{made-inside, made-short}
 use Rattle.keeping.specs.Judging.{table-sized, wiring-fills, new-net, rewrite-told}
 use Rattle.keeping.proofs.rewrite.rewrite.Statement.{statement}

@@ -4,11 +4,10 @@ use mathlib.Core.Path.{_≡_, refl, _∙_, subst}
 use mathlib.Core.List.{List}
 use native.Mathlib.Nat.{lt-of-lt-of-le}
 use native.Mathlib.Omega.{arith}
-use borrow.Author.Needs.{needs}
 use lib.ListN.{length, length-set}
 use lib.Pow.{pow-mono}
 use Rattle.radix.specs.Widths.{mostMembers}
-use Rattle.marks.specs.Fewest.{layersOf, Known, known-small, known-next}
+use Rattle.marks.specs.Fewest.{Known, known-small, known-next}
 use Rattle.marks.proofs.layers.fewest_layers.Statement.{statement}
 use Rattle.marks.proofs.layers.fewest_layers.Tie as tie
 

@@ -1,12 +1,10 @@
 -- `shallower::which::layers_in` meets its contract: the layers of the net that was read. Assumes nothing.
-use mathlib.Core.Path.{_≡_, sym, ap, _∙_}
+use mathlib.Core.Path.{sym, ap, _∙_}
 use Rattle.rules.specs.Answers.{accepted}
 use Rattle.rules.specs.Layers.{layers}
 use Rattle.rules.specs.ShallowSettling.{netLayers}
 use Rattle.laws.specs.Shallower.{layers-refused, layers-accepted}
-use Rattle.nets.specs.declared.forms.Header.{Header}
-use Rattle.nets.specs.declared.forms.Net.{Net}
-use Rattle.nets.specs.Forms.{gatesOf, headerOf, netIn}
+use Rattle.nets.specs.Forms.{gatesOf, headerOf}
 use Rattle.accepted.specs.Taken.{NetTaken, net-taken, net-refused, sound}
 use borrow.Author.Needs.{needs}
 use Rattle.shallower.proofs.which.layers_in.Statement.{statement}

@@ -6,10 +6,7 @@ use Rattle.wirings.specs.Choice.{LayersRoom}
 use Rattle.wirings.proofs.choice.part_of.Statement.{statement}
 use Rattle.wirings.proofs.choice.part_of.Tie as tie
 
--- the start, from the arm of each choice
-abbrev at-settled : tie.After-enum-told → tie.Start
-at-settled c = c .before .before .before .before
-
+-- the start, from the arm of the shallow choice
 abbrev at-shallow : tie.After-enum-told2 → tie.Start
 at-shallow c = c .before .before .before .before
 
