@@ -35,6 +35,13 @@ found-mark {m} {n} {f} {marks} {g} {count} {mark} pos g< found by = go (decLt 0 
     go (yes some) (no none) = by .many (omega arith) ∙ many-mark m n f marks g (found-many found pos g< (omega arith))
     go (yes some) (yes h) = by .few some h n g< ∙ few-mark m n f marks g (λ e. omega arith) (found-few found pos g< h)
 
+-- the inputs and the cells of a table for which small work arrays will do
+abbrev pub fewInputs : ℕ
+fewInputs = 6
+
+abbrev pub fewCells : ℕ
+fewCells = 1024
+
 -- work arrays that are long enough
 pub record Lent (m n : ℕ) (counts kept xs ys : List ℕ) : Type 0 where
   pub for-counts : 2 ^ n ≤ length counts

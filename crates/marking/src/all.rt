@@ -7,7 +7,7 @@ ghost use Rattle.rules.specs.Limits.{sizeFits};
 ghost use Rattle.rules.specs.Marks.{marksLength};
 ghost use Rattle.rules.specs.Answers.{inkIn};
 ghost use Rattle.marking.specs.Marking.{Marking, MarkedInto};
-ghost use Rattle.marking.specs.Quick.{Lent};
+ghost use Rattle.marking.specs.Quick.{fewInputs, fewCells, Lent};
 use crate::below;
 use crate::whole;
 use marks::own;
@@ -59,7 +59,7 @@ fn mark_with(
 
 // The same with arrays for a small table: to clear large ones takes longer than to mark it.
 fn mark_small(m: usize, n: usize, cells: &[u8], marks: &mut [u8]) -> u8
-    requires { ⌜ (sizeFits m n ≡ true) × (m ^ n ≤ length (now cells)) × (2 ^ n ≤ length (now marks)) × (n ≤ 6) × (m ^ n ≤ 1024) ⌝ }
+    requires { ⌜ (sizeFits m n ≡ true) × (m ^ n ≤ length (now cells)) × (2 ^ n ≤ length (now marks)) × (n ≤ fewInputs) × (m ^ n ≤ fewCells) ⌝ }
     ensures { λ r. ⌜ Marking m n (inkIn (now (cells .entry))) r (now (marks .exit)) ⌝ }
 {
     let mut counts = [0u8; FEW_GROUPS];

@@ -8,6 +8,7 @@ ghost use Rattle.rules.specs.Marks.{marksLength};
 ghost use Rattle.rules.specs.Answers.{inkIn};
 ghost use Rattle.rules.specs.Marking.{markingCall};
 ghost use Rattle.marking.specs.Marking.{Stored};
+ghost use Rattle.marking.specs.Quick.{fewInputs};
 ghost use Rattle.marking.specs.Answers.{markedOf, markedInto};
 use crate::all;
 use answers::answer::Answer;
@@ -18,7 +19,7 @@ use marks::stored;
 
 // Marks every group, with own marks for few groups, and stores the marks.
 fn store_small(m: usize, n: usize, cells: &[u8], buffer: &mut [u8]) -> u8
-    requires { ⌜ (sizeFits m n ≡ true) × (m ^ n ≤ length (now cells)) × (marksLength n ≤ length (now buffer)) × (n ≤ 6) ⌝ }
+    requires { ⌜ (sizeFits m n ≡ true) × (m ^ n ≤ length (now cells)) × (marksLength n ≤ length (now buffer)) × (n ≤ fewInputs) ⌝ }
     ensures { λ r. ⌜ Stored m n (inkIn (now (cells .entry))) (now (buffer .entry)) r (now (buffer .exit)) ⌝ }
 {
     let mut marks = [0u8; all::FEW_GROUPS];
