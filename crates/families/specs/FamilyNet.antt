@@ -1,7 +1,7 @@
 -- The net of a number, from its wiring.
 -- Assumes nothing.
 use Prim.Native.Nat.{ℕ, _^_, _<_}
-use mathlib.Core.Path.{_≡_, _∙_, subst, subst⁻¹}
+use mathlib.Core.Path.{_≡_, _∙_, subst⁻¹}
 use mathlib.Core.Bool.{true}
 use mathlib.Core.List.{List}
 use native.Mathlib.Omega.{arith}

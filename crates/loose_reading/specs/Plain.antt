@@ -5,9 +5,9 @@ use mathlib.Core.Path.{_≡_, refl, sym, ap, _∙_}
 use mathlib.Core.Bool.{true}
 use mathlib.Core.List.{List, [], _∷_}
 use native.Mathlib.Omega.{arith}
-use lib.ListN.{length, drop, getD}
+use lib.ListN.{drop}
 use Rattle.rules.specs.Text.{zeroByte, spaceByte, newlineByte}
-use Rattle.rules.specs.Fields.{Read, read, Judge, good, isSeparator, separator, looseSeparator, afterFieldIn, fieldOfIn, fieldIn, loose}
+use Rattle.rules.specs.Fields.{read, Judge, good, isSeparator, separator, looseSeparator, afterFieldIn, fieldOfIn, fieldIn, loose}
 use Rattle.rules.specs.Sheets.{inkField}
 use Rattle.rules.specs.LooseSheet.{anyLevel}
 use Rattle.fields.specs.Judging.{separator-due, loose-space, loose-line-end}

@@ -2,7 +2,7 @@
 -- Assumes nothing.
 use Prim.Native.Nat.{ℕ, _^_, _≤_, _<_}
 use mathlib.Core.Path.{_≡_, refl, sym, ap, _∙_}
-use mathlib.Core.Bool.{Bool, true, false}
+use mathlib.Core.Bool.{true, false}
 use mathlib.Core.List.{List}
 use native.Mathlib.Omega.{arith}
 use lib.ListN.{drop, getD}
@@ -10,7 +10,7 @@ use Rattle.rules.specs.Lists.{any}
 use Rattle.rules.specs.Text.{newline, newlineByte}
 use Rattle.rules.specs.Fields.{Read, read, turnedBack, Reader, then, _>>=_, give, fieldIn, loose}
 use Rattle.rules.specs.Sheets.{inkField}
-use Rattle.rules.specs.LooseSheet.{Row, isOf, notGiven, indexFields, rowFrom}
+use Rattle.rules.specs.LooseSheet.{Row, isOf, notGiven, rowFrom}
 use Rattle.fields.specs.Steps.{stepAs, itself}
 use Rattle.fields.specs.Taken.{field-read-in}
 use Rattle.fields.specs.declared.steps.Step.{Step}

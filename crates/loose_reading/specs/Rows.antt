@@ -3,17 +3,17 @@
 use Prim.Native.Nat.{ℕ, zero, suc, _+_, _-_, _^_, _≤_, _<_}
 use mathlib.Core.Path.{_≡_, refl, sym, ap, _∙_}
 use mathlib.Core.Bool.{Bool, true, false}
-use mathlib.Core.Option.{Option, none, some}
+use mathlib.Core.Option.{some}
 use mathlib.Core.List.{List, [], _∷_, _++_, map}
 use native.Mathlib.Nat.{sub-zero, zero-add}
 use native.Mathlib.Omega.{arith}
-use lib.ListN.{length, take, drop, getD, set, replicate, length-set}
+use lib.ListN.{length, take, drop, getD, set, replicate}
 use lib.Seq.{getD-set-same, getD-set-other, getD-take, length-take-le, ext-getD}
 use lib.Dec.{eqb}
-use borrow.Author.Tests.{eqb-true, eqb-false, eq-eqb, ne-eqb}
+use borrow.Author.Tests.{eqb-true, eqb-false, eq-eqb}
 use Rattle.rules.specs.Lists.{range, any, find}
 use Rattle.rules.specs.Fields.{then}
-use Rattle.rules.specs.LooseSheet.{Row, isOf, inkOf, inkNamed, looseRows, rowFrom}
+use Rattle.rules.specs.LooseSheet.{Row, isOf, inkOf, inkNamed, looseRows}
 use Rattle.laws.specs.Bounds.{Below, at-below}
 use Rattle.laws.specs.Ranges.{map-range-length, map-range-at}
 use Rattle.fields.specs.Steps.{stepAs}

@@ -1,14 +1,14 @@
 -- The loop of `mark_below` over plain lists: the groups below g are marked and known, and the arrays are as long as they were.
 -- Assumes nothing.
 use Prim.Native.Nat.{ℕ, _+_, _-_, _^_, _≤_, _<_}
-use mathlib.Core.Path.{_≡_, refl, _∙_, subst⁻¹}
+use mathlib.Core.Path.{_≡_, subst⁻¹}
 use mathlib.Core.List.{List}
 use native.Mathlib.Omega.{arith}
 use lib.ListN.{length, set}
 use lib.Pow.{pow-mono}
 use Rattle.radix.specs.Widths.{mostMembers, groupsEnd}
 use Rattle.quick.specs.Known.{Known}
-use Rattle.quick.specs.Steps.{Work, work-same, Near, near-none, near-next, Next}
+use Rattle.quick.specs.Steps.{Near, near-none, near-next, Next}
 use Rattle.marking.specs.Marking.{Below, below-none, has-room, below-next}
 use Rattle.marking.specs.Quick.{GroupMarked}
 

@@ -1,9 +1,9 @@
 -- The loop of `agree` over plain numbers: from input i on the levels are compared, and what is left are the levels before.
 -- Assumes nothing.
 use Prim.Native.Nat.{ℕ, suc, _+_, _-_, _*_, _/_, _%_, _^_, _≤_, _<_}
-use mathlib.Core.Path.{_≡_, refl, sym, ap, ap₂, _∙_, subst, subst⁻¹}
+use mathlib.Core.Path.{_≡_, sym, ap, _∙_}
 use mathlib.Core.Logic.{_≢_}
-use mathlib.Core.Bool.{Bool, true, false, not, _&&_, and-false, and-eq-true-iff, true≢false}
+use mathlib.Core.Bool.{true, not, _&&_, and-eq-true-iff, true≢false}
 use native.Mathlib.Nat.{pow-zero, pow-suc, div-one, div-div-eq-div-mul, div-eq-of-lt, one-mul, mod-eq-of-lt, lt-of-le-of-lt}
 use native.Mathlib.Decide.{ℕ-discrete, decLt}
 use native.Mathlib.Omega.{arith}

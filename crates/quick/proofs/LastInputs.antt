@@ -4,7 +4,7 @@ use Prim.Native.Nat.{ℕ, zero, suc, _+_, _-_, _*_, _/_, _%_, _^_, _≤_, _<_}
 use mathlib.Core.Path.{_≡_, refl, sym, ap, ap₂, _∙_, subst, subst⁻¹}
 use mathlib.Core.Bool.{Bool, true, false, not, cond, _&&_, and-false}
 use mathlib.Core.List.{List}
-use native.Mathlib.Nat.{le-step, le-refl, zero-mul, zero-add, lt-of-lt-of-le, div-eq-of-lt, pow-zero, pow-suc, one-le-pow, mod-one, mod-lt, mod-mod, mod-eq-of-lt}
+use native.Mathlib.Nat.{le-step, le-refl, zero-mul, lt-of-lt-of-le, div-eq-of-lt, pow-zero, pow-suc, one-le-pow, mod-one, mod-lt, mod-mod, mod-eq-of-lt}
 use native.Mathlib.Decide.{decLt}
 use native.Mathlib.Omega.{arith}
 use lib.Arith.{mod-mul}

@@ -1,6 +1,6 @@
 -- The loop of `spread` over plain lists: the assignments so far cover the group without the members that are left.
 -- Assumes nothing.
-use Prim.Native.Nat.{ℕ, zero, suc, _+_, _-_, _*_, _/_, _%_, _^_, _≤_, _<_}
+use Prim.Native.Nat.{ℕ, _+_, _-_, _*_, _/_, _%_, _^_, _≤_, _<_}
 use mathlib.Core.Path.{_≡_, refl, sym, ap, _∙_, subst, subst⁻¹, subst₂}
 use mathlib.Core.Bool.{true, false, not, _&&_, and-false}
 use mathlib.Core.List.{List}
@@ -8,17 +8,17 @@ use native.Mathlib.Nat.{mul-assoc, mul-comm, pow-suc, pow-zero, mul-one, mod-lt,
 use native.Mathlib.Omega.{arith}
 use lib.ListN.{length, getD, take}
 use lib.Seq.{getD-take, length-take-le}
-use Rattle.rules.specs.Groups.{member, size, part}
+use Rattle.rules.specs.Groups.{member, size}
 use Rattle.rules.specs.Marks.{inside}
 use Rattle.rules.specs.Wirings.{firstInput}
-use Rattle.trees.specs.Members.{inside-member, inside-le, member-rest, first-member, size-zero}
+use Rattle.trees.specs.Members.{member-rest, first-member, size-zero}
 use Rattle.trees.specs.MarkTwo.{inside-trans, rest-inside}
 use Rattle.trees.specs.TakenOff.{alone-le, off-inside, off-size}
 use Rattle.trees.specs.Levels.{part-below}
 use Rattle.trees.specs.Covers.{Covers, covers-same, covers-input}
-use Rattle.radix.specs.Offsets.{widened, widened-length, widened-at}
-use Rattle.radix.specs.Weights.{Weights, weight-fits}
-use Rattle.radix.specs.Widths.{offsetsEnd, mostMembers, mostOffsets}
+use Rattle.radix.specs.Offsets.{widened, widened-at}
+use Rattle.radix.specs.Weights.{weight-fits}
+use Rattle.radix.specs.Widths.{offsetsEnd}
 use Rattle.quick.specs.Spreads.{Spreading, Spread}
 
 module _ (m n : ℕ) (weights : List ℕ) (from to : ℕ) (before : List ℕ) (len : ℕ) where

@@ -1,10 +1,10 @@
 -- A step from group to group over plain lists: what its calls ask, and what is found of the group.
 -- Assumes nothing.
-use Prim.Native.Nat.{ℕ, _+_, _-_, _*_, _%_, _^_, _≤_, _<_}
+use Prim.Native.Nat.{ℕ, _+_, _-_, _*_, _^_, _≤_, _<_}
 use mathlib.Core.Path.{_≡_, refl, sym, ap, _∙_, subst, subst⁻¹}
-use mathlib.Core.Bool.{Bool, true, false, not, false≢true}
+use mathlib.Core.Bool.{true}
 use mathlib.Core.List.{List}
-use native.Mathlib.Nat.{le-trans, lt-of-lt-of-le, zero-mul, one-le-pow, div-eq-of-lt}
+use native.Mathlib.Nat.{zero-mul, one-le-pow}
 use native.Mathlib.Decide.{decLt}
 use native.Mathlib.Omega.{arith}
 use lib.Bits.{bitAnd, and-le-r}
@@ -12,9 +12,9 @@ use borrow.Author.Tests.{eqb-true}
 use lib.ListN.{length, getD, take, set}
 use lib.Pow.{pow-lt, pow-pos}
 use lib.Seq.{getD-set-same}
-use Rattle.rules.specs.Groups.{member, size, wholeGroup, others}
+use Rattle.rules.specs.Groups.{member, size, others}
 use Rattle.rules.specs.Marks.{inside}
-use Rattle.trees.specs.Members.{member-single, single-below, member-inside, member-others, others-below}
+use Rattle.trees.specs.Members.{member-single, single-below}
 use Rattle.trees.specs.Trees.{Apart}
 use Rattle.trees.specs.MarkTwo.{inside-trans}
 use Rattle.trees.specs.TakenOff.{off-inside, off-apart, alone-le}
@@ -25,7 +25,7 @@ use Rattle.trees.specs.Covers.{Covers, covers-same, empty-cover}
 use Rattle.trees.specs.Reps.{Listed}
 use Rattle.trees.specs.Told.{Told, told-on}
 use Rattle.radix.specs.Parts.{Part, part-inside, inside-part}
-use Rattle.quick.specs.Known.{Few, Base, Known, Found, places-before}
+use Rattle.quick.specs.Known.{Few, Base, Known, places-before}
 use Rattle.quick.specs.Covering.{Covering, Covered}
 use Rattle.quick.specs.Sources.{PassesOn, OneOf, has-member}
 use Rattle.quick.specs.Steps.{Work, Next, Judged, Stepped}

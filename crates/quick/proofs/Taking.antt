@@ -1,11 +1,10 @@
 -- The loop of `source` over plain numbers: the members that are left to be looked at are members, and the best so far is one.
 -- Assumes nothing.
 use Prim.Native.Nat.{ℕ, _-_, _^_, _≤_, _<_}
-use mathlib.Core.Path.{_≡_, ap, _∙_, subst⁻¹}
+use mathlib.Core.Path.{_≡_, subst⁻¹}
 use mathlib.Core.Bool.{true}
 use native.Mathlib.Omega.{arith}
 use lib.Pow.{pow-pos}
-use Rattle.rules.specs.Groups.{member}
 use Rattle.rules.specs.Marks.{inside}
 use Rattle.rules.specs.Wirings.{firstInput}
 use Rattle.trees.specs.Members.{member-inside, first-member}

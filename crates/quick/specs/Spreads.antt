@@ -1,17 +1,13 @@
 -- Assignments that cover a group, spread to one with further members.
 -- Assumes nothing.
-use Prim.Native.Nat.{ℕ, _+_, _-_, _*_, _/_, _%_, _^_, _≤_, _<_}
-use mathlib.Core.Path.{_≡_, refl, sym, ap, _∙_, subst, subst⁻¹}
-use mathlib.Core.Bool.{true, false, not, _&&_}
+use Prim.Native.Nat.{ℕ, _-_, _*_, _^_, _≤_, _<_}
+use mathlib.Core.Path.{_≡_}
+use mathlib.Core.Bool.{true}
 use mathlib.Core.List.{List}
-use native.Mathlib.Omega.{arith}
-use lib.ListN.{length, getD, take}
-use lib.Seq.{getD-take, length-take-le}
-use Rattle.rules.specs.Groups.{member, size, part}
+use lib.ListN.{length, getD}
+use Rattle.rules.specs.Groups.{size, part}
 use Rattle.rules.specs.Marks.{inside}
-use Rattle.rules.specs.Wirings.{firstInput}
-use Rattle.trees.specs.Covers.{Covers, covers-same, covers-input}
-use Rattle.radix.specs.Offsets.{widened, widened-length, widened-at}
+use Rattle.trees.specs.Covers.{Covers}
 use Rattle.radix.specs.Weights.{Weights}
 use Rattle.radix.specs.Widths.{mostMembers, mostOffsets}
 

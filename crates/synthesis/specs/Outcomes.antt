@@ -1,10 +1,9 @@
 -- A table by a header's names in a sheet, and its inks: what making a net of it asks, and its outcomes.
 -- Assumes nothing.
 use Prim.Native.Nat.{ℕ, _^_, _≤_, _<_}
-use mathlib.Core.Path.{_≡_, refl, sym, ap, ap₂, _∙_, subst, subst⁻¹, subst₂}
+use mathlib.Core.Path.{_≡_, refl, sym, ap, ap₂, _∙_, subst⁻¹, subst₂}
 use mathlib.Core.Bool.{true}
 use mathlib.Core.List.{List}
-use native.Mathlib.Omega.{arith}
 use lib.ListN.{length}
 use Rattle.rules.specs.Limits.{sizeFits, mostSettled}
 use Rattle.rules.specs.Printed.{printedNet}
@@ -21,7 +20,7 @@ use Rattle.nets.specs.declared.forms.Header.{Header}
 use Rattle.nets.specs.declared.forms.Net as own
 use Rattle.nets.specs.Sound.{Sound}
 use Rattle.nets.specs.Forms.{gatesOf, headerOf, netIn, tableIn}
-use Rattle.laws.specs.Sizes.{sized, kept-fits}
+use Rattle.laws.specs.Sizes.{kept-fits}
 use Rattle.answers.specs.declared.answer.Answer.{Answer}
 use Rattle.marking.specs.Marking.{MarkedInto}
 use Rattle.net_printing.specs.Gates.{GatesInside}

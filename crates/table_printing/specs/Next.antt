@@ -15,7 +15,7 @@ use Rattle.laws.specs.Bounds.{Below, below-append}
 use Rattle.laws.specs.Levels.{allTop, nextLevels, next-turn, next-up, next-length, zeros-front}
 use Rattle.table_reading.specs.declared.due.Words.{Words}
 use Rattle.table_reading.specs.Words.{duePair, WordsOf, middleOf}
-use Rattle.table_printing.specs.Words.{fourWord, four-levels, Front, Spells}
+use Rattle.table_printing.specs.Words.{fourWord, four-levels, Spells}
 
 -- ---- four levels
 

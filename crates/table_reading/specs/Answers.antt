@@ -10,7 +10,7 @@ use Rattle.rules.specs.Sheets as sheets
 use Rattle.rules.specs.Sheets.{Table, rowLines}
 use Rattle.rules.specs.Reading.{readTable}
 use Rattle.laws.specs.Bounds.{Below}
-use Rattle.nets.specs.Forms.{headerOf, tableIn}
+use Rattle.nets.specs.Forms.{tableIn}
 use Rattle.nets.specs.declared.forms.Header.{Header}
 use Rattle.fields.specs.Chained.{Answers}
 use Rattle.fields.specs.Header.{HeaderHeld}

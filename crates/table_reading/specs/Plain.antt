@@ -9,7 +9,7 @@ use native.Mathlib.Omega.{arith}
 use lib.ListN.{length, drop, getD}
 use borrow.Author.Tests.{eq-eqb}
 use Rattle.rules.specs.Text.{zeroByte}
-use Rattle.rules.specs.Fields.{Read, read, Judge, good, isSeparator, run, past, separator, afterField, afterFieldIn, fieldOf, fieldOfIn, field, fieldIn}
+use Rattle.rules.specs.Fields.{Read, read, Judge, good, isSeparator, run, past, separator, afterFieldIn, fieldOfIn, field, fieldIn}
 use Rattle.laws.specs.Walks.{rest}
 use Rattle.fields.specs.Runs.{is-neither}
 

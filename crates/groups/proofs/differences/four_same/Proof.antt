@@ -2,7 +2,6 @@
 use mathlib.Core.Path.{_∙_, ap}
 use mathlib.Core.Bool.{not, false≢true}
 use borrow.Author.Needs.{needs}
-use borrow.Author.Tests.{not-false}
 use Rattle.groups.proofs.Sames.{four}
 use Rattle.groups.proofs.differences.four_same.Statement.{statement}
 use Rattle.groups.proofs.differences.four_same.Tie as tie

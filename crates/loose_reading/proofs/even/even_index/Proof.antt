@@ -1,11 +1,10 @@
 -- `loose_reading::even::even_index` meets its contract. The loop's invariant: i levels stand evenly, and come to `index`.
 -- Assumes nothing.
-use Prim.Native.Nat.{ℕ, _+_, _-_, _*_, _<_}
-use mathlib.Core.Path.{_≡_}
+use Prim.Native.Nat.{_+_, _-_, _*_, _<_}
 use native.Mathlib.Nat.{le-of-lt}
 use native.Mathlib.Omega.{arith}
 use borrow.Author.Needs.{needs}
-use lib.ListN.{length, getD}
+use lib.ListN.{length}
 use Rattle.rules.specs.Limits.{mostCells}
 use Rattle.laws.specs.Sizes.{Size, sized}
 use Rattle.table_reading.specs.Due.{no-ink, same-ink}

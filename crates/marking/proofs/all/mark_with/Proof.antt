@@ -2,7 +2,7 @@
 use Prim.Native.Nat.{_-_, _^_, _≤_}
 use native.Mathlib.Omega.{arith}
 use lib.ListN.{length}
-use lib.Pow.{pow-pos, pow-mono}
+use lib.Pow.{pow-pos}
 use Rattle.laws.specs.Sizes.{Size, sized}
 use Rattle.rules.specs.Answers.{inkIn}
 use Rattle.marking.specs.Marking.{has-room, below-whole}

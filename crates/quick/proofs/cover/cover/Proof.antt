@@ -14,31 +14,24 @@ at-start c = c .before .before .before .before .before
 abbrev at-copy : tie.After-spread-arg → tie.After-copy
 at-copy c = c .before .before .before
 
--- src/cover.rt:65:17
 shared-slice-read-count : tie.Need-shared-slice-read-count
 shared-slice-read-count c = search needs
 
--- src/cover.rt:65:17
 cast-count : tie.Need-cast-count
 cast-count c = search needs
 
--- src/cover.rt:66:16
 mul-copy : tie.Need-mul-copy
 mul-copy c = search needs
 
--- src/cover.rt:66:5
 copy-requires : tie.Need-copy-requires
 copy-requires c κs = let pre = at-start (c .before) .pre in omega (arith, pre .stored, covering-room pre)
 
--- src/cover.rt:67:5
 spread-requires : tie.Need-spread-requires
 spread-requires c κs = let copy = at-copy c in covering-spreading (at-start (copy .before .before) .pre) (copy .copy .ensures) (copy .copy .kept .1 .1 .0)
 
--- src/cover.rt:52:1
 same-length : tie.Need-same-length
 same-length c = search needs
 
--- src/cover.rt:52:1
 returns : tie.Need-returns
 returns c =
     let spread = c .before .before in

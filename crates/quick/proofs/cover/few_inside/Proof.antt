@@ -7,35 +7,27 @@ use Rattle.quick.proofs.cover.few_inside.Tie as tie
 use Rattle.quick.proofs.cover.few_inside.Reads as reads
 use Rattle.quick.proofs.cover.few_inside.Lts as lts
 
--- src/cover.rt:45:8
 shared-slice-read-if1 : tie.Need-shared-slice-read-if1
 shared-slice-read-if1 c = search needs
 
--- src/cover.rt:46:21
 mul-result : tie.Need-mul-result
 mul-result c = search needs
 
--- src/cover.rt:46:21
 add-result : tie.Need-add-result
 add-result c = search needs
 
--- src/cover.rt:46:16
 mul-result-2 : tie.Need-mul-result-2
 mul-result-2 c = search needs
 
--- src/cover.rt:46:16
 shared-slice-read-result : tie.Need-shared-slice-read-result
 shared-slice-read-result c = search needs
 
--- src/cover.rt:46:16
 cast-result : tie.Need-cast-result
 cast-result c = omega (arith, c .shared-slice-known2 .given (c .before .before .before .args .h * c .before .before .before .args .m + 1))
 
--- src/cover.rt:46:9
 returns : tie.Need-returns
 returns c = let at = c .before .before .before .pre .2 (c .before .if1 .taken) in (at .inside, at .few)
 
--- src/cover.rt:41:1
 returns-2 : tie.Need-returns-2
 returns-2 c = (and-self (c .before .before .args .h), omega arith)
 

@@ -3,7 +3,6 @@
 use Prim.Native.Nat.{_-_, _^_}
 use mathlib.Core.Path.{_≡_}
 use native.Mathlib.Omega.{arith}
-use lib.ListN.{length}
 use lib.Pow.{pow-pos}
 use Rattle.rules.specs.Wirings.{firstInput}
 use Rattle.quick.proofs.Spreading.{Spreads, spreads-none, spreads-all, spreads-group, spreads-input, spreads-room, spreads-small, spreads-next}

@@ -1,5 +1,5 @@
 -- `quick::runs::eight_same` meets its contract. The loop's invariant: where none differs so far, every cell so far is the same. Assumes nothing.
-use Prim.Native.Nat.{_+_, _-_, _≤_}
+use Prim.Native.Nat.{_-_, _≤_}
 use mathlib.Core.Path.{_≡_}
 use mathlib.Core.Logic.{⊎-elim}
 use native.Mathlib.Omega.{arith}

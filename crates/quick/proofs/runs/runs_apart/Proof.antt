@@ -1,6 +1,5 @@
 -- `quick::runs::runs_apart` meets its contract. The loop's invariant: the cells are the same in the runs of the heads so far. Assumes nothing.
-use Prim.Native.Nat.{ℕ, _+_, _-_, _≤_, _<_}
-use mathlib.Core.Path.{_≡_}
+use Prim.Native.Nat.{_+_, _-_, _≤_, _<_}
 use native.Mathlib.Omega.{arith}
 use lib.ListN.{length, getD}
 use Rattle.rules.specs.Answers.{inkIn}

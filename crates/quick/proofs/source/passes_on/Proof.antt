@@ -8,31 +8,24 @@ use Rattle.quick.proofs.source.passes_on.Tie as tie
 use Rattle.quick.proofs.source.passes_on.Reads as reads
 use Rattle.quick.proofs.source.passes_on.Lts as lts
 
--- src/source.rt:13:8
 shared-slice-read-if1 : tie.Need-shared-slice-read-if1
 shared-slice-read-if1 c = search needs
 
--- src/source.rt:14:9
 returns : tie.Need-returns
 returns c = record { over = λ e. absurd (false≢true e); holds = λ e. absurd (false≢true e) }
 
--- src/source.rt:16:10
 mul-result : tie.Need-mul-result
 mul-result c = search needs
 
--- src/source.rt:16:5
 mul-result-2 : tie.Need-mul-result-2
 mul-result-2 c = search needs
 
--- src/source.rt:16:5
 shared-slice-read-result : tie.Need-shared-slice-read-result
 shared-slice-read-result c = search needs
 
--- src/source.rt:16:5
 cast-result : tie.Need-cast-result
 cast-result c = omega (arith, c .shared-slice-known2 .given (c .before .before .before .args .h * c .before .before .before .args .m))
 
--- src/source.rt:9:1
 returns-2 : tie.Need-returns-2
 returns-2 c = record { over = λ _. c .before .if1 .left; holds = λ e. eqb-false _ 0 (not-true _ e) }
 

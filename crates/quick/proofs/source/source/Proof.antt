@@ -28,31 +28,24 @@ less : (c : tie.After-without-first2 Inv-loop μ-loop) →
     (0 < rest - c .without-first2 .result) × (c .without-first2 .result ≤ rest) × (c .without-first2 .result < rest)
 less c = takes-less (c .before .before .loop .inv) (c .before .loop-test .taken) (c .without-first2 .ensures) (fits (c .before .before))
 
--- src/source.rt:24:24
 without-first-requires : tie.Need-without-first-requires Inv-loop μ-loop
 without-first-requires c κs = c .before .before .pre .1
 
--- src/source.rt:24:20
 sub-best : tie.Need-sub-best Inv-loop μ-loop
 sub-best c = let start = c .before .before .before in omega (arith, c .without-first .ensures 64 (omega arith))
 
--- src/source.rt:26:5
 loop-holds : tie.Need-loop-holds Inv-loop μ-loop
 loop-holds c = takes-none (c .before .before .before .args .g) (c .before .before .before .pre .1) (c .without-first .ensures)
 
--- src/source.rt:27:13
 without-first-requires-2 : tie.Need-without-first-requires-2 Inv-loop μ-loop
 without-first-requires-2 c κs = c .loop-test .taken
 
--- src/source.rt:28:19
 sub-bit : tie.Need-sub-bit Inv-loop μ-loop
 sub-bit c = less c .1
 
--- src/source.rt:29:39
 sub-passes-on : tie.Need-sub-passes-on Inv-loop μ-loop
 sub-passes-on c = omega (arith, less c, c .before .before .loop .inv .low)
 
--- src/source.rt:29:12
 passes-on-requires : tie.Need-passes-on-requires Inv-loop μ-loop
 passes-on-requires c κs =
     let start = at-start (c .before .before) in
@@ -60,41 +53,33 @@ passes-on-requires c κs =
     let below : start .args .g - bit < start .args .g = omega (arith, less c, start .pre .1) in
     (omega (arith, start .pre .2), omega (arith, places-before (start .args .m) (start .args .g - bit) (start .args .g) below, start .pre .0, start .pre .3))
 
--- src/source.rt:30:13
 returns : tie.Need-returns Inv-loop μ-loop
 returns c = takes-one (at-off (c .before) .before .before .loop .inv) (at-off (c .before) .before .loop-test .taken) (at-off (c .before) .without-first2 .ensures)
 
--- src/source.rt:32:19
 sub-if2 : tie.Need-sub-if2 Inv-loop μ-loop
 sub-if2 c = omega (arith, less (at-off (c .before)), at-off (c .before) .before .before .loop .inv .low)
 
--- src/source.rt:32:12
 shared-slice-read-if2 : tie.Need-shared-slice-read-if2 Inv-loop μ-loop
 shared-slice-read-if2 c = omega (arith, less (at-off (c .before .before)), at-off (c .before .before) .before .before .loop .inv .low)
 
--- src/source.rt:26:5
 loop-less : tie.Need-loop-less Inv-loop μ-loop
 loop-less c = less (at-off (c .before .before .before)) .2
 
--- src/source.rt:26:5
 loop-again : tie.Need-loop-again Inv-loop μ-loop
 loop-again c =
     let off = at-off (c .before .before .before) in
     let turn = off .before in
     takes-next (turn .before .loop .inv) (turn .loop-test .taken) (off .without-first2 .ensures) (fits (turn .before)) _ (takes-one (turn .before .loop .inv) (turn .loop-test .taken) (off .without-first2 .ensures))
 
--- src/source.rt:26:5
 loop-less-2 : tie.Need-loop-less-2 Inv-loop μ-loop
 loop-less-2 c = less (at-off (c .before .before .before)) .2
 
--- src/source.rt:26:5
 loop-again-2 : tie.Need-loop-again-2 Inv-loop μ-loop
 loop-again-2 c =
     let off = at-off (c .before .before .before) in
     let turn = off .before in
     takes-next (turn .before .loop .inv) (turn .loop-test .taken) (off .without-first2 .ensures) (fits (turn .before)) _ (turn .before .loop .inv .is)
 
--- src/source.rt:20:1
 returns-2 : tie.Need-returns-2 Inv-loop μ-loop
 returns-2 c = c .before .loop .inv .is
 

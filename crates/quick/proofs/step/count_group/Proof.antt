@@ -3,7 +3,7 @@ use Prim.Native.Nat.{_-_, _^_, _<_}
 use mathlib.Core.Path.{_≡_}
 use mathlib.Core.Bool.{true}
 use native.Mathlib.Omega.{arith}
-use lib.ListN.{length, getD}
+use lib.ListN.{getD}
 use Rattle.rules.specs.Marks.{inside}
 use Rattle.rules.specs.Answers.{inkIn}
 use Rattle.radix.specs.Parts.{part-inside}

@@ -15,7 +15,6 @@ Inv-loop m n x y s rest₀ u₀ v₀ i₀ rest u v i = Agrees m n x y s rest u v
 abbrev μ-loop : tie.MeasureT-loop
 μ-loop m n x y s rest₀ u₀ v₀ i₀ rest u v i = i
 
--- src/told.rt:27:5
 loop-holds : tie.Need-loop-holds Inv-loop μ-loop
 loop-holds c = let a = c .args in agrees-none (a .m) (a .n) (a .x) (a .y) (a .s)
 
@@ -23,42 +22,33 @@ loop-holds c = let a = c .args in agrees-none (a .m) (a .n) (a .x) (a .y) (a .s)
 left : (c : tie.In-loop Inv-loop μ-loop) → 0 < c .before .loop .i
 left c = let pre = c .before .before .pre in agrees-some (c .before .loop .inv) (pre .2) (pre .3) (c .loop-test .taken)
 
--- src/told.rt:28:9
 sub-i : tie.Need-sub-i Inv-loop μ-loop
 sub-i c = left c
 
--- src/told.rt:29:12
 rem-if1 : tie.Need-rem-if1 Inv-loop μ-loop
 rem-if1 c = omega arith
 
--- src/told.rt:29:21
 rem-if1-2 : tie.Need-rem-if1-2 Inv-loop μ-loop
 rem-if1-2 c = omega arith
 
--- src/told.rt:30:35
 shl-rest : tie.Need-shl-rest Inv-loop μ-loop
 shl-rest c = omega (arith, c .before .before .loop .inv .low)
 
--- src/told.rt:30:28
 sub-rest : tie.Need-sub-rest Inv-loop μ-loop
 sub-rest c =
     let i = c .before .before .loop .i - 1 in
     let below : i < mostMembers = omega (arith, c .before .before .loop .inv .low, left (c .before)) in
     omega (arith, shifted i (omega arith), one-of-all i below)
 
--- src/told.rt:32:13
 div-u : tie.Need-div-u Inv-loop μ-loop
 div-u c = omega arith
 
--- src/told.rt:33:13
 div-v : tie.Need-div-v Inv-loop μ-loop
 div-v c = omega arith
 
--- src/told.rt:27:5
 loop-less : tie.Need-loop-less Inv-loop μ-loop
 loop-less c = omega (arith, left (c .before))
 
--- src/told.rt:27:5
 loop-again : tie.Need-loop-again Inv-loop μ-loop
 loop-again c =
     let a = c .before .before .before .args in
@@ -70,7 +60,6 @@ loop-again c =
     (λ w. subst⁻¹ (λ (r : ℕ). Agrees (a .m) (a .n) (a .x) (a .y) (a .s) r (l .u / a .m) (l .v / a .m) (l .i - 1)) (w .1) (agrees-same (l .inv) some (w .0 .left)))
     (c .if1 .came)
 
--- src/told.rt:19:1
 returns : tie.Need-returns Inv-loop μ-loop
 returns c = agrees-all (c .before .loop .inv) (c .loop-test .left)
 

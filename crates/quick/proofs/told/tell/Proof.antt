@@ -4,7 +4,6 @@ use native.Mathlib.Omega.{arith}
 use lib.ListN.{length}
 use Rattle.quick.specs.Columns.{columnsOf, column-within}
 use Rattle.quick.specs.Telling.{told-any, told-here, told-there}
-use borrow.Author.Needs.{needs}
 use Rattle.quick.proofs.told.tell.Statement.{statement}
 use Rattle.quick.proofs.told.tell.Tie as tie
 

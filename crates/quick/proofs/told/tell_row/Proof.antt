@@ -21,39 +21,30 @@ abbrev μ-loop : tie.MeasureT-loop
 abbrev at-start : tie.At-loop Inv-loop μ-loop → tie.Start Inv-loop μ-loop
 at-start c = c .before .before .before .before
 
--- src/told.rt:71:5
 loop-holds : tie.Need-loop-holds Inv-loop μ-loop
 loop-holds c = (omega arith, row-none _)
 
--- src/told.rt:72:41
 mul-tell : tie.Need-mul-tell Inv-loop μ-loop
 mul-tell c = omega arith
 
--- src/told.rt:72:41
 shared-slice-read-tell : tie.Need-shared-slice-read-tell Inv-loop μ-loop
 shared-slice-read-tell c = omega arith
 
--- src/told.rt:72:41
 cast-tell : tie.Need-cast-tell Inv-loop μ-loop
 cast-tell c = omega (arith, c .shared-slice-known4 .given (c .before .before .loop .j))
 
--- src/told.rt:72:9
 tell-requires : tie.Need-tell-requires Inv-loop μ-loop
 tell-requires c κs = let pre = at-start (c .before .before) .pre in (pre .0, pre .2 (c .before .before .loop .j) (c .before .loop-test .taken))
 
--- src/told.rt:73:9
 add-j : tie.Need-add-j Inv-loop μ-loop
 add-j c = omega arith
 
--- src/told.rt:71:5
 loop-less : tie.Need-loop-less Inv-loop μ-loop
 loop-less c = omega arith
 
--- src/told.rt:71:5
 loop-again : tie.Need-loop-again Inv-loop μ-loop
 loop-again c = (omega arith, row-next (c .before .before .before .loop .inv .1) (c .tell .ensures))
 
--- src/told.rt:55:1
 returns : tie.Need-returns Inv-loop μ-loop
 returns c =
     let a = at-start (c .before) .args in

@@ -6,7 +6,7 @@ use mathlib.Core.Path.{_≡_, sym, ap, _∙_}
 use borrow.Author.Needs.{needs}
 use borrow.Author.Tests.{eqb-true}
 use Rattle.table_reading.specs.Due.{not-due}
-use Rattle.table_reading.specs.Words.{wordAt, middleOf, middle-near, wide-stand}
+use Rattle.table_reading.specs.Words.{wordAt, middle-near, wide-stand}
 use Rattle.table_reading.proofs.due.are_wide.Statement.{statement}
 use Rattle.table_reading.proofs.due.are_wide.Tie as tie
 
