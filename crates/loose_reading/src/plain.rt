@@ -10,7 +10,7 @@ use fields::steps::Found;
 use std::num::wrapping_sub_usize;
 use table_reading::due::two_bytes;
 
-// The digit below m that stands at `at` with `due` after it.
+// The digit below m that stands at `at` with `due` after it. Bytes that are less than the digit 0's wrap to more than any digit.
 pub fn plain_digit(s: &[u8], at: usize, m: usize, due: u8) -> Found
     requires { ⌜ m ≤ mostLevels ⌝ }
     ensures { λ r. ⌜ ((d : ℕ) → r ≡ At d → Plain (now (s .entry)) at d due × (d < m)) ⌝ }
