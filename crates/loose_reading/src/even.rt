@@ -70,7 +70,8 @@ fn seen_at(s: &[u8], at: usize, wide: bool) -> usize
     two
 }
 
-// The index that n levels come to, if they stand evenly from `at` on and no more spaces after them.
+// The index that n levels come to, if they stand evenly from `at` on and no more spaces after them. Bytes that are less than the level 0's wrap to more
+// than any level.
 pub fn even_index(s: &[u8], at: usize, m: usize, n: usize, wide: bool) -> Found
     requires { ⌜ sizeFits m n ≡ true ⌝ }
     ensures { λ r. ⌜ ((p : ℕ) → r ≡ At p → EvenIndex (now (s .entry)) at m n p (at + evenBytes n wide)) ⌝ }

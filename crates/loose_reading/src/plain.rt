@@ -7,9 +7,10 @@ ghost use Rattle.fields.specs.declared.steps.Found.the-variants.{At};
 ghost use Rattle.table_reading.specs.Plain.{Plain};
 use fields::runs::ZERO;
 use fields::steps::Found;
+use std::num::wrapping_sub_usize;
 use table_reading::due::two_bytes;
 
-// The digit below m that stands at `at` with `due` after it.
+// The digit below m that stands at `at` with `due` after it. Bytes that are less than the digit 0's wrap to more than any digit.
 pub fn plain_digit(s: &[u8], at: usize, m: usize, due: u8) -> Found
     requires { ⌜ m ≤ mostLevels ⌝ }
     ensures { λ r. ⌜ ((d : ℕ) → r ≡ At d → Plain (now (s .entry)) at d due × (d < m)) ⌝ }
@@ -22,11 +23,9 @@ pub fn plain_digit(s: &[u8], at: usize, m: usize, due: u8) -> Found
     }
     let zero = ZERO + 256 * due as usize;
     let two = two_bytes(s, at);
-    if two < zero {
+    let digit = wrapping_sub_usize(two, zero);
+    if m <= digit {
         return Found::Nowhere;
     }
-    if m <= two - zero {
-        return Found::Nowhere;
-    }
-    Found::At(two - zero)
+    Found::At(digit)
 }

@@ -25,17 +25,18 @@ add-zero c = search needs
 two-bytes-requires : tie.Need-two-bytes-requires
 two-bytes-requires c κs = search needs
 
+wrapping-sub-usize-requires : tie.Need-wrapping-sub-usize-requires
+wrapping-sub-usize-requires c κs = search needs
+
 returns-3 : tie.Need-returns-3
 returns-3 c d e = no-ink d e
 
 returns-4 : tie.Need-returns-4
-returns-4 c d e = no-ink d e
-
-returns-5 : tie.Need-returns-5
-returns-5 c d e =
+returns-4 c d e =
     let is = same-ink _ d e in
     let seen = c .before .before .two-bytes .ensures in
-    (two-plain _ _ _ _ (omega (arith, c .before .before .before .if2 .left, c .before .before .before .before .if1 .left)) (seen .1) (omega (arith, is, c .if4 .left, c .before .before .before .before .before .before .pre)) (omega (arith, is, seen .0, c .before .if3 .left)), omega (arith, is, c .if4 .left))
+    let few = c .before .before .before .before .before .before .pre in
+    (two-plain _ _ _ _ (omega (arith, c .before .before .before .if2 .left, c .before .before .before .before .if1 .left)) (seen .1) (omega (arith, is, c .if3 .left, few)) (omega (arith, is, seen .0, c .before .wrapping-sub-usize .ensures, c .if3 .left, few)), omega (arith, is, c .if3 .left))
 
 pub plain-digit-spec : {M : Type 1} → statement M
 plain-digit-spec =
@@ -47,6 +48,6 @@ plain-digit-spec =
     mul-zero
     add-zero
     two-bytes-requires
+    wrapping-sub-usize-requires
     returns-3
-    returns-4
-    returns-5)
+    returns-4)
