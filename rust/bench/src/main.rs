@@ -67,6 +67,7 @@ fn main() {
         (Laid::Strictly, "as a table sheet"),
         (Laid::Shuffled, "with its rows shuffled"),
         (Laid::Aligned, "so, with three spaces for one"),
+        (Laid::BelowNames, "so, each field below its name"),
     ] {
         by_size(
             &format!(

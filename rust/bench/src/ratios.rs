@@ -196,6 +196,8 @@ pub enum Laid {
     Shuffled,
     /// So, and with three spaces for one.
     Aligned,
+    /// So, and with each field below its name.
+    BelowNames,
 }
 
 /// A prime that divides no number of cells: rows so many apart are shuffled, and each is taken once.
@@ -208,13 +210,26 @@ fn laid(sheet: &[u8], laid: Laid) -> Vec<u8> {
     let shuffled = (0..rows.len()).map(|k| rows[k * STRIDE % rows.len()]);
     let lines: Vec<&str> = match laid {
         Laid::Strictly => lines,
-        Laid::Shuffled | Laid::Aligned => first.iter().copied().chain(shuffled).collect(),
+        _ => first.iter().copied().chain(shuffled).collect(),
     };
-    let text = lines.join("\n") + "\n";
-    match laid {
-        Laid::Aligned => text.replace(' ', "   ").into_bytes(),
-        _ => text.into_bytes(),
-    }
+    let text = match laid {
+        Laid::Aligned => lines.join("\n").replace(' ', "   "),
+        Laid::BelowNames => below_names(&lines).join("\n"),
+        _ => lines.join("\n"),
+    };
+    (text + "\n").into_bytes()
+}
+
+/// Each field of a row as wide as its name, and one space after it.
+fn below_names(lines: &[&str]) -> Vec<String> {
+    let widths: Vec<usize> = lines[2].split(' ').map(str::len).collect();
+    let padded = |line: &&str| {
+        let fields = line.split(' ').zip(&widths);
+        let padded = fields.map(|(field, &width)| format!("{field:width$} "));
+        padded.collect::<String>().trim_end().to_string()
+    };
+    let first = lines[..3].iter().map(|line| line.to_string());
+    first.chain(lines[3..].iter().map(padded)).collect()
 }
 
 /// Tidying a table sheet, laid as is said, against reading it strictly, both the library's.
