@@ -24,7 +24,7 @@
 //! | `glyph`    | document 02, "Whole glyphs"                               |
 //! | `calls`    | every call with the buffers lent to it                    |
 //! | `lister`   | "Listing"                                                 |
-//! | `programs` | "Two programs", and the one that tidies                    |
+//! | `programs` | "Two programs", and the one that tidies                   |
 //! | `rng`, `generate`, `loose`, `damage` | seeded sheets, good, loose and  |
 //! |            | damaged, for tests                                        |
 //!
