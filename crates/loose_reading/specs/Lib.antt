@@ -1,5 +1,5 @@
 pub mod Answers
-pub mod Even
+pub mod Framed
 pub mod Index
 pub mod Levels
 pub mod Parts

@@ -1,5 +1,4 @@
 // Reading a loose table sheet: fields parted by one or more spaces, rows in any order.
-pub mod even;
 pub mod inks;
 pub mod levels;
 pub mod plain;

@@ -4,14 +4,14 @@ ghost use mathlib.Core.Bool.{true};
 ghost use Prim.Native.Nat.{_^_, _≤_};
 ghost use lib.ListN.{length, drop};
 ghost use Rattle.rules.specs.Limits.{sizeFits, mostLevels};
+ghost use Rattle.frames.specs.Frame.{Framed};
 ghost use Rattle.loose_reading.specs.Index.{IndexRead};
 ghost use Rattle.loose_reading.specs.Row.{RowReads, rowAs, inkOfRow};
-use crate::even::even_bytes;
-use crate::even::even_index;
 use crate::inks::ink_field;
 use crate::levels::level_field;
-use fields::steps::Found;
 use fields::steps::Step;
+use frames::standing::in_frame;
+use frames::weighing::all_weighed;
 
 // What reading a row comes to.
 pub enum RowRead {
@@ -54,17 +54,26 @@ fn judged_index(s: &[u8], at: usize, m: usize, n: usize) -> Step
     }
 }
 
-// The same, where levels that stand evenly are seen at once: with three spaces after each where `wide`, and else with one.
-pub fn index_fields(s: &[u8], at: usize, m: usize, n: usize, wide: bool) -> Step
-    requires { ⌜ sizeFits m n ≡ true ⌝ }
+// The same, where levels that stand in the frame are seen at once.
+pub fn index_fields(
+    s: &[u8],
+    at: usize,
+    m: usize,
+    n: usize,
+    least: &[u8],
+    more: &[u8],
+    weights: &[u16],
+    width: usize,
+) -> Step
+    requires { ⌜ (sizeFits m n ≡ true) × Framed m n (now least) (now more) (now weights) width ⌝ }
     ensures { λ r. ⌜ IndexRead (now (s .entry)) at m n r ⌝ }
 {
-    match even_index(s, at, m, n, wide) {
-        Found::Nowhere => judged_index(s, at, m, n),
-        Found::At(value) => Step::On {
-            value,
-            next: at + even_bytes(n, wide),
-        },
+    if !in_frame(s, at, least, more, width) {
+        return judged_index(s, at, m, n);
+    }
+    Step::On {
+        value: all_weighed(s, at, weights, width),
+        next: at + width,
     }
 }
 
@@ -84,11 +93,21 @@ pub fn row_ink(s: &[u8], at: usize, m: usize, index: usize) -> RowRead
 }
 
 // A row, where `given` has a 0 at each index that no earlier row named.
-pub fn row(s: &[u8], at: usize, m: usize, n: usize, wide: bool, given: &[u8]) -> RowRead
-    requires { ⌜ (sizeFits m n ≡ true) × (m ^ n ≤ length (now given)) ⌝ }
+pub fn row(
+    s: &[u8],
+    at: usize,
+    m: usize,
+    n: usize,
+    least: &[u8],
+    more: &[u8],
+    weights: &[u16],
+    width: usize,
+    given: &[u8],
+) -> RowRead
+    requires { ⌜ (sizeFits m n ≡ true) × Framed m n (now least) (now more) (now weights) width × (m ^ n ≤ length (now given)) ⌝ }
     ensures { λ r. ⌜ RowReads (now (s .entry)) at m n (now (given .entry)) r ⌝ }
 {
-    match index_fields(s, at, m, n, wide) {
+    match index_fields(s, at, m, n, least, more, weights, width) {
         Step::Back { number, place } => RowRead::Turned { number, place },
         Step::On { value, next } => {
             if given[value] != 0 {

@@ -5,10 +5,10 @@ ghost use Prim.Native.Nat.{_^_, _≤_};
 ghost use lib.ListN.{length};
 ghost use Rattle.rules.specs.Limits.{sizeFits};
 ghost use Rattle.loose_reading.specs.Rows.{RowsRead, Blank};
-use crate::even::is_wide;
 use crate::row::RowRead;
 use crate::row::row;
 use fields::steps::Step;
+use frames::frame::frame_of;
 use radix::limits::MOST_CELLS;
 use radix::powers::power;
 
@@ -19,11 +19,15 @@ pub fn rows(s: &[u8], at: usize, m: usize, n: usize, cells: &mut [u8]) -> Step
 {
     let mut given = [0u8; MOST_CELLS];
     let count = power(m, n);
-    let wide = is_wide(s, at);
+    let frame = frame_of(s, at, m, n);
+    let least = frame.least;
+    let more = frame.more;
+    let weights = frame.weights;
+    let width = frame.width;
     let mut place = at;
     let mut k: usize = 0;
     while k < count {
-        let read = row(s, place, m, n, wide, &given);
+        let read = row(s, place, m, n, &least, &more, &weights, width, &given);
         match read {
             RowRead::Turned { number, place } => return Step::Back { number, place },
             RowRead::Taken { index, ink, next } => {

@@ -1,44 +1,66 @@
--- `loose_reading::row::index_fields` meets its contract: the levels stand evenly, or their fields are judged.
+-- `loose_reading::row::index_fields` meets its contract: the row stands in its frame, or its fields are judged.
 -- Assumes nothing.
+use Prim.Native.Nat.{_+_, _<_}
+use mathlib.Core.Path.{_≡_, refl, sym}
 use native.Mathlib.Omega.{arith}
-use Rattle.laws.specs.Sizes.{sized}
+use lib.ListN.{length}
 use borrow.Author.Needs.{needs}
+use borrow.Author.Tests.{not-false}
+use Rattle.laws.specs.Sizes.{Size, sized}
+use Rattle.frames.specs.Standing.{InFrame, looked-bounds}
+use Rattle.loose_reading.specs.Framed.{framed-reads, framed-fits}
 use Rattle.loose_reading.proofs.row.index_fields.Statement.{statement}
 use Rattle.loose_reading.proofs.row.index_fields.Tie as tie
 
-even-index-requires : tie.Need-even-index-requires
-even-index-requires c κs = search needs
+-- the entry, from the branch
+abbrev at-start : tie.Else1 → tie.Start
+at-start c = c .before .before .before .before .before .before
 
-enum-told : tie.Need-enum-told
-enum-told c = search needs
+size : (c : tie.Else1) → Size (at-start c .args .m) (at-start c .args .n)
+size c = sized _ _ (at-start c .pre .0)
+
+stands : (c : tie.Else1)
+    → InFrame (at-start c .args .s .now) (at-start c .args .at) (at-start c .args .least .now) (at-start c .args .more .now) (at-start c .args .width)
+stands c = c .before .in-frame .ensures (not-false _ (c .if1 .left))
+
+in-frame-requires : tie.Need-in-frame-requires
+in-frame-requires c κs =
+    let frame = c .before .before .before .before .pre .1 in
+    (omega (arith, frame .long-least), omega (arith, frame .long-more), frame .most)
 
 judged-index-requires : tie.Need-judged-index-requires
 judged-index-requires c κs = search needs
 
-enum-known-value : tie.Need-enum-known-value
-enum-known-value c = search needs
-
-even-bytes-requires : tie.Need-even-bytes-requires
-even-bytes-requires c κs = sized _ _ (c .before .before .before .before .before .pre) .inputs-most
-
-add-t10 : tie.Need-add-t10
-add-t10 c = omega (arith, c .even-bytes .ensures, c .before .before .before .before .even-index .ensures _ (c .before .before .value .given .1) .within)
-
 returns : tie.Need-returns
 returns c = search needs
 
+all-weighed-requires : tie.Need-all-weighed-requires
+all-weighed-requires c κs =
+    let frame = at-start c .pre .1 in (
+      omega (arith, stands c .room),
+      omega (arith, frame .long-weights),
+      omega (arith, size c .cells-most, framed-fits _ _ _ _ (size c .levels-most) _ _ _ _ frame (stands c)),
+      frame .most,
+    )
+
+add-t12 : tie.Need-add-t12
+add-t12 c =
+    let test = c .before in
+    let start = at-start test in
+    record { fits = omega (arith, stands test .room, looked-bounds (start .args .width) (start .pre .1 .most) .1, start .good .0 .0) }
+
 returns-2 : tie.Need-returns-2
-returns-2 c = rw (c .even-bytes .ensures) (c .before .before .before .before .even-index .ensures _ (c .before .before .value .given .1) .reads)
+returns-2 c =
+    let test = c .before in
+    rw (c .all-weighed .ensures) (framed-reads _ _ _ _ (size test .levels-most) _ _ _ _ (at-start test .pre .1) (stands test))
 
 pub index-fields-spec : {M : Type 1} → statement M
 index-fields-spec =
     tie.close
     (tie.spec
-    even-index-requires
-    enum-told
+    in-frame-requires
     judged-index-requires
-    enum-known-value
-    even-bytes-requires
-    add-t10
     returns
+    all-weighed-requires
+    add-t12
     returns-2)

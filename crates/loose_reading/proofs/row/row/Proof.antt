@@ -9,9 +9,9 @@ use Rattle.loose_reading.proofs.row.row.Tie as tie
 
 -- the start from the index's read, and that read from the mark's
 abbrev at-start : tie.After-index-fields → tie.Start
-at-start c = c .before .before .before
+at-start c = c .before .before .before .before .before .before
 
-abbrev at-index : tie.After-shared-slice-known3 → tie.After-index-fields
+abbrev at-index : tie.After-shared-slice-known6 → tie.After-index-fields
 at-index c = c .before .before .before .before
 
 index-fields-requires : tie.Need-index-fields-requires
@@ -24,7 +24,7 @@ enum-known-value : tie.Need-enum-known-value
 enum-known-value c = search needs
 
 shared-slice-read-if1 : tie.Need-shared-slice-read-if1
-shared-slice-read-if1 c = omega (arith, at-index c .index-fields .ensures .below _ _ (c .before .before .value .given .1), at-start (at-index c) .pre .1)
+shared-slice-read-if1 c = omega (arith, at-index c .index-fields .ensures .below _ _ (c .before .before .value .given .1), at-start (at-index c) .pre .2)
 
 returns : tie.Need-returns
 returns c = row-given _ _ _ _ _ _ (at-index (c .before) .index-fields .ensures) _ _ (c .before .before .before .value .given .1) (c .if1 .taken)

@@ -7,30 +7,31 @@ use borrow.Author.Needs.{needs}
 use lib.ListN.{length, length-set, length-replicate}
 use Rattle.rules.specs.Limits.{mostCells}
 use Rattle.laws.specs.Sizes.{Size, sized}
+use Rattle.frames.specs.Frame.{Framed}
 use Rattle.loose_reading.specs.Rows.{InRows, zeros-blank, rows-start, rows-done, rows-back, rows-next}
 use Rattle.loose_reading.proofs.rows.rows.Statement.{statement}
 use Rattle.loose_reading.proofs.rows.rows.Tie as tie
 
 abbrev Inv-loop : tie.InvT-loop
-Inv-loop s at m n cells₀ given₀ count wide place₀ k₀ cells given place k =
+Inv-loop s at m n cells₀ given₀ count least more weights width place₀ k₀ cells given place k =
     (length cells ≡ length cells₀) × (length given ≡ mostCells) × InRows s at m n cells given place k
 
 abbrev μ-loop : tie.MeasureT-loop
-μ-loop s at m n cells₀ given₀ count wide place₀ k₀ cells given place k = m ^ n - k
+μ-loop s at m n cells₀ given₀ count least more weights width place₀ k₀ cells given place k = m ^ n - k
 
 -- the start from the call of `power`, a turn's start from the row's read, and that read from the turn's end
 abbrev at-start : tie.After-power Inv-loop μ-loop → tie.Start Inv-loop μ-loop
 at-start c = c .before .before .before
 
 abbrev at-turn : tie.After-row Inv-loop μ-loop → tie.In-loop Inv-loop μ-loop
-at-turn c = c .before .before
+at-turn c = c .before .before .before .before .before
 
 abbrev at-row : tie.After-known-told2 Inv-loop μ-loop → tie.After-row Inv-loop μ-loop
 at-row c = c .before .before .before
 
 -- the function's entry, seen from the loop's head
 abbrev start : tie.At-loop Inv-loop μ-loop → tie.Start Inv-loop μ-loop
-start c = at-start (c .before .before)
+start c = at-start (c .before .before .before .before .before)
 
 -- the size is within a sheet's bounds
 size : (c : tie.Start Inv-loop μ-loop) → Size (c .args .m) (c .args .n)
@@ -38,7 +39,7 @@ size c = sized (c .args .m) (c .args .n) (c .pre .0)
 
 -- a turn's row is due, and there is room for the cells and for their marks
 more : (c : tie.In-loop Inv-loop μ-loop) → c .before .loop .k < start (c .before) .args .m ^ start (c .before) .args .n
-more c = omega (arith, c .loop-test .taken, c .before .before .before .power .ensures)
+more c = omega (arith, c .loop-test .taken, c .before .before .before .before .before .before .power .ensures)
 
 room : (c : tie.At-loop Inv-loop μ-loop) → start c .args .m ^ start c .args .n ≤ length (c .loop .cells)
 room c = omega (arith, c .loop .inv .0, start c .pre .1)
@@ -46,22 +47,42 @@ room c = omega (arith, c .loop .inv .0, start c .pre .1)
 marked : (c : tie.At-loop Inv-loop μ-loop) → start c .args .m ^ start c .args .n ≤ length (c .loop .given)
 marked c = omega (arith, c .loop .inv .1, size (start c) .cells-most)
 
+-- the frame that the rows may stand in
+abbrev at-frame : tie.At-loop Inv-loop μ-loop → tie.After-frame-of Inv-loop μ-loop
+at-frame c = c .before .before .before .before
+
+frame : (c : tie.At-loop Inv-loop μ-loop)
+    → Framed (start c .args .m) (start c .args .n) (at-frame c .frame-of .result .least) (at-frame c .frame-of .result .more) (at-frame c .frame-of .result .weights)
+    (at-frame c .frame-of .result .width)
+frame c = at-frame c .frame-of .ensures
+
 power-requires : tie.Need-power-requires Inv-loop μ-loop
 power-requires c κs = omega (arith, size (c .before .before))
 
-is-wide-requires : tie.Need-is-wide-requires Inv-loop μ-loop
-is-wide-requires c κs = search needs
+frame-of-requires : tie.Need-frame-of-requires Inv-loop μ-loop
+frame-of-requires c κs = at-start c .pre .0
 
 loop-holds : tie.Need-loop-holds Inv-loop μ-loop
 loop-holds c =
-    let from = at-start (c .before) in
+    let from = at-start (c .before .before .before .before) in
     (refl, length-replicate {A = ℕ} mostCells 0, rows-start _ _ _ _ _ _ (from .pre .2) (zeros-blank mostCells))
 
 slice-aggregate-row : tie.Need-slice-aggregate-row Inv-loop μ-loop
-slice-aggregate-row c = sym (c .before .before .loop .inv .1)
+slice-aggregate-row c = sym (frame (c .before .before) .long-least)
+
+slice-aggregate-row-2 : tie.Need-slice-aggregate-row-2 Inv-loop μ-loop
+slice-aggregate-row-2 c = sym (frame (c .before .before .before) .long-more)
+
+slice-aggregate-row-3 : tie.Need-slice-aggregate-row-3 Inv-loop μ-loop
+slice-aggregate-row-3 c = sym (frame (c .before .before .before .before) .long-weights)
+
+slice-aggregate-row-4 : tie.Need-slice-aggregate-row-4 Inv-loop μ-loop
+slice-aggregate-row-4 c = sym (c .before .before .before .before .before .loop .inv .1)
 
 row-requires : tie.Need-row-requires Inv-loop μ-loop
-row-requires c κs = (start (c .before .before) .pre .0, marked (c .before .before))
+row-requires c κs =
+    let head = c .before .before .before .before .before in
+    (start head .pre .0, frame head, marked head)
 
 enum-known-read : tie.Need-enum-known-read Inv-loop μ-loop
 enum-known-read c = search needs
@@ -90,7 +111,7 @@ array-write-given c = omega (arith, at-row c .row .ensures .held _ _ _ (c .befor
 add-k : tie.Need-add-k Inv-loop μ-loop
 add-k c =
     let turn = at-turn (at-row c) in
-    omega (arith, turn .loop-test .taken, turn .before .before .before .power .ok)
+    omega (arith, turn .loop-test .taken, turn .before .before .before .before .before .before .power .ok)
 
 loop-less : tie.Need-loop-less Inv-loop μ-loop
 loop-less c = omega (arith, more (at-turn (at-row c)))
@@ -108,7 +129,7 @@ same-length-2 : tie.Need-same-length-2 Inv-loop μ-loop
 same-length-2 c = c .before .loop .inv .0
 
 returns-2 : tie.Need-returns-2 Inv-loop μ-loop
-returns-2 c = rows-done _ _ _ _ _ _ _ _ (c .before .loop .inv .2) (omega (arith, c .loop-test .left, c .before .before .before .power .ensures)) (room (c .before))
+returns-2 c = rows-done _ _ _ _ _ _ _ _ (c .before .loop .inv .2) (omega (arith, c .loop-test .left, c .before .before .before .before .before .before .power .ensures)) (room (c .before))
 
 pub rows-spec : {M : Type 1} → statement M
 rows-spec =
@@ -117,9 +138,12 @@ rows-spec =
     Inv-loop
     μ-loop
     power-requires
-    is-wide-requires
+    frame-of-requires
     loop-holds
     slice-aggregate-row
+    slice-aggregate-row-2
+    slice-aggregate-row-3
+    slice-aggregate-row-4
     row-requires
     enum-known-read
     same-length

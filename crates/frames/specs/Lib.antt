@@ -1,0 +1,4 @@
+pub mod Frame
+pub mod Laying
+pub mod Standing
+pub mod Weighing

@@ -1,0 +1,72 @@
+-- A row stands in its frame.
+-- Assumes nothing.
+use Prim.Native.Nat.{ℕ, _+_, _-_, _*_, _/_, _%_, _^_, _≤_, _<_}
+use mathlib.Core.Path.{_≡_, refl}
+use mathlib.Core.Bool.{Bool, true, false}
+use mathlib.Core.List.{List}
+use native.Mathlib.Omega.{arith}
+use lib.ListN.{length, getD}
+use lib.Dec.{leb, ltb}
+use borrow.Author.Tests.{le-leb, lt-leb, leb-true, leb-false, ltb-true, ltb-false}
+use Rattle.rules.specs.Text.{spaceByte}
+use Rattle.frames.specs.Frame.{mostLaid}
+
+-- the byte at place k lies within its bounds: it is no less than the least, counted around from 256 to 0
+pub record InBounds (s : List ℕ) (at : ℕ) (least more : List ℕ) (k : ℕ) : Type 0 where
+  pub above : ℕ
+  pub most : above ≤ getD more k 0
+  pub is : (above + getD least k 0) % 2 ^ 8 ≡ getD s (at + k) 0
+
+-- those from place `from` to place `to`
+abbrev pub Stand : List ℕ → ℕ → List ℕ → List ℕ → ℕ → ℕ → Type 0
+Stand s at least more from to = (k : ℕ) → from ≤ k → k < to → InBounds s at least more k
+
+-- one byte more
+pub stand-next : (s : List ℕ) (at : ℕ) (least more : List ℕ) (from k : ℕ) → Stand s at least more from (from + k) → InBounds s at least more (from + k)
+    → Stand s at least more from (from + (k + 1))
+stand-next s at least more from k stand here q a b = go (ltb q (from + k)) refl
+  where
+    go : (t : Bool) → ltb q (from + k) ≡ t → InBounds s at least more q
+    go true e = stand q a (ltb-true q (from + k) e)
+    go false e = let same : q ≡ from + k = omega (arith, b, ltb-false q (from + k) e) in rw same here
+
+-- the places of a row of this width that are looked at: the first 64, and more of them sixteen by sixteen
+unfoldable pub lookedAt : ℕ → ℕ
+lookedAt width = elim (leb width 64) [ true ↦ 64 | false ↦ (width + 16 - 1) / 16 * 16 ]
+
+-- the row at `at` stands in its frame, with room for all that is looked at, and its ink is at `width`
+pub record InFrame (s : List ℕ) (at : ℕ) (least more : List ℕ) (width : ℕ) : Type 0 where
+  pub some : 0 < width
+  pub room : at + lookedAt width < length s
+  pub stand : Stand s at least more 0 (lookedAt width)
+  pub other : getD s (at + width) 0 ≡ spaceByte → ⊥
+
+pub looked-few : (width : ℕ) → width ≤ 64 → lookedAt width ≡ 64
+unfolding lookedAt
+looked-few width h = rw (lookedAt, le-leb width 64 h) refl
+
+pub looked-more : (width : ℕ) → 64 < width → lookedAt width ≡ (width + 16 - 1) / 16 * 16
+unfolding lookedAt
+looked-more width h = rw (lookedAt, lt-leb width 64 h) refl
+
+-- they hold the first 64 and the width, and stay within the frame
+pub looked-bounds : (width : ℕ) → width ≤ mostLaid → (64 ≤ lookedAt width) × (width ≤ lookedAt width) × (lookedAt width ≤ mostLaid)
+looked-bounds width most = go (leb width 64) refl
+  where
+    go : (b : Bool) → leb width 64 ≡ b → (64 ≤ lookedAt width) × (width ≤ lookedAt width) × (lookedAt width ≤ mostLaid)
+    go true e =
+        let few = leb-true width 64 e in
+        let is = looked-few width few in
+        (omega (arith, is), omega (arith, is, few), omega (arith, is))
+    go false e =
+        let many = leb-false width 64 e in
+        let is = looked-more width many in
+        (omega (arith, is, many), omega (arith, is), omega (arith, is, most))
+
+-- two stretches, one after the other
+pub stand-both : (s : List ℕ) (at : ℕ) (least more : List ℕ) (from mid to : ℕ) → Stand s at least more from mid → Stand s at least more mid to → Stand s at least more from to
+stand-both s at least more from mid to first second q a b = go (ltb q mid) refl
+  where
+    go : (t : Bool) → ltb q mid ≡ t → InBounds s at least more q
+    go true e = first q a (ltb-true q mid e)
+    go false e = second q (ltb-false q mid e) b

@@ -1,0 +1,35 @@
+// What the levels of a row that stands in its frame come to.
+ghost use mathlib.Core.Path.{_≡_};
+ghost use Prim.Native.Nat.{_+_, _≤_, _<_};
+ghost use lib.ListN.{length};
+ghost use Rattle.frames.specs.Frame.{mostLaid};
+ghost use Rattle.frames.specs.Standing.{lookedAt};
+ghost use Rattle.frames.specs.Weighing.{counted};
+use crate::standing::FIRST;
+use crate::standing::looked_at;
+
+// What `count` places count in the index, from place `from` on.
+fn weighed(s: &[u8], at: usize, weights: &[u16], from: usize, count: usize) -> usize
+    requires { ⌜ (at + from + count ≤ length (now s)) × (from + count ≤ length (now weights)) × (counted (now s) at (now weights) (from + count) < 65536) ⌝ }
+    ensures { λ r. ⌜ counted (now (s .entry)) at (now (weights .entry)) from + r ≡ counted (now (s .entry)) at (now (weights .entry)) (from + count) ⌝ }
+{
+    let mut sum: u16 = 0;
+    let mut k: usize = 0;
+    while k < count {
+        sum += (s[at + from + k] % 16) as u16 * weights[from + k];
+        k += 1;
+    }
+    sum as usize
+}
+
+// The row's index, if it stands in its frame.
+pub fn all_weighed(s: &[u8], at: usize, weights: &[u16], width: usize) -> usize
+    requires { ⌜ (at + lookedAt width ≤ length (now s)) × (mostLaid ≤ length (now weights)) × (counted (now s) at (now weights) (lookedAt width) < 65536) × (width ≤ mostLaid) ⌝ }
+    ensures { λ r. ⌜ r ≡ counted (now (s .entry)) at (now (weights .entry)) (lookedAt width) ⌝ }
+{
+    let first = weighed(s, at, weights, 0, FIRST);
+    if width <= FIRST {
+        return first;
+    }
+    first + weighed(s, at, weights, FIRST, looked_at(width) - FIRST)
+}
