@@ -5,7 +5,7 @@ ghost use lib.Dec.{ltb};
 ghost use Rattle.rules.specs.Groups.{multiplicity};
 ghost use Rattle.rules.specs.Answers.{inkIn};
 ghost use Rattle.rules.specs.Keeping.{roomyGates};
-ghost use Rattle.digits.specs.Sized.{Sized};
+ghost use Rattle.sampling.specs.Sized.{Sized};
 ghost use Rattle.nets.specs.Forms.{gatesOf};
 ghost use Rattle.nets.specs.Sound.{Sound};
 use class_counting::classes;
