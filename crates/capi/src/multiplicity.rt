@@ -15,5 +15,5 @@ pub extern "C" fn sitgurp_multiplicity(
 ) -> SitgurpAnswer
     ensures { λ r. ⌜ r ≡ flatOf (multiplicityCall m n (now (cells .entry)) group) ⌝ }
 {
-    flat(groups::call::multiplicity(m, n, cells, group))
+    flat(key_counting::call::multiplicity(m, n, cells, group))
 }

@@ -1,20 +1,21 @@
 -- What stands inside the cells where a gate's digits are made.
 -- Assumes nothing.
-use Prim.Native.Nat.{ℕ, _+_, _^_, _≤_, _<_}
+use Prim.Native.Nat.{ℕ, _+_, _^_, _<_}
 use mathlib.Core.Path.{_≡_, sym, subst, subst₂}
 use mathlib.Core.List.{List}
 use native.Mathlib.Nat.{lt-of-lt-of-le}
 use native.Mathlib.Omega.{arith}
 use lib.ListN.{length, getD}
 use Rattle.rules.specs.Groups.{part, points, others, classes, multiplicity}
-use Rattle.groups.specs.Within.{Within, part-within}
+use Rattle.groups.specs.Within.{part-within}
 use Rattle.trees.specs.Levels.{part-below}
 use Rattle.trees.specs.Points.{points-are-parts}
 use Rattle.trees.specs.Classes.{Few, classes-are-points}
 use Rattle.trees.specs.DigitRule.{Parts}
-use Rattle.digits.specs.Samples.{samples, samples-own}
+use Rattle.sampling.specs.Samples.{samples, samples-own}
+use Rattle.sampling.specs.Sized.{Sized}
+use Rattle.digit_writing.specs.Ready.{Ready}
 use Rattle.digits.specs.Sums.{sum-own}
-use Rattle.digits.specs.Sized.{Sized}
 
 -- the sum of one of the left list and one of the right is an assignment of group g
 abbrev pub Sums : ℕ → ℕ → ℕ → List ℕ → List ℕ → Type 0
@@ -27,13 +28,6 @@ samples-sum m n f a b pos parts left right of-a of-b =
     subst₂ (Sums m n (a + b)) (sym of-a) (sym of-b)
     (λ u v u< v<. sum-own m n pos a b (parts .a-below) (parts .b-below) (parts .apart) _ _
     (samples-own m n f a (parts .a-below) pos u u<) (samples-own m n f b (parts .b-below) pos v v<))
-
--- a gate's digits are made of what stands inside the cells
-pub record Ready (cells ys firsts left right : List ℕ) : Type 0 where
-  pub few : length firsts ≤ 255
-  pub kept : (j : ℕ) → j < length firsts → Within (length cells) ys (getD firsts j 0)
-  pub inside : (u v : ℕ) → u < length left → v < length right → getD left u 0 + getD right v 0 < length cells
-  pub within : (u v : ℕ) → u < length left → v < length right → Within (length cells) ys (getD left u 0 + getD right v 0)
 
 module _ (m n : ℕ) (cells : List ℕ) (f : ℕ → ℕ) (g : ℕ) (left right : List ℕ) (sized : Sized m n cells) (g< : g < 2 ^ n) (few : Few m n f g)
     (sums : Sums m n g left right) where

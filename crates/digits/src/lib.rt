@@ -1,3 +1,2 @@
 // A gate's digits, from one assignment for each value that its wires carry.
 pub mod gate;
-pub mod samples;

@@ -9,7 +9,7 @@ ghost use Rattle.trees.specs.DigitRule.{Parts};
 ghost use Rattle.trees.specs.Fillings.{Fillable};
 ghost use Rattle.nets.specs.Room.{mostGates, mostDigits};
 ghost use Rattle.wirings.specs.Links.{linksIn};
-ghost use Rattle.digits.specs.Sized.{Sized};
+ghost use Rattle.sampling.specs.Sized.{Sized};
 ghost use Rattle.filling.specs.Growth.{Joined};
 ghost use Rattle.filling.specs.Filled.{Filled};
 use digits::gate;

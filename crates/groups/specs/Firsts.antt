@@ -1,7 +1,7 @@
 -- The first of each class, found one assignment at a time, and what a count of them that may stop early answers.
 -- Assumes nothing.
 use Prim.Native.Nat.{ℕ, suc, _+_, _^_, _≤_, _<_}
-use mathlib.Core.Path.{_≡_, ap₂, _∙_}
+use mathlib.Core.Path.{_≡_, refl, ap₂, _∙_}
 use mathlib.Core.Bool.{Bool, true, false}
 use mathlib.Core.List.{List, [], _∷_, _++_}
 use native.Mathlib.Nat.{le-trans, zero-add, pow-le-pow-right}
@@ -12,6 +12,7 @@ use borrow.Author.Tests.{lt-ltb, le-ltb}
 use Rattle.rules.specs.Lists.{any, firstPlace}
 use Rattle.rules.specs.Groups.{others, points, alikeOver, firsts, classes}
 use Rattle.laws.specs.FirstPlaces.{any-place}
+use Rattle.radix.specs.Fronts.{Front}
 use Rattle.trees.specs.Members.{size-le}
 use Rattle.trees.specs.Points.{points-length}
 
@@ -46,6 +47,10 @@ module _ {most : ℕ} {classes : List ℕ} {count : ℕ} {kept : List ℕ} (coun
       go (yes l) = absurd (omega (arith, counted .many l))
       go (no l) = omega arith
 
+  -- and where they are not, they are the front of what is kept
+  pub counted-front : length classes ≤ most → Front classes count kept
+  counted-front h = record { count = counted .few h; is = counted .found (omega (arith, counted .few h)) }
+
 module _ (same : ℕ → ℕ → Bool) where
   -- one of a class that is kept
   pub firsts-known : (kept : List ℕ) (p : ℕ) (ps : List ℕ) → firstPlace (same p) kept < length kept
@@ -70,6 +75,18 @@ module _ (same : ℕ → ℕ → Bool) where
           → length kept ≤ length {A = ℕ} (elim b as (λ _. List ℕ) [ true ↦ firsts same kept ps | false ↦ firsts same (kept ++ (p ∷ [])) ps ])
       go true old new = old
       go false old new = omega (arith, length-append kept (p ∷ []))
+
+  -- nothing joins what is kept where there is no more of it at the end
+  pub firsts-none : (kept ps : List ℕ) → length (firsts same kept ps) ≤ length kept → firsts same kept ps ≡ kept
+  unfolding firsts
+  firsts-none kept [] few = refl
+  firsts-none kept (p ∷ ps) few = go (any (same p) kept) (firsts-none kept ps) (firsts-more (kept ++ (p ∷ [])) ps) few
+    where
+      go : (b : Bool) → (length (firsts same kept ps) ≤ length kept → firsts same kept ps ≡ kept) → length (kept ++ (p ∷ [])) ≤ length (firsts same (kept ++ (p ∷ [])) ps)
+          → length {A = ℕ} (elim b as (λ _. List ℕ) [ true ↦ firsts same kept ps | false ↦ firsts same (kept ++ (p ∷ [])) ps ]) ≤ length kept
+          → elim b as (λ _. List ℕ) [ true ↦ firsts same kept ps | false ↦ firsts same (kept ++ (p ∷ [])) ps ] ≡ kept
+      go true old new h = old h
+      go false old new h = absurd (omega (arith, length-append kept (p ∷ [])))
 
   -- there are no more than were kept and are left
   pub firsts-fewer : (kept ps : List ℕ) → length (firsts same kept ps) ≤ length kept + length ps

@@ -1,4 +1,4 @@
+pub mod Counting
 pub mod Differences
 pub mod Firsts
-pub mod Keys
 pub mod Within

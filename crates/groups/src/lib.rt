@@ -1,9 +1,3 @@
-// Two assignments compared, alike assignments, the classes of a group, bare cells, and the multiplicity call.
+// Two assignments of a group compared, and which of them are alike.
 pub mod alike;
-pub mod bare;
-pub mod call;
-pub mod classes;
 pub mod differences;
-pub mod inks;
-pub mod keyed;
-pub mod keys;

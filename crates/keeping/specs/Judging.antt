@@ -33,7 +33,7 @@ use Rattle.nets.specs.Forms.{headerOf, gatesOf, tableIn, netIn}
 use Rattle.nets.specs.Sound.{Sound, gates-length}
 use Rattle.wirings.specs.declared.forms.Wiring.{Wiring}
 use Rattle.wirings.specs.Links.{linksIn}
-use Rattle.digits.specs.Sized.{Sized, sized}
+use Rattle.sampling.specs.Sized.{Sized, sized}
 use Rattle.filling.specs.Filled.{Filled}
 use Rattle.filling.specs.MadeNet.{NetOf}
 use Rattle.table_reading.specs.Answers.{inksIn}

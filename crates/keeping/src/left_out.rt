@@ -1,7 +1,7 @@
 // Whether a net leaves out an input that matters to a table.
 ghost use mathlib.Core.Path.{_≡_};
 ghost use Rattle.rules.specs.Answers.{inkIn};
-ghost use Rattle.digits.specs.Sized.{Sized};
+ghost use Rattle.sampling.specs.Sized.{Sized};
 ghost use Rattle.nets.specs.Forms.{gatesOf};
 ghost use Rattle.nets.specs.Sound.{Sound};
 ghost use Rattle.keeping.specs.LeftOut.{leavesOutOf};

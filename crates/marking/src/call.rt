@@ -13,7 +13,7 @@ ghost use Rattle.marking.specs.Answers.{markedOf, markedInto};
 use crate::all;
 use answers::answer::Answer;
 use answers::outcome::Outcome;
-use groups::bare;
+use bare_cells::bare;
 use marks::own;
 use marks::stored;
 

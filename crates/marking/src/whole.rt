@@ -7,7 +7,7 @@ ghost use Rattle.rules.specs.Groups.{wholeGroup};
 ghost use Rattle.rules.specs.Marks.{markOf};
 ghost use Rattle.rules.specs.Answers.{inkIn};
 ghost use Rattle.groups.specs.Within.{Room};
-use groups::inks;
+use bare_cells::inks;
 use marks::group;
 use radix::powers;
 

@@ -9,7 +9,7 @@ ghost use Rattle.groups.specs.Within.{Room};
 ghost use Rattle.marks.specs.Rule.{fewMark};
 ghost use Rattle.radix.specs.Widths.{groupsEnd};
 use crate::split;
-use groups::classes;
+use class_counting::classes;
 use radix::limits;
 use radix::members;
 

@@ -4,7 +4,7 @@ use mathlib.Core.Path.{subst, subst⁻¹}
 use borrow.Author.Needs.{needs}
 use Rattle.rules.specs.Leaves.{leavesOf}
 use Rattle.rules.specs.Answers.{inkIn}
-use Rattle.digits.specs.Sized.{Sized, sized}
+use Rattle.sampling.specs.Sized.{Sized, sized}
 use Rattle.numbering.specs.Counts.{Countable}
 use Rattle.numbering.specs.Numbered.{InCount, WiringFound}
 use Rattle.families.specs.FamilyNet.{leaves-in, number-count, number-fills, number-net}

@@ -8,7 +8,7 @@ use Rattle.rules.specs.Answers.{inkIn}
 use Rattle.trees.specs.LeafGroup.{leaves-below}
 use Rattle.wirings.specs.Choice.{splitBy, LayersRoom}
 use Rattle.wirings.specs.Chosen.{Choosable, Chosen}
-use Rattle.digits.specs.Sized.{Sized, sized}
+use Rattle.sampling.specs.Sized.{Sized, sized}
 use Rattle.filling.specs.MadeNet.{some-level, layers-room, choosable, leaves-two, chosen-count, chosen-fillable, chosen-made}
 use Rattle.filling.proofs.chosen.chosen_net.Statement.{statement}
 use Rattle.filling.proofs.chosen.chosen_net.Tie as tie

@@ -1,0 +1,2 @@
+// A gate's digits, from lists of assignments.
+pub mod digit;

@@ -1,0 +1,2 @@
+// Keys of assignments, and the class of one found by its key.
+pub mod keys;

@@ -1,0 +1,2 @@
+// One assignment for each value that a wire carries.
+pub mod samples;
