@@ -8,7 +8,7 @@ ghost use Rattle.radix.specs.Widths.{groupsEnd};
 ghost use Rattle.quick.specs.Steps.{Work, Next};
 ghost use Rattle.marking.specs.Marking.{Below};
 ghost use Rattle.marking.specs.Quick.{MarkBy, GroupMarked};
-use marks::group;
+use group_marks::group;
 use marks::own;
 use quick::step;
 use radix::powers;

@@ -21,7 +21,7 @@ use Rattle.rules.specs.Family.{splitCount}
 use Rattle.trees.specs.FamilyCounts.{counted, splitCounted, is-split, count-none, split-most}
 use Rattle.trees.specs.FamilyBounds.{count-fits}
 use Rattle.trees.specs.Families.{split-sizes}
-use Rattle.marks.specs.Fewest.{bothTwo}
+use Rattle.marks.specs.FirstParts.{bothTwo}
 
 -- ---- what is kept
 

@@ -17,8 +17,7 @@ use Rattle.laws.specs.Totals.{those-cons, those-past, numbered-here, numbered-l
 use Rattle.trees.specs.MarkTwo.{isA}
 use Rattle.trees.specs.FamilyCounts.{splitCounted}
 use Rattle.radix.specs.Parts.{Part, Next, without-first}
-use Rattle.marks.specs.Fewest.{bothTwo}
-use Rattle.marks.specs.FirstParts.{settledTest, settled-looked, first, here, none-below, none-between}
+use Rattle.marks.specs.FirstParts.{bothTwo, settledTest, settled-looked, first, here, none-below, none-between}
 use Rattle.numbering.specs.Counts.{split-none}
 
 -- the splits from part a on
