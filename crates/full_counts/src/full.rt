@@ -4,8 +4,8 @@ ghost use Prim.Native.Nat.{ℕ, _^_, _≤_, _<_};
 ghost use Rattle.rules.specs.Limits.{mostInputs};
 ghost use Rattle.rules.specs.Groups.{size};
 ghost use Rattle.trees.specs.FamilyBounds.{treesOn};
-ghost use Rattle.numbering.specs.Counts.{Countable, CountsKept, CountKept};
-use crate::counts;
+ghost use Rattle.counting.specs.Counts.{Countable, CountsKept, CountKept};
+use counting::counts;
 use marks::own;
 use radix::members;
 

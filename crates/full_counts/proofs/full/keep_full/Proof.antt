@@ -1,4 +1,4 @@
--- `numbering::full::keep_full` meets its contract. The loop's invariant: what is kept is right, and the parts that are passed have mark 2, so that the next one, if it has
+-- `full_counts::full::keep_full` meets its contract. The loop's invariant: what is kept is right, and the parts that are passed have mark 2, so that the next one, if it has
 -- mark 2, is full. Assumes nothing.
 use Prim.Native.Nat.{ℕ, _-_, _^_, _≤_, _<_}
 use mathlib.Core.Path.{_≡_, refl, ap, _∙_}
@@ -11,11 +11,11 @@ use Rattle.rules.specs.Marks.{markIn}
 use Rattle.trees.specs.Members.{size-le}
 use Rattle.trees.specs.FamilyCounts.{counted}
 use Rattle.trees.specs.FamilyBounds.{treesOn}
-use Rattle.numbering.specs.Counts.{CountsKept, Countable, one-kept}
-use Rattle.numbering.specs.Full.{TwosTo, twos-none, twos-next, last-full, full-count}
-use Rattle.numbering.proofs.Walking.{Passed, passed-none, passed-next}
-use Rattle.numbering.proofs.full.keep_full.Statement.{statement}
-use Rattle.numbering.proofs.full.keep_full.Tie as tie
+use Rattle.counting.specs.Counts.{CountsKept, Countable, one-kept}
+use Rattle.full_counts.specs.Full.{TwosTo, twos-none, twos-next, last-full, full-count}
+use Rattle.counting.specs.Walking.{Passed, passed-none, passed-next}
+use Rattle.full_counts.proofs.full.keep_full.Statement.{statement}
+use Rattle.full_counts.proofs.full.keep_full.Tie as tie
 
 abbrev Inv-loop : tie.InvT-loop
 Inv-loop marks counts₀ g part₀ counts part = (length counts ≡ length counts₀) × CountsKept marks counts × Passed g part × TwosTo marks g part

@@ -1,9 +1,9 @@
--- `numbering::full::members_of` meets its contract: a group's number has a bit for each member. Assumes nothing.
+-- `full_counts::full::members_of` meets its contract: a group's number has a bit for each member. Assumes nothing.
 use native.Mathlib.Omega.{arith}
 use lib.Count.{ones-le}
-use Rattle.numbering.specs.Full.{ones-size}
-use Rattle.numbering.proofs.full.members_of.Statement.{statement}
-use Rattle.numbering.proofs.full.members_of.Tie as tie
+use Rattle.full_counts.specs.Full.{ones-size}
+use Rattle.full_counts.proofs.full.members_of.Statement.{statement}
+use Rattle.full_counts.proofs.full.members_of.Tie as tie
 
 cast-result : tie.Need-cast-result
 cast-result c = omega (arith, ones-le 64 (c .args .g) (omega arith))

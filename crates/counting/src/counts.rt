@@ -2,13 +2,13 @@
 ghost use mathlib.Core.Path.{_≡_};
 ghost use Prim.Native.Nat.{_-_, _*_, _^_, _<_};
 ghost use lib.ListN.{length, getD};
-ghost use Rattle.numbering.specs.Counts.{Countable, Splittable, CountKept, SplitKept};
+ghost use Rattle.counting.specs.Counts.{Countable, Splittable, CountKept, SplitKept};
 use marks::own;
 use marks::split;
 use radix::members;
 
 // What is kept of a and of the rest of g, multiplied: 0 where one of the two is not yet known.
-fn kept_product(counts: &[u64], g: usize, a: usize) -> u64
+pub fn kept_product(counts: &[u64], g: usize, a: usize) -> u64
     requires { ⌜ (a < g) × (g < length (now counts)) × (getD (now counts) a 0 * getD (now counts) (g - a) 0 < 2 ^ 64) ⌝ }
     ensures { λ r. ⌜ r ≡ getD (now (counts .entry)) a 0 * getD (now (counts .entry)) (g - a) 0 ⌝ }
 {
@@ -61,16 +61,4 @@ pub fn split_count(marks: &[u8], counts: &mut [u64], g: usize, a: usize) -> u64
     let left = group_count(marks, counts, a);
     let right = group_count(marks, counts, g - a);
     left * right
-}
-
-// The same, from what is kept where both groups are known.
-pub fn known_split(marks: &[u8], counts: &mut [u64], g: usize, a: usize) -> u64
-    requires { ⌜ Splittable (now marks) (now counts) g a ⌝ }
-    ensures { λ r. ⌜ SplitKept (now (marks .entry)) g a r (now (counts .exit)) ⌝ }
-{
-    let product = kept_product(counts, g, a);
-    if product != 0 {
-        return product;
-    }
-    split_count(marks, counts, g, a)
 }

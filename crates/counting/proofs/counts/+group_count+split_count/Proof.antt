@@ -1,4 +1,4 @@
--- `numbering::counts::group_count` and `split_count`, which call each other, meet their contracts. The measure is twice the group's number, and one less for a split
+-- `counting::counts::group_count` and `split_count`, which call each other, meet their contracts. The measure is twice the group's number, and one less for a split
 -- of it: both parts of a split are below the group. The loop's invariant: what is kept is right, and the sum is that of the splits passed. Assumes nothing.
 use Prim.Native.Nat.{ℕ, _+_, _-_, _*_, _^_, _<_}
 use mathlib.Core.Path.{_≡_, refl, sym, ap₂, _∙_}
@@ -16,24 +16,24 @@ use Rattle.trees.specs.FamilyCounts.{counted, splitCounted, count-none, count-s
 use Rattle.trees.specs.FamilyBounds.{count-fits}
 use Rattle.radix.specs.Parts.{Part, Next}
 use Rattle.radix.specs.Widths.{groupsEnd}
-use Rattle.numbering.specs.Counts.{CountsKept, Countable, Splittable, one-kept, smaller, split-none, split-fits, product-fits, product-split}
-use Rattle.numbering.proofs.Walking.{Passed, passed-none, passed-next, looked, Summed, summed-none, summed-next, summed-all, summed-most}
+use Rattle.counting.specs.Counts.{CountsKept, Countable, Splittable, one-kept, smaller, split-none, split-fits, product-fits, product-split}
+use Rattle.counting.specs.Walking.{Passed, passed-none, passed-next, looked, Summed, summed-none, summed-next, summed-all, summed-most}
 use borrow.Fn.Kinds.{In}
 use borrow.Fn.PlainCycle.{Measures, is, falls, and}
-use Rattle.numbering.proofs.counts.group_count.Reads as group-count
-use Rattle.numbering.proofs.counts.group_count.Kinds as group-count-kinds
-use Rattle.numbering.proofs.counts.+group_count+split_count.Lts-group_count as group-count-lts
-use Rattle.numbering.proofs.counts.split_count.Reads as split-count
-use Rattle.numbering.proofs.counts.split_count.Kinds as split-count-kinds
-use Rattle.numbering.proofs.counts.+group_count+split_count.Lts-split_count as split-count-lts
-use Rattle.numbering.proofs.counts.kept_product.Reads as kept-product-reads
+use Rattle.counting.proofs.counts.group_count.Reads as group-count
+use Rattle.counting.proofs.counts.group_count.Kinds as group-count-kinds
+use Rattle.counting.proofs.counts.+group_count+split_count.Lts-group_count as group-count-lts
+use Rattle.counting.proofs.counts.split_count.Reads as split-count
+use Rattle.counting.proofs.counts.split_count.Kinds as split-count-kinds
+use Rattle.counting.proofs.counts.+group_count+split_count.Lts-split_count as split-count-lts
+use Rattle.counting.proofs.counts.kept_product.Reads as kept-product-reads
 use Rattle.marks.proofs.split.both_two.Reads as both-two-reads
 use Rattle.marks.proofs.own.mark_at.Reads as mark-at-reads
 use Rattle.radix.proofs.members.next_part.Reads as next-part-reads
 use Rattle.radix.proofs.members.single.Reads as single-reads
 use Rattle.radix.proofs.members.without_first.Reads as without-first-reads
-use Rattle.numbering.proofs.counts.+group_count+split_count.{statement}
-use Rattle.numbering.proofs.counts.+group_count+split_count.Tie.{close}
+use Rattle.counting.proofs.counts.+group_count+split_count.{statement}
+use Rattle.counting.proofs.counts.+group_count+split_count.Tie.{close}
 
 abbrev μ-group-count : Measures 2 group-count-kinds.ps ℕ
 μ-group-count κs a = a .1 .1 .0 + a .1 .1 .0

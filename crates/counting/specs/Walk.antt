@@ -18,7 +18,7 @@ use Rattle.trees.specs.MarkTwo.{isA}
 use Rattle.trees.specs.FamilyCounts.{splitCounted}
 use Rattle.radix.specs.Parts.{Part, Next, without-first}
 use Rattle.marks.specs.FirstParts.{bothTwo, settledTest, settled-looked, first, here, none-below, none-between}
-use Rattle.numbering.specs.Counts.{split-none}
+use Rattle.counting.specs.Counts.{split-none}
 
 -- the splits from part a on
 abbrev pub splitsFrom : ℕ → List ℕ → ℕ → ℕ → List ℕ

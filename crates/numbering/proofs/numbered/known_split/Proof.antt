@@ -1,9 +1,9 @@
--- `numbering::counts::known_split` meets its contract: a product of kept counts that is not 0 is the split's count. Assumes nothing.
+-- `numbering::numbered::known_split` meets its contract: a product of kept counts that is not 0 is the split's count. Assumes nothing.
 use mathlib.Core.Path.{_∙_}
 use borrow.Author.Needs.{needs}
-use Rattle.numbering.specs.Counts.{product-fits, product-split}
-use Rattle.numbering.proofs.counts.known_split.Statement.{statement}
-use Rattle.numbering.proofs.counts.known_split.Tie as tie
+use Rattle.counting.specs.Counts.{product-fits, product-split}
+use Rattle.numbering.proofs.numbered.known_split.Statement.{statement}
+use Rattle.numbering.proofs.numbered.known_split.Tie as tie
 
 kept-product-requires : tie.Need-kept-product-requires
 kept-product-requires c κs =
