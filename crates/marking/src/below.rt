@@ -5,7 +5,7 @@ ghost use lib.ListN.{length};
 ghost use Rattle.rules.specs.Limits.{mostLevels};
 ghost use Rattle.rules.specs.Answers.{inkIn};
 ghost use Rattle.radix.specs.Widths.{groupsEnd};
-ghost use Rattle.quick.specs.Steps.{Work, Next};
+ghost use Rattle.judging.specs.Steps.{Work, Next};
 ghost use Rattle.marking.specs.Marking.{Below};
 ghost use Rattle.marking.specs.Quick.{MarkBy, GroupMarked};
 use group_marks::group;
