@@ -17,7 +17,7 @@ use Rattle.laws.specs.Sizes.{sized}
 use Rattle.trees.specs.MarkRule.{marks-length}
 use Rattle.trees.specs.LeafGroup.{leaves-below, leaves-some}
 use Rattle.filling.specs.MadeNet.{some-level, two-inputs}
-use Rattle.numbering.specs.Counts.{CountsKept, Countable, CountKept}
+use Rattle.tree_counts.specs.Counts.{CountsKept, Countable, CountKept}
 
 -- no count is known yet
 abbrev pub NoneKnown : List ℕ → Type 0

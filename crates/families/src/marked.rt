@@ -6,10 +6,10 @@ ghost use lib.ListN.{length};
 ghost use Rattle.rules.specs.Limits.{sizeFits};
 ghost use Rattle.rules.specs.Marks.{marksLength};
 ghost use Rattle.families.specs.Marked.{NoneKnown, MarkedCount};
+use full_counts::full;
 use leaves::group;
 use lines::put::copy;
 use marking::all;
-use numbering::full;
 use radix::powers;
 
 // The count is 0 where the table has no tree. `own` is for the call's own marks, and `counts` comes in with nothing known.

@@ -9,7 +9,7 @@ ghost use Rattle.rules.specs.Leaves.{leavesOf};
 ghost use Rattle.rules.specs.Family.{treeCount, familyGates};
 ghost use Rattle.rules.specs.Answers.{inkIn};
 ghost use Rattle.filling.specs.MadeNet.{NetOf};
-ghost use Rattle.numbering.specs.Counts.{Countable};
+ghost use Rattle.tree_counts.specs.Counts.{Countable};
 use filling::fill;
 use leaves::group;
 use nets::forms;

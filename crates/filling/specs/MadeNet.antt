@@ -23,7 +23,7 @@ use Rattle.nets.specs.declared.forms.Net.{Net}
 use Rattle.nets.specs.Forms.{gatesOf}
 use Rattle.laws.specs.Sizes.{sized}
 use Rattle.marks.specs.Splits.{split-agree}
-use Rattle.marks.specs.Fewest.{Known, shallow-agree}
+use Rattle.fewest.specs.Fewest.{Known, shallow-agree}
 use Rattle.trees.specs.Trees.{WiringOf, EachGate}
 use Rattle.trees.specs.Classes.{Few}
 use Rattle.trees.specs.Members.{member-inside, size-le}

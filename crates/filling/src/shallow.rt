@@ -10,7 +10,7 @@ ghost use Rattle.rules.specs.Answers.{inkIn};
 ghost use Rattle.wirings.specs.declared.choice.Choice.the-variants.{Shallow};
 ghost use Rattle.filling.specs.MadeNet.{MarksIn, MadeNet};
 use crate::chosen;
-use marks::layers;
+use fewest::layers;
 use marks::own;
 use nets::forms;
 use wirings::choice::Choice;

@@ -7,8 +7,8 @@ use native.Mathlib.Omega.{arith}
 use lib.ListN.{length, set}
 use lib.Pow.{pow-mono}
 use Rattle.radix.specs.Widths.{mostMembers, groupsEnd}
-use Rattle.quick.specs.Known.{Known}
-use Rattle.quick.specs.Steps.{Near, near-none, near-next, Next}
+use Rattle.covering.specs.Known.{Known}
+use Rattle.judging.specs.Steps.{Near, near-none, near-next, Next}
 use Rattle.marking.specs.Marking.{Below, below-none, has-room, below-next}
 use Rattle.marking.specs.Quick.{GroupMarked}
 

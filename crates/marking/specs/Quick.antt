@@ -11,8 +11,8 @@ use lib.Seq.{getD-take, length-take-le}
 use Rattle.rules.specs.Groups.{wholeGroup, multiplicity}
 use Rattle.rules.specs.Marks.{markOf}
 use Rattle.trees.specs.Covers.{whole-few}
-use Rattle.quick.specs.Known.{Known, Found, found-few, found-many}
-use Rattle.marks.specs.Rule.{fewMark, mark-empty, many-mark, few-mark}
+use Rattle.covering.specs.Known.{Known, Found, found-few, found-many}
+use Rattle.group_marks.specs.Rule.{fewMark, mark-empty, many-mark, few-mark}
 
 -- the mark of a group of which `count` assignments are kept
 pub record MarkBy (marks : List ℕ) (g count mark : ℕ) : Type 0 where

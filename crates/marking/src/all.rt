@@ -11,9 +11,9 @@ ghost use Rattle.marking.specs.Quick.{fewInputs, fewCells, Lent};
 use crate::below;
 use crate::whole;
 use marks::own;
-use marks::stored;
 use radix::limits;
 use radix::powers;
+use storing::stored;
 
 // The inputs and the cells of a table for which small work arrays will do, and its groups.
 pub const FEW_INPUTS: usize = 6;

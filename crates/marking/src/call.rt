@@ -15,7 +15,7 @@ use answers::answer::Answer;
 use answers::outcome::Outcome;
 use bare_cells::bare;
 use marks::own;
-use marks::stored;
+use storing::stored;
 
 // Marks every group, with own marks for few groups, and stores the marks.
 fn store_small(m: usize, n: usize, cells: &[u8], buffer: &mut [u8]) -> u8

@@ -8,7 +8,7 @@ ghost use Rattle.rules.specs.Marks.{markOf};
 ghost use Rattle.rules.specs.Answers.{inkIn};
 ghost use Rattle.groups.specs.Within.{Room};
 use bare_cells::inks;
-use marks::group;
+use group_marks::group;
 use radix::powers;
 
 // The whole group has as many classes as there are inks: few, where each is below m.

@@ -2,21 +2,25 @@
 -- Assumes nothing.
 use Prim.Native.Nat.{ℕ, _+_, _-_, _^_, _≤_, _<_}
 use mathlib.Core.Path.{_≡_, refl}
-use mathlib.Core.Bool.{Bool, true, false, and-eq-true-iff, and-true}
+use mathlib.Core.Bool.{Bool, true, false, _&&_, and-eq-true-iff, and-true}
 use mathlib.Core.List.{List}
 use native.Mathlib.Omega.{arith}
 use lib.Bits.{and-self}
+use lib.Dec.{eqb}
 use lib.Pow.{pow-pos}
 use Rattle.rules.specs.Groups.{member}
-use Rattle.rules.specs.Marks.{inside, partsAt}
+use Rattle.rules.specs.Marks.{inside, markIn, partsAt}
 use Rattle.rules.specs.Wirings.{firstInput}
 use Rattle.trees.specs.MarkTwo.{isA}
 use Rattle.trees.specs.MarkRule.{parts-at-holds}
 use Rattle.radix.specs.Parts.{Part, Next, without-first}
-use Rattle.marks.specs.Fewest.{bothTwo}
 use Rattle.marks.specs.Splits.{holds-part, part-holds}
 
 -- ---- what is looked for
+
+-- a and the rest of g have mark 2
+abbrev pub bothTwo : List ℕ → ℕ → ℕ → Bool
+bothTwo marks g a = eqb (markIn marks a) 2 && eqb (markIn marks (g - a)) 2
 
 -- A test for A, which only a part of g that holds the first-listed input passes; `look` is what the code tests of such a part.
 pub record Looked (g : ℕ) (test : ℕ → ℕ → Bool) (look : ℕ → Bool) : Type 0 where

@@ -1,5 +1,4 @@
-pub mod Fewest
-pub mod Rule
 pub mod Splits
 pub mod FirstParts
+pub mod Searching
 pub mod Place

@@ -1,7 +1,4 @@
-// Marks: a call's own, how they are stored, the split of a group, its fewest layers, one group's mark, the place of refusal 16.
-pub mod group;
-pub mod layers;
+// Marks: a call's own, the split of a group, the place of refusal 16.
 pub mod own;
 pub mod place;
 pub mod split;
-pub mod stored;

@@ -1,4 +1,1 @@
-pub mod Counts
-pub mod Full
 pub mod Numbered
-pub mod Walk

@@ -17,7 +17,7 @@ use Rattle.wirings.specs.declared.forms.Wiring.{Wiring}
 use Rattle.wirings.specs.Links.{linksIn, none-in, Linked}
 use Rattle.wirings.specs.AddedWiring.{AddedWiring, wiring-input, wiring-gate}
 use Rattle.numbering.specs.declared.numbered.Numbered.{Numbered}
-use Rattle.numbering.specs.Counts.{CountsKept}
+use Rattle.tree_counts.specs.Counts.{CountsKept}
 
 -- ---- the split
 

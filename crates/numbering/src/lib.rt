@@ -1,4 +1,2 @@
-// The trees of a group numbered: how many there are, and the wiring of each number.
-pub mod counts;
-pub mod full;
+// The trees of a group numbered: the wiring of each number.
 pub mod numbered;

@@ -3,10 +3,10 @@ ghost use mathlib.Core.Path.{_≡_};
 ghost use Prim.Native.Nat.{_+_, _≤_};
 ghost use Rattle.rules.specs.Groups.{size};
 ghost use Rattle.rules.specs.Marks.{markIn};
-ghost use Rattle.numbering.specs.Counts.{Countable};
+ghost use Rattle.tree_counts.specs.Counts.{Countable, Splittable, SplitKept};
 ghost use Rattle.numbering.specs.Numbered.{InCount, SplitFound, NumberWired, WiringFound};
-use crate::counts;
 use radix::members;
+use tree_counts::counts;
 use wirings::choose::Wired;
 use wirings::forms;
 
@@ -14,6 +14,18 @@ use wirings::forms;
 pub struct Numbered {
     pub part: usize,
     pub number: u64,
+}
+
+// The count of the split of group g, which has mark 2, into a and the rest, from what is kept where both groups are known.
+fn known_split(marks: &[u8], counts: &mut [u64], g: usize, a: usize) -> u64
+    requires { ⌜ Splittable (now marks) (now counts) g a ⌝ }
+    ensures { λ r. ⌜ SplitKept (now (marks .entry)) g a r (now (counts .exit)) ⌝ }
+{
+    let product = counts::kept_product(counts, g, a);
+    if product != 0 {
+        return product;
+    }
+    counts::split_count(marks, counts, g, a)
 }
 
 // The split of group g that number r falls in, and its number there: split counts are taken off r until it is below the next one.
@@ -26,7 +38,7 @@ fn numbered_split(marks: &[u8], counts: &mut [u64], g: usize, r: u64) -> Numbere
     let mut left: u64 = r;
     let mut part: usize = 0;
     while part < rest {
-        let count = counts::known_split(marks, counts, g, first + part);
+        let count = known_split(marks, counts, g, first + part);
         if left < count {
             return Numbered {
                 part: first + part,

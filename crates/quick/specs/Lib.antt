@@ -1,10 +1,1 @@
-pub mod Copies
-pub mod Spreads
-pub mod Known
-pub mod Covering
-pub mod Runs
-pub mod Columns
-pub mod Rows
-pub mod Telling
 pub mod Sources
-pub mod Steps

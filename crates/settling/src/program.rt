@@ -8,8 +8,8 @@ use crate::calls;
 use answers::answer::Answer;
 use lines::input::first_read;
 use lines::refusal;
-use marks::stored;
 use radix::limits;
+use storing::stored;
 
 // The first `length` bytes are the text.
 pub struct Printed {

@@ -9,8 +9,8 @@ ghost use Rattle.rules.specs.Settling.{roomFor};
 ghost use Rattle.nets.specs.Forms.{tableIn};
 ghost use Rattle.answers.specs.Answers.{outcomeAs};
 use answers::outcome::Outcome;
-use marks::stored;
 use nets::forms::Header;
+use storing::stored;
 
 // `inks` is the table, and `header` has its levels and inputs.
 pub fn room(header: Header, inks: &[u8], cells: &[u8], marks: &[u8]) -> Outcome

@@ -4,8 +4,8 @@ ghost use Prim.Native.Nat.{ℕ, _^_, _≤_, _<_};
 ghost use lib.ListN.{length};
 ghost use Rattle.radix.specs.Widths.{groupsEnd};
 ghost use Rattle.wirings.specs.Choice.{splitBy, LayersRoom};
-use marks::layers;
 use marks::split;
+use shallowest::part;
 
 // The settled wiring, or the shallow one.
 pub enum Choice {
@@ -20,6 +20,6 @@ pub fn part_of(choice: Choice, marks: &[u8], fewest: &[u8], g: usize) -> usize
 {
     match choice {
         Choice::Settled => split::split_of(marks, g),
-        Choice::Shallow => layers::shallow_split(marks, fewest, g),
+        Choice::Shallow => part::shallow_split(marks, fewest, g),
     }
 }

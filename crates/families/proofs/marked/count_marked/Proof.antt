@@ -10,7 +10,7 @@ use Rattle.rules.specs.Marks.{marksOf}
 use Rattle.rules.specs.Answers.{inkIn}
 use Rattle.laws.specs.Sizes.{sized}
 use Rattle.lines.specs.Put.{put-wrote}
-use Rattle.numbering.specs.Counts.{CountsKept, Countable}
+use Rattle.tree_counts.specs.Counts.{CountsKept, Countable}
 use Rattle.families.specs.Marked.{marks-front, leaves-countable, leaves-counted}
 use Rattle.families.proofs.marked.count_marked.Statement.{statement}
 use Rattle.families.proofs.marked.count_marked.Tie as tie

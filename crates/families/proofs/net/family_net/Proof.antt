@@ -5,7 +5,7 @@ use borrow.Author.Needs.{needs}
 use Rattle.rules.specs.Leaves.{leavesOf}
 use Rattle.rules.specs.Answers.{inkIn}
 use Rattle.sampling.specs.Sized.{Sized, sized}
-use Rattle.numbering.specs.Counts.{Countable}
+use Rattle.tree_counts.specs.Counts.{Countable}
 use Rattle.numbering.specs.Numbered.{InCount, WiringFound}
 use Rattle.families.specs.FamilyNet.{leaves-in, number-count, number-fills, number-net}
 use Rattle.families.proofs.net.family_net.Statement.{statement}

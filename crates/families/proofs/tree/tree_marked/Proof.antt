@@ -10,7 +10,7 @@ use Rattle.rules.specs.Limits.{mostInputs}
 use Rattle.rules.specs.Marks.{marksOf}
 use Rattle.rules.specs.Answers.{inkIn}
 use Rattle.synthesis.specs.Outcomes.{given-size, given-count, given-below, made-inside, made-short}
-use Rattle.numbering.specs.Counts.{CountsKept}
+use Rattle.tree_counts.specs.Counts.{CountsKept}
 use Rattle.families.specs.Marked.{none-known, groups-room, marks-front, leaves-countable}
 use Rattle.families.specs.Outcomes.{order-past, order-tree}
 use Rattle.families.proofs.tree.tree_marked.Statement.{statement}

@@ -2,7 +2,7 @@
 use native.Mathlib.Omega.{arith}
 use lib.Pow.{pow-mono}
 use Rattle.laws.specs.Sizes.{sized}
-use Rattle.quick.specs.Steps.{places-fit}
+use Rattle.judging.specs.Steps.{places-fit}
 use borrow.Author.Needs.{needs}
 use Rattle.marking.proofs.all.mark_large.Statement.{statement}
 use Rattle.marking.proofs.all.mark_large.Tie as tie

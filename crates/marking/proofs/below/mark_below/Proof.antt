@@ -7,7 +7,7 @@ use native.Mathlib.Omega.{arith}
 use borrow.Author.Count.{falls}
 use lib.Pow.{pow-pos}
 use Rattle.rules.specs.Answers.{inkIn}
-use Rattle.quick.specs.Steps.{work-same, Near}
+use Rattle.judging.specs.Steps.{work-same, Near}
 use Rattle.marking.specs.Marking.{Below}
 use Rattle.marking.proofs.Passing.{Long, Passed, passed-none, passed-past, passed-step, passed-room, passed-next}
 use Rattle.marking.proofs.below.mark_below.Statement.{statement}

@@ -1,7 +1,7 @@
 -- `marking::below::mark_next` meets its contract: what is found of the group gives its mark, and it is known. Assumes nothing.
 use native.Mathlib.Omega.{arith}
 use lib.Pow.{pow-mono}
-use Rattle.quick.specs.Known.{found-most, known-next}
+use Rattle.covering.specs.Known.{found-most, known-next}
 use Rattle.marking.specs.Quick.{found-mark}
 use borrow.Author.Needs.{needs}
 use Rattle.marking.proofs.below.mark_next.Statement.{statement}

@@ -6,7 +6,7 @@ use native.Mathlib.Omega.{arith}
 use Rattle.rules.specs.Settled.{splitOf}
 use Rattle.radix.specs.Widths.{mostMembers}
 use Rattle.marks.specs.FirstParts.{settledTest, settled-looked}
-use Rattle.marks.proofs.Searching.{Sought, sought-none, sought-all, here, sought-found, sought-next}
+use Rattle.marks.specs.Searching.{Sought, sought-none, sought-all, here, sought-found, sought-next}
 use Rattle.marks.proofs.split.split_of.Statement.{statement}
 use Rattle.marks.proofs.split.split_of.Tie as tie
 

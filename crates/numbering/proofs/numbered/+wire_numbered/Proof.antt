@@ -11,14 +11,14 @@ use Rattle.rules.specs.Wirings.{firstInput}
 use Rattle.trees.specs.Members.{size-one}
 use Rattle.rules.specs.Family.{splitsOf, numberedAt}
 use Rattle.trees.specs.FamilyCounts.{counted, splitCounted, counted-two}
-use Rattle.numbering.specs.Counts.{Countable, smaller}
+use Rattle.tree_counts.specs.Counts.{Countable, smaller}
 use Rattle.numbering.specs.Numbered.{InCount, NumberWired, numbered-single, part-less, part-sizes, count-some, left-in, right-in, numbered-several}
 use borrow.Fn.Kinds.{In}
 use borrow.Fn.PlainCycle.{Measures, is, falls, and}
 use Rattle.numbering.proofs.numbered.wire_numbered.Reads as wire-numbered
 use Rattle.numbering.proofs.numbered.wire_numbered.Kinds as wire-numbered-kinds
 use Rattle.numbering.proofs.numbered.+wire_numbered.Lts-wire_numbered as lts
-use Rattle.numbering.proofs.counts.group_count.Reads as group-count-reads
+use Rattle.tree_counts.proofs.counts.group_count.Reads as group-count-reads
 use Rattle.numbering.proofs.numbered.numbered_split.Reads as numbered-split-reads
 use Rattle.radix.proofs.members.first_input.Reads as first-input-reads
 use Rattle.radix.proofs.members.single.Reads as single-reads

@@ -7,8 +7,8 @@ use native.Mathlib.Omega.{arith}
 use lib.ListN.{length}
 use Rattle.rules.specs.Limits.{mostInputs}
 use Rattle.rules.specs.Wirings.{firstInput}
-use Rattle.numbering.specs.Counts.{CountsKept, Countable, Splittable}
-use Rattle.numbering.proofs.Walking.{Passed, passed-none, passed-next, looked, Left, left-all, left-none, left-here, left-later}
+use Rattle.tree_counts.specs.Counts.{CountsKept, Countable, Splittable}
+use Rattle.tree_counts.specs.Walking.{Passed, passed-none, passed-next, looked, Left, left-all, left-none, left-here, left-later}
 use Rattle.numbering.proofs.numbered.numbered_split.Statement.{statement}
 use Rattle.numbering.proofs.numbered.numbered_split.Tie as tie
 

@@ -1,7 +1,7 @@
 -- `quick::source::source` meets its contract. The loop's invariant: the members that are left are members, and the best so far is one. Assumes nothing.
 use Prim.Native.Nat.{_-_, _^_, _≤_, _<_}
 use native.Mathlib.Omega.{arith}
-use Rattle.quick.specs.Known.{places-before}
+use Rattle.covering.specs.Known.{places-before}
 use Rattle.quick.proofs.Taking.{Takes, takes-none, takes-one, takes-less, takes-next}
 use Rattle.quick.proofs.source.source.Statement.{statement}
 use Rattle.quick.proofs.source.source.Tie as tie

@@ -3,9 +3,10 @@ use Prim.Native.Nat.{_+_, _-_, _*_, _≤_, _<_}
 use mathlib.Core.Path.{_≡_, subst}
 use native.Mathlib.Omega.{arith}
 use lib.ListN.{length, getD}
-use Rattle.quick.specs.Known.{Base}
+use Rattle.covering.specs.Known.{Base}
 use Rattle.quick.specs.Sources.{PassesOn, OneOf}
-use Rattle.quick.proofs.Stepping.{step-level, step-own-places, step-counted, step-empty, step-off-lower, step-inner, step-passed}
+use Rattle.judging.specs.Working.{step-level, step-own-places, step-counted}
+use Rattle.quick.proofs.Stepping.{step-empty, step-off-lower, step-inner, step-passed}
 use borrow.Author.Needs.{needs}
 use Rattle.quick.proofs.step.keep_group.Statement.{statement}
 use Rattle.quick.proofs.step.keep_group.Tie as tie

@@ -1,7 +1,7 @@
 -- `quick::step::past_of` meets its contract: twice the power where it is reached. Assumes nothing.
 use native.Mathlib.Omega.{arith}
 use lib.Pow.{pow-pos}
-use Rattle.quick.specs.Steps.{near-twice}
+use Rattle.judging.specs.Steps.{near-twice}
 use Rattle.quick.proofs.step.past_of.Statement.{statement}
 use Rattle.quick.proofs.step.past_of.Tie as tie
 

@@ -1,0 +1,4 @@
+pub mod Copies
+pub mod Spreads
+pub mod Known
+pub mod Covering

@@ -1,0 +1,2 @@
+// Assignments that cover a group.
+pub mod cover;

@@ -1,0 +1,2 @@
+// The fewest layers of the groups of mark 2.
+pub mod layers;

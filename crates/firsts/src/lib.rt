@@ -1,0 +1,2 @@
+// The first of each class among rows of a group.
+pub mod rows;

@@ -1,0 +1,87 @@
+// The first of each class among rows of a group, told by columns.
+ghost use mathlib.Core.Path.{_≡_};
+ghost use Prim.Native.Nat.{ℕ, _≤_, _<_};
+ghost use lib.ListN.{length, take, getD};
+ghost use Rattle.rules.specs.Lists.{firstPlace};
+ghost use Rattle.rules.specs.Groups.{alikeOver};
+ghost use Rattle.rules.specs.Answers.{inkIn};
+ghost use Rattle.groups.specs.Within.{Within};
+ghost use Rattle.row_comparing.specs.Columns.{columnsOf, Column};
+ghost use Rattle.firsts.specs.Rows.{RowsFit, RowFirsts};
+use groups::differences::Difference;
+use row_comparing::runs;
+
+// Is the ink the same at p and at q for each of the columns? The column `hint` is looked at first: it told other rows apart.
+fn alike_by(cells: &[u8], heads: &[u16], run: usize, p: usize, q: usize, hint: usize) -> bool
+    requires { ⌜ (0 < run) × (Column (columnsOf run (now heads)) hint) × (Within (length (now cells)) (columnsOf run (now heads)) p)
+        × (Within (length (now cells)) (columnsOf run (now heads)) q) ⌝ }
+    ensures { λ r. ⌜ r ≡ alikeOver (inkIn (now (cells .entry))) (columnsOf run (now (heads .entry))) p q ⌝ }
+{
+    if cells[p + hint] != cells[q + hint] {
+        return false;
+    }
+    let found = runs::column_apart(cells, heads, run, p, q);
+    match found {
+        Difference::None => true,
+        Difference::At(_) => false,
+    }
+}
+
+// The number of p's class, where the front `count` of `firsts` are the first of each class; `count` where p is in none.
+fn class_of(
+    cells: &[u8],
+    heads: &[u16],
+    run: usize,
+    firsts: &[u16],
+    count: usize,
+    p: usize,
+    hint: usize,
+) -> usize
+    requires { ⌜ (0 < run) × (Column (columnsOf run (now heads)) hint) × (count ≤ length (now firsts)) × (Within (length (now cells)) (columnsOf run (now heads)) p)
+        × ((j : ℕ) → j < count → Within (length (now cells)) (columnsOf run (now heads)) (getD (now firsts) j 0)) ⌝ }
+    ensures { λ r. ⌜ r ≡ firstPlace (alikeOver (inkIn (now (cells .entry))) (columnsOf run (now (heads .entry))) p) (take count (now (firsts .entry))) ⌝ }
+{
+    let mut j: usize = 0;
+    while j < count {
+        if alike_by(cells, heads, run, p, firsts[j] as usize, hint) {
+            return j;
+        }
+        j += 1;
+    }
+    count
+}
+
+// Goes through the rows xs and puts the first of each class to the front of `firsts`. Answers how many classes there are, or m + 1 as soon as so many
+// are found.
+pub fn row_firsts(
+    cells: &[u8],
+    xs: &[u16],
+    heads: &[u16],
+    run: usize,
+    m: usize,
+    firsts: &mut [u16],
+) -> usize
+    requires { ⌜ RowsFit (length (now cells)) (now xs) (columnsOf run (now heads)) m (length (now firsts)) ⌝ }
+    ensures { λ r. ⌜ RowFirsts (inkIn (now (cells .entry))) (columnsOf run (now (heads .entry))) (now (xs .entry)) m r (now (firsts .exit)) ⌝ }
+{
+    firsts[0] = xs[0];
+    let mut count: usize = 1;
+    let mut hint = heads[0] as usize;
+    let mut i: usize = 1;
+    while i < xs.len() {
+        let p = xs[i];
+        if class_of(cells, heads, run, firsts, count, p as usize, hint) < count {
+            i += 1;
+        } else {
+            let q = firsts[count - 1];
+            firsts[count] = p;
+            if count == m {
+                return m + 1;
+            }
+            hint = runs::place_apart(cells, heads, run, p as usize, q as usize, hint);
+            count += 1;
+            i += 1;
+        }
+    }
+    count
+}

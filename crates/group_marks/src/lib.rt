@@ -1,0 +1,2 @@
+// The mark of one group by itself.
+pub mod group;

@@ -1,0 +1,4 @@
+pub mod Steps
+pub mod Counting
+pub mod LastInputs
+pub mod Working

@@ -1,3 +1,0 @@
-pub mod Packing
-pub mod Searching
-pub mod Scanning

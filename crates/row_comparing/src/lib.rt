@@ -1,0 +1,2 @@
+// Two rows of a group compared over columns.
+pub mod runs;

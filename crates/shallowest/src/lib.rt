@@ -1,0 +1,2 @@
+// The split that keeps a group shallowest.
+pub mod part;

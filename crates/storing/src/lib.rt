@@ -1,0 +1,2 @@
+// How marks are stored.
+pub mod stored;

@@ -1,0 +1,135 @@
+-- Counts as the code finds them and keeps them, for groups within the limits; they are the same for every number of inputs that has the group.
+-- Assumes nothing.
+use Prim.Native.Nat.{ℕ, _-_, _*_, _^_, _≤_, _<_}
+use mathlib.Core.Path.{_≡_, refl, ap₂, _∙_}
+use mathlib.Core.Logic.{_⊎_, inl, inr, ⊎-elim, _≢_}
+use mathlib.Core.Bool.{Bool, true, false, _&&_, and-eq-true-iff}
+use mathlib.Core.List.{List}
+use native.Mathlib.Nat.{mul-zero, zero-mul}
+use native.Mathlib.Decide.{ℕ-discrete}
+use native.Mathlib.Omega.{arith}
+use lib.Dec.{eqb}
+use lib.ListN.{length, getD, set}
+use lib.Seq.{getD-set-same, getD-set-other}
+use borrow.Author.Tests.{eqb-true, eqb-false}
+use Rattle.rules.specs.Limits.{mostInputs}
+use Rattle.rules.specs.Groups.{member}
+use Rattle.rules.specs.Marks.{inside, markIn}
+use Rattle.rules.specs.Wirings.{firstInput}
+use Rattle.rules.specs.SettledLaws.{MayBeA}
+use Rattle.rules.specs.Family.{splitCount}
+use Rattle.trees.specs.FamilyCounts.{counted, splitCounted, is-split, count-none, split-most}
+use Rattle.trees.specs.FamilyBounds.{count-fits}
+use Rattle.trees.specs.Families.{split-sizes}
+use Rattle.marks.specs.FirstParts.{bothTwo}
+
+-- ---- what is kept
+
+-- each entry is 0, for not yet known, or the group's count
+abbrev pub CountsKept : List ℕ → List ℕ → Type 0
+CountsKept marks counts = (g : ℕ) → (getD counts g 0 ≡ 0) ⊎ ((n : ℕ) → g < 2 ^ n → getD counts g 0 ≡ counted n marks g)
+
+-- one count more
+pub one-kept : (marks counts : List ℕ) (g count : ℕ) → CountsKept marks counts → g < length counts → ((n : ℕ) → g < 2 ^ n → count ≡ counted n marks g)
+    → CountsKept marks (set counts g count)
+one-kept marks counts g count kept room is h = go (ℕ-discrete h g)
+  where
+    go : Dec (h ≡ g) → (getD (set counts g count) h 0 ≡ 0) ⊎ ((n : ℕ) → h < 2 ^ n → getD (set counts g count) h 0 ≡ counted n marks h)
+    go (yes e) = inr (λ n h<. rw e (getD-set-same counts g count 0 room ∙ is n (rw e at h<)))
+    go (no other) = rw (getD-set-other counts g h count 0 other) (kept h)
+
+-- ---- what the two counts ask and tell
+
+-- group g is within the limits, and has its mark and its entry
+pub record Countable (marks counts : List ℕ) (g : ℕ) : Type 0 where
+  pub some : 0 < g
+  pub below : g < 2 ^ mostInputs
+  pub marked : g < length marks
+  pub room : g < length counts
+  pub kept : CountsKept marks counts
+
+-- g has mark 2, and a is a part that holds its first-listed input
+pub record Splittable (marks counts : List ℕ) (g a : ℕ) : Type 0 where
+  pub group : Countable marks counts g
+  pub two : markIn marks g ≡ 2
+  pub some : 0 < a
+  pub less : a < g
+  pub holds : (n : ℕ) → g < 2 ^ n → (inside n a g ≡ true) × (member (firstInput n g) a ≡ true)
+
+-- r is the group's count, and what is kept is right
+pub record CountKept (marks : List ℕ) (g r : ℕ) (counts : List ℕ) : Type 0 where
+  pub count : (n : ℕ) → g < 2 ^ n → r ≡ counted n marks g
+  pub kept : CountsKept marks counts
+
+-- .. the split's
+pub record SplitKept (marks : List ℕ) (g a r : ℕ) (counts : List ℕ) : Type 0 where
+  pub count : (n : ℕ) → g < 2 ^ n → r ≡ splitCounted n marks g a
+  pub kept : CountsKept marks counts
+
+-- a smaller group, with the counts that are kept by then
+pub smaller : (marks counts later : List ℕ) (g a : ℕ) → Countable marks counts g → 0 < a → a < g → length later ≡ length counts → CountsKept marks later
+    → Countable marks later a
+smaller marks counts later g a group some less same kept =
+    record {
+      some = some;
+      below = omega (arith, group .below);
+      marked = omega (arith, group .marked);
+      room = omega (arith, group .room);
+      kept = kept;
+    }
+
+-- ---- what a split counts for
+
+module _ (n : ℕ) (marks : List ℕ) (g a : ℕ) (g< : g < 2 ^ n) (some : 0 < a) (less : a < g) where
+  -- nothing, where a part has another mark than 2
+  pub split-none : bothTwo marks g a ≡ false → splitCounted n marks g a ≡ 0
+  unfolding splitCount
+  split-none = go (eqb (markIn marks a) 2) refl
+    where
+      go : (b : Bool) → eqb (markIn marks a) 2 ≡ b → (b && eqb (markIn marks (g - a)) 2) ≡ false → counted n marks a * counted n marks (g - a) ≡ 0
+      go true e other = rw (count-none n marks (g - a) (omega arith) (eqb-false _ 2 other)) (mul-zero _)
+      go false e other = rw (count-none n marks a (omega arith) (eqb-false _ 2 e)) (zero-mul _)
+
+  -- at most the group's count
+  pub split-within : markIn marks g ≡ 2 → inside n a g ≡ true → member (firstInput n g) a ≡ true → splitCounted n marks g a ≤ counted n marks g
+  split-within two is-inside is-held = go (bothTwo marks g a) refl
+    where
+      go : (b : Bool) → bothTwo marks g a ≡ b → splitCounted n marks g a ≤ counted n marks g
+      go false e = omega (arith, split-none e)
+      go true e =
+          let twos = and-eq-true-iff (eqb (markIn marks a) 2) _ .0 e in
+          let may : MayBeA n marks g a =
+          record { some = some; less = less; part = is-inside; two = eqb-true _ 2 (twos .0); rest-two = eqb-true _ 2 (twos .1); holds-first = is-held } in
+          let sizes = split-sizes n marks g a g< may in
+          split-most n marks g g< two (λ one. omega arith) a (is-split n marks g a may)
+
+-- so its product and the group's sum have 64 bits
+pub split-fits : (marks counts : List ℕ) (g a : ℕ) → Splittable marks counts g a → splitCounted mostInputs marks g a < 2 ^ 64
+split-fits marks counts g a split =
+    let within = split-within mostInputs marks g a (split .group .below) (split .some) (split .less) (split .two)
+    (split .holds mostInputs (split .group .below) .0) (split .holds mostInputs (split .group .below) .1) in
+    omega (arith, count-fits mostInputs marks (omega arith) g)
+
+-- ---- what is kept of a split's two groups, multiplied
+
+module _ (marks counts : List ℕ) (g a : ℕ) (split : Splittable marks counts g a) where
+  abbrev pub product : ℕ
+  product = getD counts a 0 * getD counts (g - a) 0
+
+  -- 0, or the split's count
+  product-kept : (product ≡ 0) ⊎ ((n : ℕ) → g < 2 ^ n → product ≡ splitCounted n marks g a)
+  unfolding splitCount
+  product-kept = go (split .group .kept a) (split .group .kept (g - a))
+    where
+      go : (getD counts a 0 ≡ 0) ⊎ ((n : ℕ) → a < 2 ^ n → getD counts a 0 ≡ counted n marks a)
+          → (getD counts (g - a) 0 ≡ 0) ⊎ ((n : ℕ) → g - a < 2 ^ n → getD counts (g - a) 0 ≡ counted n marks (g - a))
+          → (product ≡ 0) ⊎ ((n : ℕ) → g < 2 ^ n → product ≡ splitCounted n marks g a)
+      go (inl none) right = inl (rw none (zero-mul _))
+      go (inr left) (inl none) = inl (rw none (mul-zero _))
+      go (inr left) (inr right) = inr (λ n g<. ap₂ _*_ (left n (omega (arith, split .less))) (right n (omega arith)))
+
+  pub product-fits : product < 2 ^ 64
+  product-fits = ⊎-elim (λ none. omega (arith, none)) (λ is. omega (arith, is mostInputs (split .group .below), split-fits marks counts g a split)) product-kept
+
+  pub product-split : product ≢ 0 → (n : ℕ) → g < 2 ^ n → product ≡ splitCounted n marks g a
+  product-split some = ⊎-elim (λ none. absurd (some none)) (λ is. is) product-kept

@@ -1,0 +1,2 @@
+// How many trees a group has, by its splits.
+pub mod counts;
