@@ -12,8 +12,8 @@ use Rattle.rules.specs.LooseSheet.{anyLevel}
 use Rattle.fields.specs.Runs.{spacesEnd, spaces-here, spaces-later}
 use Rattle.fields.specs.Steps.{stepAs, itself}
 use Rattle.fields.specs.declared.steps.Step.the-variants.{On}
-use Rattle.table_reading.specs.Plain.{Plain, two-plain}
-use Rattle.table_reading.specs.Words.{pairAt}
+use Rattle.row_words.specs.Plain.{Plain, two-plain}
+use Rattle.row_words.specs.Words.{pairAt}
 use Rattle.loose_reading.specs.Index.{IndexRead, InIndex, index-start, index-done, index-fits, index-next}
 use Rattle.loose_reading.specs.Plain.{plain-level}
 

@@ -9,8 +9,8 @@ ghost use Rattle.loose_reading.specs.Even.{widthOf, evenBytes, zeroOf, s
 use fields::runs::SPACE;
 use fields::runs::ZERO;
 use fields::steps::Found;
+use row_words::words::two_bytes;
 use std::num::wrapping_sub_usize;
-use table_reading::due::two_bytes;
 
 // The level 0 with one space after it, and with three, as one number.
 const ONE: usize = ZERO + 256 * SPACE as usize;

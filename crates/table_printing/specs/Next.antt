@@ -13,8 +13,8 @@ use Rattle.rules.specs.Limits.{mostLevels, mostInputs}
 use Rattle.rules.specs.Sheets.{levelsAt}
 use Rattle.laws.specs.Bounds.{Below, below-append}
 use Rattle.laws.specs.Levels.{allTop, nextLevels, next-turn, next-up, next-length, zeros-front}
-use Rattle.table_reading.specs.declared.due.Words.{Words}
-use Rattle.table_reading.specs.Words.{duePair, WordsOf, middleOf}
+use Rattle.row_words.specs.declared.words.Words.{Words}
+use Rattle.row_words.specs.Words.{duePair, WordsOf, middleOf}
 use Rattle.table_printing.specs.Words.{fourWord, four-levels, Spells}
 
 -- ---- four levels

@@ -12,8 +12,8 @@ use Rattle.laws.specs.Bounds.{Below, below-at}
 use Rattle.laws.specs.Pastes.{sets-append}
 use Rattle.lines.specs.Lines.{spaced}
 use Rattle.lines.specs.Put.{Left, parts-left, put-left}
-use Rattle.table_reading.specs.declared.due.Words.{Words}
-use Rattle.table_reading.specs.Words.{packed, duePair, dueWord}
+use Rattle.row_words.specs.declared.words.Words.{Words}
+use Rattle.row_words.specs.Words.{packed, duePair, dueWord}
 use Rattle.table_printing.specs.Rows.{oneDigit, rowText, rowFrom, row-all, row-length}
 
 -- ---- the text of some levels

@@ -18,7 +18,7 @@ use lines::put::copy;
 use nets::forms::Header;
 use nets::levels::next_levels;
 use radix::limits::MOST_INPUTS;
-use table_reading::due::Words;
+use row_words::words::Words;
 
 // The byte of an ink: its digit, or the sign of an open cell.
 fn ink_byte(m: usize, ink: u8) -> u8

@@ -11,8 +11,8 @@ ghost use Rattle.table_printing.specs.Rows.{rowText};
 ghost use Rattle.table_printing.specs.Words.{wordBytes, fourWord, FrontPut, Spells};
 ghost use Rattle.table_printing.specs.Next.{FourNext};
 use nets::levels::next_levels;
-use table_reading::due::Words;
-use table_reading::due::words_of;
+use row_words::words::Words;
+use row_words::words::words_of;
 
 // The level 0 with a space behind it, and four of them.
 const LEVEL: usize = b'0' as usize + 256 * b' ' as usize;

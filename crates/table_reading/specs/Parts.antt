@@ -17,7 +17,7 @@ use Rattle.fields.specs.declared.steps.Step.the-variants.{On, Back}
 use Rattle.fields.specs.declared.lines.HeaderRead.{HeaderRead}
 use Rattle.table_reading.specs.Answers.{inksIn, TableHeld, TableReads, TableRest, allRows, theEnd, fromRows, fromInk}
 use Rattle.fields.specs.Chained.{answers-back, answers-on, answers-over, answers-closed}
-use Rattle.table_reading.specs.Rows.{RowsRead}
+use Rattle.block_reading.specs.Rows.{RowsRead}
 use Rattle.answers.specs.declared.outcome.Outcome.{Outcome}
 use Rattle.answers.specs.declared.outcome.Outcome.the-variants.{Accepted, Refused}
 

@@ -7,7 +7,7 @@ use borrow.Author.Needs.{needs}
 use lib.ListN.{length}
 use Rattle.rules.specs.Limits.{mostCells}
 use Rattle.laws.specs.Sizes.{Size, sized}
-use Rattle.table_reading.specs.Due.{no-ink, same-ink}
+use Rattle.row_reading.specs.Inks.{no-ink, same-ink}
 use Rattle.loose_reading.specs.Even.{evenBytes, widthOf, zero-small, Spaced, spaced, within-all, InEven, even-start, even-end, even-done, even-fits, even-next}
 use Rattle.loose_reading.proofs.even.even_index.Statement.{statement}
 use Rattle.loose_reading.proofs.even.even_index.Tie as tie
