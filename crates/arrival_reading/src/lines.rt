@@ -7,7 +7,7 @@ ghost use Rattle.rules.specs.Limits.{mostTime};
 ghost use Rattle.rules.specs.Fields.{field};
 ghost use Rattle.rules.specs.ArrivalSheet.{nextName, arrivalLine};
 ghost use Rattle.nets.specs.Forms.{namesIn};
-ghost use Rattle.fields.specs.Header.{HeaderHeld};
+ghost use Rattle.header_reading.specs.Header.{HeaderHeld};
 ghost use Rattle.fields.specs.Steps.{stepAs, nothing};
 ghost use Rattle.fields.specs.declared.steps.Step.the-variants.{Back};
 ghost use Rattle.arrival_reading.specs.Line.{LineRest, fromFrom, fromTo};

@@ -2,7 +2,7 @@
 ghost use mathlib.Core.Path.{_≡_};
 ghost use lib.ListN.{drop};
 ghost use Rattle.nets.specs.Forms.{namesIn};
-ghost use Rattle.fields.specs.Header.{HeaderHeld};
+ghost use Rattle.header_reading.specs.Header.{HeaderHeld};
 ghost use Rattle.fields.specs.Steps.{stepAs, nothing};
 ghost use Rattle.arrival_reading.specs.Answers.{ArrivalsRest, ArrivalsReads, headingLine, fromLines};
 ghost use Rattle.answers.specs.declared.outcome.Outcome.the-variants.{Refused};

@@ -21,7 +21,7 @@ use Rattle.readback.specs.ReadBack.{table-accepted}
 use Rattle.readback.specs.LooseTables.{inOrder, strict-read, strict-same}
 use Rattle.nets.specs.Forms.{headerOf, tableIn}
 use Rattle.nets.specs.declared.forms.Header.{Header}
-use Rattle.fields.specs.Header.{HeaderHeld}
+use Rattle.header_reading.specs.Header.{HeaderHeld}
 use Rattle.answers.specs.Answers.{answerOf, outcomeAs}
 use Rattle.answers.specs.declared.answer.Answer.{Answer}
 use Rattle.answers.specs.declared.outcome.Outcome.the-variants.{Accepted, Refused}
