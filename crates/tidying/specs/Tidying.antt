@@ -31,7 +31,7 @@ use Rattle.loose_reading.specs.Answers.{LooseReads, looseIn}
 use Rattle.loose_reading.specs.declared.sheet.LooseRead.{LooseRead}
 use Rattle.lines.specs.Put.{Put, Wrote, put-wrote}
 use Rattle.accepted.specs.Taken.{held-size, names-inside, table-taken}
-use Rattle.table_printing.specs.Lengths.{Measures}
+use Rattle.table_lengths.specs.Lengths.{Measures}
 use Rattle.table_printing.specs.Tables.{TableInside}
 
 -- the answer, and the two buffers after the call

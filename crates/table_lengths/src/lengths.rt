@@ -8,7 +8,7 @@ ghost use Rattle.rules.specs.Text.{decimal};
 ghost use Rattle.rules.specs.Printed.{printedTable};
 ghost use Rattle.lines.specs.Names.{NamesInside};
 ghost use Rattle.nets.specs.Forms.{tableIn};
-ghost use Rattle.table_printing.specs.Lengths.{lensTotal, mostDecimal};
+ghost use Rattle.table_lengths.specs.Lengths.{lensTotal, mostDecimal};
 use lines::wide::wide;
 use nets::forms::Header;
 

@@ -15,8 +15,8 @@ use Rattle.nets.specs.declared.forms.Header.{Header}
 use Rattle.nets.specs.Forms.{nameIn, tableIn}
 use Rattle.lines.specs.Lines.{spaced, spacedFrom, spaced-more}
 use Rattle.lines.specs.Names.{NamesInside}
-use Rattle.table_printing.specs.Rows.{row-text, row-length}
-use Rattle.table_printing.specs.Tables.{table-parts}
+use Rattle.row_printing.specs.Rows.{row-text, row-length}
+use Rattle.row_printing.specs.Parts.{table-parts}
 
 -- the digits of the longest decimal value: a number has 64 bits
 abbrev pub mostDecimal : ℕ

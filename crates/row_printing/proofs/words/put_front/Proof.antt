@@ -1,10 +1,10 @@
--- `table_printing::words::put_front` meets its contract: one word, or two.
+-- `row_printing::words::put_front` meets its contract: one word, or two.
 -- Assumes nothing.
 use native.Mathlib.Omega.{arith}
-use Rattle.table_printing.specs.Words.{four-put, eight-put}
+use Rattle.row_printing.specs.Words.{four-put, eight-put}
 use borrow.Author.Needs.{needs}
-use Rattle.table_printing.proofs.words.put_front.Statement.{statement}
-use Rattle.table_printing.proofs.words.put_front.Tie as tie
+use Rattle.row_printing.proofs.words.put_front.Statement.{statement}
+use Rattle.row_printing.proofs.words.put_front.Tie as tie
 
 put-word-requires : tie.Need-put-word-requires
 put-word-requires c κs = search needs

@@ -15,7 +15,7 @@ use Rattle.laws.specs.Bounds.{Below, below-append}
 use Rattle.laws.specs.Levels.{allTop, nextLevels, next-turn, next-up, next-length, zeros-front}
 use Rattle.row_words.specs.declared.words.Words.{Words}
 use Rattle.row_words.specs.Words.{duePair, WordsOf, middleOf}
-use Rattle.table_printing.specs.Words.{fourWord, four-levels, Spells}
+use Rattle.row_printing.specs.Words.{fourWord, four-levels, Spells}
 
 -- ---- four levels
 

@@ -1,4 +1,4 @@
--- `table_printing::lengths::decimal_length` meets its contract. The loop's invariant: the digits counted and those of `rest` are one more
+-- `table_lengths::lengths::decimal_length` meets its contract. The loop's invariant: the digits counted and those of `rest` are one more
 -- than k's, since rest's last digit is in both.
 -- Assumes nothing.
 use Prim.Native.Nat.{ℕ, _+_, _/_, _%_, _≤_}
@@ -8,9 +8,9 @@ use native.Mathlib.Omega.{arith}
 use lib.ListN.{length, length-append}
 use Rattle.rules.specs.Text.{digitByte, decimal}
 use Rattle.laws.specs.Decimals.{decimal-one, decimal-more, decimal-length}
-use Rattle.table_printing.specs.Lengths.{mostDecimal}
-use Rattle.table_printing.proofs.lengths.decimal_length.Statement.{statement}
-use Rattle.table_printing.proofs.lengths.decimal_length.Tie as tie
+use Rattle.table_lengths.specs.Lengths.{mostDecimal}
+use Rattle.table_lengths.proofs.lengths.decimal_length.Statement.{statement}
+use Rattle.table_lengths.proofs.lengths.decimal_length.Tie as tie
 
 abbrev Inv-loop : tie.InvT-loop
 Inv-loop k digits₀ rest₀ digits rest = digits + length (decimal rest) ≡ length (decimal k) + 1

@@ -1,4 +1,4 @@
--- `table_printing::lengths::names_length` meets its contract. The loop's invariant: `total` is the length of the first i names.
+-- `table_lengths::lengths::names_length` meets its contract. The loop's invariant: `total` is the length of the first i names.
 -- Assumes nothing.
 use Prim.Native.Nat.{ℕ, _+_, _-_, _*_, _≤_}
 use mathlib.Core.Path.{_≡_, refl, ap, _∙_}
@@ -6,9 +6,9 @@ use mathlib.Core.List.{List}
 use native.Mathlib.Numerals.{add-one}
 use native.Mathlib.Omega.{arith}
 use lib.ListN.{getD}
-use Rattle.table_printing.specs.Lengths.{lensTotal}
-use Rattle.table_printing.proofs.lengths.names_length.Statement.{statement}
-use Rattle.table_printing.proofs.lengths.names_length.Tie as tie
+use Rattle.table_lengths.specs.Lengths.{lensTotal}
+use Rattle.table_lengths.proofs.lengths.names_length.Statement.{statement}
+use Rattle.table_lengths.proofs.lengths.names_length.Tie as tie
 
 abbrev Inv-loop : tie.InvT-loop
 Inv-loop inputs lens total₀ i₀ total i = (i ≤ inputs) × (total ≡ lensTotal lens i) × (total ≤ 256 * i)

@@ -1,10 +1,10 @@
--- `table_printing::words::next_words` meets its contract: the last four move, and where they turn those before them.
+-- `row_printing::words::next_words` meets its contract: the last four move, and where they turn those before them.
 -- Assumes nothing.
 use native.Mathlib.Omega.{arith}
-use Rattle.table_printing.specs.Next.{row-stays, row-turns}
+use Rattle.row_printing.specs.Next.{row-stays, row-turns}
 use borrow.Author.Needs.{needs}
-use Rattle.table_printing.proofs.words.next_words.Statement.{statement}
-use Rattle.table_printing.proofs.words.next_words.Tie as tie
+use Rattle.row_printing.proofs.words.next_words.Statement.{statement}
+use Rattle.row_printing.proofs.words.next_words.Tie as tie
 
 next-four-requires : tie.Need-next-four-requires
 next-four-requires c κs = search needs

@@ -1,12 +1,12 @@
--- `table_printing::words::put_word` meets its contract: eight stores.
+-- `row_printing::words::put_word` meets its contract: eight stores.
 -- Assumes nothing.
 use Prim.Native.Nat.{_/_, _%_}
 use native.Mathlib.Omega.{arith}
 use lib.ListN.{length-set}
-use Rattle.table_printing.specs.Words.{bytes-set}
+use Rattle.row_printing.specs.Words.{bytes-set}
 use borrow.Author.Needs.{needs}
-use Rattle.table_printing.proofs.words.put_word.Statement.{statement}
-use Rattle.table_printing.proofs.words.put_word.Tie as tie
+use Rattle.row_printing.proofs.words.put_word.Statement.{statement}
+use Rattle.row_printing.proofs.words.put_word.Tie as tie
 
 cast-out : tie.Need-cast-out
 cast-out c = search needs

@@ -1,13 +1,13 @@
--- `table_printing::lengths::table_length` meets its contract.
+-- `table_lengths::lengths::table_length` meets its contract.
 -- Assumes nothing.
 use Prim.Native.Nat.{ℕ, _+_, _*_, _≤_}
 use mathlib.Core.Path.{ap}
 use native.Mathlib.Nat.{mul-le-mul}
 use native.Mathlib.Omega.{arith}
 use borrow.Author.Needs.{needs}
-use Rattle.table_printing.specs.Lengths.{names-total, table-length}
-use Rattle.table_printing.proofs.lengths.table_length.Statement.{statement}
-use Rattle.table_printing.proofs.lengths.table_length.Tie as tie
+use Rattle.table_lengths.specs.Lengths.{names-total, table-length}
+use Rattle.table_lengths.proofs.lengths.table_length.Statement.{statement}
+use Rattle.table_lengths.proofs.lengths.table_length.Tie as tie
 
 -- bounds far above the limits, which suffice for the sums
 inputs : (c : tie.Start) → c .args .h .inputs ≤ 64

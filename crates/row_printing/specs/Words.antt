@@ -14,7 +14,7 @@ use Rattle.lines.specs.Lines.{spaced}
 use Rattle.lines.specs.Put.{Left, parts-left, put-left}
 use Rattle.row_words.specs.declared.words.Words.{Words}
 use Rattle.row_words.specs.Words.{packed, duePair, dueWord}
-use Rattle.table_printing.specs.Rows.{oneDigit, rowText, rowFrom, row-all, row-length}
+use Rattle.row_printing.specs.Rows.{oneDigit, rowText, rowFrom, row-all, row-length}
 
 -- ---- the text of some levels
 

@@ -1,10 +1,10 @@
--- `table_printing::words::next_four` meets its contract: which of the four levels p, q, r and s moves up.
+-- `row_printing::words::next_four` meets its contract: which of the four levels p, q, r and s moves up.
 -- Assumes nothing.
 use mathlib.Core.Path.{refl}
-use Rattle.table_printing.specs.Next.{last-moves, last-top, third-moves, third-top, second-moves, second-top, first-moves, none-moves}
+use Rattle.row_printing.specs.Next.{last-moves, last-top, third-moves, third-top, second-moves, second-top, first-moves, none-moves}
 use borrow.Author.Needs.{needs}
-use Rattle.table_printing.proofs.words.next_four.Statement.{statement}
-use Rattle.table_printing.proofs.words.next_four.Tie as tie
+use Rattle.row_printing.proofs.words.next_four.Statement.{statement}
+use Rattle.row_printing.proofs.words.next_four.Tie as tie
 
 sub-top : tie.Need-sub-top
 sub-top c = search needs

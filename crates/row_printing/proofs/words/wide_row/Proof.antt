@@ -1,13 +1,13 @@
--- `table_printing::words::wide_row` meets its contract: the levels, and then the ink.
+-- `row_printing::words::wide_row` meets its contract: the levels, and then the ink.
 -- Assumes nothing.
 use native.Mathlib.Omega.{arith}
 use lib.ListN.{length-set}
 use Rattle.rules.specs.Text.{newline}
 use Rattle.lines.specs.Put.{bytes-left, none-left}
-use Rattle.table_printing.specs.Words.{ink-left}
+use Rattle.row_printing.specs.Words.{ink-left}
 use borrow.Author.Needs.{needs}
-use Rattle.table_printing.proofs.words.wide_row.Statement.{statement}
-use Rattle.table_printing.proofs.words.wide_row.Tie as tie
+use Rattle.row_printing.proofs.words.wide_row.Statement.{statement}
+use Rattle.row_printing.proofs.words.wide_row.Tie as tie
 
 put-front-requires : tie.Need-put-front-requires
 put-front-requires c κs = search needs
