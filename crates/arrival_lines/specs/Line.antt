@@ -16,7 +16,7 @@ use Rattle.fields.specs.Steps.{stepAs, itself}
 use Rattle.fields.specs.Taken.{field-on, judged-good}
 use Rattle.fields.specs.declared.steps.Step.{Step}
 use Rattle.fields.specs.declared.steps.Step.the-variants.{On, Back}
-use Rattle.arrival_reading.specs.declared.lines.LineRead.{LineRead}
+use Rattle.arrival_lines.specs.declared.lines.LineRead.{LineRead}
 
 unfoldable pub fromTo : ℕ → Reader Arrival
 fromTo from = field (timeField from) newline >>= λ to. give (arrivalOf from to)

@@ -1,11 +1,11 @@
--- `arrival_reading::lines::next_name` meets its contract: a field that is tested.
+-- `arrival_lines::lines::next_name` meets its contract: a field that is tested.
 -- Assumes nothing.
 use borrow.Author.Needs.{needs}
 use Rattle.rules.specs.ArrivalSheet.{nextName}
 use Rattle.fields.specs.Judging.{field-tested}
 use Rattle.fields.specs.Steps.{nothing}
-use Rattle.arrival_reading.proofs.lines.next_name.Statement.{statement}
-use Rattle.arrival_reading.proofs.lines.next_name.Tie as tie
+use Rattle.arrival_lines.proofs.lines.next_name.Statement.{statement}
+use Rattle.arrival_lines.proofs.lines.next_name.Tie as tie
 
 field-at-requires : tie.Need-field-at-requires
 field-at-requires c κs = search needs

@@ -1,10 +1,10 @@
--- `arrival_reading::times::is_lead` meets its contract: the tests that led to each return.
+-- `time_reading::times::is_lead` meets its contract: the tests that led to each return.
 -- Assumes nothing.
 use borrow.Author.Needs.{needs}
 use borrow.Author.Tests.{eq-eqb, ne-eqb, le-leb, lt-leb}
-use Rattle.arrival_reading.specs.Times.{leads}
-use Rattle.arrival_reading.proofs.times.is_lead.Statement.{statement}
-use Rattle.arrival_reading.proofs.times.is_lead.Tie as tie
+use Rattle.time_reading.specs.Times.{leads}
+use Rattle.time_reading.proofs.times.is_lead.Statement.{statement}
+use Rattle.time_reading.proofs.times.is_lead.Tie as tie
 
 returns : tie.Need-returns
 unfolding leads

@@ -1,11 +1,11 @@
--- `arrival_reading::times::digits_value` meets its contract. The loop's invariant: the digits so far write `value`.
+-- `time_reading::times::digits_value` meets its contract. The loop's invariant: the digits so far write `value`.
 -- Assumes nothing.
 use Prim.Native.Nat.{_-_, _≤_}
 use native.Mathlib.Omega.{arith}
 use lib.ListN.{length}
-use Rattle.arrival_reading.specs.Times.{Counted, count-start, count-room, count-end, count-stop, count-next, below-digits, above-digits}
-use Rattle.arrival_reading.proofs.times.digits_value.Statement.{statement}
-use Rattle.arrival_reading.proofs.times.digits_value.Tie as tie
+use Rattle.time_reading.specs.Times.{Counted, count-start, count-room, count-end, count-stop, count-next, below-digits, above-digits}
+use Rattle.time_reading.proofs.times.digits_value.Statement.{statement}
+use Rattle.time_reading.proofs.times.digits_value.Tie as tie
 
 abbrev Inv-loop : tie.InvT-loop
 Inv-loop w value₀ i₀ value i = Counted w value i

@@ -1,13 +1,13 @@
--- `arrival_reading::lines::from_to` meets its contract: the second time, which ends the line.
+-- `arrival_lines::lines::from_to` meets its contract: the second time, which ends the line.
 -- Assumes nothing.
 use borrow.Author.Needs.{needs}
 use Rattle.rules.specs.Text.{newline, newlineByte}
 use Rattle.rules.specs.Fields.{field, give}
 use Rattle.rules.specs.ArrivalSheet.{arrivalOf, timeField}
 use Rattle.fields.specs.Steps.{itself}
-use Rattle.arrival_reading.specs.Line.{fromTo, line-back, to-on}
-use Rattle.arrival_reading.proofs.lines.from_to.Statement.{statement}
-use Rattle.arrival_reading.proofs.lines.from_to.Tie as tie
+use Rattle.arrival_lines.specs.Line.{fromTo, line-back, to-on}
+use Rattle.arrival_lines.proofs.lines.from_to.Statement.{statement}
+use Rattle.arrival_lines.proofs.lines.from_to.Tie as tie
 
 -- the time's read, from the match on it
 abbrev at-time : tie.After-number → tie.After-time-field

@@ -1,12 +1,12 @@
--- `arrival_reading::times::judge_time` meets its contract, by the tests and what the digits write.
+-- `time_reading::times::judge_time` meets its contract, by the tests and what the digits write.
 -- Assumes nothing.
 use mathlib.Core.Path.{sym, ap, _∙_}
 use borrow.Author.Needs.{needs}
 use borrow.Author.Tests.{not-true, not-false}
 use Rattle.fields.specs.Steps.{optionOf}
-use Rattle.arrival_reading.specs.Times.{leads-short, time-lead, time-digits, time-over, time-low, time-good}
-use Rattle.arrival_reading.proofs.times.judge_time.Statement.{statement}
-use Rattle.arrival_reading.proofs.times.judge_time.Tie as tie
+use Rattle.time_reading.specs.Times.{leads-short, time-lead, time-digits, time-over, time-low, time-good}
+use Rattle.time_reading.proofs.times.judge_time.Statement.{statement}
+use Rattle.time_reading.proofs.times.judge_time.Tie as tie
 
 -- the first test from the digits' value, and that from the tests of it
 abbrev at-lead : tie.After-digits-value → tie.Else1

@@ -1,13 +1,13 @@
--- `arrival_reading::lines::arrival_line` meets its contract: the name, then the times.
+-- `arrival_lines::lines::arrival_line` meets its contract: the name, then the times.
 -- Assumes nothing.
 use borrow.Author.Needs.{needs}
 use Rattle.rules.specs.Text.{space, spaceByte}
 use Rattle.rules.specs.Fields.{field}
 use Rattle.rules.specs.ArrivalSheet.{nextName, arrivalLine}
 use Rattle.fields.specs.Steps.{nothing}
-use Rattle.arrival_reading.specs.Line.{fromFrom, fromTo, line-back, line-on}
-use Rattle.arrival_reading.proofs.lines.arrival_line.Statement.{statement}
-use Rattle.arrival_reading.proofs.lines.arrival_line.Tie as tie
+use Rattle.arrival_lines.specs.Line.{fromFrom, fromTo, line-back, line-on}
+use Rattle.arrival_lines.proofs.lines.arrival_line.Statement.{statement}
+use Rattle.arrival_lines.proofs.lines.arrival_line.Tie as tie
 
 next-name-requires : tie.Need-next-name-requires
 next-name-requires c κs = search needs

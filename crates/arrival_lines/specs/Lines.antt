@@ -21,10 +21,10 @@ use Rattle.nets.specs.declared.forms.Header.{Header}
 use Rattle.fields.specs.Chained.{never-both}
 use Rattle.fields.specs.Steps.{stepAs}
 use Rattle.fields.specs.declared.steps.Step.the-variants.{On, Back}
-use Rattle.arrival_reading.specs.declared.lines.LineRead.{LineRead}
-use Rattle.arrival_reading.specs.declared.lines.Times.{Times}
-use Rattle.arrival_reading.specs.declared.lines.TimesRead.{TimesRead}
-use Rattle.arrival_reading.specs.Line.{LineRest}
+use Rattle.arrival_lines.specs.declared.lines.LineRead.{LineRead}
+use Rattle.arrival_lines.specs.declared.lines.Times.{Times}
+use Rattle.arrival_lines.specs.declared.lines.TimesRead.{TimesRead}
+use Rattle.arrival_lines.specs.Line.{LineRest}
 
 -- the arrivals of the first `count` inputs
 unfoldable pub arrivalsIn : Times → ℕ → List Arrival

@@ -1,4 +1,4 @@
--- `arrival_reading::lines::arrival_lines` meets its contract. The loop's invariant: the lines from here are the lines from the start.
+-- `arrival_lines::lines::arrival_lines` meets its contract. The loop's invariant: the lines from here are the lines from the start.
 -- Assumes nothing.
 use Prim.Native.Nat.{_-_, _≤_, _<_}
 use mathlib.Core.Path.{_≡_, sym, _∙_}
@@ -9,9 +9,9 @@ use lib.ListN.{length, getD}
 use Rattle.rules.specs.Limits.{mostInputs, mostTime}
 use Rattle.nets.specs.Forms.{namesIn, names-count}
 use Rattle.laws.specs.Sizes.{sized}
-use Rattle.arrival_reading.specs.Lines.{Reading, lines-start, lines-done, lines-back, lines-next, name-at}
-use Rattle.arrival_reading.proofs.lines.arrival_lines.Statement.{statement}
-use Rattle.arrival_reading.proofs.lines.arrival_lines.Tie as tie
+use Rattle.arrival_lines.specs.Lines.{Reading, lines-start, lines-done, lines-back, lines-next, name-at}
+use Rattle.arrival_lines.proofs.lines.arrival_lines.Statement.{statement}
+use Rattle.arrival_lines.proofs.lines.arrival_lines.Tie as tie
 
 abbrev Inv-loop : tie.InvT-loop
 Inv-loop net header s at from₀ to₀ place₀ i₀ from to place i = Reading (namesIn net header) s at (record { from = from; to = to }) place i

@@ -1,13 +1,13 @@
--- `arrival_reading::lines::from_from` meets its contract: the first time, then the rest.
+-- `arrival_lines::lines::from_from` meets its contract: the first time, then the rest.
 -- Assumes nothing.
 use borrow.Author.Needs.{needs}
 use Rattle.rules.specs.Text.{space, spaceByte}
 use Rattle.rules.specs.Fields.{field}
 use Rattle.rules.specs.ArrivalSheet.{timeField}
 use Rattle.fields.specs.Steps.{itself}
-use Rattle.arrival_reading.specs.Line.{fromFrom, fromTo, line-back, line-on, time-on}
-use Rattle.arrival_reading.proofs.lines.from_from.Statement.{statement}
-use Rattle.arrival_reading.proofs.lines.from_from.Tie as tie
+use Rattle.arrival_lines.specs.Line.{fromFrom, fromTo, line-back, line-on, time-on}
+use Rattle.arrival_lines.proofs.lines.from_from.Statement.{statement}
+use Rattle.arrival_lines.proofs.lines.from_from.Tie as tie
 
 -- the time's read, from the call after it
 abbrev at-time : tie.After-known-told2 → tie.After-time-field

@@ -10,9 +10,8 @@ ghost use Rattle.nets.specs.Forms.{namesIn};
 ghost use Rattle.header_reading.specs.Header.{HeaderHeld};
 ghost use Rattle.fields.specs.Steps.{stepAs, nothing};
 ghost use Rattle.fields.specs.declared.steps.Step.the-variants.{Back};
-ghost use Rattle.arrival_reading.specs.Line.{LineRest, fromFrom, fromTo};
-ghost use Rattle.arrival_reading.specs.Lines.{LinesRead};
-use crate::times::time_field;
+ghost use Rattle.arrival_lines.specs.Line.{LineRest, fromFrom, fromTo};
+ghost use Rattle.arrival_lines.specs.Lines.{LinesRead};
 use fields::ends::after_field;
 use fields::ends::judged;
 use fields::runs::NEWLINE;
@@ -23,6 +22,7 @@ use fields::steps::Step;
 use nets::forms::Header;
 use nets::names::name_of;
 use radix::limits::MOST_INPUTS;
+use time_reading::times::time_field;
 
 // What reading one line comes to: on a step onward the two times are the line's.
 pub struct LineRead {

@@ -1,10 +1,10 @@
--- `arrival_reading::times::time_field` meets its contract: a judged field.
+-- `time_reading::times::time_field` meets its contract: a judged field.
 -- Assumes nothing.
 use borrow.Author.Needs.{needs}
 use Rattle.fields.specs.Judging.{field-judged}
 use Rattle.fields.specs.Steps.{itself}
-use Rattle.arrival_reading.proofs.times.time_field.Statement.{statement}
-use Rattle.arrival_reading.proofs.times.time_field.Tie as tie
+use Rattle.time_reading.proofs.times.time_field.Statement.{statement}
+use Rattle.time_reading.proofs.times.time_field.Tie as tie
 
 field-at-requires : tie.Need-field-at-requires
 field-at-requires c κs = search needs

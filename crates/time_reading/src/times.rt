@@ -5,7 +5,7 @@ ghost use lib.ListN.{length, drop};
 ghost use Rattle.rules.specs.Fields.{field};
 ghost use Rattle.rules.specs.ArrivalSheet.{timeField};
 ghost use Rattle.fields.specs.Steps.{judgedAs, stepAs, itself, optionOf};
-ghost use Rattle.arrival_reading.specs.Times.{mostBytes, leads, digitsValue};
+ghost use Rattle.time_reading.specs.Times.{mostBytes, leads, digitsValue};
 use fields::ends::after_field;
 use fields::runs::field_at;
 use fields::steps::Found;
