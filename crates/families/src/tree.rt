@@ -12,7 +12,7 @@ use crate::net;
 use answers::answer::Answer;
 use answers::outcome::Outcome;
 use marks::own;
-use net_printing::output;
+use net_output::output;
 use nets::forms::Header;
 use radix::limits;
 use radix::powers;

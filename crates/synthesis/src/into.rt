@@ -19,7 +19,7 @@ use lines::put::copy;
 use marking::all;
 use marks::own;
 use marks::place;
-use net_printing::output;
+use net_output::output;
 use nets::forms::Header;
 use nets::layers;
 use wirings::choice::Choice;

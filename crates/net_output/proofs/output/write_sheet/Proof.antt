@@ -1,9 +1,9 @@
--- `net_printing::output::write_sheet` meets its contract. Assumes nothing.
+-- `net_output::output::write_sheet` meets its contract. Assumes nothing.
 use native.Mathlib.Omega.{arith}
 use borrow.Author.Needs.{needs}
-use Rattle.net_printing.specs.Output.{sheet-short, sheet-copied}
-use Rattle.net_printing.proofs.output.write_sheet.Statement.{statement}
-use Rattle.net_printing.proofs.output.write_sheet.Tie as tie
+use Rattle.net_output.specs.Output.{sheet-short, sheet-copied}
+use Rattle.net_output.proofs.output.write_sheet.Statement.{statement}
+use Rattle.net_output.proofs.output.write_sheet.Tie as tie
 
 -- the start and the test of the length, from the calls after them
 abbrev at-start : tie.After-print-net → tie.Start
