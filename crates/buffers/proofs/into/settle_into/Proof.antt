@@ -1,14 +1,14 @@
--- `synthesis::into::settle_into` meets its contract. Assumes nothing.
+-- `buffers::into::settle_into` meets its contract. Assumes nothing.
 use mathlib.Core.Path.{_≡_, sym, ap, _∙_}
 use Rattle.rules.specs.Answers.{accepted}
 use Rattle.rules.specs.Settling.{roomFor}
 use Rattle.nets.specs.Forms.{tableIn}
 use Rattle.answers.specs.Answers.{outcomeAs}
-use Rattle.synthesis.specs.Room.{both-long}
+use Rattle.buffers.specs.Room.{both-long}
 use Rattle.synthesis.specs.Outcomes.{given-size, given-count, given-refused, given-marked}
 use borrow.Author.Needs.{needs}
-use Rattle.synthesis.proofs.into.settle_into.Statement.{statement}
-use Rattle.synthesis.proofs.into.settle_into.Tie as tie
+use Rattle.buffers.proofs.into.settle_into.Statement.{statement}
+use Rattle.buffers.proofs.into.settle_into.Tie as tie
 
 -- the start, the arguments of `room`, what it judged, the match on that, and the call of `settle_marked`, each from the next
 abbrev at-args : tie.After-room-arg2 → tie.Start

@@ -1,12 +1,12 @@
--- `synthesis::into::with_layers` meets its contract, in each arm. Assumes nothing.
+-- `synthesis::marked::with_layers` meets its contract, in each arm. Assumes nothing.
 use mathlib.Core.Path.{sym, ap}
 use Rattle.rules.specs.Answers.{onward}
 use Rattle.rules.specs.ShallowSettling.{layered}
 use Rattle.answers.specs.declared.answer.Answer.{Answer}
 use Rattle.answers.specs.Answers.{answerOf}
 use borrow.Author.Needs.{needs}
-use Rattle.synthesis.proofs.into.with_layers.Statement.{statement}
-use Rattle.synthesis.proofs.into.with_layers.Tie as tie
+use Rattle.synthesis.proofs.marked.with_layers.Statement.{statement}
+use Rattle.synthesis.proofs.marked.with_layers.Tie as tie
 
 enum-known-answer : tie.Need-enum-known-answer
 enum-known-answer c = search needs

@@ -1,9 +1,9 @@
--- `synthesis::room::room` meets its contract. Assumes nothing.
+-- `buffers::room::room` meets its contract. Assumes nothing.
 use native.Mathlib.Omega.{arith}
 use Rattle.laws.specs.Sizes.{sized}
-use Rattle.synthesis.specs.Room.{cells-short, marks-short, both-fit}
-use Rattle.synthesis.proofs.room.room.Statement.{statement}
-use Rattle.synthesis.proofs.room.room.Tie as tie
+use Rattle.buffers.specs.Room.{cells-short, marks-short, both-fit}
+use Rattle.buffers.proofs.room.room.Statement.{statement}
+use Rattle.buffers.proofs.room.room.Tie as tie
 
 -- the start, from the first test; that test, from the second
 abbrev at-start : tie.After-shared-slice-known3 → tie.Start

@@ -1,19 +1,17 @@
-// What settling and making share: from a table to its marks and to the sheet of the net that is made of it.
+// From a table to its marks and to the sheet of the net that is made of it, where its cells and its marks have room.
 ghost use mathlib.Core.Path.{_≡_};
 ghost use Prim.Native.Nat.{_≤_};
 ghost use lib.ListN.{length};
 ghost use Rattle.rules.specs.Marks.{marksLength};
 ghost use Rattle.rules.specs.Settling.{afterMarks};
-ghost use Rattle.rules.specs.ShallowSettling.{layered, layeredInto, netLayers, withLayers};
+ghost use Rattle.rules.specs.ShallowSettling.{layered, netLayers, withLayers};
 ghost use Rattle.nets.specs.Forms.{tableIn};
 ghost use Rattle.answers.specs.Answers.{answerOf};
 ghost use Rattle.answers.specs.Layered.{layeredMadeOf, layeredOf};
 ghost use Rattle.accepted.specs.Taken.{Given};
 ghost use Rattle.synthesis.specs.Outcomes.{netBy};
-use crate::room::room;
 use answers::answer::Answer;
 use answers::layered::Layered;
-use answers::outcome::Outcome;
 use filling::made;
 use lines::put::copy;
 use marking::all;
@@ -35,7 +33,7 @@ fn with_layers(answer: Answer, layers: usize) -> Layered
 }
 
 // The cells and the marks, and then refusal 16, refusal 15 or the sheet.
-fn settle_marked(
+pub fn settle_marked(
     choice: Choice,
     s: &[u8],
     header: Header,
@@ -62,25 +60,4 @@ fn settle_marked(
     let net = made::made_net(choice, levels, inputs, inks, &own);
     let count = layers::layers(net);
     with_layers(output::write_sheet(s, header, net, out), count)
-}
-
-// Refusals 13 and 14, or what the table comes to. `inks` is the table, and `header` its first three lines in the sheet s.
-pub fn settle_into(
-    choice: Choice,
-    s: &[u8],
-    header: Header,
-    inks: &[u8],
-    cells: &mut [u8],
-    marks: &mut [u8],
-    out: &mut [u8],
-) -> Layered
-    requires { ⌜ Given (now s) header (now inks) ⌝ }
-    ensures { λ r. ⌜ layeredMadeOf r (now (cells .exit)) (now (marks .exit)) (now (out .exit))
-        ≡ layeredInto (netBy choice) (tableIn (now (s .entry)) header (now (inks .entry))) (now (cells .entry)) (now (marks .entry)) (now (out .entry)) ⌝ }
-{
-    let judged = room(header, inks, cells, marks);
-    match judged {
-        Outcome::Refused { number, place } => Layered::Refused { number, place },
-        Outcome::Accepted => settle_marked(choice, s, header, inks, cells, marks, out),
-    }
 }

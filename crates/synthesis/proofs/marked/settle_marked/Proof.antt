@@ -1,4 +1,4 @@
--- `synthesis::into::settle_marked` meets its contract. Assumes nothing.
+-- `synthesis::marked::settle_marked` meets its contract. Assumes nothing.
 use Prim.Native.Nat.{_^_, _≤_}
 use mathlib.Core.Path.{sym}
 use native.Mathlib.Nat.{le-of-eq}
@@ -10,8 +10,8 @@ use Rattle.laws.specs.Sizes.{sized}
 use Rattle.lines.specs.Put.{put-wrote}
 use Rattle.synthesis.specs.Outcomes.{given-size, given-count, given-below, made-inside, made-short, made-sound, given-two, own-marks, given-16, given-tree}
 use borrow.Author.Needs.{needs}
-use Rattle.synthesis.proofs.into.settle_marked.Statement.{statement}
-use Rattle.synthesis.proofs.into.settle_marked.Tie as tie
+use Rattle.synthesis.proofs.marked.settle_marked.Statement.{statement}
+use Rattle.synthesis.proofs.marked.settle_marked.Tie as tie
 
 -- the start, each call and the test of the whole group's mark, each from the next
 abbrev at-start : tie.After-copy-arg → tie.Start
