@@ -5,9 +5,9 @@ use mathlib.Core.Path.{_≡_, refl, _∙_}
 use native.Mathlib.Omega.{arith}
 use lib.ListN.{length, drop}
 use Rattle.rules.specs.Lister.{lineLength}
-use Rattle.lister.proofs.Steps.{end-here, feed-here, byte-here}
-use Rattle.lister.proofs.places.line_end.Statement.{statement}
-use Rattle.lister.proofs.places.line_end.Tie as tie
+use Rattle.gate_turns.proofs.Steps.{end-here, feed-here, byte-here}
+use Rattle.gate_turns.proofs.places.line_end.Statement.{statement}
+use Rattle.gate_turns.proofs.places.line_end.Tie as tie
 
 abbrev Inv-loop : tie.InvT-loop
 Inv-loop s at i₀ i = i + lineLength (drop i s) ≡ at + lineLength (drop at s)

@@ -1,9 +1,9 @@
 -- `turn_at` meets its contract.
 -- Assumes nothing.
-use Rattle.lister.proofs.Answers.{turn-given, turn-none}
+use Rattle.gate_turns.proofs.Answers.{turn-given, turn-none}
 use borrow.Author.Needs.{needs}
-use Rattle.lister.proofs.turns.turn_at.Statement.{statement}
-use Rattle.lister.proofs.turns.turn_at.Tie as tie
+use Rattle.gate_turns.proofs.turns.turn_at.Statement.{statement}
+use Rattle.gate_turns.proofs.turns.turn_at.Tie as tie
 
 returns : tie.Need-returns
 returns c = turn-none _ _ (c .if1 .taken)

@@ -1,9 +1,9 @@
 -- `line_at` meets its contract.
 -- Assumes nothing.
-use Rattle.lister.proofs.Answers.{line-end, part-given, part-none}
+use Rattle.gate_turns.proofs.Answers.{line-end, part-given, part-none}
 use borrow.Author.Needs.{needs}
-use Rattle.lister.proofs.turns.line_at.Statement.{statement}
-use Rattle.lister.proofs.turns.line_at.Tie as tie
+use Rattle.gate_turns.proofs.turns.line_at.Statement.{statement}
+use Rattle.gate_turns.proofs.turns.line_at.Tie as tie
 
 line-end-requires : tie.Need-line-end-requires
 line-end-requires c κs = search needs

@@ -1,9 +1,9 @@
 -- `first_gate` meets its contract.
 -- Assumes nothing.
-use Rattle.lister.proofs.Steps.{fourth}
+use Rattle.gate_turns.proofs.Steps.{fourth}
 use borrow.Author.Needs.{needs}
-use Rattle.lister.proofs.places.first_gate.Statement.{statement}
-use Rattle.lister.proofs.places.first_gate.Tie as tie
+use Rattle.gate_turns.proofs.places.first_gate.Statement.{statement}
+use Rattle.gate_turns.proofs.places.first_gate.Tie as tie
 
 line-after-requires : tie.Need-line-after-requires
 line-after-requires c κs = search needs

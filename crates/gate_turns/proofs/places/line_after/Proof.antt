@@ -1,11 +1,11 @@
 -- `line_after` meets its contract.
 -- Assumes nothing.
 use native.Mathlib.Omega.{arith}
-use Rattle.lister.specs.Places.{lineAfter}
-use Rattle.lister.proofs.Steps.{onward}
+use Rattle.gate_turns.specs.Places.{lineAfter}
+use Rattle.gate_turns.proofs.Steps.{onward}
 use borrow.Author.Needs.{needs}
-use Rattle.lister.proofs.places.line_after.Statement.{statement}
-use Rattle.lister.proofs.places.line_after.Tie as tie
+use Rattle.gate_turns.proofs.places.line_after.Statement.{statement}
+use Rattle.gate_turns.proofs.places.line_after.Tie as tie
 
 line-end-requires : tie.Need-line-end-requires
 line-end-requires c κs = search needs

@@ -1,6 +1,6 @@
 // What a lister that stands at a place of a sheet gives at its turn, by the sheet and the place alone.
 ghost use denote.Ref.{ptr};
-ghost use Rattle.lister.specs.Turns.{Says, isNone, partIn, turnNumbers};
+ghost use Rattle.gate_turns.specs.Turns.{Says, isNone, partIn, turnNumbers};
 use crate::places::line_end;
 
 // A gate line, as the part of the sheet that holds it without its line feed; or none is left.

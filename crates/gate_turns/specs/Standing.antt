@@ -13,8 +13,8 @@ use Rattle.rules.specs.Answers.{Answer, accepted, refused, onward}
 use Rattle.rules.specs.Reading.{readNet}
 use Rattle.rules.specs.Lister.{afterLines, noneLeft, turnOf, listing}
 use Rattle.readback.specs.GateLines.{lineAt, gate-inside, gates-end, turn-refused}
-use Rattle.lister.specs.Places.{lineStart, standsAt, lineAfter}
-use Rattle.lister.specs.Turns.{turnAt, turnIn}
+use Rattle.gate_turns.specs.Places.{lineStart, standsAt, lineAfter}
+use Rattle.gate_turns.specs.Turns.{turnAt, turnIn}
 
 module _ (s : List ℕ) where
   pub stands-accepted : (net : Net) (k : ℕ) → readNet s ≡ accepted net → standsAt s k ≡ lineStart s (4 + k)

@@ -12,8 +12,8 @@ use lib.Dec.{eqb}
 use borrow.Author.Tests.{eq-eqb, ne-eqb}
 use Rattle.rules.specs.Text.{newline}
 use Rattle.rules.specs.Lister.{lineLength, afterLines}
-use Rattle.lister.specs.Places.{lineStart, lineAfter, Onward}
-use Rattle.lister.specs.Standing.{start-next, stands-next}
+use Rattle.gate_turns.specs.Places.{lineStart, lineAfter, Onward}
+use Rattle.gate_turns.specs.Standing.{start-next, stands-next}
 
 -- ---- a line's end
 

@@ -12,10 +12,10 @@ use denote.Ref.{RefT, now}
 use borrow.Author.Tests.{lt-ltb, le-ltb, lt-leb, le-leb}
 use Rattle.rules.specs.Lister.{lineLength, Turn, gateAt, noneLeft}
 use Rattle.readback.specs.GateLines.{partOf}
-use Rattle.lister.specs.Turns.{turnAt, isNone, partIn, turnNumbers, Says}
-use Rattle.lister.specs.Standing.{turn-stands}
-use Rattle.lister.specs.declared.turns.Turn.the-variants.{Line, NoneLeft}
-use Rattle.lister.proofs.Steps.{line-within}
+use Rattle.gate_turns.specs.Turns.{turnAt, isNone, partIn, turnNumbers, Says}
+use Rattle.gate_turns.specs.Standing.{turn-stands}
+use Rattle.gate_turns.specs.declared.turns.Turn.the-variants.{Line, NoneLeft}
+use Rattle.gate_turns.proofs.Steps.{line-within}
 
 pub says : {A : Type 0} (s : List ℕ) (at : ℕ) (f : Turn → A) (r : A) → r ≡ f (turnAt s at) → Says s at f r
 says s at f r e = record { here = e; turn = λ k d. e ∙ ap f (ap (turnAt s) d ∙ turn-stands s k) }

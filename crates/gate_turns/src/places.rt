@@ -3,7 +3,7 @@ ghost use mathlib.Core.Path.{_≡_};
 ghost use Prim.Native.Nat.{_+_, min};
 ghost use lib.ListN.{length, drop};
 ghost use Rattle.rules.specs.Lister.{lineLength};
-ghost use Rattle.lister.specs.Places.{lineStart, Onward};
+ghost use Rattle.gate_turns.specs.Places.{lineStart, Onward};
 use fields::runs::NEWLINE;
 
 // The place of the next line feed from `at` on, or the sheet's length.

@@ -10,9 +10,9 @@ use denote.Ref.{RefT, now}
 use Rattle.rules.specs.Answers.{Answer, accepted, refused}
 use Rattle.rules.specs.Lister.{lineLength, Turn, gateAt, noneLeft, listing}
 use Rattle.readback.specs.GateLines.{partOf}
-use Rattle.lister.specs.declared.turns.Turn as code
-use Rattle.lister.specs.declared.turns.Turn.the-variants.{Line, NoneLeft}
-use Rattle.lister.specs.Places.{standsAt}
+use Rattle.gate_turns.specs.declared.turns.Turn as code
+use Rattle.gate_turns.specs.declared.turns.Turn.the-variants.{Line, NoneLeft}
+use Rattle.gate_turns.specs.Places.{standsAt}
 
 -- the turn of a lister that stands at `at`
 unfoldable pub turnAt : List ℕ → ℕ → Turn

@@ -1,8 +1,8 @@
 -- `none_left` meets its contract.
 -- Assumes nothing.
-use Rattle.lister.proofs.Answers.{none-left}
-use Rattle.lister.proofs.turns.none_left.Statement.{statement}
-use Rattle.lister.proofs.turns.none_left.Tie as tie
+use Rattle.gate_turns.proofs.Answers.{none-left}
+use Rattle.gate_turns.proofs.turns.none_left.Statement.{statement}
+use Rattle.gate_turns.proofs.turns.none_left.Tie as tie
 
 returns : tie.Need-returns
 returns c = none-left _ _
