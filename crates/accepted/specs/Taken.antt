@@ -21,7 +21,7 @@ use Rattle.nets.specs.declared.forms.Net.{Net}
 use Rattle.nets.specs.Forms.{headerOf, gatesOf, netIn, tableIn}
 use Rattle.nets.specs.Sound.{Sound}
 use Rattle.nets.specs.Evaluating.{Tabled}
-use Rattle.fields.specs.Header.{HeaderHeld}
+use Rattle.header_reading.specs.Header.{HeaderHeld}
 use Rattle.answers.specs.Answers.{outcomeAs}
 use Rattle.answers.specs.declared.outcome.Outcome.the-variants.{Accepted, Refused}
 use Rattle.net_reading.specs.Answers.{NetReads}

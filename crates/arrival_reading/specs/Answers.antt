@@ -15,9 +15,9 @@ use Rattle.fields.specs.declared.steps.Step.{Step}
 use Rattle.fields.specs.declared.steps.Step.the-variants.{On, Back}
 use Rattle.answers.specs.Answers.{outcomeAs}
 use Rattle.answers.specs.declared.outcome.Outcome.the-variants.{Accepted, Refused}
-use Rattle.arrival_reading.specs.declared.lines.TimesRead.{TimesRead}
+use Rattle.arrival_lines.specs.declared.lines.TimesRead.{TimesRead}
+use Rattle.arrival_lines.specs.Lines.{arrivalsIn, TimesHeld, LinesRead}
 use Rattle.arrival_reading.specs.declared.sheet.ArrivalsRead.{ArrivalsRead}
-use Rattle.arrival_reading.specs.Lines.{arrivalsIn, TimesHeld, LinesRead}
 
 -- reading a whole arrival sheet for inputs with these names
 pub record ArrivalsReads (names : List (List ℕ)) (s : List ℕ) (r : ArrivalsRead) : Type 0 where

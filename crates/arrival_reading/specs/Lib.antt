@@ -1,4 +1,1 @@
-pub mod Times
-pub mod Line
-pub mod Lines
 pub mod Answers

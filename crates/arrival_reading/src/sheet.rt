@@ -2,13 +2,13 @@
 ghost use mathlib.Core.Path.{_≡_};
 ghost use lib.ListN.{drop};
 ghost use Rattle.nets.specs.Forms.{namesIn};
-ghost use Rattle.fields.specs.Header.{HeaderHeld};
+ghost use Rattle.header_reading.specs.Header.{HeaderHeld};
 ghost use Rattle.fields.specs.Steps.{stepAs, nothing};
-ghost use Rattle.arrival_reading.specs.Answers.{ArrivalsRest, ArrivalsReads, headingLine, fromLines};
 ghost use Rattle.answers.specs.declared.outcome.Outcome.the-variants.{Refused};
-use crate::lines::Times;
-use crate::lines::arrival_lines;
+ghost use Rattle.arrival_reading.specs.Answers.{ArrivalsRest, ArrivalsReads, headingLine, fromLines};
 use answers::outcome::Outcome;
+use arrival_lines::lines::Times;
+use arrival_lines::lines::arrival_lines;
 use fields::runs::SPACE;
 use fields::steps::Step;
 use fields::words::two_words;

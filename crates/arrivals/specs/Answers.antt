@@ -16,7 +16,7 @@ use Rattle.accepted.specs.Taken.{NetTaken}
 use Rattle.answers.specs.Answers.{outcomeAs}
 use Rattle.answers.specs.declared.outcome.Outcome.the-variants.{Accepted, Refused}
 use Rattle.arrival_reading.specs.Answers.{ArrivalsReads}
-use Rattle.arrival_reading.specs.Lines.{TimesHeld, arrivalsIn}
+use Rattle.arrival_lines.specs.Lines.{TimesHeld, arrivalsIn}
 use Rattle.arrival_reading.specs.declared.sheet.ArrivalsRead.{ArrivalsRead}
 use Rattle.arrivals.specs.declared.arrival.Ends.{Ends}
 use Rattle.arrivals.specs.declared.call.Timing.{Timing}

@@ -26,8 +26,8 @@ use Rattle.nets.specs.Forms.{gateOf, gatesOf}
 use Rattle.nets.specs.References.{refers-back}
 use Rattle.nets.specs.Room.{mostWires}
 use Rattle.nets.specs.Sound.{Sound, sound-size, gates-pos, gates-count, gates-length, wires-room}
-use Rattle.arrival_reading.specs.declared.lines.Times.{Times}
-use Rattle.arrival_reading.specs.Lines.{TimesHeld, arrivalsIn}
+use Rattle.arrival_lines.specs.declared.lines.Times.{Times}
+use Rattle.arrival_lines.specs.Lines.{TimesHeld, arrivalsIn}
 use Rattle.arrivals.specs.declared.arrival.Ends.{Ends}
 use Rattle.arrivals.specs.Ends.{endsAt, endsIn, timed, ends-timed, joinedEnds, joined-at}
 

@@ -3,14 +3,14 @@ ghost use mathlib.Core.Path.{_≡_};
 ghost use Prim.Native.Nat.{_≤_};
 ghost use Rattle.rules.specs.Limits.{mostInputs};
 ghost use Rattle.nets.specs.Sound.{Sound};
-ghost use Rattle.arrival_reading.specs.Lines.{TimesHeld, arrivalsIn};
+ghost use Rattle.arrival_lines.specs.Lines.{TimesHeld, arrivalsIn};
 ghost use Rattle.arrivals.specs.Wires.{WiresAt, firstTimes, settled};
 use crate::arrival::Ends;
 use crate::arrival::arrival_of;
 use crate::arrival::ends_of;
 use crate::arrival::microseconds;
 use crate::joined::join;
-use arrival_reading::lines::Times;
+use arrival_lines::lines::Times;
 use nets::forms::MOST_WIRES;
 use nets::forms::Net;
 

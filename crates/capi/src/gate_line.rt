@@ -3,8 +3,8 @@ ghost use mathlib.Core.Path.{_≡_};
 ghost use Rattle.rules.specs.Lister.{listing};
 ghost use Rattle.lister.specs.Calls.{listedAs};
 ghost use Rattle.capi.specs.GateLine.{flatTurn};
+use gate_turns::turns::Turn;
 use lister::calls::Listed;
-use lister::turns::Turn;
 
 // Kind 0: none is left. Kind 1: a gate line, `second` bytes from `first` on. Kind 2: the sheet is refused, with number `first` at
 // place `second`.

@@ -6,7 +6,7 @@ ghost use Rattle.rules.specs.Lists.{range};
 ghost use Rattle.rules.specs.Limits.{mostInputs};
 ghost use Rattle.rules.specs.Checking.{sameNames, sameHeader};
 ghost use Rattle.nets.specs.Forms.{nameIn, headerOf, NamesHeld};
-ghost use Rattle.fields.specs.Header.{HeaderHeld};
+ghost use Rattle.header_reading.specs.Header.{HeaderHeld};
 use fields::same::same_bytes;
 use nets::forms::Header;
 use nets::names::name_of;

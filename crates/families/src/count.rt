@@ -11,11 +11,11 @@ ghost use Rattle.families.specs.Outcomes.{countedOf};
 use crate::marked;
 use answers::answer::Answer;
 use answers::outcome::Outcome;
+use buffers::room::room;
 use marks::own;
 use nets::forms::Header;
 use radix::limits;
 use radix::powers;
-use synthesis::room::room;
 use table_reading::full;
 
 // Refusals 13 and 14, or the cells, the marks and the count. `inks` is the table, and `header` has its levels and inputs.

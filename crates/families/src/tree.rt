@@ -11,12 +11,12 @@ use crate::marked;
 use crate::net;
 use answers::answer::Answer;
 use answers::outcome::Outcome;
+use buffers::room::room;
 use marks::own;
-use net_printing::output;
+use net_output::output;
 use nets::forms::Header;
 use radix::limits;
 use radix::powers;
-use synthesis::room::room;
 use table_reading::full;
 
 // The cells and the marks, and then refusal 17, refusal 15 or the sheet.

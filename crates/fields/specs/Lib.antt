@@ -1,11 +1,7 @@
 pub mod Chained
 pub mod Decimals
-pub mod Header
 pub mod Judging
-pub mod Lines
-pub mod Names
 pub mod Runs
 pub mod Steps
 pub mod Taken
-pub mod Values
 pub mod Words

@@ -19,8 +19,8 @@ use Rattle.readback.specs.Fields.{parts-space}
 use Rattle.readback.specs.Header.{spells-header}
 use Rattle.nets.specs.declared.forms.Header.{Header}
 use Rattle.nets.specs.Forms.{headerOf, tableIn}
-use Rattle.fields.specs.Header.{HeaderHeld, HeaderRest}
-use Rattle.fields.specs.declared.lines.HeaderRead.{HeaderRead}
+use Rattle.header_reading.specs.Header.{HeaderHeld, HeaderRest}
+use Rattle.header_reading.specs.declared.lines.HeaderRead.{HeaderRead}
 use Rattle.fields.specs.declared.steps.Step.the-variants.{On, Back}
 use Rattle.jobs.specs.declared.job.Job.{Job}
 

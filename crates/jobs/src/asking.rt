@@ -6,9 +6,9 @@ ghost use lib.ListN.{length};
 ghost use Rattle.rules.specs.Jobs.{askJob};
 ghost use Rattle.jobs.specs.Forms.{Fronted, mostGroups, jobIn};
 ghost use Rattle.jobs.specs.Asking.{reachedAs};
-use fields::header::header_lines;
 use fields::runs::SPACE;
 use fields::steps::Step;
+use header_reading::header::header_lines;
 use nets::forms::Header;
 use radix::powers;
 

@@ -16,7 +16,7 @@ use crate::wiring::wiring_of;
 use answers::answer::Answer;
 use answers::named::Named;
 use filling::fill;
-use net_printing::output;
+use net_output::output;
 use nets::forms::Header;
 use nets::forms::Net;
 

@@ -1,6 +1,4 @@
--- `Steps`, `Answers`, `Openings`: the mathematics of the lister's places and turns. `Apart`, `Thin`: the lister as a struct.
-mod Steps
-mod Answers
+-- `Openings`: the mathematics of opening a sheet. `Apart`, `Thin`: the lister as a struct.
 mod Openings
 mod Apart
 mod Thin

@@ -14,13 +14,13 @@ use Rattle.answers.specs.declared.outcome.Outcome.the-variants.{Accepted, Refus
 use Rattle.net_reading.specs.Answers.{NetReads}
 use Rattle.net_reading.specs.declared.net.NetRead.{NetRead}
 use Rattle.readback.specs.GateLines.{turn-refused}
-use Rattle.lister.specs.declared.turns.Turn as code
+use Rattle.gate_turns.specs.declared.turns.Turn as code
 use Rattle.lister.specs.declared.calls.Opened.{Opened}
 use Rattle.lister.specs.declared.calls.Opened.the-variants.{At, Refused as NotOpened}
 use Rattle.lister.specs.declared.calls.Listed.the-variants.{Given, Refused as NotListed}
-use Rattle.lister.specs.Places.{lineStart, standsAt}
-use Rattle.lister.specs.Turns.{turnIn, turnNumbers, Says}
-use Rattle.lister.specs.Standing.{stands-accepted, stands-refused}
+use Rattle.gate_turns.specs.Places.{lineStart, standsAt}
+use Rattle.gate_turns.specs.Turns.{turnIn, turnNumbers, Says}
+use Rattle.gate_turns.specs.Standing.{stands-accepted, stands-refused}
 use Rattle.lister.specs.Calls.{openedAs, opening, turnAs, listedAs}
 
 differ : {A : Type 0} (a : A) (number place : ℕ) → _≡_ {A = Answer A} (accepted a) (refused number place) → ⊥

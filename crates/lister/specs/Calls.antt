@@ -5,13 +5,13 @@ use mathlib.Core.List.{List}
 use Rattle.rules.specs.Answers.{Answer, accepted, refused, onward}
 use Rattle.rules.specs.Reading.{readNet}
 use Rattle.rules.specs.Lister.{Turn, gateAt, noneLeft}
-use Rattle.lister.specs.declared.turns.Turn as code
-use Rattle.lister.specs.declared.turns.Turn.the-variants.{Line, NoneLeft}
+use Rattle.gate_turns.specs.declared.turns.Turn as code
+use Rattle.gate_turns.specs.declared.turns.Turn.the-variants.{Line, NoneLeft}
 use Rattle.lister.specs.declared.calls.Opened.{Opened}
 use Rattle.lister.specs.declared.calls.Opened.the-variants.{At, Refused as NotOpened}
 use Rattle.lister.specs.declared.calls.Listed.{Listed}
 use Rattle.lister.specs.declared.calls.Listed.the-variants.{Given, Refused as NotListed}
-use Rattle.lister.specs.Places.{standsAt}
+use Rattle.gate_turns.specs.Places.{standsAt}
 
 unfoldable pub openedAs : Opened → Answer ℕ
 openedAs (At place) = accepted place

@@ -12,9 +12,9 @@ use Rattle.rules.specs.Reading.{readNet}
 use Rattle.rules.specs.Lister.{Turn, noneLeft, listing}
 use Rattle.readback.specs.GateLines.{turn-refused}
 use Rattle.lister.specs.declared.walk.Lister.{Lister}
-use Rattle.lister.specs.Places.{standsAt, Onward}
-use Rattle.lister.specs.Turns.{turnAt, turnIn, Says}
-use Rattle.lister.specs.Standing.{turn-stands}
+use Rattle.gate_turns.specs.Places.{standsAt, Onward}
+use Rattle.gate_turns.specs.Turns.{turnAt, turnIn, Says}
+use Rattle.gate_turns.specs.Standing.{turn-stands}
 
 -- what `start` gives
 abbrev pub Started : RefT (List ℕ) → Lister → Type 0

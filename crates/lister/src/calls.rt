@@ -1,13 +1,13 @@
 // The calls that take a plain slice: opening a sheet, and the line of any turn.
 ghost use mathlib.Core.Path.{_≡_};
 ghost use Rattle.rules.specs.Lister.{listing};
-ghost use Rattle.lister.specs.Places.{standsAt};
+ghost use Rattle.gate_turns.specs.Places.{standsAt};
 ghost use Rattle.lister.specs.Calls.{openedAs, opening, listedAs};
-use crate::places::first_gate;
-use crate::places::line_after;
-use crate::turns::Turn;
-use crate::turns::turn_at;
 use answers::outcome::Outcome;
+use gate_turns::places::first_gate;
+use gate_turns::places::line_after;
+use gate_turns::turns::Turn;
+use gate_turns::turns::turn_at;
 use net_reading::net::read_net;
 
 // Where a lister starts, on an accepted sheet; or the sheet's refusal.

@@ -1,5 +1,3 @@
 // The gate lister: it walks a net sheet that it has borrowed and gives one gate line at each turn.
 pub mod calls;
-pub mod places;
-pub mod turns;
 pub mod walk;

@@ -2,11 +2,11 @@
 // proofs are walks by hand (proofs/walk/Lister).
 ghost use denote.Ref.{ptr};
 ghost use Rattle.lister.specs.Reached.{Started, TurnedOn};
-ghost use Rattle.lister.specs.Turns.{Says, isNone, partIn};
+ghost use Rattle.gate_turns.specs.Turns.{Says, isNone, partIn};
 use crate::calls::first_place;
-use crate::places::line_after;
-use crate::turns::line_at;
-use crate::turns::none_left;
+use gate_turns::places::line_after;
+use gate_turns::turns::line_at;
+use gate_turns::turns::none_left;
 
 // The sheet that it has borrowed, and where it stands in it.
 pub struct Lister<'a> {

@@ -16,7 +16,7 @@ use Rattle.fields.specs.declared.steps.Step.the-variants.{On}
 use Rattle.frames.specs.Frame.{SpaceAt, LevelAt, Laid, laid-none, laid-space, laid-level, Framed}
 use Rattle.frames.specs.Standing.{InBounds, Stand, InFrame, lookedAt, looked-bounds}
 use Rattle.frames.specs.Weighing.{counted, counted-next, counted-on}
-use Rattle.table_reading.specs.Plain.{Plain}
+use Rattle.row_words.specs.Plain.{Plain}
 use Rattle.loose_reading.specs.Index.{IndexRead, InIndex, index-start, index-done, index-next}
 use Rattle.loose_reading.specs.Plain.{plain-level}
 

@@ -10,12 +10,12 @@ use Rattle.rules.specs.Sheets.{headerLinesIn}
 use Rattle.rules.specs.LooseSheet.{looseSheet, readLoose}
 use Rattle.nets.specs.Forms.{headerOf}
 use Rattle.nets.specs.declared.forms.Header.{Header}
-use Rattle.fields.specs.Header.{HeaderRest}
+use Rattle.header_reading.specs.Header.{HeaderRest}
 use Rattle.fields.specs.Steps.{stepAs, nothing, spelled}
 use Rattle.fields.specs.Chained.{answers-back, answers-on, answers-over, answers-closed}
 use Rattle.fields.specs.declared.steps.Step.{Step}
 use Rattle.fields.specs.declared.steps.Step.the-variants.{On, Back}
-use Rattle.fields.specs.declared.lines.HeaderRead.{HeaderRead}
+use Rattle.header_reading.specs.declared.lines.HeaderRead.{HeaderRead}
 use Rattle.answers.specs.declared.outcome.Outcome.{Outcome}
 use Rattle.answers.specs.declared.outcome.Outcome.the-variants.{Accepted, Refused}
 use Rattle.loose_reading.specs.Answers.{LooseHeld, LooseReads, LooseRest, looseIn, allRows, theEnd, fromRows, fromInk}

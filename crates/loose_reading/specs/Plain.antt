@@ -13,8 +13,8 @@ use Rattle.rules.specs.LooseSheet.{anyLevel}
 use Rattle.fields.specs.Judging.{separator-due, loose-space, loose-line-end}
 use Rattle.fields.specs.Runs.{is-space, is-newline, spacesEnd, spaces-here}
 use Rattle.fields.specs.declared.steps.Step.the-variants.{On}
-use Rattle.table_reading.specs.Inks.{ink-digit}
-use Rattle.table_reading.specs.Plain.{Plain, plain-run}
+use Rattle.row_words.specs.Plain.{Plain, plain-run}
+use Rattle.row_reading.specs.Inks.{ink-digit}
 use Rattle.loose_reading.specs.Levels.{level-digit}
 
 module _ (s : List ℕ) (at d due : ℕ) (plain : Plain s at d due) where

@@ -15,7 +15,7 @@ use Rattle.fields.specs.Steps.{stepAs, itself}
 use Rattle.fields.specs.Taken.{field-read-in}
 use Rattle.fields.specs.declared.steps.Step.{Step}
 use Rattle.fields.specs.declared.steps.Step.the-variants.{On, Back}
-use Rattle.table_reading.specs.Inks.{ink-told}
+use Rattle.row_reading.specs.Inks.{ink-told}
 use Rattle.loose_reading.specs.Index.{IndexRead}
 use Rattle.loose_reading.specs.declared.row.RowRead.{RowRead}
 use Rattle.loose_reading.specs.declared.row.RowRead.the-variants.{Taken, Turned}

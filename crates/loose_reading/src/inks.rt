@@ -14,7 +14,7 @@ use fields::runs::field_at;
 use fields::steps::Found;
 use fields::steps::Layout;
 use fields::steps::Step;
-use table_reading::inks::judge_ink;
+use row_reading::inks::judge_ink;
 
 // The field by its run of bytes.
 pub fn judged_ink(s: &[u8], at: usize, m: usize) -> Step

@@ -4,11 +4,11 @@ ghost use Prim.Native.Nat.{ℕ, _<_, _≤_};
 ghost use mathlib.Core.Path.{_≡_};
 ghost use Rattle.rules.specs.Limits.{mostLevels};
 ghost use Rattle.fields.specs.declared.steps.Found.the-variants.{At};
-ghost use Rattle.table_reading.specs.Plain.{Plain};
+ghost use Rattle.row_words.specs.Plain.{Plain};
 use fields::runs::ZERO;
 use fields::steps::Found;
+use row_words::words::two_bytes;
 use std::num::wrapping_sub_usize;
-use table_reading::due::two_bytes;
 
 // The digit below m that stands at `at` with `due` after it. Bytes that are less than the digit 0's wrap to more than any digit.
 pub fn plain_digit(s: &[u8], at: usize, m: usize, due: u8) -> Found

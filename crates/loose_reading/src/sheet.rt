@@ -9,12 +9,12 @@ ghost use Rattle.loose_reading.specs.Rows.{Blank};
 ghost use Rattle.loose_reading.specs.Answers.{LooseReads, LooseRest, fromInk, fromRows};
 use crate::rows::rows;
 use answers::outcome::Outcome;
-use fields::header::header_lines_in;
 use fields::runs::NEWLINE;
 use fields::runs::SPACE;
 use fields::steps::Layout;
 use fields::steps::Step;
 use fields::words::word_field_in;
+use header_reading::header::header_lines_in;
 use nets::forms::Header;
 
 // What reading a loose sheet comes to: of an accepted one the header is whole.

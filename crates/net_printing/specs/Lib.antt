@@ -2,4 +2,3 @@
 -- Assumes nothing.
 pub mod Gates
 pub mod Kept
-pub mod Output

@@ -1,3 +1,2 @@
 // A net sheet as bytes.
 pub mod net;
-pub mod output;

@@ -18,11 +18,11 @@ use Rattle.nets.specs.Room.{mostGates}
 use Rattle.nets.specs.declared.forms.Header.{Header}
 use Rattle.nets.specs.declared.forms.Net.{Net}
 use Rattle.fields.specs.Chained.{chained-back, chained-on, Answers, answers-back, answers-on, answers-more, answers-ended, then-then}
-use Rattle.fields.specs.Header.{HeaderHeld, HeaderRest}
+use Rattle.header_reading.specs.Header.{HeaderHeld, HeaderRest}
 use Rattle.fields.specs.Steps.{stepAs, nothing, spelled}
 use Rattle.answers.specs.Answers.{outcomeAs}
 use Rattle.fields.specs.Words.{twoWords, twoWordsIn}
-use Rattle.fields.specs.declared.lines.HeaderRead.{HeaderRead}
+use Rattle.header_reading.specs.declared.lines.HeaderRead.{HeaderRead}
 use Rattle.answers.specs.declared.outcome.Outcome.{Outcome}
 use Rattle.answers.specs.declared.outcome.Outcome.the-variants.{Accepted, Refused}
 use Rattle.fields.specs.declared.steps.Step.{Step}

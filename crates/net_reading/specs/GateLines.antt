@@ -11,7 +11,7 @@ use Rattle.rules.specs.Fields.{Read, read, turnedBack, Reader, then, give}
 use Rattle.rules.specs.Sheets as sheets
 use Rattle.rules.specs.Sheets.{gateLine, orEnd, gateLines}
 use Rattle.fields.specs.Chained.{never-both}
-use Rattle.fields.specs.Header.{HeaderHeld}
+use Rattle.header_reading.specs.Header.{HeaderHeld}
 use Rattle.fields.specs.Steps.{stepAs}
 use Rattle.fields.specs.declared.steps.Step.the-variants.{On, Back}
 use Rattle.nets.specs.Forms.{gatesOf, noGates, namesIn}

@@ -12,7 +12,7 @@ use Rattle.rules.specs.Sheets as sheets
 use Rattle.rules.specs.Sheets.{referenceField, digitsField, usedBy, gateLine}
 use Rattle.rules.specs.Limits.{mostLevels}
 use Rattle.fields.specs.Chained.{chained-back, chained-on, then-then, never-both}
-use Rattle.fields.specs.Header.{HeaderHeld}
+use Rattle.header_reading.specs.Header.{HeaderHeld}
 use Rattle.fields.specs.Steps.{stepAs, itself}
 use Rattle.laws.specs.Sizes.{sized}
 use Rattle.fields.specs.declared.steps.Step.{Step}

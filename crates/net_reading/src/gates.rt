@@ -3,7 +3,7 @@ ghost use Prim.Native.Nat.{_+_, _*_, _≤_, _<_};
 ghost use lib.ListN.{length};
 ghost use Rattle.rules.specs.Limits.{mostLevels};
 ghost use Rattle.nets.specs.Room.{mostGates, mostDigits};
-ghost use Rattle.fields.specs.Header.{HeaderHeld};
+ghost use Rattle.header_reading.specs.Header.{HeaderHeld};
 ghost use Rattle.net_reading.specs.Digits.{areDigits, digitsAt};
 ghost use Rattle.nets.specs.Forms.{gatesOf, namesIn};
 ghost use Rattle.net_reading.specs.Gates.{NetForm, Grown, GateRest, GateRoom, Room, fromDigits, fromRight, oneGate};

@@ -11,7 +11,7 @@ ghost use Rattle.rules.specs.Sheets.{referenceText, referenceOf, referenceField
 ghost use Rattle.rules.specs.Text.{spaceByte};
 ghost use Rattle.nets.specs.Forms.{gatesOf, namesIn};
 ghost use Rattle.nets.specs.Room.{mostGates};
-ghost use Rattle.fields.specs.Header.{HeaderHeld};
+ghost use Rattle.header_reading.specs.Header.{HeaderHeld};
 ghost use Rattle.fields.specs.Steps.{judgedAs, stepAs, itself, optionOf};
 use fields::ends::after_field;
 use fields::numbers::is_decimal;

@@ -6,13 +6,13 @@ ghost use Rattle.synthesis.specs.Outcomes.{netBy};
 ghost use Rattle.settling.specs.Calls.{settlesBy, makesBy};
 use answers::layered::Layered;
 use answers::outcome::Outcome;
+use buffers::into;
 use columns::table;
 use net_reading::net;
 use nets::forms::Header;
 use nets::forms::Net;
 use radix::limits;
 use radix::powers;
-use synthesis::into;
 use table_reading::full;
 use wirings::choice::Choice;
 

@@ -6,8 +6,8 @@ ghost use Rattle.answers.specs.Answers.{madeOf};
 ghost use Rattle.accepted.specs.Taken.{Given};
 use crate::calls::length_alone;
 use answers::answer::Answer;
+use buffers::into;
 use nets::forms::Header;
-use synthesis::into;
 use wirings::choice::Choice;
 
 // Writes the table, its marks and its settled net sheet.

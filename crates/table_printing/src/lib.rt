@@ -1,4 +1,2 @@
-// Printing a table sheet, with its length known before it is written.
-pub mod lengths;
+// Printing a table sheet.
 pub mod table;
-pub mod words;

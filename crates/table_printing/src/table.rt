@@ -6,19 +6,19 @@ ghost use Rattle.rules.specs.Limits.{mostLevels, mostInputs};
 ghost use Rattle.rules.specs.Sheets.{inkByte};
 ghost use Rattle.rules.specs.Printed.{printedRows, printedTable};
 ghost use Rattle.lines.specs.Put.{Put, Room, Wrote};
-ghost use Rattle.table_printing.specs.Rows.{rowText};
+ghost use Rattle.row_printing.specs.Rows.{rowText};
 ghost use Rattle.nets.specs.Forms.{tableIn};
 ghost use Rattle.table_printing.specs.Tables.{TableInside};
-use crate::words::ZEROS;
-use crate::words::next_words;
-use crate::words::wide_row;
 use lines::header::print_names;
 use lines::header::print_pair;
 use lines::put::copy;
 use nets::forms::Header;
 use nets::levels::next_levels;
 use radix::limits::MOST_INPUTS;
-use table_reading::due::Words;
+use row_printing::words::ZEROS;
+use row_printing::words::next_words;
+use row_printing::words::wide_row;
+use row_words::words::Words;
 
 // The byte of an ink: its digit, or the sign of an open cell.
 fn ink_byte(m: usize, ink: u8) -> u8

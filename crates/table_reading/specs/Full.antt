@@ -13,7 +13,7 @@ use Rattle.laws.specs.Bounds.{Below, below-at, at-below}
 use Rattle.laws.specs.OpenCells.{read-refused, read-27, read-full, none-open}
 use Rattle.nets.specs.Forms.{tableIn, headerOf}
 use Rattle.nets.specs.declared.forms.Header.{Header}
-use Rattle.fields.specs.Header.{HeaderHeld}
+use Rattle.header_reading.specs.Header.{HeaderHeld}
 use Rattle.answers.specs.Answers.{outcomeAs}
 use Rattle.answers.specs.declared.outcome.Outcome.{Outcome}
 use Rattle.answers.specs.declared.outcome.Outcome.the-variants.{Accepted, Refused}

@@ -1,12 +1,3 @@
 pub mod Answers
-pub mod Block
-pub mod Blocks
-pub mod Due
 pub mod Full
-pub mod Inks
-pub mod Levels
 pub mod Parts
-pub mod Plain
-pub mod Row
-pub mod Rows
-pub mod Words

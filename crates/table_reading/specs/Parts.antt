@@ -10,14 +10,14 @@ use Rattle.rules.specs.Sheets.{headerLines, tableSheet}
 use Rattle.rules.specs.Reading.{readTable}
 use Rattle.nets.specs.Forms.{headerOf, tableIn}
 use Rattle.nets.specs.declared.forms.Header.{Header}
-use Rattle.fields.specs.Header.{HeaderRest}
+use Rattle.header_reading.specs.Header.{HeaderRest}
 use Rattle.fields.specs.Steps.{stepAs, nothing, spelled}
 use Rattle.fields.specs.declared.steps.Step.{Step}
 use Rattle.fields.specs.declared.steps.Step.the-variants.{On, Back}
-use Rattle.fields.specs.declared.lines.HeaderRead.{HeaderRead}
+use Rattle.header_reading.specs.declared.lines.HeaderRead.{HeaderRead}
 use Rattle.table_reading.specs.Answers.{inksIn, TableHeld, TableReads, TableRest, allRows, theEnd, fromRows, fromInk}
 use Rattle.fields.specs.Chained.{answers-back, answers-on, answers-over, answers-closed}
-use Rattle.table_reading.specs.Rows.{RowsRead}
+use Rattle.block_reading.specs.Rows.{RowsRead}
 use Rattle.answers.specs.declared.outcome.Outcome.{Outcome}
 use Rattle.answers.specs.declared.outcome.Outcome.the-variants.{Accepted, Refused}
 

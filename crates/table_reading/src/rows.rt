@@ -2,41 +2,15 @@
 ghost use mathlib.Core.Path.{_≡_};
 ghost use mathlib.Core.Bool.{true};
 ghost use Prim.Native.Nat.{_^_, _≤_};
-ghost use lib.ListN.{length, take, drop};
+ghost use lib.ListN.{length};
 ghost use Rattle.rules.specs.Limits.{sizeFits};
-ghost use Rattle.fields.specs.Steps.{stepAs, itself};
-ghost use Rattle.table_reading.specs.Row.{rowLine};
-ghost use Rattle.table_reading.specs.Rows.{RowsRead};
-use crate::blocks::due_rows;
-use crate::inks::ink_field;
-use crate::levels::level_field;
+ghost use Rattle.block_reading.specs.Rows.{RowsRead};
+use block_reading::blocks::due_rows;
 use fields::steps::Step;
 use nets::levels::next_levels;
 use radix::limits::MOST_INPUTS;
 use radix::powers::power;
-
-// A row: the first n of `levels`, then the ink, which a step onward has.
-pub fn row(s: &[u8], at: usize, levels: &[u8], n: usize, m: usize) -> Step
-    requires { ⌜ n ≤ length (now levels) ⌝ }
-    ensures { λ r. ⌜ stepAs itself (now (s .entry)) r ≡ rowLine m (take n (now (levels .entry))) (drop at (now (s .entry))) at ⌝ }
-{
-    let mut place = at;
-    let mut i: usize = 0;
-    while i < n {
-        let step = level_field(s, place, levels[i]);
-        match step {
-            Step::Back {
-                number: _,
-                place: _,
-            } => return step,
-            Step::On { value: _, next } => {
-                place = next;
-                i += 1;
-            }
-        }
-    }
-    ink_field(s, place, m)
-}
+use row_reading::row::row;
 
 // All rows, from the row of index 0 at `at` on; their inks go to the front of `cells`. Those that do not stand as they are due are judged field by field.
 pub fn rows(s: &[u8], at: usize, m: usize, n: usize, cells: &mut [u8]) -> Step

@@ -8,11 +8,11 @@ ghost use Rattle.nets.specs.Forms.{headerOf};
 ghost use Rattle.table_reading.specs.Answers.{TableReads, TableRest, fromInk, fromRows};
 use crate::rows::rows;
 use answers::outcome::Outcome;
-use fields::header::header_lines;
 use fields::runs::NEWLINE;
 use fields::runs::SPACE;
 use fields::steps::Step;
 use fields::words::word_field;
+use header_reading::header::header_lines;
 use nets::forms::Header;
 
 // What reading a table sheet comes to: of an accepted one the header is whole.

@@ -16,7 +16,7 @@ use Rattle.nets.specs.declared.forms.Header.{Header}
 use Rattle.nets.specs.declared.forms.Net.{Net}
 use Rattle.nets.specs.Evaluating.{Tabled}
 use Rattle.nets.specs.Forms.{netIn, tableIn}
-use Rattle.table_printing.specs.Lengths.{Measures}
+use Rattle.table_lengths.specs.Lengths.{Measures}
 use Rattle.lines.specs.Put.{Wrote}
 use Rattle.accepted.specs.Taken.{NetTaken, names-inside, own-length, front-length, front-table}
 

@@ -11,7 +11,7 @@ use nets::forms::Header;
 use nets::forms::Net;
 use radix::limits::MOST_CELLS;
 use radix::powers::power;
-use table_printing::lengths::table_length;
+use table_lengths::lengths::table_length;
 use table_printing::table::print_table;
 
 // Refusal 15, or the table sheet of an accepted net sheet.

@@ -21,7 +21,7 @@ use Rattle.readback.specs.ReadBack.{table-accepted}
 use Rattle.readback.specs.LooseTables.{inOrder, strict-read, strict-same}
 use Rattle.nets.specs.Forms.{headerOf, tableIn}
 use Rattle.nets.specs.declared.forms.Header.{Header}
-use Rattle.fields.specs.Header.{HeaderHeld}
+use Rattle.header_reading.specs.Header.{HeaderHeld}
 use Rattle.answers.specs.Answers.{answerOf, outcomeAs}
 use Rattle.answers.specs.declared.answer.Answer.{Answer}
 use Rattle.answers.specs.declared.outcome.Outcome.the-variants.{Accepted, Refused}
@@ -31,7 +31,7 @@ use Rattle.loose_reading.specs.Answers.{LooseReads, looseIn}
 use Rattle.loose_reading.specs.declared.sheet.LooseRead.{LooseRead}
 use Rattle.lines.specs.Put.{Put, Wrote, put-wrote}
 use Rattle.accepted.specs.Taken.{held-size, names-inside, table-taken}
-use Rattle.table_printing.specs.Lengths.{Measures}
+use Rattle.table_lengths.specs.Lengths.{Measures}
 use Rattle.table_printing.specs.Tables.{TableInside}
 
 -- the answer, and the two buffers after the call

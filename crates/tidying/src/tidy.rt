@@ -17,7 +17,7 @@ use loose_reading::sheet::read_loose;
 use nets::forms::Header;
 use radix::limits::MOST_CELLS;
 use radix::powers::power;
-use table_printing::lengths::table_length;
+use table_lengths::lengths::table_length;
 use table_printing::table::print_table;
 use table_reading::sheet::read_table;
 

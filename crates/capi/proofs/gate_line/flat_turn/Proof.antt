@@ -2,7 +2,7 @@
 use mathlib.Core.Path.{sym, ap, _∙_}
 use Rattle.lister.specs.declared.calls.Listed.{Listed}
 use Rattle.lister.specs.declared.calls.Listed.the-variants.{Given}
-use Rattle.lister.specs.declared.turns.Turn.{Turn}
+use Rattle.gate_turns.specs.declared.turns.Turn.{Turn}
 use Rattle.lister.specs.Calls.{listedAs, turnAs}
 use Rattle.capi.specs.GateLine.{flatTurn}
 use borrow.Author.Needs.{needs}

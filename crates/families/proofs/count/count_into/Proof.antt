@@ -9,7 +9,7 @@ use Rattle.rules.specs.Settling.{roomFor}
 use Rattle.laws.specs.FamilyCalls.{counted-refused}
 use Rattle.nets.specs.Forms.{tableIn}
 use Rattle.answers.specs.Answers.{outcomeAs}
-use Rattle.synthesis.specs.Room.{both-long}
+use Rattle.buffers.specs.Room.{both-long}
 use Rattle.families.specs.Marked.{none-known, groups-room}
 use Rattle.families.specs.Outcomes.{count-given}
 use Rattle.families.proofs.count.count_into.Statement.{statement}

@@ -6,7 +6,7 @@ use Rattle.rules.specs.Settling.{roomFor}
 use Rattle.laws.specs.FamilyCalls.{numbered-refused, numbered-room}
 use Rattle.nets.specs.Forms.{tableIn}
 use Rattle.answers.specs.Answers.{outcomeAs}
-use Rattle.synthesis.specs.Room.{both-long}
+use Rattle.buffers.specs.Room.{both-long}
 use Rattle.synthesis.specs.Outcomes.{given-size, given-count}
 use Rattle.families.proofs.tree.tree_into.Statement.{statement}
 use Rattle.families.proofs.tree.tree_into.Tie as tie

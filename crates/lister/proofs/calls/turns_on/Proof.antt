@@ -3,8 +3,8 @@
 use Prim.Native.Nat.{_-_, _≤_}
 use mathlib.Core.Path.{_≡_, ap, _∙_}
 use native.Mathlib.Omega.{arith}
-use Rattle.lister.specs.Places.{standsAt}
-use Rattle.lister.specs.Standing.{stays}
+use Rattle.gate_turns.specs.Places.{standsAt}
+use Rattle.gate_turns.specs.Standing.{stays}
 use Rattle.lister.proofs.calls.turns_on.Statement.{statement}
 use Rattle.lister.proofs.calls.turns_on.Tie as tie
 

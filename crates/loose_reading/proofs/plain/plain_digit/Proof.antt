@@ -1,8 +1,8 @@
 -- `loose_reading::plain::plain_digit` meets its contract: it says none, or has seen both bytes.
 -- Assumes nothing.
 use native.Mathlib.Omega.{arith}
-use Rattle.table_reading.specs.Due.{no-ink, same-ink}
-use Rattle.table_reading.specs.Plain.{two-plain}
+use Rattle.row_words.specs.Plain.{two-plain}
+use Rattle.row_reading.specs.Inks.{no-ink, same-ink}
 use borrow.Author.Needs.{needs}
 use Rattle.loose_reading.proofs.plain.plain_digit.Statement.{statement}
 use Rattle.loose_reading.proofs.plain.plain_digit.Tie as tie

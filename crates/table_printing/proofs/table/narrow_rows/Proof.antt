@@ -12,7 +12,7 @@ use Rattle.rules.specs.Sheets.{levelsAt, inkByte}
 use Rattle.rules.specs.Printed.{printedRows}
 use Rattle.laws.specs.Levels.{zeros-front, levels-length, levels-below, front-next, front-kept}
 use Rattle.lines.specs.Put.{Room, Left, all-left, put-left, room-for, none-left}
-use Rattle.table_printing.specs.Rows.{rowText, rows-next, rows-end}
+use Rattle.row_printing.specs.Rows.{rowText, rows-next, rows-end}
 use Rattle.table_printing.proofs.table.narrow_rows.Statement.{statement}
 use Rattle.table_printing.proofs.table.narrow_rows.Tie as tie
 

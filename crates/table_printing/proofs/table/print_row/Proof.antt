@@ -6,7 +6,7 @@ use native.Mathlib.Omega.{arith}
 use lib.ListN.{length, getD, length-set}
 use Rattle.rules.specs.Text.{space, newline, digitByte, zeroByte, spaceByte, newlineByte}
 use Rattle.lines.specs.Put.{Left, parts-left, bytes-left, none-left}
-use Rattle.table_printing.specs.Rows.{rowText, rowFrom, row-all, row-next, row-end}
+use Rattle.row_printing.specs.Rows.{rowText, rowFrom, row-all, row-next, row-end}
 use Rattle.table_printing.proofs.table.print_row.Statement.{statement}
 use Rattle.table_printing.proofs.table.print_row.Tie as tie
 

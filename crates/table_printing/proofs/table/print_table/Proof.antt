@@ -9,7 +9,7 @@ use Rattle.rules.specs.Printed.{line, printedRows, printedTable}
 use Rattle.nets.specs.Forms.{nameIn, tableIn}
 use Rattle.lines.specs.Put.{Left, parts-left, put-left, room-for, last-put, put-wrote}
 use Rattle.lines.specs.Lines.{spacedFrom}
-use Rattle.table_printing.specs.Tables.{table-parts}
+use Rattle.row_printing.specs.Parts.{table-parts}
 use Rattle.table_printing.proofs.table.print_table.Statement.{statement}
 use Rattle.table_printing.proofs.table.print_table.Tie as tie
 

@@ -12,9 +12,9 @@ use Rattle.rules.specs.Sheets.{levelsAt, inkByte}
 use Rattle.rules.specs.Printed.{printedRows}
 use Rattle.laws.specs.Levels.{levels-next, levels-length}
 use Rattle.lines.specs.Put.{Left, all-left, put-left, room-for, none-left}
-use Rattle.table_printing.specs.Rows.{rowText, row-length, rows-next, rows-end}
-use Rattle.table_printing.specs.Words.{Spells}
-use Rattle.table_printing.specs.Next.{zeros-spell}
+use Rattle.row_printing.specs.Rows.{rowText, row-length, rows-next, rows-end}
+use Rattle.row_printing.specs.Words.{Spells}
+use Rattle.row_printing.specs.Next.{zeros-spell}
 use Rattle.table_printing.proofs.table.wide_rows.Statement.{statement}
 use Rattle.table_printing.proofs.table.wide_rows.Tie as tie
 

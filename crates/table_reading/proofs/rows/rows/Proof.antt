@@ -8,7 +8,7 @@ use lib.ListN.{length, length-set}
 use Rattle.rules.specs.Limits.{mostInputs}
 use Rattle.laws.specs.Levels.{zeros-front, front-next}
 use Rattle.laws.specs.Sizes.{Size, sized}
-use Rattle.table_reading.specs.Rows.{InRows, row-due, rows-back, reached-next, rows-done, ink-within}
+use Rattle.block_reading.specs.Rows.{InRows, row-due, rows-back, reached-next, rows-done, ink-within}
 use Rattle.table_reading.proofs.rows.rows.Statement.{statement}
 use Rattle.table_reading.proofs.rows.rows.Tie as tie
 

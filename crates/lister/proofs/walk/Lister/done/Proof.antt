@@ -29,14 +29,14 @@ use denote.Triple.Statement.{Triple}
 use denote.Triple.Call.{calls-at}
 use denote.Triple.Spec.{tripleOf}
 use denote.Triple.Table.{entered, cited}
-use Rattle.lister.specs.Turns.{Says, isNone}
+use Rattle.gate_turns.specs.Turns.{Says, isNone}
 use Rattle.lister.specs.declared.walk.Lister.{Lister}
 use Rattle.lister.proofs.Apart.{Own, apart}
 use Rattle.lister.proofs.Thin.{Called, to, Ensured, said, meets, Starts, Ends, ends}
 use Rattle.lister.proofs.walk.Lister.Laws as T′
-use Rattle.lister.proofs.turns.none_left.Symbol as callee-def
-use Rattle.lister.proofs.turns.none_left.Symbol.{name as #callee}
-use Rattle.lister.proofs.turns.none_left.Met as callee-thm
+use Rattle.gate_turns.proofs.turns.none_left.Symbol as callee-def
+use Rattle.gate_turns.proofs.turns.none_left.Symbol.{name as #callee}
+use Rattle.gate_turns.proofs.turns.none_left.Met as callee-thm
 use Rattle.lister.proofs.walk.Lister.done.Key.{name as #own}
 use Rattle.lister.proofs.walk.Lister.done as own
 use Rattle.lister.proofs.walk.Lister.done.Statement as stated
@@ -78,4 +78,4 @@ done-spec 𝓤 H 𝓜 𝓖 𝓡 =
     entered 𝓤 H (tripleOf 𝓤 H (𝓖 .A) own.signature (own.spec 𝓤 H (𝓖 .A) (𝓜 .mem) (𝓡 .run)))
     (tables 𝓤 H 𝓜 𝓡 code.env .C) (tables 𝓤 H 𝓜 𝓡 code.env .Λ) #own code.function (code.unfolded 𝓤 H 𝓜 𝓡)
     (meets 𝓤 H (𝓖 .A) W R Said 𝓣 code.function (λ κ q d. walk 𝓤 H (𝓖 .A) W κ q d (𝓣 .C) (𝓣 .Λ) (fmOf 𝓤 H (W .laws) 𝓣)
-    (cited 𝓤 H (Called 𝓤 H (𝓖 .A) R Said) 𝓜 𝓡 code.env #callee callee-def.routine code.calls-lister·turns·none-left (callee-thm.met 𝓤 H 𝓜 𝓖 𝓡))))
+    (cited 𝓤 H (Called 𝓤 H (𝓖 .A) R Said) 𝓜 𝓡 code.env #callee callee-def.routine code.calls-gate-turns·turns·none-left (callee-thm.met 𝓤 H 𝓜 𝓖 𝓡))))

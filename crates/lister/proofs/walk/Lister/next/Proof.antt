@@ -34,14 +34,14 @@ use denote.Triple.Call.{calls-at}
 use denote.Triple.Spec.{tripleOf}
 use denote.Triple.Table.{entered, cited}
 use denote.Triple.Walked.{says, ends-at}
-use Rattle.lister.specs.Places.{Onward}
+use Rattle.gate_turns.specs.Places.{Onward}
 use Rattle.lister.specs.declared.walk.Lister.{Lister}
 use Rattle.lister.proofs.Apart.{B, D, L, Own, vd, apart}
 use Rattle.lister.proofs.Thin.{Called, to, Ensured, said, meets, Starts, Ends, ofLister, stayed, clauses}
 use Rattle.lister.proofs.walk.Lister.Laws as T′
-use Rattle.lister.proofs.places.line_after.Symbol as callee-def
-use Rattle.lister.proofs.places.line_after.Symbol.{name as #callee}
-use Rattle.lister.proofs.places.line_after.Met as callee-thm
+use Rattle.gate_turns.proofs.places.line_after.Symbol as callee-def
+use Rattle.gate_turns.proofs.places.line_after.Symbol.{name as #callee}
+use Rattle.gate_turns.proofs.places.line_after.Met as callee-thm
 use Rattle.lister.proofs.walk.Lister.next.Key.{name as #own}
 use Rattle.lister.proofs.walk.Lister.next as own
 use Rattle.lister.proofs.walk.Lister.next.Statement as stated
@@ -102,4 +102,4 @@ next-spec 𝓤 H 𝓜 𝓖 𝓡 =
     entered 𝓤 H (tripleOf 𝓤 H (𝓖 .A) own.signature (own.spec 𝓤 H (𝓖 .A) (𝓜 .mem) (𝓡 .run)))
     (tables 𝓤 H 𝓜 𝓡 code.env .C) (tables 𝓤 H 𝓜 𝓡 code.env .Λ) #own code.function (code.unfolded 𝓤 H 𝓜 𝓡)
     (meets 𝓤 H (𝓖 .A) W B Said 𝓣 code.function (λ κ q d. walk 𝓤 H (𝓖 .A) W κ q d (𝓣 .C) (𝓣 .Λ) (fmOf 𝓤 H (W .laws) 𝓣)
-    (cited 𝓤 H (Called 𝓤 H (𝓖 .A) (λ _. usize) Place) 𝓜 𝓡 code.env #callee callee-def.routine code.calls-lister·places·line-after (callee-thm.met 𝓤 H 𝓜 𝓖 𝓡))))
+    (cited 𝓤 H (Called 𝓤 H (𝓖 .A) (λ _. usize) Place) 𝓜 𝓡 code.env #callee callee-def.routine code.calls-gate-turns·places·line-after (callee-thm.met 𝓤 H 𝓜 𝓖 𝓡))))

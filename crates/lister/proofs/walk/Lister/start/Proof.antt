@@ -39,7 +39,7 @@ use denote.Triple.Spec.{Meets, tripleOf}
 use denote.Triple.Table.{entered, cited}
 use denote.Triple.Walked.{says, Stays, stay-none-slice, walkOf, goes-none-slice, Walks, ends-at, walked, walk-meets}
 use denote.Exit.{yes}
-use Rattle.lister.specs.Places.{standsAt}
+use Rattle.gate_turns.specs.Places.{standsAt}
 use Rattle.lister.specs.declared.walk.Lister.{Lister}
 use Rattle.lister.proofs.Apart.{D, L}
 use Rattle.lister.proofs.walk.Lister.Laws as T′

@@ -1,0 +1,2 @@
+// Reading the lines of an arrival sheet.
+pub mod lines;

@@ -1,0 +1,2 @@
+// Reading a row that stands as it is due.
+pub mod due;

@@ -1,0 +1,66 @@
+-- `header_reading::names::is_name` meets its contract: the tests that led to each return.
+-- Assumes nothing.
+use borrow.Author.Needs.{needs}
+use mathlib.Core.Path.{sym, ap, _∙_}
+use mathlib.Core.Bool.{not}
+use borrow.Author.Tests.{not-true, not-false}
+use Rattle.rules.specs.Text.{text}
+use Rattle.header_reading.specs.Names.{name-long, name-empty, name-first, name-bytes, name-good}
+use Rattle.header_reading.proofs.names.is_name.Statement.{statement}
+use Rattle.header_reading.proofs.names.is_name.Tie as tie
+
+-- the tests of the length and the two calls, each from the call after it
+abbrev at-length : tie.After-is-letter → tie.Else2
+at-length c = c .before .before
+
+abbrev at-letter : tie.After-are-name-bytes → tie.After-is-letter
+at-letter c = c .before .before
+
+abbrev at-bytes : tie.After-same-bytes → tie.After-are-name-bytes
+at-bytes c = c .before .before .before
+
+returns : tie.Need-returns
+returns c = name-long _ (c .if1 .taken)
+
+returns-2 : tie.Need-returns-2
+returns-2 c = name-empty _ (c .if2 .taken)
+
+shared-slice-read-is-letter : tie.Need-shared-slice-read-is-letter
+shared-slice-read-is-letter c = search needs
+
+is-letter-requires : tie.Need-is-letter-requires
+is-letter-requires c κs = search needs
+
+returns-3 : tie.Need-returns-3
+returns-3 c = name-first _ (at-length (c .before) .before .if1 .left) (at-length (c .before) .if2 .left) (sym (c .before .is-letter .ensures) ∙ not-true _ (c .if3 .taken))
+
+are-name-bytes-requires : tie.Need-are-name-bytes-requires
+are-name-bytes-requires c κs = search needs
+
+returns-4 : tie.Need-returns-4
+returns-4 c = name-bytes _ (at-length (at-letter (c .before)) .before .if1 .left) (at-length (at-letter (c .before)) .if2 .left) (sym (at-letter (c .before) .is-letter .ensures) ∙ not-false _ (c .before .before .if3 .left)) (sym (c .before .are-name-bytes .ensures) ∙ not-true _ (c .if4 .taken))
+
+slice-aggregate-same-bytes : tie.Need-slice-aggregate-same-bytes
+slice-aggregate-same-bytes c = search needs
+
+same-bytes-requires : tie.Need-same-bytes-requires
+same-bytes-requires c κs = search needs
+
+returns-5 : tie.Need-returns-5
+unfolding text
+returns-5 c = ap not (c .same-bytes .ensures) ∙ name-good _ (at-length (at-letter (at-bytes c)) .before .if1 .left) (at-length (at-letter (at-bytes c)) .if2 .left) (sym (at-letter (at-bytes c) .is-letter .ensures) ∙ not-false _ (at-bytes c .before .if3 .left)) (sym (at-bytes c .are-name-bytes .ensures) ∙ not-false _ (c .before .before .if4 .left))
+
+pub is-name-spec : {M : Type 1} → statement M
+is-name-spec =
+    tie.close
+    (tie.spec
+    returns
+    returns-2
+    shared-slice-read-is-letter
+    is-letter-requires
+    returns-3
+    are-name-bytes-requires
+    returns-4
+    slice-aggregate-same-bytes
+    same-bytes-requires
+    returns-5)

@@ -1,0 +1,22 @@
+-- `header_reading::names::is_name_byte` meets its contract.
+-- Assumes nothing.
+use borrow.Author.Needs.{needs}
+use mathlib.Core.Path.{sym, _∙_}
+use Rattle.header_reading.specs.Names.{digit-low, digit-high}
+use Rattle.header_reading.proofs.names.is_name_byte.Statement.{statement}
+use Rattle.header_reading.proofs.names.is_name_byte.Tie as tie
+
+is-letter-requires : tie.Need-is-letter-requires
+is-letter-requires c κs = search needs
+
+returns : tie.Need-returns
+returns c = rw (← c .before .is-letter .ensures, c .if1 .taken)
+
+returns-2 : tie.Need-returns-2
+returns-2 c = digit-low _ (sym (c .before .before .is-letter .ensures) ∙ c .before .if1 .left) (c .if2 .taken)
+
+returns-3 : tie.Need-returns-3
+returns-3 c = digit-high _ (sym (c .before .before .is-letter .ensures) ∙ c .before .if1 .left) (c .if2 .left)
+
+pub is-name-byte-spec : {M : Type 1} → statement M
+is-name-byte-spec = tie.close (tie.spec is-letter-requires returns returns-2 returns-3)

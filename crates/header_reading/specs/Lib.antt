@@ -1,0 +1,4 @@
+pub mod Header
+pub mod Lines
+pub mod Names
+pub mod Values

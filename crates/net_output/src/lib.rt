@@ -1,0 +1,2 @@
+// A net sheet in the output, or refusal 15.
+pub mod output;

@@ -1,0 +1,3 @@
+pub mod Inks
+pub mod Levels
+pub mod Row

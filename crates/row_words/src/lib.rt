@@ -1,0 +1,2 @@
+// The bytes of a table sheet's row, two, four or eight at a time.
+pub mod words;

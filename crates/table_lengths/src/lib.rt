@@ -1,0 +1,2 @@
+// The length of a table sheet, known before it is written.
+pub mod lengths;

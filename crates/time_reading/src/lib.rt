@@ -1,0 +1,2 @@
+// Reading a time of an arrival sheet.
+pub mod times;
