@@ -6,7 +6,6 @@ ghost use Rattle.synthesis.specs.Outcomes.{netBy};
 ghost use Rattle.settling.specs.Calls.{settlesBy, makesBy};
 use answers::layered::Layered;
 use answers::outcome::Outcome;
-use columns::table;
 use net_reading::net;
 use nets::forms::Header;
 use nets::forms::Net;
@@ -14,6 +13,7 @@ use radix::limits;
 use radix::powers;
 use synthesis::into;
 use table_reading::full;
+use tabling::table;
 use wirings::choice::Choice;
 
 // The net's table goes into an array of its own first: a refusal must change no buffer.
