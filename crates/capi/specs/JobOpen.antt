@@ -10,8 +10,8 @@ use Rattle.jobs.specs.Forms.{jobIn}
 use Rattle.jobs.specs.Opening.{openedBytes}
 use Rattle.jobs.specs.Calls.{OpenDone}
 use Rattle.answers.specs.Answers.{outcomeAs}
-use Rattle.capi.specs.declared.flat.SitgurpAnswer.{SitgurpAnswer}
-use Rattle.capi.specs.JobStep.{flatDone}
+use Rattle.flat_answers.specs.declared.flat.SitgurpAnswer.{SitgurpAnswer}
+use Rattle.flat_answers.specs.Done.{flatDone}
 
 pub record FlatOpened (s : List ℕ) (r : SitgurpAnswer) (lines cells marks : List ℕ) (passed : ℕ) : Type 0 where
   pub answer : r ≡ flatDone (openJob s .answer)

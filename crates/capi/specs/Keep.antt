@@ -3,13 +3,9 @@
 use Prim.Native.Nat.{ℕ}
 use mathlib.Core.Path.{_≡_}
 use mathlib.Core.List.{List}
-use Rattle.rules.specs.Keeping.{Keeping, rewritten, turnedAway, KeptWiring}
-use Rattle.capi.specs.Check.{flatNamed}
-use Rattle.capi.specs.declared.keep.SitgurpKept.{SitgurpKept}
-
-abbrev pub flatKept : Keeping → SitgurpKept
-flatKept (rewritten length changed) = record { named = 0; number = 0; value = length; changed = changed }
-flatKept (turnedAway named number place) = record { named = flatNamed named; number = number; value = place; changed = 0 }
+use Rattle.rules.specs.Keeping.{KeptWiring}
+use Rattle.flat_calls.specs.declared.kept.SitgurpKept.{SitgurpKept}
+use Rattle.flat_calls.specs.Kept.{flatKept}
 
 -- what the call answers, and its two buffers
 pub record FlatKept (kept : KeptWiring) (r : SitgurpKept) (cells output : List ℕ) : Type 0 where

@@ -3,14 +3,10 @@
 use Prim.Native.Nat.{ℕ}
 use mathlib.Core.Path.{_≡_, ap, _∙_}
 use mathlib.Core.List.{List}
-use Rattle.rules.specs.Answers.{Answer, accepted, refused}
+use Rattle.rules.specs.Answers.{Answer}
 use Rattle.rules.specs.ShallowSettling.{Layered, LayeredMade}
-use Rattle.capi.specs.declared.layered.SitgurpShallow.{SitgurpShallow}
-
--- 0, the length and the layers; or the refusal's number and place
-abbrev pub flatLayered : Answer Layered → SitgurpShallow
-flatLayered (accepted a) = record { number = 0; value = a .length; layers = a .layers }
-flatLayered (refused number place) = record { number = number; value = place; layers = 0 }
+use Rattle.flat_answers.specs.declared.layered.SitgurpShallow.{SitgurpShallow}
+use Rattle.flat_answers.specs.Layered.{flatLayered}
 
 -- what the call answers, and its three buffers
 pub record FlatLayered (made : LayeredMade) (r : SitgurpShallow) (cells marks output : List ℕ) : Type 0 where

@@ -1,6 +1,4 @@
-pub mod Flat
 pub mod Marking
-pub mod GateLine
 pub mod Counted
 pub mod Made
 pub mod Layered
@@ -9,7 +7,5 @@ pub mod WriteTable
 pub mod Tidy
 pub mod Check
 pub mod Keep
-pub mod ArrivalTimes
 pub mod JobStep
 pub mod JobOpen
-pub mod JobMark

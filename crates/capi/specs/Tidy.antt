@@ -4,8 +4,8 @@ use Prim.Native.Nat.{ℕ}
 use mathlib.Core.Path.{_≡_}
 use mathlib.Core.List.{List}
 use Rattle.rules.specs.Tidying.{Tidied}
-use Rattle.capi.specs.declared.flat.SitgurpAnswer.{SitgurpAnswer}
-use Rattle.capi.specs.Flat.{flatOf}
+use Rattle.flat_answers.specs.declared.flat.SitgurpAnswer.{SitgurpAnswer}
+use Rattle.flat_answers.specs.Flat.{flatOf}
 
 -- what tidying answers, and its two buffers
 pub record FlatTidied (tidied : Tidied) (r : SitgurpAnswer) (cells output : List ℕ) : Type 0 where

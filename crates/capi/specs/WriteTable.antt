@@ -4,8 +4,8 @@ use Prim.Native.Nat.{ℕ}
 use mathlib.Core.Path.{_≡_}
 use mathlib.Core.List.{List}
 use Rattle.rules.specs.TableWriting.{Written}
-use Rattle.capi.specs.declared.flat.SitgurpAnswer.{SitgurpAnswer}
-use Rattle.capi.specs.Flat.{flatOf}
+use Rattle.flat_answers.specs.declared.flat.SitgurpAnswer.{SitgurpAnswer}
+use Rattle.flat_answers.specs.Flat.{flatOf}
 
 -- the answer, and the output
 pub record FlatWritten (written : Written) (r : SitgurpAnswer) (output : List ℕ) : Type 0 where

@@ -1,8 +1,8 @@
 // Glyphs for C.
 ghost use Rattle.rules.specs.Glyphs.{glyphCall};
 ghost use Rattle.capi.specs.WriteTable.{FlatWritten};
-use crate::flat::SitgurpAnswer;
-use crate::flat::flat;
+use flat_answers::flat::SitgurpAnswer;
+use flat_answers::flat::flat;
 
 // Writes the glyph that a net sheet prints from a picture. The answer is the number of its cells.
 #[no_mangle]

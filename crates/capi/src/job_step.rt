@@ -1,30 +1,11 @@
 // A step of a job for C, by its parts.
-ghost use mathlib.Core.Path.{_≡_};
-ghost use Rattle.answers.specs.Answers.{outcomeAs};
-ghost use Rattle.capi.specs.JobStep.{flatDone, FlatStepped};
-use crate::flat::SitgurpAnswer;
-use answers::outcome::Outcome;
+ghost use Rattle.capi.specs.JobStep.{FlatStepped};
+use flat_answers::flat::SitgurpAnswer;
 use jobs::job;
 use jobs::next;
 use jobs::next::Next;
 use marks::own;
 use radix::limits;
-
-// Number 0 with value 0: accepted. Any other number: that refusal, and `value` is its place.
-pub fn flat_done(outcome: Outcome) -> SitgurpAnswer
-    ensures { λ r. ⌜ r ≡ flatDone (outcomeAs tt outcome) ⌝ }
-{
-    match outcome {
-        Outcome::Accepted => SitgurpAnswer {
-            number: 0,
-            value: 0,
-        },
-        Outcome::Refused { number, place } => SitgurpAnswer {
-            number,
-            value: place,
-        },
-    }
-}
 
 // One group further, or refusal 21.
 #[no_mangle]

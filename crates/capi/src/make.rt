@@ -1,8 +1,8 @@
 // Making for C.
 ghost use Rattle.rules.specs.Settling.{makeCall};
 ghost use Rattle.capi.specs.Made.{FlatMade};
-use crate::flat::SitgurpAnswer;
-use crate::flat::flat;
+use flat_answers::flat::SitgurpAnswer;
+use flat_answers::flat::flat;
 
 // Makes the settled net sheet of a table sheet, with the buffers of sitgurp_settle.
 #[no_mangle]

@@ -1,8 +1,8 @@
 // The marking call for C.
 ghost use Rattle.rules.specs.Marking.{markingCall};
 ghost use Rattle.capi.specs.Marking.{FlatMarked};
-use crate::flat::SitgurpAnswer;
-use crate::flat::flat;
+use flat_answers::flat::SitgurpAnswer;
+use flat_answers::flat::flat;
 
 // The marks of every group of bare cells, written to `marks`, and the whole group's mark.
 #[no_mangle]

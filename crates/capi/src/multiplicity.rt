@@ -1,9 +1,9 @@
 // The multiplicity call for C.
 ghost use mathlib.Core.Path.{_≡_};
 ghost use Rattle.rules.specs.Multiplicity.{multiplicityCall};
-ghost use Rattle.capi.specs.Flat.{flatOf};
-use crate::flat::SitgurpAnswer;
-use crate::flat::flat;
+ghost use Rattle.flat_answers.specs.Flat.{flatOf};
+use flat_answers::flat::SitgurpAnswer;
+use flat_answers::flat::flat;
 
 // The multiplicity of a group of bare cells.
 #[no_mangle]

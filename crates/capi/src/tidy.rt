@@ -1,8 +1,8 @@
 // Tidying for C.
 ghost use Rattle.rules.specs.Tidying.{tidyCall};
 ghost use Rattle.capi.specs.Tidy.{FlatTidied};
-use crate::flat::SitgurpAnswer;
-use crate::flat::flat;
+use flat_answers::flat::SitgurpAnswer;
+use flat_answers::flat::flat;
 
 // Writes the table sheet of a loose table sheet, and its inks. The answer is the sheet's length.
 #[no_mangle]

@@ -1,8 +1,8 @@
 // Table writing for C.
 ghost use Rattle.rules.specs.TableWriting.{writeTableCall};
 ghost use Rattle.capi.specs.WriteTable.{FlatWritten};
-use crate::flat::SitgurpAnswer;
-use crate::flat::flat;
+use flat_answers::flat::SitgurpAnswer;
+use flat_answers::flat::flat;
 
 // Writes the table sheet of a net sheet. The answer is its length.
 #[no_mangle]

@@ -21,7 +21,7 @@ use Rattle.nets.specs.Room.{mostWires}
 use Rattle.nets.specs.Sound.{Sound, gates-count, gates-length, wires-room}
 use Rattle.nets.specs.Tables.{gate-table, digits-within}
 use Rattle.nets.specs.Values.{with-snoc}
-use Rattle.columns.specs.Gates.{GateReady, GateDone}
+use Rattle.gate_columns.specs.Gates.{GateReady, GateDone}
 
 -- the levels of the first `count` wires at assignment p: those of wire j begin at its start
 abbrev pub levelsIn : List ℕ → List ℕ → ℕ → ℕ → List ℕ

@@ -1,6 +1,6 @@
 // A net at many assignments.
 ghost use Rattle.columns.specs.Values.{ValuesReady, ValuesDone};
-use crate::gate::gate_values;
+use gate_columns::gate::gate_values;
 use nets::forms::MOST_WIRES;
 use nets::forms::Net;
 

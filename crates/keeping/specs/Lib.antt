@@ -1,5 +1,1 @@
-pub mod Answers
-pub mod LeftOut
-pub mod Groups
-pub mod Changed
 pub mod Judging

@@ -1,80 +1,20 @@
 // The keep call: a net sheet's wiring, filled anew for a table sheet.
 ghost use mathlib.Core.Path.{_≡_};
 ghost use Rattle.rules.specs.Keeping.{keepCall};
-ghost use Rattle.nets.specs.Forms.{netIn, tableIn};
-ghost use Rattle.keeping.specs.Answers.{keptOf, filledInto, fullInto};
-ghost use Rattle.accepted.specs.Taken.{NetTaken, TableTaken, Given};
-ghost use Rattle.keeping.specs.Judging.{Ready};
-use crate::answer::Kept;
-use crate::crowded::roomy_gates;
-use crate::left_out::leaves_out;
-use crate::rewrite::rewrite;
+ghost use Rattle.refilling.specs.Answers.{keptOf};
+ghost use Rattle.accepted.specs.Taken.{NetTaken, TableTaken};
 use answers::full::judge_full;
 use answers::named::Named;
 use answers::outcome::Outcome;
-use checking::headers::same_header;
-use lines::put::copy;
 use net_reading::net::read_net;
 use nets::forms::Header;
 use nets::forms::Net;
 use radix::limits::MOST_CELLS;
 use radix::powers::power;
+use refilling::answer::Kept;
+use refilling::filled::keep_full;
+use same_headers::headers::same_header;
 use table_reading::sheet::read_table;
-
-// The inks in the cells buffer, and then refusal 23 at 0 or at a gate, refusal 15 or the sheet.
-fn keep_filled(
-    s: &[u8],
-    header: Header,
-    net: Net,
-    inks: &[u8],
-    cells: &mut [u8],
-    out: &mut [u8],
-) -> Kept
-    requires { ⌜ Ready (now s) header net (now inks) (now cells) ⌝ }
-    ensures { λ r. ⌜ keptOf r (now (cells .exit)) (now (out .exit))
-        ≡ filledInto (netIn (now (s .entry)) header net) (tableIn (now (s .entry)) header (now (inks .entry))) (now (cells .entry)) (now (out .entry)) ⌝ }
-{
-    copy(inks, cells, 0);
-    if leaves_out(net, inks) {
-        return Kept::Refused {
-            named: Named::Neither,
-            number: 23,
-            place: 0,
-        };
-    }
-    let roomy = roomy_gates(net, inks);
-    if roomy < net.gates {
-        return Kept::Refused {
-            named: Named::Neither,
-            number: 23,
-            place: roomy + 1,
-        };
-    }
-    rewrite(s, header, net, inks, out)
-}
-
-// A full table: refusal 13, or what the wiring comes to.
-fn keep_full(
-    s: &[u8],
-    header: Header,
-    net: Net,
-    inks: &[u8],
-    cells: &mut [u8],
-    out: &mut [u8],
-) -> Kept
-    requires { ⌜ NetTaken (now s) header net × Given (now s) header (now inks) ⌝ }
-    ensures { λ r. ⌜ keptOf r (now (cells .exit)) (now (out .exit))
-        ≡ fullInto (netIn (now (s .entry)) header net) (tableIn (now (s .entry)) header (now (inks .entry))) (now (cells .entry)) (now (out .entry)) ⌝ }
-{
-    if cells.len() < inks.len() {
-        return Kept::Refused {
-            named: Named::Neither,
-            number: 13,
-            place: inks.len(),
-        };
-    }
-    keep_filled(s, header, net, inks, cells, out)
-}
 
 // The net sheet s and the table sheet t, both accepted: refusal 12, refusal 27, which names the table sheet, or what a full table comes to. The inks
 // of t stand at the front of `inks`.

@@ -7,13 +7,13 @@ ghost use Rattle.settling.specs.Calls.{settlesBy, makesBy};
 use answers::layered::Layered;
 use answers::outcome::Outcome;
 use buffers::into;
-use columns::table;
 use net_reading::net;
 use nets::forms::Header;
 use nets::forms::Net;
 use radix::limits;
 use radix::powers;
 use table_reading::full;
+use tabling::table;
 use wirings::choice::Choice;
 
 // The net's table goes into an array of its own first: a refusal must change no buffer.

@@ -5,7 +5,6 @@ ghost use Rattle.table_writing.specs.Writing.{writtenOf};
 ghost use Rattle.accepted.specs.Taken.{NetTaken};
 use answers::answer::Answer;
 use answers::outcome::Outcome;
-use columns::table;
 use net_reading::net::read_net;
 use nets::forms::Header;
 use nets::forms::Net;
@@ -13,6 +12,7 @@ use radix::limits::MOST_CELLS;
 use radix::powers::power;
 use table_lengths::lengths::table_length;
 use table_printing::table::print_table;
+use tabling::table;
 
 // Refusal 15, or the table sheet of an accepted net sheet.
 fn write_accepted(sheet: &[u8], header: Header, net: Net, out: &mut [u8]) -> Answer

@@ -1,7 +1,7 @@
 -- `capi::glyph::sitgurp_glyph` meets its contract: it is the glyph call, its answer as two numbers. Assumes nothing.
 use mathlib.Core.Path.{ap, _∙_}
 use Rattle.rules.specs.TableWriting.{Written}
-use Rattle.capi.specs.Flat.{flatOf}
+use Rattle.flat_answers.specs.Flat.{flatOf}
 use borrow.Author.Needs.{needs}
 use Rattle.capi.proofs.glyph.sitgurp_glyph.Statement.{statement}
 use Rattle.capi.proofs.glyph.sitgurp_glyph.Tie as tie

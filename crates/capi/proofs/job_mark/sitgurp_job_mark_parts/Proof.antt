@@ -1,6 +1,6 @@
 -- `capi::job_mark::sitgurp_job_mark_parts` meets its contract: it is the asking, as a kind and a number. Assumes nothing.
 use mathlib.Core.Path.{ap, _∙_}
-use Rattle.capi.specs.JobMark.{flatReached}
+use Rattle.flat_calls.specs.Reached.{flatReached}
 use borrow.Author.Needs.{needs}
 use Rattle.capi.proofs.job_mark.sitgurp_job_mark_parts.Statement.{statement}
 use Rattle.capi.proofs.job_mark.sitgurp_job_mark_parts.Tie as tie

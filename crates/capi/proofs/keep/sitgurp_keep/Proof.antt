@@ -1,7 +1,7 @@
 -- `capi::keep::sitgurp_keep` meets its contract: it is the call, its answer as four numbers. Assumes nothing.
 use mathlib.Core.Path.{ap, _∙_}
 use Rattle.rules.specs.Keeping.{KeptWiring}
-use Rattle.capi.specs.Keep.{flatKept}
+use Rattle.flat_calls.specs.Kept.{flatKept}
 use borrow.Author.Needs.{needs}
 use Rattle.capi.proofs.keep.sitgurp_keep.Statement.{statement}
 use Rattle.capi.proofs.keep.sitgurp_keep.Tie as tie

@@ -1,7 +1,7 @@
 -- `capi::tidy::sitgurp_tidy` meets its contract: it is tidying, its answer as two numbers. Assumes nothing.
 use mathlib.Core.Path.{ap, _∙_}
 use Rattle.rules.specs.Tidying.{Tidied}
-use Rattle.capi.specs.Flat.{flatOf}
+use Rattle.flat_answers.specs.Flat.{flatOf}
 use borrow.Author.Needs.{needs}
 use Rattle.capi.proofs.tidy.sitgurp_tidy.Statement.{statement}
 use Rattle.capi.proofs.tidy.sitgurp_tidy.Tie as tie

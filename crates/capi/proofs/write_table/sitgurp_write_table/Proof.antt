@@ -1,7 +1,7 @@
 -- `capi::write_table::sitgurp_write_table` meets its contract: it is table writing, its answer as two numbers. Assumes nothing.
 use mathlib.Core.Path.{ap, _∙_}
 use Rattle.rules.specs.TableWriting.{Written}
-use Rattle.capi.specs.Flat.{flatOf}
+use Rattle.flat_answers.specs.Flat.{flatOf}
 use borrow.Author.Needs.{needs}
 use Rattle.capi.proofs.write_table.sitgurp_write_table.Statement.{statement}
 use Rattle.capi.proofs.write_table.sitgurp_write_table.Tie as tie

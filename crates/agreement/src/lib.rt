@@ -1,0 +1,2 @@
+// An accepted net sheet against an accepted table sheet.
+pub mod both;

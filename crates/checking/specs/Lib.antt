@@ -1,4 +1,0 @@
-pub mod Headers
-pub mod Judging
-pub mod Answers
-pub mod Comparing

@@ -1,0 +1,23 @@
+-- `flat_answers::done::flat_done` meets its contract, in each arm. Assumes nothing.
+use mathlib.Core.Path.{sym, ap}
+use Rattle.answers.specs.declared.outcome.Outcome.{Outcome}
+use Rattle.answers.specs.Answers.{outcomeAs}
+use Rattle.flat_answers.specs.Done.{flatDone}
+use borrow.Author.Needs.{needs}
+use Rattle.flat_answers.proofs.done.flat_done.Statement.{statement}
+use Rattle.flat_answers.proofs.done.flat_done.Tie as tie
+
+enum-told : tie.Need-enum-told
+enum-told c = search needs
+
+enum-known-outcome : tie.Need-enum-known-outcome
+enum-known-outcome c = search needs
+
+returns : tie.Need-returns
+returns c = sym (ap (λ (o : Outcome). flatDone (outcomeAs tt o)) (c .enum-told .given .1))
+
+returns-2 : tie.Need-returns-2
+returns-2 c = sym (ap (λ (o : Outcome). flatDone (outcomeAs tt o)) (c .before .outcome .given .1))
+
+pub flat-done-spec : {M : Type 1} → statement M
+flat-done-spec = tie.close (tie.spec enum-told enum-known-outcome returns returns-2)

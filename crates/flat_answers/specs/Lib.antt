@@ -1,0 +1,4 @@
+pub mod Flat
+pub mod Layered
+pub mod Done
+pub mod Named

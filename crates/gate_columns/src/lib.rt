@@ -1,0 +1,2 @@
+// One gate at many assignments at once.
+pub mod gate;

@@ -1,0 +1,4 @@
+pub mod Runs
+pub mod Places
+pub mod Laying
+pub mod Starts

@@ -1,0 +1,2 @@
+// Two sheets' headers compared.
+pub mod headers;

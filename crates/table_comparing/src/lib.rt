@@ -1,0 +1,3 @@
+// A net's table held against a table sheet's inks, and what a check answers.
+pub mod same;
+pub mod verdict;

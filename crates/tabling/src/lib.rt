@@ -1,0 +1,2 @@
+// The table of a net, block by block.
+pub mod table;
