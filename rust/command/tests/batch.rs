@@ -1,8 +1,6 @@
 //! Many sheets at once: one that is refused or cannot be read stops no other.
 
-mod common;
-
-use common::{answers, examples, is_wrong, SUM_TABLE};
+use crate::common::{answers, examples, is_wrong, SUM_TABLE};
 
 #[test]
 fn every_sheet_is_made() {

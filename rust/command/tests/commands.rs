@@ -1,9 +1,7 @@
 //! Every command, end to end: what it answers in words and as JSON.
 
-mod common;
-
-use common::{answers, examples, is_wrong, refuses, Folder};
-use common::{CHAIN, SHALLOW, SUM_NET, SUM_SETTLED, SUM_TABLE};
+use crate::common::{answers, examples, is_wrong, refuses, Folder};
+use crate::common::{CHAIN, SHALLOW, SUM_NET, SUM_SETTLED, SUM_TABLE};
 
 /// A folder with the sum's sheets.
 fn sums(name: &str) -> Folder {

@@ -1,8 +1,6 @@
 //! `glyph`: what a net prints from a text picture and from a graymap, and pictures and offsets that are refused.
 
-mod common;
-
-use common::{answers, example, is_wrong, refuses, Folder};
+use crate::common::{answers, example, is_wrong, refuses, Folder};
 
 const NET: &str = "levels inputs\n2 2\nown left\nleft right table\nown left 0110\n";
 

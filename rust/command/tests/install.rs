@@ -1,8 +1,6 @@
 //! `./install PREFIX`: what is put in place is used from there, from C and from Rust's build script.
 
-mod common;
-
-use common::{repository, Folder, SUM_NET, SUM_SETTLED};
+use crate::common::{repository, Folder, SUM_NET, SUM_SETTLED};
 use std::path::Path;
 use std::process::{Command, Output};
 

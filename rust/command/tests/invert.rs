@@ -1,8 +1,6 @@
 //! `invert`: a table with other inks, and the tree that it keeps but for the last gate's table.
 
-mod common;
-
-use common::{answers, examples, is_wrong, Ended, Folder, SUM_TABLE};
+use crate::common::{answers, examples, is_wrong, Ended, Folder, SUM_TABLE};
 
 /// A table sheet of two inputs with three levels and these inks.
 fn table(inks: &str) -> String {

@@ -1,8 +1,6 @@
 //! `keep`: a net's wiring filled anew for a table, the gates that changed, and a wiring that no gate tables give the table.
 
-mod common;
-
-use common::{answers, examples, is_wrong, refuses, Ended, Folder, SUM_NET, SUM_TABLE};
+use crate::common::{answers, examples, is_wrong, refuses, Ended, Folder, SUM_NET, SUM_TABLE};
 
 /// A sheet of three inputs with two levels and these gates.
 fn net(gates: &str) -> String {

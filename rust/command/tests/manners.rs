@@ -1,8 +1,6 @@
 //! How every command behaves: where it reads from and writes to, its status, help and version.
 
-mod common;
-
-use common::{answers, is_wrong, Folder, SUM_NET, SUM_SETTLED, SUM_TABLE};
+use crate::common::{answers, is_wrong, Folder, SUM_NET, SUM_SETTLED, SUM_TABLE};
 use std::fs::{self, File};
 use std::os::unix::fs::{symlink, PermissionsExt};
 use std::process::Stdio;

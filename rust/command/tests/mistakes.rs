@@ -1,8 +1,6 @@
 //! The usual mistakes in a sheet, each with its exact message.
 
-mod common;
-
-use common::{refuses, Folder, SUM_NET, SUM_TABLE};
+use crate::common::{refuses, Folder, SUM_NET, SUM_TABLE};
 use reference::generate::{Generator, TableKind};
 
 /// What `make` says of a table sheet.

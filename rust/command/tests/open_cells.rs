@@ -1,8 +1,6 @@
 //! Cells left open: what `check`, `tidy` and `page` say of them, and the commands that need a full table.
 
-mod common;
-
-use common::{answers, refuses, Ended, Folder, SUM_NET, SUM_TABLE};
+use crate::common::{answers, refuses, Ended, Folder, SUM_NET, SUM_TABLE};
 
 /// The sum's table with the cells of these rows open.
 fn open(rows: &[&str]) -> String {

@@ -1,8 +1,6 @@
 //! `draw`, `matrix` and `page`: the structure of what is written, and the committed pictures.
 
-mod common;
-
-use common::{answers, examples, is_wrong, repository, SUM_TABLE};
+use crate::common::{answers, examples, is_wrong, repository, SUM_TABLE};
 
 #[test]
 fn draw() {

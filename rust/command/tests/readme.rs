@@ -1,8 +1,6 @@
 //! The transcripts of the README: each command says what stands below it.
 
-mod common;
-
-use common::{repository, Folder};
+use crate::common::{repository, Folder};
 use std::process::Command;
 
 /// A command of a transcript and what it says, standard output and standard error together.

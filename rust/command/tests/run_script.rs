@@ -1,8 +1,6 @@
 //! `./run`, with an `rt` and a `cargo` that only say what they are asked: it builds what is missing, counts the crates, and passes its words on.
 
-mod common;
-
-use common::{repository, Folder};
+use crate::common::{repository, Folder};
 use std::fs;
 use std::os::unix::fs::PermissionsExt;
 use std::process::Command;

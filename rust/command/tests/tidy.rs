@@ -1,8 +1,6 @@
 //! `tidy`: loosely laid tables and what spreadsheets write, end to end.
 
-mod common;
-
-use common::{answers, refuses, Folder, SUM_TABLE};
+use crate::common::{answers, refuses, Folder, SUM_TABLE};
 
 #[test]
 fn loose_tables() {

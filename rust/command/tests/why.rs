@@ -1,8 +1,6 @@
 //! `why`: what it says, held against the library.
 
-mod common;
-
-use common::{answers, examples, Folder, SUM_TABLE};
+use crate::common::{answers, examples, Folder, SUM_TABLE};
 use sitgurp::Table;
 
 /// Just enough of JSON to look into what `why` gives: the number behind each use of a name.

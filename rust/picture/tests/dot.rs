@@ -1,8 +1,6 @@
 //! The Graphviz text has the sheet's inputs, gates, wires and digits, and nothing else.
 
-mod common;
-
-use common::net_sheets;
+use crate::common::net_sheets;
 
 /// The statements that are due for a sheet, from its lines alone.
 fn due(sheet: &str) -> Vec<String> {

@@ -1,8 +1,6 @@
 //! The net that a reader sees in a drawing, by looking at where boxes, texts and wires lie, is the net of the sheet.
 
-mod common;
-
-use common::{net_sheets, Drawn, Rect};
+use crate::common::{net_sheets, Drawn, Rect};
 use reference::net::Wire;
 use reference::sheet::read_net_sheet;
 

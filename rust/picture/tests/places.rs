@@ -1,8 +1,6 @@
 //! Nothing lies on anything else: boxes, wires and texts, by their coordinates in the drawing.
 
-mod common;
-
-use common::{net_sheets, Drawn, Rect};
+use crate::common::{net_sheets, Drawn, Rect};
 
 /// The least distance between two boxes, and between a box and the page's edge.
 const ROOM: i32 = 8;
@@ -115,7 +113,7 @@ fn font_size(svg: &str, class: &str) -> f64 {
 }
 
 /// The rectangle that a text takes at most.
-fn taken(svg: &str, text: &common::Text) -> Rect {
+fn taken(svg: &str, text: &crate::common::Text) -> Rect {
     let size = font_size(svg, &text.class);
     let width = (LETTER * size * text.text.len() as f64).ceil() as i32;
     let start = if text.class == "caption" {

@@ -2,9 +2,7 @@
 //! arrival inside the ranges. In the sheets below `/` is a line feed and `^` marks
 //! the place (it is no part of the sheet).
 
-mod common;
-
-use common::*;
+use crate::common::*;
 use reference::damage::single_edits;
 use reference::generate::Generator;
 use reference::sheet::{print_arrival_sheet, read_arrival_sheet, read_net_sheet};

@@ -1,8 +1,6 @@
 //! The two calls on bare cells: refusals 9, 10 and 11, and the count of classes.
 
-mod common;
-
-use common::*;
+use crate::common::*;
 use reference::generate::{most_classes_table, Generator, TableKind};
 use reference::{allowed_sizes, marking, multiplicity};
 

@@ -1,9 +1,7 @@
 //! What every call leaves in the buffers lent to it: each length around each
 //! need, with the bytes beyond the need and the bytes after a refusal.
 
-mod common;
-
-use common::*;
+use crate::common::*;
 use reference::{
     check, family_count, family_tree, glyph, keep, make, make_shallow, marking, settle,
     settle_shallow, tidy, write_table, Job, Kept, Refusal, Verdict,

@@ -1,8 +1,6 @@
 //! The ten cases of document 01, "Proofs on squared paper".
 
-mod common;
-
-use common::*;
+use crate::common::*;
 use reference::groups::classes;
 use reference::net::Table;
 use reference::{make_program, marking, multiplicity, settle_program};

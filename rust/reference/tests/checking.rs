@@ -1,9 +1,7 @@
 //! The check of a net sheet against a table sheet: refusal 12, the sheet that is
 //! named, and the lowest index that differs.
 
-mod common;
-
-use common::*;
+use crate::common::*;
 use reference::{check, Verdict};
 
 const TABLE: &str = "levels inputs/2 2/a b ink/0 0 0/0 1 0/1 0 0/1 1 1/";

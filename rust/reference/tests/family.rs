@@ -3,10 +3,8 @@
 //! the library's groups and marks. "Every wiring that computes the table turns up
 //! under just one number", and "a family numbers the wirings on just these" leaves.
 
-mod common;
-
-use common::wirings::*;
-use common::*;
+use crate::common::wirings::*;
+use crate::common::*;
 use reference::damage::byte_damages;
 use reference::generate::{Generator, TableKind};
 use reference::{allowed_sizes, family_count, family_tree, make};

@@ -2,9 +2,7 @@
 //! table's inputs, and every filling of its gates. Nothing of the library's
 //! groups and marks is used to tell them.
 
-mod common;
-
-use common::*;
+use crate::common::*;
 use reference::generate::{Generator, TableKind};
 use reference::marks::fewest_levels;
 use reference::net::Table;

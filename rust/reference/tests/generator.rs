@@ -1,8 +1,6 @@
 //! The seeded generator: good sheets are accepted, damaged ones are judged.
 
-mod common;
-
-use common::*;
+use crate::common::*;
 use reference::damage::{byte_damages, Damage};
 use reference::generate::{Generator, TableKind};
 use reference::net::Table;

@@ -1,8 +1,6 @@
 //! Whole glyphs: a net's value at every cell of a picture.
 
-mod common;
-
-use common::*;
+use crate::common::*;
 use reference::generate::Generator;
 use reference::sheet::read_net_sheet;
 use reference::{allowed_sizes, glyph, settle, Refusal};

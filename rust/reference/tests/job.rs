@@ -1,8 +1,6 @@
 //! Marking as a job: every list of steps and askings, and what finishing writes.
 
-mod common;
-
-use common::*;
+use crate::common::*;
 use reference::damage::byte_damages;
 use reference::generate::{Generator, TableKind};
 use reference::marks::marks_of;

@@ -1,10 +1,8 @@
 //! Keeping a wiring: which tables a wiring computes under some filling is told
 //! without the library's groups and marks.
 
-mod common;
-
-use common::wirings::*;
-use common::*;
+use crate::common::wirings::*;
+use crate::common::*;
 use reference::generate::{Generator, TableKind};
 use reference::sheet::{print_net_sheet, print_table_sheet};
 use reference::{allowed_sizes, check, keep, Verdict};

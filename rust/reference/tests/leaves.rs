@@ -2,9 +2,7 @@
 //! at every size. What stands on the leaves is held against every wiring in
 //! `trees`, `shallow` and `family`.
 
-mod common;
-
-use common::*;
+use crate::common::*;
 use reference::generate::{Generator, TableKind};
 use reference::leaves::{leaves as leaves_of, matters};
 use reference::net::Table;

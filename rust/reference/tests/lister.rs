@@ -1,8 +1,6 @@
 //! The gate lister.
 
-mod common;
-
-use common::*;
+use crate::common::*;
 use reference::generate::Generator;
 use reference::{allowed_sizes, Lister};
 

@@ -1,9 +1,7 @@
 //! Cells left open: the sign in a sheet, what a check passes over, and what needs a
 //! full table.
 
-mod common;
-
-use common::*;
+use crate::common::*;
 use reference::generate::{Generator, TableKind};
 use reference::sheet::{print_net_sheet, print_table_sheet, read_table_sheet};
 use reference::{

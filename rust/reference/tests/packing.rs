@@ -1,9 +1,7 @@
 //! How marks lie in a lent buffer: "packed four to a byte, group 0 in the lowest
 //! two bits of byte 0".
 
-mod common;
-
-use common::*;
+use crate::common::*;
 use reference::generate::{Generator, TableKind};
 use reference::marks::{marks_of, needed, store, stored};
 use reference::{allowed_sizes, marking};

@@ -1,9 +1,7 @@
 //! The binary: standard input to standard output, exit status 0 at both kinds of
 //! end.
 
-mod common;
-
-use common::*;
+use crate::common::*;
 use reference::{make_program, settle_program};
 use std::io::Write;
 use std::process::{Command, Stdio};

@@ -2,9 +2,7 @@
 //! reads the sheet. In the sheets below `/` is a line feed and `^` marks the place
 //! (it is no part of the sheet).
 
-mod common;
-
-use common::*;
+use crate::common::*;
 use reference::{check, make_program, settle_program, Lister, Refusal};
 
 const NET: &str = "levels inputs/2 3/a b c/left right table/a b 0110/1 c 0001/";

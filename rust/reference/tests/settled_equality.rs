@@ -1,8 +1,6 @@
 //! Demand 3: nets settle to equal bytes exactly when their tables are equal.
 
-mod common;
-
-use common::*;
+use crate::common::*;
 use reference::allowed_sizes;
 use reference::generate::Generator;
 use reference::limits::MOST_NET_SHEET_BYTES;

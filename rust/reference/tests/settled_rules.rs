@@ -3,9 +3,7 @@
 //! the same of the shallow net and of the other trees of the family, whose wiring
 //! alone is another.
 
-mod common;
-
-use common::*;
+use crate::common::*;
 use reference::generate::{Generator, TableKind};
 use reference::{allowed_sizes, family_count, family_tree, make, make_shallow, marking};
 

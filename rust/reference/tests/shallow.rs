@@ -2,10 +2,8 @@
 //! at small sizes each one is tried, and which of them compute the table is told
 //! without the library's groups and marks.
 
-mod common;
-
-use common::wirings::*;
-use common::*;
+use crate::common::wirings::*;
+use crate::common::*;
 use reference::damage::byte_damages;
 use reference::generate::{Generator, TableKind};
 use reference::sheet::read_net_sheet;

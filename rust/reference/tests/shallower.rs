@@ -1,9 +1,7 @@
 //! The shallower of two net sheets: the sheet itself, so each answer is told by
 //! where it lies, and not by its bytes alone.
 
-mod common;
-
-use common::*;
+use crate::common::*;
 use reference::generate::Generator;
 use reference::shallower;
 use reference::sheet::read_net_sheet;

@@ -1,8 +1,6 @@
 //! 3 levels, 3 and 4 inputs: samples against searches that know no marks.
 
-mod common;
-
-use common::*;
+use crate::common::*;
 use reference::generate::Generator;
 use reference::rng::Rng;
 use reference::{marking, multiplicity};

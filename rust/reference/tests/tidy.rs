@@ -1,9 +1,7 @@
 //! The tidier of loosely laid table sheets. In the sheets below `/` is a line feed
 //! and `^` marks the place of a refusal (it is no part of the sheet).
 
-mod common;
-
-use common::*;
+use crate::common::*;
 use reference::damage::single_edits;
 use reference::generate::{Generator, TableKind};
 use reference::sheet::read_table_sheet;

@@ -5,9 +5,7 @@
 //! tree is filled and evaluated for all assignments at once. Nothing of the
 //! library's groups and marks is used to tell what has a tree.
 
-mod common;
-
-use common::*;
+use crate::common::*;
 use reference::marking;
 use std::collections::HashSet;
 

@@ -1,9 +1,7 @@
 //! Arrival times, held against the second implementation, bit for bit: every allowed size, every single edit of a small arrival sheet, damaged
 //! sheets of both kinds, the ends of what times and delays may be.
 
-mod common;
-
-use common::{due, got, sizes, Back};
+use crate::common::{due, got, sizes, Back};
 use reference::arrivals::Arrival;
 use reference::damage::{byte_damages, single_edits};
 use reference::generate::Generator;

@@ -1,9 +1,7 @@
 //! The two calls on bare cells, held against the second implementation: every allowed size, every refusal, every length of the
 //! marks buffer around its need, and the bytes beyond it.
 
-mod common;
-
-use common::{due, full, got};
+use crate::common::{due, full, got};
 use reference::generate::{Generator, TableKind};
 
 const SEED: u64 = 2_187;

@@ -1,9 +1,7 @@
 //! Every group's number of classes and the fewest levels of a table sheet, held against the second implementation, and against making
 //! with more levels.
 
-mod common;
-
-use common::{due, got};
+use crate::common::{due, got};
 use reference::generate::{most_classes_table, Generator, TableKind};
 use reference::net::Table;
 use reference::sheet::{print_table_sheet, Header};

@@ -1,9 +1,7 @@
 //! The family of a table's trees, held against the second implementation: every allowed size, tables with and without trees, numbers at and
 //! past the count, damaged sheets, buffers of every length around each need and full of other bytes.
 
-mod common;
-
-use common::{around, due, full, got, sizes, Back, Lengths, ENOUGH};
+use crate::common::{around, due, full, got, sizes, Back, Lengths, ENOUGH};
 use reference::damage::byte_damages;
 use reference::generate::{Generator, TableKind};
 use reference::net::Table;

@@ -1,9 +1,7 @@
 //! Glyphs, held against the second implementation: nets of every allowed size, pictures of every shape up to 64 cells a side, every offset, what is
 //! wrong with pictures and offsets, damaged net sheets, outputs of every length around the need and full of other bytes.
 
-mod common;
-
-use common::{around, due, full, got, sizes, Back};
+use crate::common::{around, due, full, got, sizes, Back};
 use reference::damage::byte_damages;
 use reference::generate::Generator;
 use sitgurp::Named;

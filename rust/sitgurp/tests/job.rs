@@ -1,9 +1,7 @@
 //! Marking as a job, held against the second implementation: every step of small tables and many of the largest, lists of steps and askings, finishing
 //! against making, the empty job beside a refusal, buffers of every length around each need and full of other bytes.
 
-mod common;
-
-use common::{around, due, full, got, sizes, Back, Lengths, ENOUGH};
+use crate::common::{around, due, full, got, sizes, Back, Lengths, ENOUGH};
 use reference::damage::byte_damages;
 use reference::generate::{Generator, TableKind};
 use sitgurp::Named;

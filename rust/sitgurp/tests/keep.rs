@@ -1,9 +1,7 @@
 //! Keeping a wiring, held against the second implementation: nets and tables of every allowed size, every table of two small wirings, damaged sheets of
 //! both kinds, sheets of other headers, buffers of every length around each need and full of other bytes.
 
-mod common;
-
-use common::{around, due, full, got, sizes, Back};
+use crate::common::{around, due, full, got, sizes, Back};
 use reference::damage::byte_damages;
 use reference::generate::{Generator, TableKind};
 use reference::net::Table;

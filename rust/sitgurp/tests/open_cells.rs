@@ -1,9 +1,7 @@
 //! Cells left open, held against the second implementation: every call that takes a table sheet or bare cells, at every size, on buffers of every length
 //! around each need and full of other bytes, and every byte of such a sheet damaged.
 
-mod common;
-
-use common::{around, due, full, got, same_call, sizes, Back, Lengths, ENOUGH};
+use crate::common::{around, due, full, got, same_call, sizes, Back, Lengths, ENOUGH};
 use reference::damage::byte_damages;
 use reference::generate::{Generator, TableKind};
 use reference::sheet::{print_net_sheet, print_table_sheet, read_table_sheet, Header};

@@ -3,9 +3,7 @@
 //! shallow making, the trees of every number and kept wirings, at every allowed size, with and without trees. The library is held against these
 //! sentences and against the second implementation.
 
-mod common;
-
-use common::{due, full, got, sizes, Back};
+use crate::common::{due, full, got, sizes, Back};
 use reference::generate::{Generator, TableKind};
 use reference::net::{Net, Table, Wire};
 use reference::refusal::Refusal as Expected;

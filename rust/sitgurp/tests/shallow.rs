@@ -1,9 +1,7 @@
 //! Shallow settling and making and the shallower of two, held against the second implementation: every allowed size, tables with and
 //! without trees, damaged sheets, buffers of every length around each need and full of other bytes.
 
-mod common;
-
-use common::{around, due, got, same_call, sizes, Back, Lengths, ENOUGH};
+use crate::common::{around, due, got, same_call, sizes, Back, Lengths, ENOUGH};
 use reference::damage::byte_damages;
 use reference::generate::{Generator, TableKind};
 use reference::net::Table;

@@ -1,9 +1,7 @@
 //! Settling, making, checking, table writing and the lister, held against the second implementation: every allowed size, every table of four inputs with
 //! two levels, tables with and without trees, nets that leave inputs out, damaged sheets, buffers of every length around each need and full of other bytes.
 
-mod common;
-
-use common::{around, due, full, got, same_call, sizes, Lengths, ENOUGH};
+use crate::common::{around, due, full, got, same_call, sizes, Lengths, ENOUGH};
 use reference::damage::{byte_damages, Damage};
 use reference::generate::{Generator, TableKind};
 use reference::net::Table;
@@ -12,7 +10,7 @@ use sitgurp::MOST_CELLS;
 
 const SEED: u64 = 65_536;
 
-fn same_settle(sheet: &[u8], lengths: Lengths) -> Result<usize, common::Back> {
+fn same_settle(sheet: &[u8], lengths: Lengths) -> Result<usize, crate::common::Back> {
     same_call(
         sitgurp::settle,
         reference::settle,
@@ -22,7 +20,7 @@ fn same_settle(sheet: &[u8], lengths: Lengths) -> Result<usize, common::Back> {
     )
 }
 
-fn same_make(sheet: &[u8], lengths: Lengths) -> Result<usize, common::Back> {
+fn same_make(sheet: &[u8], lengths: Lengths) -> Result<usize, crate::common::Back> {
     same_call(
         sitgurp::make,
         reference::make,

@@ -1,9 +1,7 @@
 //! Tidying, held against the second implementation: strict sheets and loose ones of every allowed size, every single edit of small loose sheets,
 //! rows that come again, damaged sheets, buffers of every length around each need and full of other bytes.
 
-mod common;
-
-use common::{around, due, full, got, sizes, Back};
+use crate::common::{around, due, full, got, sizes, Back};
 use reference::damage::{byte_damages, single_edits};
 use reference::generate::{Generator, TableKind};
 use sitgurp::{Named, MOST_CELLS, MOST_TABLE_SHEET};
