@@ -4,11 +4,13 @@ ghost use mathlib.Core.Bool.{true};
 ghost use Prim.Native.Nat.{_+_, _≤_};
 ghost use lib.ListN.{length};
 ghost use Rattle.frames.specs.Frame.{mostLaid};
-ghost use Rattle.frames.specs.Standing.{Stand, InFrame, lookedAt};
+ghost use Rattle.frames.specs.Standing.{Stand, InFrame, inSteps, lookedAt};
 use fields::runs::SPACE;
 use std::num::wrapping_sub_u8;
 
-// The places that are looked at first; those of a wider row come sixteen by sixteen.
+// A row of few places has them looked at sixteen by sixteen; of another the first come all at once, and more of them sixteen by sixteen.
+pub const FEW: usize = 32;
+
 pub const FIRST: usize = 64;
 
 const STEP: usize = 16;
@@ -30,15 +32,26 @@ fn stand(s: &[u8], at: usize, least: &[u8], more: &[u8], from: usize, count: usi
     over == 0
 }
 
+// So many places come to whole steps.
+fn in_steps(width: usize) -> usize
+    requires { ⌜ width ≤ mostLaid ⌝ }
+    ensures { λ r. ⌜ r ≡ inSteps width ⌝ }
+{
+    (width + STEP - 1) / STEP * STEP
+}
+
 // The places of a row that are looked at, for its width.
 pub fn looked_at(width: usize) -> usize
     requires { ⌜ width ≤ mostLaid ⌝ }
     ensures { λ r. ⌜ r ≡ lookedAt width ⌝ }
 {
+    if width <= FEW {
+        return in_steps(width);
+    }
     if width <= FIRST {
         return FIRST;
     }
-    (width + STEP - 1) / STEP * STEP
+    in_steps(width)
 }
 
 // Do all of them lie within their bounds?
@@ -46,6 +59,9 @@ fn all_stand(s: &[u8], at: usize, least: &[u8], more: &[u8], width: usize) -> bo
     requires { ⌜ (at + lookedAt width ≤ length (now s)) × (mostLaid ≤ length (now least)) × (mostLaid ≤ length (now more)) × (width ≤ mostLaid) ⌝ }
     ensures { λ r. ⌜ (r ≡ true → Stand (now (s .entry)) at (now (least .entry)) (now (more .entry)) 0 (lookedAt width)) ⌝ }
 {
+    if width <= FEW {
+        return stand(s, at, least, more, 0, looked_at(width));
+    }
     if !stand(s, at, least, more, 0, FIRST) {
         return false;
     }

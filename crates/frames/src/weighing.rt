@@ -5,6 +5,7 @@ ghost use lib.ListN.{length};
 ghost use Rattle.frames.specs.Frame.{mostLaid};
 ghost use Rattle.frames.specs.Standing.{lookedAt};
 ghost use Rattle.frames.specs.Weighing.{counted};
+use crate::standing::FEW;
 use crate::standing::FIRST;
 use crate::standing::looked_at;
 
@@ -27,6 +28,9 @@ pub fn all_weighed(s: &[u8], at: usize, weights: &[u16], width: usize) -> usize
     requires { ⌜ (at + lookedAt width ≤ length (now s)) × (mostLaid ≤ length (now weights)) × (counted (now s) at (now weights) (lookedAt width) < 65536) × (width ≤ mostLaid) ⌝ }
     ensures { λ r. ⌜ r ≡ counted (now (s .entry)) at (now (weights .entry)) (lookedAt width) ⌝ }
 {
+    if width <= FEW {
+        return weighed(s, at, weights, 0, looked_at(width));
+    }
     let first = weighed(s, at, weights, 0, FIRST);
     if width <= FIRST {
         return first;

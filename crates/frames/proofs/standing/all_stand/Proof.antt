@@ -6,64 +6,90 @@ use mathlib.Core.Bool.{false≢true}
 use native.Mathlib.Omega.{arith}
 use borrow.Author.Needs.{needs}
 use borrow.Author.Tests.{not-false}
-use Rattle.frames.specs.Standing.{Stand, stand-both, lookedAt, looked-few, looked-bounds}
+use Rattle.frames.specs.Standing.{Stand, stand-both, lookedAt, looked-first, looked-bounds}
 use Rattle.frames.proofs.standing.all_stand.Statement.{statement}
 use Rattle.frames.proofs.standing.all_stand.Tie as tie
 
--- the entry, from the first stretch; that from what is looked at
-abbrev at-start : tie.After-stand → tie.Start
+-- the entry, from either branch; the second branch, from what is looked at after the first stretch
+abbrev at-narrow : tie.Then1 → tie.Start
+at-narrow c = c .before .before .before .before
+
+abbrev at-start : tie.Else1 → tie.Start
 at-start c = c .before .before .before .before
 
-abbrev at-first : tie.After-looked-at → tie.Else1
+abbrev at-first : tie.After-looked-at2 → tie.Else2
 at-first c = c .before .before
 
-first-stands : (c : tie.Else1)
-    → Stand (at-start (c .before) .args .s .now) (at-start (c .before) .args .at) (at-start (c .before) .args .least .now) (at-start (c .before) .args .more .now) 0 64
-first-stands c = c .before .stand .ensures (not-false _ (c .if1 .left))
+first-stands : (c : tie.Else2)
+    → Stand (at-start (c .before .before) .args .s .now) (at-start (c .before .before) .args .at) (at-start (c .before .before) .args .least .now)
+    (at-start (c .before .before) .args .more .now) 0 64
+first-stands c = c .before .stand2 .ensures (not-false _ (c .if2 .left))
 
 -- the second stretch ends where the places that are looked at do
-up-to : (c : tie.After-looked-at) → 64 + (c .looked-at .result - 64) ≡ lookedAt (at-start (at-first c .before) .args .width)
+up-to : (c : tie.After-looked-at2) → 64 + (c .looked-at2 .result - 64) ≡ lookedAt (at-start (at-first c .before .before) .args .width)
 up-to c =
-    let start = at-start (at-first c .before) in
-    omega (arith, c .looked-at .ensures, looked-bounds (start .args .width) (start .pre .3) .0)
+    let wide = at-first c .before .before in
+    let start = at-start wide in
+    omega (arith, c .looked-at2 .ensures, looked-bounds (start .args .width) (start .pre .3) .0 (wide .if1 .left))
+
+-- .. and so does the only stretch of a narrow row
+narrow-to : (c : tie.After-looked-at) → 0 + c .looked-at .result ≡ lookedAt (at-narrow (c .before) .args .width)
+narrow-to c = omega (arith, c .looked-at .ensures)
+
+looked-at-requires : tie.Need-looked-at-requires
+looked-at-requires c κs = at-narrow c .pre .3
 
 stand-requires : tie.Need-stand-requires
 stand-requires c κs =
-    let start = c .before .before .before in
-    let (few, _, _) = looked-bounds (start .args .width) (start .pre .3) in
-    (omega (arith, few, start .pre .0), omega (arith, start .pre .1), omega (arith, start .pre .2))
+    let start = at-narrow (c .before) in
+    let (_, _, most) = looked-bounds (start .args .width) (start .pre .3) in
+    let is = c .looked-at .ensures in
+    (omega (arith, is, start .pre .0), omega (arith, is, most, start .pre .1), omega (arith, is, most, start .pre .2))
 
 returns : tie.Need-returns
-returns c e = absurd (false≢true e)
-
-returns-2 : tie.Need-returns-2
-returns-2 c _ = rw (looked-few _ (c .if2 .taken)) (first-stands (c .before))
-
-looked-at-requires : tie.Need-looked-at-requires
-looked-at-requires c κs = at-start (c .before .before) .pre .3
-
-sub-stand : tie.Need-sub-stand
-sub-stand c =
-    let start = at-start (at-first c .before) in
-    omega (arith, c .looked-at .ensures, looked-bounds (start .args .width) (start .pre .3) .0)
+returns c so = rw (narrow-to (c .before)) at (c .stand .ensures so)
 
 stand-requires-2 : tie.Need-stand-requires-2
 stand-requires-2 c κs =
-    let start = at-start (at-first c .before) in
+    let start = at-start c in
+    let (first, _, _) = looked-bounds (start .args .width) (start .pre .3) in
+    (omega (arith, first (c .if1 .left), start .pre .0), omega (arith, start .pre .1), omega (arith, start .pre .2))
+
+returns-2 : tie.Need-returns-2
+returns-2 c e = absurd (false≢true e)
+
+returns-3 : tie.Need-returns-3
+returns-3 c _ = rw (looked-first _ (c .before .before .before .if1 .left) (c .if3 .taken)) (first-stands (c .before))
+
+looked-at-requires-2 : tie.Need-looked-at-requires-2
+looked-at-requires-2 c κs = at-start (c .before .before .before) .pre .3
+
+sub-stand : tie.Need-sub-stand
+sub-stand c =
+    let wide = at-first c .before .before in
+    let start = at-start wide in
+    omega (arith, c .looked-at2 .ensures, looked-bounds (start .args .width) (start .pre .3) .0 (wide .if1 .left))
+
+stand-requires-3 : tie.Need-stand-requires-3
+stand-requires-3 c κs =
+    let start = at-start (at-first c .before .before) in
     let (_, _, most) = looked-bounds (start .args .width) (start .pre .3) in
     (omega (arith, up-to c, start .pre .0), omega (arith, up-to c, most, start .pre .1), omega (arith, up-to c, most, start .pre .2))
 
-returns-3 : tie.Need-returns-3
-returns-3 c so = stand-both _ _ _ _ 0 64 _ (first-stands (at-first (c .before))) (rw (up-to (c .before)) at (c .stand2 .ensures so))
+returns-4 : tie.Need-returns-4
+returns-4 c so = stand-both _ _ _ _ 0 64 _ (first-stands (at-first (c .before))) (rw (up-to (c .before)) at (c .stand3 .ensures so))
 
 pub all-stand-spec : {M : Type 1} → statement M
 all-stand-spec =
     tie.close
     (tie.spec
+    looked-at-requires
     stand-requires
     returns
-    returns-2
-    looked-at-requires
-    sub-stand
     stand-requires-2
-    returns-3)
+    returns-2
+    returns-3
+    looked-at-requires-2
+    sub-stand
+    stand-requires-3
+    returns-4)

@@ -1,25 +1,25 @@
 -- `frames::standing::looked_at` meets its contract.
 -- Assumes nothing.
-use mathlib.Core.Path.{sym}
+use mathlib.Core.Path.{sym, _∙_}
 use borrow.Author.Needs.{needs}
-use Rattle.frames.specs.Standing.{looked-few, looked-more}
+use Rattle.frames.specs.Standing.{looked-few, looked-first, looked-more}
 use Rattle.frames.proofs.standing.looked_at.Statement.{statement}
 use Rattle.frames.proofs.standing.looked_at.Tie as tie
 
+in-steps-requires : tie.Need-in-steps-requires
+in-steps-requires c κs = c .before .pre
+
 returns : tie.Need-returns
-returns c = sym (looked-few _ (c .if1 .taken))
-
-add-result : tie.Need-add-result
-add-result c = search needs
-
-sub-result : tie.Need-sub-result
-sub-result c = search needs
-
-mul-result : tie.Need-mul-result
-mul-result c = search needs
+returns c = c .in-steps .ensures ∙ sym (looked-few _ (c .before .if1 .taken))
 
 returns-2 : tie.Need-returns-2
-returns-2 c = sym (looked-more _ (c .if1 .left))
+returns-2 c = sym (looked-first _ (c .before .if1 .left) (c .if2 .taken))
+
+in-steps-requires-2 : tie.Need-in-steps-requires-2
+in-steps-requires-2 c κs = c .before .before .pre
+
+returns-3 : tie.Need-returns-3
+returns-3 c = c .in-steps2 .ensures ∙ sym (looked-more _ (c .before .if2 .left))
 
 pub looked-at-spec : {M : Type 1} → statement M
-looked-at-spec = tie.close (tie.spec returns add-result sub-result mul-result returns-2)
+looked-at-spec = tie.close (tie.spec in-steps-requires returns returns-2 in-steps-requires-2 returns-3)
