@@ -3,8 +3,11 @@ ghost use mathlib.Core.Path.{_≡_};
 ghost use Prim.Native.Nat.{ℕ, _^_, _≤_, _<_};
 ghost use lib.ListN.{length};
 ghost use Rattle.rules.specs.Shallow.{splitLayers, fewestOf};
+ghost use Rattle.rules.specs.Marks.{markIn};
 ghost use Rattle.fewest.specs.Fewest.{Fewer, layersOf, Known};
+ghost use Rattle.fewest.specs.Floors.{Under};
 ghost use Rattle.radix.specs.Widths.{groupsEnd, mostMembers};
+use crate::floors;
 use marks::own;
 use marks::split;
 use radix::members;
@@ -40,9 +43,10 @@ fn fewer_by(marks: &[u8], fewest: &[u8], g: usize, a: usize, least: usize) -> us
     least
 }
 
-// The fewest layers of group g, from those of the groups below it. Goes through the parts that hold its first-listed input.
-fn fewest_of(marks: &[u8], fewest: &[u8], g: usize) -> usize
-    requires { ⌜ (0 < g) × (g < groupsEnd) × (g ≤ length (now marks)) × (g ≤ length (now fewest)) ⌝ }
+// The fewest layers of group g, from those of the groups below it. Goes through the parts that hold its first-listed input, up to one that has
+// no more layers than the floor: no other has fewer.
+fn fewest_of(marks: &[u8], fewest: &[u8], g: usize, floor: usize) -> usize
+    requires { ⌜ (0 < g) × (g < groupsEnd) × (g ≤ length (now marks)) × (g ≤ length (now fewest)) × Under (now marks) (now fewest) g floor ⌝ }
     ensures { λ r. ⌜ ((n : ℕ) → g < 2 ^ n → r ≡ fewestOf n (now (marks .entry)) (now (fewest .entry)) g) ⌝ }
 {
     let rest = members::without_first(g);
@@ -51,14 +55,17 @@ fn fewest_of(marks: &[u8], fewest: &[u8], g: usize) -> usize
     let mut part: usize = 0;
     while part < rest {
         least = fewer_by(marks, fewest, g, first + part, least);
+        if least == floor {
+            return least;
+        }
         part = members::next_part(rest, part);
     }
     least
 }
 
 // The same where g has mark 2; no other group is a part, and 0 will do.
-fn layers_of(marks: &[u8], fewest: &[u8], g: usize) -> usize
-    requires { ⌜ (g < groupsEnd) × (g < length (now marks)) × (g ≤ length (now fewest)) ⌝ }
+fn layers_of(marks: &[u8], fewest: &[u8], g: usize, floor: usize) -> usize
+    requires { ⌜ (g < groupsEnd) × (g < length (now marks)) × (g ≤ length (now fewest)) × (markIn (now marks) g ≡ 2 → Under (now marks) (now fewest) g floor) ⌝ }
     ensures { λ r. ⌜ ((n : ℕ) → g < 2 ^ n → r ≡ layersOf n (now (marks .entry)) (now (fewest .entry)) g) ⌝ }
 {
     if g == 0 {
@@ -67,7 +74,7 @@ fn layers_of(marks: &[u8], fewest: &[u8], g: usize) -> usize
     if own::mark_at(marks, g) != 2 {
         return 0;
     }
-    fewest_of(marks, fewest, g)
+    fewest_of(marks, fewest, g, floor)
 }
 
 // Writes the fewest layers of every group of mark 2 to its number.
@@ -76,10 +83,16 @@ pub fn fewest_layers(n: usize, marks: &[u8], fewest: &mut [u8])
     ensures { λ _. ⌜ Known n (now (marks .entry)) (2 ^ n) (now (fewest .exit)) ⌝ }
 {
     let end = powers::power(2, n);
+    // Have all groups of mark 2 so far layers enough for their members? Then the next has a floor by its members.
+    let mut sized = true;
     let mut g: usize = 0;
     while g < end {
-        let layers = layers_of(marks, fewest, g);
+        let floor = floors::floor_at(marks, g, sized);
+        let layers = layers_of(marks, fewest, g, floor);
         fewest[g] = layers as u8;
+        if layers < floor {
+            sized = false;
+        }
         g += 1;
     }
 }

@@ -1,6 +1,9 @@
--- `fewest::layers::fewest_layers` meets its contract. The loop's invariant: the groups below g are known. Assumes nothing.
+-- `fewest::layers::fewest_layers` meets its contract. The loop's invariant: the groups below g are known, and have room for their members
+-- where `sized` says so. Assumes nothing.
 use Prim.Native.Nat.{ℕ, _-_, _^_, _≤_, _<_}
-use mathlib.Core.Path.{_≡_, refl, _∙_, subst}
+use mathlib.Core.Path.{_≡_, refl, sym, _∙_, subst}
+use mathlib.Core.Logic.{⊎-elim}
+use mathlib.Core.Bool.{true, true≢false}
 use mathlib.Core.List.{List}
 use native.Mathlib.Nat.{lt-of-lt-of-le}
 use native.Mathlib.Omega.{arith}
@@ -8,20 +11,22 @@ use lib.ListN.{length, length-set}
 use lib.Pow.{pow-mono}
 use Rattle.radix.specs.Widths.{mostMembers}
 use Rattle.fewest.specs.Fewest.{Known, known-small, known-next}
+use Rattle.fewest.specs.Floors.{Sized, floor-under, sized-next}
 use Rattle.fewest.proofs.layers.fewest_layers.Statement.{statement}
 use Rattle.fewest.proofs.layers.fewest_layers.Tie as tie
 
 abbrev Inv-loop : tie.InvT-loop
-Inv-loop n marks fewest₀ end g₀ fewest g = (g ≤ end) × (length fewest ≡ length fewest₀) × Known n marks g fewest
+Inv-loop n marks fewest₀ end sized₀ g₀ fewest sized g =
+    (g ≤ end) × (length fewest ≡ length fewest₀) × Known n marks g fewest × (sized ≡ true → Sized marks fewest g)
 
 abbrev μ-loop : tie.MeasureT-loop
-μ-loop n marks fewest₀ end g₀ fewest g = end - g
+μ-loop n marks fewest₀ end sized₀ g₀ fewest sized g = end - g
 
 power-requires : tie.Need-power-requires Inv-loop μ-loop
 power-requires c κs = (omega arith, c .before .before .pre .0)
 
 loop-holds : tie.Need-loop-holds Inv-loop μ-loop
-loop-holds c = (omega arith, refl, λ h none. absurd (omega arith))
+loop-holds c = (omega arith, refl, λ h none. absurd (omega arith), λ is n h h< none. absurd (omega arith))
 
 -- the start from the number of the groups; that place, from a turn; the turn, from what the callee gives
 abbrev at-start : tie.After-power Inv-loop μ-loop → tie.Start Inv-loop μ-loop
@@ -31,7 +36,7 @@ abbrev at-power : tie.In-loop Inv-loop μ-loop → tie.After-power Inv-loop μ-l
 at-power c = c .before .before
 
 abbrev at-turn : tie.After-layers-of Inv-loop μ-loop → tie.In-loop Inv-loop μ-loop
-at-turn c = c .before .before
+at-turn c = c .before .before .before
 
 -- ---- a turn
 
@@ -58,8 +63,15 @@ module _ (c : tie.In-loop Inv-loop μ-loop) where
   room : (g < length marks) × (g < length (c .before .loop .fewest))
   room = (omega (arith, g<, start .pre .1), omega (arith, g<, start .pre .2, c .before .loop .inv .1))
 
+floor-at-requires : tie.Need-floor-at-requires Inv-loop μ-loop
+floor-at-requires c κs = room c .0
+
 layers-of-requires : tie.Need-layers-of-requires Inv-loop μ-loop
-layers-of-requires c κs = let t = c .before in (g-small t, room t .0, omega (arith, room t .1))
+layers-of-requires c κs =
+    let t = c .before .before in
+    let l = t .before .loop in
+    let f = c .before .floor-at in
+    (g-small t, room t .0, omega (arith, room t .1), floor-under (marks t) (l .fewest) (g t) (l .sized) (l .inv .3) (f .result) (f .ensures))
 
 cast-fewest : tie.Need-cast-fewest Inv-loop μ-loop
 cast-fewest c =
@@ -71,18 +83,25 @@ slice-write-fewest : tie.Need-slice-write-fewest Inv-loop μ-loop
 slice-write-fewest c = room (at-turn c) .1
 
 add-g : tie.Need-add-g Inv-loop μ-loop
-add-g c = omega (arith, g-small (at-turn c))
+add-g c = omega (arith, g-small (at-turn (c .before)))
 
 loop-less : tie.Need-loop-less Inv-loop μ-loop
-loop-less c = omega (arith, at-turn c .loop-test .taken)
+loop-less c = omega (arith, at-turn (c .before) .loop-test .taken)
 
 loop-again : tie.Need-loop-again Inv-loop μ-loop
 loop-again c =
-    let t = at-turn c in
-    let l = t .before .loop in (
+    let p = c .before in
+    let t = at-turn p in
+    let l = t .before .loop in
+    let f = p .before .before .floor-at in
+    let r = p .layers-of in (
       omega (arith, t .loop-test .taken),
-      length-set (l .fewest) (l .g) (c .layers-of .result) ∙ l .inv .1,
-      known-next (n t) (marks t) (g t) (l .fewest) (l .inv .2) (g< t) (room t .1) (c .layers-of .result) (c .layers-of .ensures (n t) (g< t)),
+      length-set (l .fewest) (l .g) (r .result) ∙ l .inv .1,
+      known-next (n t) (marks t) (g t) (l .fewest) (l .inv .2) (g< t) (room t .1) (r .result) (r .ensures (n t) (g< t)),
+      ⊎-elim (λ w is. absurd (true≢false (sym is ∙ w .1)))
+          (λ w is.
+          sized-next (marks t) (l .fewest) (g t) (l .sized) (l .inv .3) (f .result) (f .ensures) (room t .1) (r .result) (omega (arith, w .0 .left)) (sym (w .1) ∙ is))
+          (c .if1 .came),
     )
 
 same-length : tie.Need-same-length Inv-loop μ-loop
@@ -102,6 +121,7 @@ fewest-layers-spec =
     μ-loop
     power-requires
     loop-holds
+    floor-at-requires
     layers-of-requires
     cast-fewest
     slice-write-fewest

@@ -3,15 +3,15 @@ use Prim.Native.Nat.{ℕ, _+_, _-_, _<_}
 use native.Mathlib.Omega.{arith}
 use Rattle.radix.specs.Widths.{mostMembers}
 use Rattle.marks.specs.FirstParts.{part-at}
-use Rattle.fewest.proofs.Scanning.{Scanned, scanned-none, scanned-next, scanned-all}
+use Rattle.fewest.proofs.Scanning.{Scanned, reached, scanned-none, scanned-next, scanned-floor, scanned-all}
 use Rattle.fewest.proofs.layers.fewest_of.Statement.{statement}
 use Rattle.fewest.proofs.layers.fewest_of.Tie as tie
 
 abbrev Inv-loop : tie.InvT-loop
-Inv-loop marks fewest g rest first least₀ part₀ least part = Scanned marks fewest g rest part least
+Inv-loop marks fewest g floor rest first least₀ part₀ least part = Scanned marks fewest g rest part least
 
 abbrev μ-loop : tie.MeasureT-loop
-μ-loop marks fewest g rest first least₀ part₀ least part = rest - part
+μ-loop marks fewest g floor rest first least₀ part₀ least part = rest - part
 
 -- the start from the call of `without_first`, that call from the loop's head, the head from a turn's end
 abbrev at-start : tie.After-without-first Inv-loop μ-loop → tie.Start Inv-loop μ-loop
@@ -21,7 +21,7 @@ abbrev at-first : tie.At-loop Inv-loop μ-loop → tie.After-without-first Inv-l
 at-first c = c .before
 
 abbrev at-turn : tie.After-next-part Inv-loop μ-loop → tie.In-loop Inv-loop μ-loop
-at-turn c = c .before .before
+at-turn c = c .before .before .before
 
 without-first-requires : tie.Need-without-first-requires Inv-loop μ-loop
 without-first-requires c κs = c .before .before .pre .0
@@ -54,9 +54,19 @@ add-fewer-by c = omega (arith, here c)
 fewer-by-requires : tie.Need-fewer-by-requires Inv-loop μ-loop
 fewer-by-requires c κs = (here c .0, here c .1, start c .pre .2, start c .pre .3)
 
+returns : tie.Need-returns Inv-loop μ-loop
+returns c n g< =
+    let t = c .before .before in
+    let l = t .before .loop in
+    let a = start t .args in
+    let by = c .before .fewer-by in
+    scanned-floor (a .marks .now) (a .fewest .now) (a .g) (rest t) (start t .pre .0) (at-first (t .before) .without-first .ensures) n g< (by .result) (a .floor)
+    (reached (a .marks .now) (a .fewest .now) (a .g) (rest t) (l .part) (l .least) (l .inv) (t .loop-test .taken) (by .result) (by .ensures))
+    (start t .pre .4) (c .if1 .taken)
+
 next-part-requires : tie.Need-next-part-requires Inv-loop μ-loop
 next-part-requires c κs =
-    let t = c .before in
+    let t = c .before .before in
     (omega (arith, at-first (t .before) .without-first .ensures mostMembers (start t .pre .1)), t .loop-test .taken, t .before .loop .inv .is-part)
 
 loop-less : tie.Need-loop-less Inv-loop μ-loop
@@ -68,15 +78,15 @@ loop-again c =
     let l = t .before .loop in
     let a = start t .args in
     scanned-next (a .marks .now) (a .fewest .now) (a .g) (rest t) (l .part) (l .least) (l .inv) (t .loop-test .taken)
-    (c .before .fewer-by .result) (c .before .fewer-by .ensures) (c .next-part .result) (c .next-part .ensures)
+    (c .before .before .fewer-by .result) (c .before .before .fewer-by .ensures) (c .next-part .result) (c .next-part .ensures)
 
-returns : tie.Need-returns Inv-loop μ-loop
-returns c =
+returns-2 : tie.Need-returns-2 Inv-loop μ-loop
+returns-2 c n g< =
     let first = at-first (c .before) in
     let s = at-start first in
     let l = c .before .loop in
-    scanned-all (s .args .marks .now) (s .args .fewest .now) (s .args .g) (first .without-first .result) (l .part) (l .least) (l .inv)
-    (c .loop-test .left) (s .pre .0) (first .without-first .ensures)
+    scanned-all (s .args .marks .now) (s .args .fewest .now) (s .args .g) (first .without-first .result) (s .pre .0) (first .without-first .ensures) n g<
+    (l .part) (l .least) (l .inv) (c .loop-test .left)
 
 pub fewest-of-spec : {M : Type 1} → statement M
 fewest-of-spec =
@@ -89,7 +99,8 @@ fewest-of-spec =
     loop-holds
     add-fewer-by
     fewer-by-requires
+    returns
     next-part-requires
     loop-less
     loop-again
-    returns)
+    returns-2)

@@ -15,7 +15,10 @@ returns-2 : tie.Need-returns-2
 returns-2 c n g< = layers-other n _ _ _ (λ two. c .if2 .taken (c .before .mark-at .ensures ∙ two))
 
 fewest-of-requires : tie.Need-fewest-of-requires
-fewest-of-requires c κs = search needs
+fewest-of-requires c κs =
+    let start = c .before .before .before .before .before in
+    let under = start .pre .3 (sym (c .before .mark-at .ensures) ∙ c .if2 .left) in
+    search (needs, under)
 
 returns-3 : tie.Need-returns-3
 returns-3 c n g< = c .fewest-of .ensures n g< ∙ layers-two n _ _ _ (sym (c .before .before .mark-at .ensures) ∙ c .before .if2 .left)
