@@ -59,16 +59,16 @@ fn all_stand(s: &[u8], at: usize, least: &[u8], more: &[u8], width: usize) -> bo
     requires { ⌜ (at + lookedAt width ≤ length (now s)) × (mostLaid ≤ length (now least)) × (mostLaid ≤ length (now more)) × (width ≤ mostLaid) ⌝ }
     ensures { λ r. ⌜ (r ≡ true → Stand (now (s .entry)) at (now (least .entry)) (now (more .entry)) 0 (lookedAt width)) ⌝ }
 {
-    if width <= FEW {
-        return stand(s, at, least, more, 0, looked_at(width));
+    if FEW < width {
+        if !stand(s, at, least, more, 0, FIRST) {
+            return false;
+        }
+        if width <= FIRST {
+            return true;
+        }
+        return stand(s, at, least, more, FIRST, looked_at(width) - FIRST);
     }
-    if !stand(s, at, least, more, 0, FIRST) {
-        return false;
-    }
-    if width <= FIRST {
-        return true;
-    }
-    stand(s, at, least, more, FIRST, looked_at(width) - FIRST)
+    stand(s, at, least, more, 0, looked_at(width))
 }
 
 // Does the row at `at` stand in its frame, with room for all that is looked at?

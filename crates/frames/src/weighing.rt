@@ -28,12 +28,12 @@ pub fn all_weighed(s: &[u8], at: usize, weights: &[u16], width: usize) -> usize
     requires { ⌜ (at + lookedAt width ≤ length (now s)) × (mostLaid ≤ length (now weights)) × (counted (now s) at (now weights) (lookedAt width) < 65536) × (width ≤ mostLaid) ⌝ }
     ensures { λ r. ⌜ r ≡ counted (now (s .entry)) at (now (weights .entry)) (lookedAt width) ⌝ }
 {
-    if width <= FEW {
-        return weighed(s, at, weights, 0, looked_at(width));
+    if FEW < width {
+        let first = weighed(s, at, weights, 0, FIRST);
+        if width <= FIRST {
+            return first;
+        }
+        return first + weighed(s, at, weights, FIRST, looked_at(width) - FIRST);
     }
-    let first = weighed(s, at, weights, 0, FIRST);
-    if width <= FIRST {
-        return first;
-    }
-    first + weighed(s, at, weights, FIRST, looked_at(width) - FIRST)
+    weighed(s, at, weights, 0, looked_at(width))
 }

@@ -10,86 +10,86 @@ use Rattle.frames.specs.Standing.{Stand, stand-both, lookedAt, looked-fi
 use Rattle.frames.proofs.standing.all_stand.Statement.{statement}
 use Rattle.frames.proofs.standing.all_stand.Tie as tie
 
--- the entry, from either branch; the second branch, from what is looked at after the first stretch
-abbrev at-narrow : tie.Then1 → tie.Start
-at-narrow c = c .before .before .before .before
-
-abbrev at-start : tie.Else1 → tie.Start
+-- the entry, from either branch; the first stretch that stands, from what is looked at after it
+abbrev at-start : tie.Then1 → tie.Start
 at-start c = c .before .before .before .before
 
-abbrev at-first : tie.After-looked-at2 → tie.Else2
+abbrev at-narrow : tie.Else1 → tie.Start
+at-narrow c = c .before .before .before .before
+
+abbrev at-first : tie.After-looked-at → tie.Else2
 at-first c = c .before .before
 
 first-stands : (c : tie.Else2)
     → Stand (at-start (c .before .before) .args .s .now) (at-start (c .before .before) .args .at) (at-start (c .before .before) .args .least .now)
     (at-start (c .before .before) .args .more .now) 0 64
-first-stands c = c .before .stand2 .ensures (not-false _ (c .if2 .left))
+first-stands c = c .before .stand .ensures (not-false _ (c .if2 .left))
 
--- the second stretch ends where the places that are looked at do
-up-to : (c : tie.After-looked-at2) → 64 + (c .looked-at2 .result - 64) ≡ lookedAt (at-start (at-first c .before .before) .args .width)
+-- the second stretch ends where the places that are looked at do, ..
+up-to : (c : tie.After-looked-at) → 64 + (c .looked-at .result - 64) ≡ lookedAt (at-start (at-first c .before .before) .args .width)
 up-to c =
     let wide = at-first c .before .before in
     let start = at-start wide in
-    omega (arith, c .looked-at2 .ensures, looked-bounds (start .args .width) (start .pre .3) .0 (wide .if1 .left))
+    omega (arith, c .looked-at .ensures, looked-bounds (start .args .width) (start .pre .3) .0 (wide .if1 .taken))
 
 -- .. and so does the only stretch of a narrow row
-narrow-to : (c : tie.After-looked-at) → 0 + c .looked-at .result ≡ lookedAt (at-narrow (c .before) .args .width)
-narrow-to c = omega (arith, c .looked-at .ensures)
-
-looked-at-requires : tie.Need-looked-at-requires
-looked-at-requires c κs = at-narrow c .pre .3
+narrow-to : (c : tie.After-looked-at2) → 0 + c .looked-at2 .result ≡ lookedAt (at-narrow (c .before) .args .width)
+narrow-to c = omega (arith, c .looked-at2 .ensures)
 
 stand-requires : tie.Need-stand-requires
 stand-requires c κs =
-    let start = at-narrow (c .before) in
-    let (_, _, most) = looked-bounds (start .args .width) (start .pre .3) in
-    let is = c .looked-at .ensures in
-    (omega (arith, is, start .pre .0), omega (arith, is, most, start .pre .1), omega (arith, is, most, start .pre .2))
-
-returns : tie.Need-returns
-returns c so = rw (narrow-to (c .before)) at (c .stand .ensures so)
-
-stand-requires-2 : tie.Need-stand-requires-2
-stand-requires-2 c κs =
     let start = at-start c in
     let (first, _, _) = looked-bounds (start .args .width) (start .pre .3) in
-    (omega (arith, first (c .if1 .left), start .pre .0), omega (arith, start .pre .1), omega (arith, start .pre .2))
+    (omega (arith, first (c .if1 .taken), start .pre .0), omega (arith, start .pre .1), omega (arith, start .pre .2))
+
+returns : tie.Need-returns
+returns c e = absurd (false≢true e)
 
 returns-2 : tie.Need-returns-2
-returns-2 c e = absurd (false≢true e)
+returns-2 c _ = rw (looked-first _ (c .before .before .before .if1 .taken) (c .if3 .taken)) (first-stands (c .before))
 
-returns-3 : tie.Need-returns-3
-returns-3 c _ = rw (looked-first _ (c .before .before .before .if1 .left) (c .if3 .taken)) (first-stands (c .before))
-
-looked-at-requires-2 : tie.Need-looked-at-requires-2
-looked-at-requires-2 c κs = at-start (c .before .before .before) .pre .3
+looked-at-requires : tie.Need-looked-at-requires
+looked-at-requires c κs = at-start (c .before .before .before) .pre .3
 
 sub-stand : tie.Need-sub-stand
 sub-stand c =
     let wide = at-first c .before .before in
     let start = at-start wide in
-    omega (arith, c .looked-at2 .ensures, looked-bounds (start .args .width) (start .pre .3) .0 (wide .if1 .left))
+    omega (arith, c .looked-at .ensures, looked-bounds (start .args .width) (start .pre .3) .0 (wide .if1 .taken))
 
-stand-requires-3 : tie.Need-stand-requires-3
-stand-requires-3 c κs =
+stand-requires-2 : tie.Need-stand-requires-2
+stand-requires-2 c κs =
     let start = at-start (at-first c .before .before) in
     let (_, _, most) = looked-bounds (start .args .width) (start .pre .3) in
     (omega (arith, up-to c, start .pre .0), omega (arith, up-to c, most, start .pre .1), omega (arith, up-to c, most, start .pre .2))
 
+returns-3 : tie.Need-returns-3
+returns-3 c so = stand-both _ _ _ _ 0 64 _ (first-stands (at-first (c .before))) (rw (up-to (c .before)) at (c .stand2 .ensures so))
+
+looked-at-requires-2 : tie.Need-looked-at-requires-2
+looked-at-requires-2 c κs = at-narrow c .pre .3
+
+stand-requires-3 : tie.Need-stand-requires-3
+stand-requires-3 c κs =
+    let start = at-narrow (c .before) in
+    let (_, _, most) = looked-bounds (start .args .width) (start .pre .3) in
+    let is = c .looked-at2 .ensures in
+    (omega (arith, is, start .pre .0), omega (arith, is, most, start .pre .1), omega (arith, is, most, start .pre .2))
+
 returns-4 : tie.Need-returns-4
-returns-4 c so = stand-both _ _ _ _ 0 64 _ (first-stands (at-first (c .before))) (rw (up-to (c .before)) at (c .stand3 .ensures so))
+returns-4 c so = rw (narrow-to (c .before)) at (c .stand3 .ensures so)
 
 pub all-stand-spec : {M : Type 1} → statement M
 all-stand-spec =
     tie.close
     (tie.spec
-    looked-at-requires
     stand-requires
     returns
-    stand-requires-2
     returns-2
+    looked-at-requires
+    sub-stand
+    stand-requires-2
     returns-3
     looked-at-requires-2
-    sub-stand
     stand-requires-3
     returns-4)
