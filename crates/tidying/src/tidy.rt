@@ -10,6 +10,7 @@ ghost use Rattle.nets.specs.Forms.{tableIn};
 ghost use Rattle.table_printing.specs.Tables.{TableInside};
 ghost use Rattle.table_reading.specs.Answers.{inksIn};
 ghost use Rattle.tidying.specs.Tidying.{LooseTaken, Itself, tidiedOf};
+use crate::top::ends_at_top;
 use answers::answer::Answer;
 use answers::outcome::Outcome;
 use lines::put::copy;
@@ -77,9 +78,8 @@ fn tidy_loose(sheet: &[u8], cells: &mut [u8], out: &mut [u8]) -> Answer
     }
 }
 
-// Puts the inks of a loose table sheet in the cells buffer, in index order, writes its table sheet to the front of `out`, and answers the length. Any
-// bytes may come in. It is first read as a table sheet, which is quicker: a sheet that is laid so comes back as it is.
-pub fn tidy(sheet: &[u8], cells: &mut [u8], out: &mut [u8]) -> Answer
+// The same, for a sheet that may be laid strictly. It is first read as a table sheet, which is quicker: a sheet that is laid so comes back as it is.
+fn tidy_either(sheet: &[u8], cells: &mut [u8], out: &mut [u8]) -> Answer
     ensures { λ r. ⌜ tidiedOf r (now (cells .exit)) (now (out .exit)) ≡ tidyCall (now (sheet .entry)) (now (cells .entry)) (now (out .entry)) ⌝ }
 {
     let mut inks = [0u8; MOST_CELLS];
@@ -93,4 +93,15 @@ pub fn tidy(sheet: &[u8], cells: &mut [u8], out: &mut [u8]) -> Answer
         } => tidy_loose(sheet, cells, out),
         Outcome::Accepted => tidy_accepted(sheet, header, &inks, true, cells, out),
     }
+}
+
+// Puts the inks of a loose table sheet in the cells buffer, in index order, writes its table sheet to the front of `out`, and answers the length. Any
+// bytes may come in.
+pub fn tidy(sheet: &[u8], cells: &mut [u8], out: &mut [u8]) -> Answer
+    ensures { λ r. ⌜ tidiedOf r (now (cells .exit)) (now (out .exit)) ≡ tidyCall (now (sheet .entry)) (now (cells .entry)) (now (out .entry)) ⌝ }
+{
+    if ends_at_top(sheet) {
+        return tidy_either(sheet, cells, out);
+    }
+    tidy_loose(sheet, cells, out)
 }

@@ -1,4 +1,4 @@
--- `tidying::tidy::tidy` meets its contract: the sheet read strictly, or else loosely.
+-- `tidying::tidy::tidy_either` meets its contract: the sheet read strictly, or else loosely.
 -- Assumes nothing.
 use Prim.Native.Nat.{ℕ}
 use native.Mathlib.Omega.{arith}
@@ -6,8 +6,8 @@ use lib.ListN.{length-replicate}
 use Rattle.rules.specs.Limits.{mostCells}
 use Rattle.tidying.specs.Tidying.{strict-taken, strict-itself}
 use borrow.Author.Needs.{needs}
-use Rattle.tidying.proofs.tidy.tidy.Statement.{statement}
-use Rattle.tidying.proofs.tidy.tidy.Tie as tie
+use Rattle.tidying.proofs.tidy.tidy_either.Statement.{statement}
+use Rattle.tidying.proofs.tidy.tidy_either.Tie as tie
 
 -- the sheet's read, from where its outcome is told
 abbrev at-read : tie.After-enum-told2 → tie.After-read-table
@@ -56,8 +56,8 @@ same-length-4 c = search needs
 returns-2 : tie.Need-returns-2
 returns-2 c = search needs
 
-pub tidy-spec : {M : Type 1} → statement M
-tidy-spec =
+pub tidy-either-spec : {M : Type 1} → statement M
+tidy-either-spec =
     tie.close
     (tie.spec
     slice-aggregate-read-table
