@@ -3,6 +3,7 @@
 
 use crate::damage::{fields_of_line, lines, replace};
 use crate::generate::Generator;
+use crate::limits::MOST_INPUTS;
 
 /// The lines before the rows of a table sheet.
 const LINES_BEFORE_ROWS: usize = 3;
@@ -35,6 +36,28 @@ impl Generator {
             spaced.push(byte);
         }
         spaced
+    }
+
+    /// The sheet with its rows in any order and its columns aligned: a level has
+    /// as many spaces after it in every row.
+    pub fn aligned(&mut self, sheet: &[u8]) -> Vec<u8> {
+        let shuffled = self.rows_shuffled(sheet);
+        let gaps: Vec<usize> = (0..MOST_INPUTS)
+            .map(|_| *self.rng.pick(&[1, 1, 1, 2, 3, 5, 8, 12]))
+            .collect();
+        let mut aligned = Vec::new();
+        for (number, line) in lines(&shuffled).into_iter().enumerate() {
+            let mut column = 0;
+            for &byte in line {
+                if byte == b' ' && number >= LINES_BEFORE_ROWS {
+                    aligned.extend(vec![b' '; gaps[column]]);
+                    column += 1;
+                } else {
+                    aligned.push(byte);
+                }
+            }
+        }
+        aligned
     }
 
     /// A loose sheet with one damage, often one of those that a strict reader

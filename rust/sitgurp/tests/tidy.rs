@@ -62,6 +62,9 @@ fn loose_sheets_tidy_to_the_strict_one() {
             generator.spaced(&strict),
             generator.loosened(&strict),
             generator.loosened(&strict),
+            generator.aligned(&strict),
+            generator.aligned(&strict),
+            generator.aligned(&strict),
         ] {
             let tidied = same_tidy(&loose, MOST_CELLS, MOST_TABLE_SHEET);
             assert!(tidied.as_ref() == Ok(&strict));
@@ -112,6 +115,31 @@ fn every_byte_damaged() {
         let strict = generator.table_sheet(m, n, TableKind::Random);
         for damaged in byte_damages(&generator.loosened(&strict)) {
             same_small(&damaged).ok();
+        }
+    }
+}
+
+/// Rows that are laid alike are read by the places of the first one's fields: any byte of any row may stand otherwise.
+#[test]
+fn every_byte_of_an_aligned_sheet_damaged() {
+    let mut generator = Generator::new(SEED + 7);
+    for (m, n) in [(2, 3), (2, 4), (3, 3), (9, 2), (2, 5), (2, 6)] {
+        let strict = generator.table_sheet(m, n, TableKind::Random);
+        for damaged in byte_damages(&generator.aligned(&strict)) {
+            same_small(&damaged).ok();
+        }
+    }
+}
+
+#[test]
+fn aligned_sheets_of_every_size_damaged() {
+    let mut generator = Generator::new(SEED + 8);
+    for (m, n) in sizes() {
+        let strict = generator.table_sheet(m, n, TableKind::Random);
+        for _ in 0..8 {
+            let aligned = generator.aligned(&strict);
+            let damaged = generator.loosely_damaged(&aligned);
+            same_tidy(&damaged, MOST_CELLS, MOST_TABLE_SHEET).ok();
         }
     }
 }
