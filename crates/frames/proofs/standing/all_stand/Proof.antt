@@ -4,7 +4,6 @@ use Prim.Native.Nat.{_+_, _-_}
 use mathlib.Core.Path.{_≡_}
 use mathlib.Core.Bool.{false≢true}
 use native.Mathlib.Omega.{arith}
-use borrow.Author.Needs.{needs}
 use borrow.Author.Tests.{not-false}
 use Rattle.frames.specs.Standing.{Stand, stand-both, lookedAt, looked-first, looked-bounds}
 use Rattle.frames.proofs.standing.all_stand.Statement.{statement}

@@ -1,7 +1,6 @@
 -- `frames::standing::looked_at` meets its contract.
 -- Assumes nothing.
 use mathlib.Core.Path.{sym, _∙_}
-use borrow.Author.Needs.{needs}
 use Rattle.frames.specs.Standing.{looked-few, looked-first, looked-more}
 use Rattle.frames.proofs.standing.looked_at.Statement.{statement}
 use Rattle.frames.proofs.standing.looked_at.Tie as tie

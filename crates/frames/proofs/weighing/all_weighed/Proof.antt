@@ -1,9 +1,8 @@
 -- `frames::weighing::all_weighed` meets its contract: one stretch, or two.
 -- Assumes nothing.
-use Prim.Native.Nat.{ℕ, _+_, _-_, _≤_, _<_}
+use Prim.Native.Nat.{_+_, _-_}
 use mathlib.Core.Path.{_≡_, sym, ap, _∙_}
 use native.Mathlib.Omega.{arith}
-use borrow.Author.Needs.{needs}
 use Rattle.frames.specs.Standing.{lookedAt, looked-first, looked-bounds}
 use Rattle.frames.specs.Weighing.{counted, counted-none, counted-upto}
 use Rattle.frames.proofs.weighing.all_weighed.Statement.{statement}

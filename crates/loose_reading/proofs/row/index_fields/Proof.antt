@@ -1,9 +1,6 @@
 -- `loose_reading::row::index_fields` meets its contract: the row stands in its frame, or its fields are judged.
 -- Assumes nothing.
-use Prim.Native.Nat.{_+_, _<_}
-use mathlib.Core.Path.{_≡_, refl, sym}
 use native.Mathlib.Omega.{arith}
-use lib.ListN.{length}
 use borrow.Author.Needs.{needs}
 use borrow.Author.Tests.{not-false}
 use Rattle.laws.specs.Sizes.{Size, sized}
