@@ -1,6 +1,7 @@
 /*
- * The calls of Sitgurp for C99, for Linux on x86-64, in libsitgurp.a (`./install PREFIX`; in the repository it is target/staticlib/libcapi.a, which
- * `rt staticlib capi` writes). Each is proved to meet an equation with the definitions in crates/rules/specs for every argument: see crates/capi/src/lib.rt.
+ * The calls of Sitgurp for C99 and C++11, for Linux on x86-64, in libsitgurp.a and libsitgurp.so (`./install PREFIX`; in the repository the archive is
+ * target/staticlib/libcapi.a, which `rt staticlib capi` writes). Each is proved to meet an equation with the definitions in crates/rules/specs for every
+ * argument: see crates/capi/src/lib.rt. `./install --aarch64 PREFIX` adds an archive for Linux on aarch64, compiled from the same proved code.
  *
  * Each call depends on its arguments alone and writes to nothing but the buffers lent to it. It keeps nothing from one call to the next, so any
  * number of threads may call at once, each with buffers of its own; it allocates nothing, opens nothing and waits for nothing.
@@ -15,8 +16,8 @@
  * longer than needed, its further bytes are kept.
  *
  * A table sheet may leave cells open, for assignments that cannot occur: `-` is their ink, and a cell holds m for it, a bare cell too. sitgurp_check passes
- * over them and sitgurp_tidy carries them over. What counts classes, marks groups or fills gates needs a full table, and refuses others with 27 (the value is the
- * lowest index of an open cell), which changes no byte.
+ * over them and sitgurp_tidy carries them over. What counts classes, marks groups or fills gates needs a full table, and refuses others with 27 (the value is
+ * the lowest index of an open cell), which changes no byte.
  */
 #ifndef SITGURP_H
 #define SITGURP_H
@@ -28,7 +29,12 @@
 extern "C" {
 #endif
 
+/* The version of this header. SITGURP_VERSION_NUMBER has two digits each for minor and patch: 203 is 0.2.3. sitgurp_version() gives the library's. */
 #define SITGURP_VERSION "0.1.0"
+#define SITGURP_VERSION_MAJOR 0
+#define SITGURP_VERSION_MINOR 1
+#define SITGURP_VERSION_PATCH 0
+#define SITGURP_VERSION_NUMBER (SITGURP_VERSION_MAJOR * 10000 + SITGURP_VERSION_MINOR * 100 + SITGURP_VERSION_PATCH)
 
 /* What each refusal's number stands for. Later versions may add numbers. */
 enum sitgurp_refusal {
@@ -128,6 +134,17 @@ typedef struct sitgurp_turn {
 } sitgurp_turn;
 
 /*
+ * kind 0: none is left, and start and length are 0; 1: a gate line, length bytes of the sheet from byte start on, without its line feed. next is the
+ * position of the next line, or the sheet's length.
+ */
+typedef struct sitgurp_line {
+    size_t kind;
+    size_t start;
+    size_t length;
+    size_t next;
+} sitgurp_line;
+
+/*
  * number 0: accepted, and the net's output settles between earliest and latest, in microseconds; named and place are 0. Otherwise number is the
  * refusal's and place its place, in the net sheet (named 1) or in the arrival sheet (2), and earliest and latest are 0.0.
  */
@@ -157,6 +174,9 @@ typedef struct sitgurp_mark {
     size_t kind;
     size_t value;
 } sitgurp_mark;
+
+/* Returns the version of the library, as SITGURP_VERSION_NUMBER has it of this header. */
+uint32_t sitgurp_version(void);
 
 /*
  * The number of classes of a group, however large; within the sizes of a sheet it is at most 625.
@@ -219,8 +239,8 @@ sitgurp_answer sitgurp_family_count(const uint8_t *sheet, size_t sheet_length, u
 /*
  * Makes the net sheet of the tree of that number, from 0, with the buffers of sitgurp_make. Number 0 is the settled net. Answers the sheet's length.
  * The number is 64 bits wide, and so is the value of 17.
- * Refusals: 1 to 6 (the sheet), 27 (an open cell), 13, 14, 17 (the number is not below the count of trees; value is the number), 15. 17 and 15 leave cells and marks
- * written and output as it was; every other refusal changes no byte.
+ * Refusals: 1 to 6 (the sheet), 27 (an open cell), 13, 14, 17 (the number is not below the count of trees; value is the number), 15. 17 and 15 leave cells
+ * and marks written and output as it was; every other refusal changes no byte.
  */
 sitgurp_answer sitgurp_family_tree(const uint8_t *sheet, size_t sheet_length, uint64_t number, uint8_t *cells, size_t cells_length,
                                    uint8_t *marks, size_t marks_length, uint8_t *output, size_t output_length);
@@ -245,9 +265,9 @@ sitgurp_verdict sitgurp_check(const uint8_t *net_sheet, size_t net_sheet_length,
  * sheet into output. Left and right of every gate line stay as they are, and so do the lines' order and the header; gate tables follow the rule of the settled
  * net. Needs m to the power n bytes, and the net sheet's length.
  * Refusals: 1 to 4, 6 to 8 and 26 (the net sheet), 1 to 6 (the table sheet), 12 (the sheets differ in m, n or names; value 0), 27 (an open cell), 13 (cells too
- * short), 23 (no gate tables give this wiring that table; value is 0 where it leaves out an input that matters, otherwise the number of the first gate whose group
- * has more than m classes), 15 (output too short); the value of 13 and 15 is the length needed. 23 and 15 leave cells written and output as it was; every other
- * refusal changes no byte. 27 names the table sheet; 12, 13, 15 and 23 name neither.
+ * short), 23 (no gate tables give this wiring that table; value is 0 where it leaves out an input that matters, otherwise the number of the first gate whose
+ * group has more than m classes), 15 (output too short); the value of 13 and 15 is the length needed. 23 and 15 leave cells written and output as it was;
+ * every other refusal changes no byte. 27 names the table sheet; 12, 13, 15 and 23 name neither.
  */
 sitgurp_kept sitgurp_keep(const uint8_t *net_sheet, size_t net_sheet_length, const uint8_t *table_sheet, size_t table_sheet_length,
                           uint8_t *cells, size_t cells_length, uint8_t *output, size_t output_length);
@@ -260,8 +280,8 @@ sitgurp_answer sitgurp_write_table(const uint8_t *sheet, size_t sheet_length, ui
 
 /*
  * Tidies a loose table sheet, in which fields are parted by one or more spaces, spaces may stand before a line feed, and rows stand in any order: writes
- * its inks into cells, in index order, and its table sheet into output, with the sign of open cells as it is, and answers that sheet's length. Needs m to the power n bytes, and the table
- * sheet's length.
+ * its inks into cells, in index order, and its table sheet into output, with the sign of open cells as it is, and answers that sheet's length. Needs m to the
+ * power n bytes, and the table sheet's length.
  * Refusals: 1 to 6 and 20 (the sheet; 5 is an input field that is no digit below m, 20 a row whose assignment an earlier row gave), 13 (cells too short),
  * 15 (output too short); the value of 13 and 15 is the length needed. 15 leaves cells written and output as it was; every other refusal changes no byte.
  */
@@ -269,8 +289,27 @@ sitgurp_answer sitgurp_tidy(const uint8_t *sheet, size_t sheet_length, uint8_t *
                             size_t output_length);
 
 /*
+ * Opens the gate lister on a net sheet: reads the whole sheet and answers the position of its first gate line, for sitgurp_lister_next. Writes nothing.
+ * Refusals: 1 to 4, 6 to 8 and 26 (the sheet).
+ */
+sitgurp_answer sitgurp_lister_open(const uint8_t *sheet, size_t sheet_length);
+
+/*
+ * Returns the line that starts at byte `at` of a sheet and the position of the line after it, or that none is left. Writes nothing and refuses nothing: it
+ * reads that one line and judges nothing, so it is meant for positions that sitgurp_lister_open and earlier turns gave. From there, the turns are those of
+ * sitgurp_gate_line:
+ *
+ *     sitgurp_answer opened = sitgurp_lister_open(sheet, sheet_length);
+ *     sitgurp_line line = sitgurp_lister_next(sheet, sheet_length, opened.value);   (if opened.number is 0)
+ *     for (; line.kind == 1; line = sitgurp_lister_next(sheet, sheet_length, line.next)) use(sheet + line.start, line.length);
+ *
+ * At any other position below the sheet's length, the line is what lies between there and the next line feed or the sheet's end.
+ */
+sitgurp_line sitgurp_lister_next(const uint8_t *sheet, size_t sheet_length, size_t at);
+
+/*
  * Turn k of the gate lister, from 0: the gate line of gate k + 1 of a net sheet, and after the last line that none is left.
- * Writes nothing.
+ * Writes nothing. Reads the sheet again at each turn; to list all lines, use sitgurp_lister_open and sitgurp_lister_next.
  * Refusals: 1 to 4, 6 to 8 and 26 (the sheet), the same at every turn.
  */
 sitgurp_turn sitgurp_gate_line(const uint8_t *sheet, size_t sheet_length, size_t k);

@@ -1,12 +1,27 @@
-# What ./run and ./install share: the proved library and the command, built where they are missing or older than what they are built from.
+# Shared by ./run, ./install and ./test: proves the library and builds the command if they are missing or older than their sources.
 # `here` is the repository.
 
-# Whether a file is missing, or older than the crates.
+# Tells whether a file is missing, or older than the crates.
 is_old() {
     [ ! -f "$1" ] || [ -n "$(find "$here/crates" "$here/crates.txt" -newer "$1" -print -quit)" ]
 }
 
-# How many crates of crates.txt a crate stands on, itself counted.
+# Prints how many crates to prove at once, for a number of cores and of free megabytes. `rt` waits for each batch to end, so a batch has more crates
+# than there are cores. The largest check takes 2.7 GB.
+jobs_for() {
+    local by_cores=$(($1 < 4 ? 4 * $1 : 2 * $1)) by_memory=$(($2 / 2700))
+    local jobs=$((by_cores < by_memory ? by_cores : by_memory))
+    echo $((jobs < 1 ? 1 : jobs))
+}
+
+# Prints how many crates to prove at once on this machine. RT_JOBS overrides it.
+parallel_checks() {
+    local megabytes
+    megabytes=$(awk '/^MemAvailable:/ { print int($2 / 1024) }' /proc/meminfo 2>/dev/null || true)
+    echo "${RT_JOBS:-$(jobs_for "$(nproc)" "${megabytes:-2700}")}"
+}
+
+# Prints how many crates of crates.txt a crate uses, directly or not, itself included.
 crates_under() {
     awk -v goal="$1" '
         function reach(name,    words, count, k) {
@@ -21,7 +36,7 @@ crates_under() {
     ' "$here/crates.txt"
 }
 
-# Says how many of the crates are proved, and the name of the last. The one that was asked for comes last: it is named when its turn has come.
+# Reads what `rt` prints and counts the proved crates on standard error. The crate that was asked for is last.
 proving() {
     local goal=$1 total=$2 done=0 line name
     while IFS= read -r line; do
@@ -40,26 +55,38 @@ proving() {
     done
 }
 
-# Proves a crate with `rt check` or `rt staticlib`; the third word is what it is called.
-prove() {
-    local log=$here/target/run.log
-    mkdir -p "$here/target"
-    echo "proving $3: once, some minutes" >&2
-    if ! (cd "$here" && rt "$1" "$2" 2>&1) | tee "$log" | proving "$2" "$(crates_under "$2")"; then
-        tail -n 20 "$log" >&2
-        echo "rt $1 $2 has failed; $log has all that it said" >&2
-        exit 2
-    fi
+# Prints the end of what `rt` said, and exits.
+failed() {
+    tail -n 20 "$here/target/run.log" >&2
+    echo "rt $1 $2 has failed; $here/target/run.log has all that it said" >&2
+    exit 2
 }
 
-# The static library.
+# Proves a crate and the crates that it uses, several at once. The second word is what to call it.
+prove() {
+    local jobs
+    jobs=$(parallel_checks)
+    mkdir -p "$here/target"
+    echo "proving $2: once, some minutes, up to $jobs crates at once" >&2
+    (cd "$here" && RT_JOBS=$jobs rt check "$1" 2>&1) | tee "$here/target/run.log" | proving "$1" "$(crates_under "$1")" || failed check "$1"
+}
+
+# Builds the static library. `rt staticlib` proves one crate after the other, so everything is proved before.
 library() {
     if is_old "$here/target/staticlib/libcapi.a"; then
-        prove staticlib capi 'the library'
+        prove capi 'the library'
+        (cd "$here" && rt staticlib capi) >"$here/target/run.log" 2>&1 || failed staticlib capi
     fi
 }
 
-# The command, and where it is.
+# Builds the page, and prints where it is. This writes the static library too.
+page_built() {
+    [ -f "$here/target/web/sitgurp.html" ] || echo 'building the page: once' >&2
+    "$here/web/build" >&2
+    echo "$here/target/web/sitgurp.html"
+}
+
+# Builds the command, and prints where it is.
 command_built() {
     [ -x "$here/rust/target/release/sitgurp" ] || echo 'building the command: once' >&2
     (cd "$here/rust" && cargo build --offline --quiet --release -p command) >&2

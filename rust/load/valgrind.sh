@@ -52,6 +52,8 @@ program tidy loose
 commands=0 amiss=0
 printf 'name from to\nweight 0 2\nlight 1 1\nnear 0 8\n' > "$folder/shade.arrivals"
 printf 'stroke;near;ink\n0;0;0\n' > "$folder/short.csv"
+export SITGURP_PAGE=$PWD/web/page/page.html
+printf '{"id":1,"call":"count","sheets":["%s"]}\nx\n' "$(awk '{ printf "%s\\n", $0 }' examples/seven.table)" > "$folder/calls"
 cd examples
 of_sitgurp 0 make shade.table
 of_sitgurp 0 make --shallow seven.table
@@ -76,6 +78,8 @@ of_sitgurp 0 draw shade.net
 of_sitgurp 0 matrix shade.table --group weight,near
 of_sitgurp 0 page shade.table -o "$folder/shade.html"
 of_sitgurp 0 glyph shade.net letter.txt --at light=0,-1 --at near=-1,0
+of_sitgurp 0 stream "$folder/calls"
+of_sitgurp 0 generate "$folder/prefix"
 of_sitgurp 1 settle "$folder/shade.arrivals"
 of_sitgurp 2 settle no.net
 cd ..

@@ -7,31 +7,31 @@ use native.Mathlib.Nat.{sub-zero, one-le-pow}
 use native.Mathlib.Omega.{arith}
 use lib.ListN.{length, take}
 use Rattle.rules.specs.Limits.{mostCells}
-use Rattle.rules.specs.Sheets.{Gate}
-use Rattle.rules.specs.Kept.{KeptNet, KeptTable, FullTable, IsNet}
-use Rattle.rules.specs.Value.{tableOf}
-use Rattle.rules.specs.Answers.{accepted, refused}
-use Rattle.rules.specs.Reading.{readNet, readTable, tableOfNet}
-use Rattle.rules.specs.OpenCells.{full, fullTable, readFull}
-use Rattle.laws.specs.OpenCells.{read-full, read-accepted, table-full}
-use Rattle.laws.specs.Sizes.{Size, sized}
-use Rattle.trees.specs.Uniqueness.{table-length}
+use Rattle.rules.specs.Sheets.Sheets.{Gate}
+use Rattle.rules.specs.Sheets.SheetRules.{NetRules, TableRules, FullTable, IsNet}
+use Rattle.rules.specs.Nets.Value.{tableOf}
+use Rattle.rules.specs.Calls.Answers.{accepted, refused}
+use Rattle.rules.specs.Sheets.Reading.{readNet, readTable, tableOfNet}
+use Rattle.rules.specs.Calls.OpenCells.{full, fullTable, readFull}
+use Rattle.laws.specs.Calls.OpenCells.{read-full, read-accepted, table-full}
+use Rattle.laws.specs.Numbers.Sizes.{Size, sized}
+use Rattle.trees.specs.Trees.Uniqueness.{net-table-length}
 use Rattle.nets.specs.declared.forms.Header.{Header}
 use Rattle.nets.specs.declared.forms.Net.{Net}
 use Rattle.nets.specs.Forms.{headerOf, gatesOf, netIn, tableIn}
 use Rattle.nets.specs.Sound.{Sound}
 use Rattle.nets.specs.Evaluating.{Tabled}
-use Rattle.header_reading.specs.Header.{HeaderHeld}
-use Rattle.answers.specs.Answers.{outcomeAs}
+use Rattle.fields.specs.Header.FirstLines.{HeaderHeld}
+use Rattle.answers.specs.AnswerMaps.{outcomeAs}
 use Rattle.answers.specs.declared.outcome.Outcome.the-variants.{Accepted, Refused}
-use Rattle.net_reading.specs.Answers.{NetReads}
-use Rattle.net_reading.specs.declared.net.NetRead.{NetRead}
-use Rattle.table_reading.specs.Answers.{TableReads, inksIn}
-use Rattle.table_reading.specs.Full.{FullReads}
-use Rattle.table_reading.specs.declared.sheet.TableRead.{TableRead}
-use Rattle.lines.specs.Names.{NamesInside}
-use Rattle.readback.specs.ReadBack.{net-accepted, table-accepted}
-use Rattle.trees.specs.NetTables.{kept-table, net-full}
+use Rattle.net_sheets.specs.Reader.NetReading.{NetReads}
+use Rattle.net_sheets.specs.declared.reader.net.NetRead.{NetRead}
+use Rattle.table_reader.specs.TableReading.{TableReads, inksIn}
+use Rattle.table_reader.specs.Full.{FullReads}
+use Rattle.table_reader.specs.declared.sheet.TableRead.{TableRead}
+use Rattle.net_sheets.specs.Text.Names.{NamesInside}
+use Rattle.readback.specs.Sheets.ReadBack.{net-accepted, table-accepted}
+use Rattle.trees.specs.Trees.NetTables.{kept-table, net-full}
 
 -- the header and the net of an accepted net sheet
 pub record NetTaken (s : List ℕ) (h : Header) (net : Net) : Type 0 where
@@ -53,7 +53,7 @@ pub record FullTaken (s : List ℕ) (h : Header) (cells : List ℕ) : Type 0 whe
 -- the table that the header's names in the sheet s and the inks make keeps the rules and is full, and the names are in the sheet
 pub record Given (s : List ℕ) (h : Header) (inks : List ℕ) : Type 0 where
   pub names : NamesInside s h
-  pub kept : KeptTable (tableIn s h inks)
+  pub kept : TableRules (tableIn s h inks)
   pub full : FullTable (tableIn s h inks)
 
 -- ---- what reading answers
@@ -76,15 +76,15 @@ module _ (s cells : List ℕ) (r : TableRead) (read : TableReads s cells r) wher
   pub table-taken : r .outcome ≡ Accepted → TableTaken s (r .header) cells
   table-taken e = record { reads = sym (read .answer) ∙ ap (outcomeAs (tableIn s (r .header) (inksIn cells (r .header)))) e; header = read .held e .header }
 
-  pub table-refused : (number place : ℕ) → r .outcome ≡ Refused number place → readTable s ≡ refused number place
-  table-refused number place e = sym (read .answer) ∙ ap (outcomeAs (tableIn s (r .header) (inksIn cells (r .header)))) e
+  pub read-table-refused : (number place : ℕ) → r .outcome ≡ Refused number place → readTable s ≡ refused number place
+  read-table-refused number place e = sym (read .answer) ∙ ap (outcomeAs (tableIn s (r .header) (inksIn cells (r .header)))) e
 
 module _ (s cells : List ℕ) (r : TableRead) (read : FullReads s cells r) where
   pub full-taken : r .outcome ≡ Accepted → FullTaken s (r .header) cells
   full-taken e = record { reads = sym (read .answer) ∙ ap (outcomeAs (tableIn s (r .header) (inksIn cells (r .header)))) e; header = read .held e .header }
 
-  pub full-refused : (number place : ℕ) → r .outcome ≡ Refused number place → readFull s ≡ refused number place
-  full-refused number place e = sym (read .answer) ∙ ap (outcomeAs (tableIn s (r .header) (inksIn cells (r .header)))) e
+  pub read-full-refused : (number place : ℕ) → r .outcome ≡ Refused number place → readFull s ≡ refused number place
+  read-full-refused number place e = sym (read .answer) ∙ ap (outcomeAs (tableIn s (r .header) (inksIn cells (r .header)))) e
 
 -- a table sheet whose cells are judged full
 pub taken-full : (s : List ℕ) (h : Header) (cells : List ℕ) → TableTaken s h cells → full (h .levels) (inksIn cells h) ≡ accepted tt → FullTaken s h cells
@@ -108,7 +108,7 @@ is-net e q h = rw (e, q) h
 
 -- a net
 module _ (s : List ℕ) (h : Header) (net : Net) (taken : NetTaken s h net) where
-  kept : KeptNet (netIn s h net)
+  kept : NetRules (netIn s h net)
   kept = net-accepted s (netIn s h net) (taken .reads) .1
 
   pub sound : Sound net
@@ -127,7 +127,7 @@ module _ (s : List ℕ) (h : Header) (net : Net) (taken : NetTaken s h net) wher
 
   pub own-length : length (tableOfNet (netIn s h net) .inks) ≡ h .levels ^ h .inputs
   unfolding tableOfNet headerOf
-  own-length = table-length (h .levels) (h .inputs) (gatesOf net)
+  own-length = net-table-length (h .levels) (h .inputs) (gatesOf net)
 
   -- its table, written to the front of a buffer
   module _ (before after : List ℕ) (all count : ℕ) (did : Tabled net before after all) (is : count ≡ h .levels ^ h .inputs) where
@@ -145,7 +145,7 @@ module _ (s : List ℕ) (h : Header) (net : Net) (taken : NetTaken s h net) wher
     front-given =
         record {
           names = names-inside s h (taken .header);
-          kept = subst⁻¹ KeptTable front-table (kept-table (netIn s h net) kept);
+          kept = subst⁻¹ TableRules front-table (kept-table (netIn s h net) kept);
           full = subst⁻¹ FullTable front-table (net-full (netIn s h net) kept);
         }
 
@@ -157,12 +157,12 @@ module _ (s : List ℕ) (h : Header) (cells : List ℕ) (count : ℕ) (is : coun
   pub inks-table : tableIn s h (take (count - 0) cells) ≡ tableIn s h (inksIn cells h)
   inks-table = ap (tableIn s h) inks-front
 
-  pub inks-kept : TableTaken s h cells → KeptTable (tableIn s h (take (count - 0) cells))
-  inks-kept taken = subst⁻¹ KeptTable inks-table (table-accepted s (tableIn s h (inksIn cells h)) (taken .reads) .1)
+  pub inks-kept : TableTaken s h cells → TableRules (tableIn s h (take (count - 0) cells))
+  inks-kept taken = subst⁻¹ TableRules inks-table (table-accepted s (tableIn s h (inksIn cells h)) (taken .reads) .1)
 
   pub inks-given : FullTaken s h cells → Given s h (take (count - 0) cells)
   inks-given taken =
       let t = tableIn s h (inksIn cells h) in
       let (reads, on) = read-accepted s t (taken .reads) in
       let keeps = table-accepted s t reads .1 in
-      record { names = names-inside s h (taken .header); kept = subst⁻¹ KeptTable inks-table keeps; full = subst⁻¹ FullTable inks-table (table-full t keeps on) }
+      record { names = names-inside s h (taken .header); kept = subst⁻¹ TableRules inks-table keeps; full = subst⁻¹ FullTable inks-table (table-full t keeps on) }

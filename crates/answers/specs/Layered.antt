@@ -2,8 +2,8 @@
 -- Assumes nothing.
 use Prim.Native.Nat.{ℕ}
 use mathlib.Core.List.{List}
-use Rattle.rules.specs.Answers as answers
-use Rattle.rules.specs.ShallowSettling as shallow
+use Rattle.rules.specs.Calls.Answers as answers
+use Rattle.rules.specs.Calls.ShallowSettling as shallow
 use Rattle.answers.specs.declared.layered.Layered.{Layered}
 use Rattle.answers.specs.declared.layered.Layered.the-variants.{Accepted, Refused}
 

@@ -1,6 +1,5 @@
-// What the calls answer, where several share it, and whether cells are full. specs/Answers.antt says what each stands for.
+// The answers that several calls share.
 pub mod answer;
-pub mod full;
 pub mod layered;
 pub mod named;
 pub mod outcome;

@@ -3,10 +3,10 @@
 use Prim.Native.Nat.{ℕ, _+_, _<_, max}
 use mathlib.Core.Path.{_≡_, refl, ap₂}
 use lib.Ieee.{Float, binary64, add}
-use Rattle.rules.specs.ArrivalSheet as sheet
-use Rattle.rules.specs.ArrivalSheet.{fixed, between, earliestOf, latestOf}
-use Rattle.rules.specs.Arrivals.{quarter}
-use Rattle.laws.specs.Quarters.{exactBelow, laterOf, quarter-joined}
+use Rattle.rules.specs.Sheets.ArrivalSheet as sheet
+use Rattle.rules.specs.Sheets.ArrivalSheet.{fixed, between, earliestOf, latestOf}
+use Rattle.rules.specs.Nets.Arrivals.{quarter}
+use Rattle.laws.specs.Numbers.Quarters.{exactBelow, laterOf, quarter-joined}
 use Rattle.arrivals.specs.declared.arrival.Arrival.{Arrival}
 use Rattle.arrivals.specs.declared.arrival.Arrival.the-variants.{Fixed, Between}
 use Rattle.arrivals.specs.declared.arrival.Ends.{Ends}

@@ -1,3 +1,4 @@
+pub mod ArrivalAnswers
 pub mod Ends
+pub mod Sheet
 pub mod Wires
-pub mod Answers

@@ -12,22 +12,22 @@ use lib.Ieee.{Float}
 use lib.Seq.{getD-set-same, getD-set-other, getD-at}
 use Rattle.rules.specs.Lists.{range}
 use Rattle.rules.specs.Limits.{mostInputs, mostTime, mostDelay}
-use Rattle.rules.specs.ArrivalSheet.{Arrival, arrivalOf, earliestOf, latestOf}
-use Rattle.rules.specs.Arrivals.{settlingTime, quarter}
-use Rattle.laws.specs.ArrivalEnds.{earliest-of, latest-of}
-use Rattle.laws.specs.Concat.{map-same}
-use Rattle.laws.specs.Places.{length-snoc}
-use Rattle.laws.specs.Quarters.{exactBelow}
-use Rattle.laws.specs.Ranges.{map-range-length, map-range-at, map-range-suc}
-use Rattle.laws.specs.Times.{gateTime, withTimes, times-snoc, times-length, times-most}
-use Rattle.trees.specs.ArrivalTimes.{settling-last}
+use Rattle.rules.specs.Sheets.ArrivalSheet.{Arrival, arrivalOf, earliestOf, latestOf}
+use Rattle.rules.specs.Nets.Arrivals.{settlingTime, quarter}
+use Rattle.laws.specs.Nets.ArrivalEnds.{earliest-of, latest-of}
+use Rattle.laws.specs.Lists.Concat.{map-same}
+use Rattle.laws.specs.Lists.Places.{length-snoc}
+use Rattle.laws.specs.Numbers.Quarters.{exactBelow}
+use Rattle.laws.specs.Lists.Ranges.{map-range-length, map-range-at, map-range-suc}
+use Rattle.laws.specs.Nets.Times.{gateTime, withTimes, times-snoc, times-length, times-most}
+use Rattle.trees.specs.Arrivals.ArrivalTimes.{settling-last}
 use Rattle.nets.specs.declared.forms.Net.{Net}
 use Rattle.nets.specs.Forms.{gateOf, gatesOf}
 use Rattle.nets.specs.References.{refers-back}
 use Rattle.nets.specs.Room.{mostWires}
 use Rattle.nets.specs.Sound.{Sound, sound-size, gates-pos, gates-count, gates-length, wires-room}
-use Rattle.arrival_lines.specs.declared.lines.Times.{Times}
-use Rattle.arrival_lines.specs.Lines.{TimesHeld, arrivalsIn}
+use Rattle.arrivals.specs.declared.sheet.lines.Times.{Times}
+use Rattle.arrivals.specs.Sheet.Lines.{TimesHeld, arrivalsIn}
 use Rattle.arrivals.specs.declared.arrival.Ends.{Ends}
 use Rattle.arrivals.specs.Ends.{endsAt, endsIn, timed, ends-timed, joinedEnds, joined-at}
 
@@ -62,9 +62,9 @@ wires-snoc early late ends wires k is few e l more ends-more =
 abbrev pub firstTimes : List ℕ → ℕ → List ℕ
 firstTimes times count = map (λ i. getD times i 0) (range 0 count)
 
-pub inputs-none : (from to : List ℕ) (ends : List Ends) → length ends ≡ mostWires → WiresAt (firstTimes from 0) (firstTimes to 0) ends
+pub arrival-inputs-none : (from to : List ℕ) (ends : List Ends) → length ends ≡ mostWires → WiresAt (firstTimes from 0) (firstTimes to 0) ends
 unfolding range
-inputs-none from to ends room = record { room = room; many = refl; each = λ d i h. absurd (omega arith) }
+arrival-inputs-none from to ends room = record { room = room; many = refl; each = λ d i h. absurd (omega arith) }
 
 pub inputs-more : (from to : List ℕ) (i : ℕ) (ends : List Ends) → WiresAt (firstTimes from i) (firstTimes to i) ends → i < mostWires
     → (more : Ends) → more ≡ endsIn (timed (arrivalOf (getD from i 0) (getD to i 0)))
@@ -97,8 +97,8 @@ unfolding range withTimes
 wired-none net times delay ends wires = record { low = omega arith; wires = wires }
 
 -- the same from the inputs' ends, for whichever times they are of
-abbrev pub Turned : Net → ℕ → List Ends → ℕ → List Ends → Type 0
-Turned net delay inputs-ends k ends =
+abbrev pub ArrivalTurned : Net → ℕ → List Ends → ℕ → List Ends → Type 0
+ArrivalTurned net delay inputs-ends k ends =
     (times : Times) → TimesHeld times (net .inputs) → WiresAt (firstTimes (times .from) (net .inputs)) (firstTimes (times .to) (net .inputs)) inputs-ends → Wired net times delay k ends
 
 -- no time at one end is past the exact ones

@@ -1,7 +1,7 @@
 // The arrival at an input, in microseconds. specs/Ends.antt says what each form stands for.
 ghost use mathlib.Core.Path.{_≡_};
-ghost use Rattle.rules.specs.ArrivalSheet.{arrivalOf};
-ghost use Rattle.rules.specs.Arrivals.{quarter};
+ghost use Rattle.rules.specs.Sheets.ArrivalSheet.{arrivalOf};
+ghost use Rattle.rules.specs.Nets.Arrivals.{quarter};
 ghost use Rattle.arrivals.specs.Ends.{timed, endsIn};
 
 // A fixed time, or an earliest and a latest.
@@ -16,13 +16,14 @@ pub struct Ends {
     pub latest: f64,
 }
 
+// Converts quarters of a microsecond to microseconds.
 pub fn microseconds(quarters: u16) -> f64
     ensures { λ r. ⌜ r ≡ quarter quarters ⌝ }
 {
     quarters as f64 * 0.25
 }
 
-// It is fixed when `to` is `from`.
+// Returns the arrival between `from` and `to`, in quarters of a microsecond; it is fixed if they are equal.
 pub fn arrival_of(from: u16, to: u16) -> Arrival
     ensures { λ r. ⌜ r ≡ timed (arrivalOf from to) ⌝ }
 {
@@ -34,6 +35,7 @@ pub fn arrival_of(from: u16, to: u16) -> Arrival
     Arrival::Between { earliest, latest }
 }
 
+// Returns the earliest and the latest time of an arrival.
 pub fn ends_of(arrival: Arrival) -> Ends
     ensures { λ r. ⌜ r ≡ endsIn arrival ⌝ }
 {

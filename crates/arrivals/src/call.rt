@@ -1,13 +1,13 @@
 // The call: a net sheet, an arrival sheet for its inputs, and the gates' common delay in quarters of a microsecond.
 ghost use mathlib.Core.Path.{_≡_};
-ghost use Rattle.rules.specs.Arrivals.{arrivalsCall};
+ghost use Rattle.rules.specs.Nets.Arrivals.{arrivalsCall};
 ghost use Rattle.accepted.specs.Taken.{NetTaken};
-ghost use Rattle.arrivals.specs.Answers.{timingAs};
+ghost use Rattle.arrivals.specs.ArrivalAnswers.{timingAs};
 use crate::arrival::Ends;
 use crate::settling::settling;
+use crate::sheet::reader::read_arrivals;
 use answers::outcome::Outcome;
-use arrival_reading::sheet::read_arrivals;
-use net_reading::net::read_net;
+use net_sheets::reader::net::read_net;
 use nets::forms::Header;
 use nets::forms::Net;
 
@@ -32,7 +32,7 @@ fn settle_by(s: &[u8], header: Header, net: Net, t: &[u8], delay: u8) -> Timing
     }
 }
 
-// When the output of a net settles, the earliest and the latest, in microseconds. Any bytes may come in.
+// Returns when the output of a net settles, the earliest and the latest, in microseconds. Any bytes may come in.
 pub fn arrivals(s: &[u8], t: &[u8], delay: u8) -> Timing
     ensures { λ r. ⌜ timingAs r ≡ arrivalsCall (now (s .entry)) (now (t .entry)) delay ⌝ }
 {

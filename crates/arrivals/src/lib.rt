@@ -1,5 +1,6 @@
-// When the output of a net settles, from the arrivals at its inputs, in f64.
+// Arrival sheets, and when a net's output settles.
 pub mod arrival;
 pub mod call;
 pub mod joined;
 pub mod settling;
+pub mod sheet;

@@ -3,14 +3,14 @@ ghost use mathlib.Core.Path.{_≡_};
 ghost use Prim.Native.Nat.{_≤_};
 ghost use Rattle.rules.specs.Limits.{mostInputs};
 ghost use Rattle.nets.specs.Sound.{Sound};
-ghost use Rattle.arrival_lines.specs.Lines.{TimesHeld, arrivalsIn};
+ghost use Rattle.arrivals.specs.Sheet.Lines.{TimesHeld, arrivalsIn};
 ghost use Rattle.arrivals.specs.Wires.{WiresAt, firstTimes, settled};
 use crate::arrival::Ends;
 use crate::arrival::arrival_of;
 use crate::arrival::ends_of;
 use crate::arrival::microseconds;
 use crate::joined::join;
-use arrival_lines::lines::Times;
+use crate::sheet::lines::Times;
 use nets::forms::MOST_WIRES;
 use nets::forms::Net;
 
@@ -35,7 +35,7 @@ fn input_ends(times: Times, inputs: usize) -> [Ends; MOST_WIRES]
     ends
 }
 
-// When the output settles; the delay is in quarters of a microsecond.
+// Returns when the output settles; the delay is in quarters of a microsecond.
 pub fn settling(net: Net, times: Times, delay: u8) -> Ends
     requires { ⌜ Sound net × TimesHeld times (net .inputs) ⌝ }
     ensures { λ r. ⌜ r ≡ settled net (arrivalsIn times (net .inputs)) delay ⌝ }

@@ -3,9 +3,9 @@
 use Prim.Native.Nat.{ℕ}
 use mathlib.Core.Path.{_≡_}
 use mathlib.Core.List.{List}
-use Rattle.rules.specs.Checking.{Checked}
-use Rattle.flat_calls.specs.declared.verdict.SitgurpVerdict.{SitgurpVerdict}
-use Rattle.flat_calls.specs.Verdict.{flatVerdict}
+use Rattle.rules.specs.Calls.Checking.{Checked}
+use Rattle.capi.specs.declared.numbers.verdict.SitgurpVerdict.{SitgurpVerdict}
+use Rattle.capi.specs.Numbers.Verdict.{flatVerdict}
 
 -- what checking answers, and its cells buffer
 pub record FlatChecked (checked : Checked) (r : SitgurpVerdict) (cells : List ℕ) : Type 0 where

@@ -3,10 +3,10 @@
 use Prim.Native.Nat.{ℕ}
 use mathlib.Core.Path.{_≡_, ap, _∙_}
 use mathlib.Core.List.{List}
-use Rattle.rules.specs.Answers.{Answer}
-use Rattle.rules.specs.FamilyCalls.{Counted}
-use Rattle.flat_answers.specs.declared.flat.SitgurpAnswer.{SitgurpAnswer}
-use Rattle.flat_answers.specs.Flat.{flatOf}
+use Rattle.rules.specs.Calls.Answers.{Answer}
+use Rattle.rules.specs.Calls.FamilyCalls.{Counted}
+use Rattle.capi.specs.declared.numbers.flat.SitgurpAnswer.{SitgurpAnswer}
+use Rattle.capi.specs.Numbers.Flat.{flatOf}
 
 pub record FlatCounted (counted : Counted) (r : SitgurpAnswer) (cells marks : List ℕ) : Type 0 where
   pub answer : r ≡ flatOf (counted .answer)

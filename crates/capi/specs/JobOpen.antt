@@ -3,15 +3,15 @@
 use Prim.Native.Nat.{ℕ}
 use mathlib.Core.Path.{_≡_, ap, _∙_}
 use mathlib.Core.List.{List}
-use Rattle.rules.specs.Jobs.{openJob}
+use Rattle.rules.specs.Calls.Jobs.{openJob}
 use Rattle.jobs.specs.declared.job.Job.{Job}
 use Rattle.jobs.specs.declared.job.Opened.{Opened}
 use Rattle.jobs.specs.Forms.{jobIn}
 use Rattle.jobs.specs.Opening.{openedBytes}
 use Rattle.jobs.specs.Calls.{OpenDone}
-use Rattle.answers.specs.Answers.{outcomeAs}
-use Rattle.flat_answers.specs.declared.flat.SitgurpAnswer.{SitgurpAnswer}
-use Rattle.flat_answers.specs.Done.{flatDone}
+use Rattle.answers.specs.AnswerMaps.{outcomeAs}
+use Rattle.capi.specs.declared.numbers.flat.SitgurpAnswer.{SitgurpAnswer}
+use Rattle.capi.specs.Numbers.Done.{flatDone}
 
 pub record FlatOpened (s : List ℕ) (r : SitgurpAnswer) (lines cells marks : List ℕ) (passed : ℕ) : Type 0 where
   pub answer : r ≡ flatDone (openJob s .answer)

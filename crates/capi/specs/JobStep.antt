@@ -4,14 +4,14 @@ use Prim.Native.Nat.{ℕ, _+_, _<_}
 use mathlib.Core.Path.{_≡_, sym, ap, _∙_}
 use mathlib.Core.List.{List}
 use lib.ListN.{set}
-use Rattle.rules.specs.Answers.{written}
-use Rattle.rules.specs.Jobs.{Job, further, Stepped, stepJob}
-use Rattle.laws.specs.Jobs.{step-done, step-on}
+use Rattle.rules.specs.Calls.Answers.{written}
+use Rattle.rules.specs.Calls.Jobs.{Job, further, Stepped, stepJob}
+use Rattle.laws.specs.Calls.Jobs.{step-done, step-on}
 use Rattle.jobs.specs.declared.next.Next.the-variants.{Done, Mark}
 use Rattle.jobs.specs.Forms.{mostGroups, jobIn}
 use Rattle.jobs.specs.Stepping.{NextMark, marks-same, marks-further, job-further}
-use Rattle.flat_answers.specs.declared.flat.SitgurpAnswer.{SitgurpAnswer}
-use Rattle.flat_answers.specs.Done.{flatDone}
+use Rattle.capi.specs.declared.numbers.flat.SitgurpAnswer.{SitgurpAnswer}
+use Rattle.capi.specs.Numbers.Done.{flatDone}
 
 pub record FlatStepped (lines cells marks : List ℕ) (passed : ℕ) (r : SitgurpAnswer) (marks-after : List ℕ) (passed-after : ℕ) : Type 0 where
   pub answer : r ≡ flatDone (stepJob (jobIn lines cells marks passed) .answer)

@@ -3,9 +3,9 @@
 use Prim.Native.Nat.{ℕ}
 use mathlib.Core.Path.{_≡_}
 use mathlib.Core.List.{List}
-use Rattle.rules.specs.Keeping.{KeptWiring}
-use Rattle.flat_calls.specs.declared.kept.SitgurpKept.{SitgurpKept}
-use Rattle.flat_calls.specs.Kept.{flatKept}
+use Rattle.rules.specs.Calls.Keeping.{KeptWiring}
+use Rattle.capi.specs.declared.numbers.kept.SitgurpKept.{SitgurpKept}
+use Rattle.capi.specs.Numbers.Kept.{flatKept}
 
 -- what the call answers, and its two buffers
 pub record FlatKept (kept : KeptWiring) (r : SitgurpKept) (cells output : List ℕ) : Type 0 where

@@ -3,10 +3,10 @@
 use Prim.Native.Nat.{ℕ}
 use mathlib.Core.Path.{_≡_, ap, _∙_}
 use mathlib.Core.List.{List}
-use Rattle.rules.specs.Answers.{Answer}
-use Rattle.rules.specs.ShallowSettling.{Layered, LayeredMade}
-use Rattle.flat_answers.specs.declared.layered.SitgurpShallow.{SitgurpShallow}
-use Rattle.flat_answers.specs.Layered.{flatLayered}
+use Rattle.rules.specs.Calls.Answers.{Answer}
+use Rattle.rules.specs.Calls.ShallowSettling.{Layered, LayeredMade}
+use Rattle.capi.specs.declared.numbers.layered.SitgurpShallow.{SitgurpShallow}
+use Rattle.capi.specs.Numbers.Layered.{flatLayered}
 
 -- what the call answers, and its three buffers
 pub record FlatLayered (made : LayeredMade) (r : SitgurpShallow) (cells marks output : List ℕ) : Type 0 where

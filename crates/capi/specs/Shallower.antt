@@ -3,7 +3,7 @@
 use Prim.Native.Nat.{ℕ}
 use mathlib.Core.List.{List}
 use lib.ListN.{length}
-use Rattle.rules.specs.Shallower.{Which, firstSheet, secondSheet, noSheet}
+use Rattle.rules.specs.Calls.Shallower.{Which, firstSheet, secondSheet, noSheet}
 use Rattle.capi.specs.declared.shallower_sheet.SitgurpWhich.{SitgurpWhich}
 
 abbrev pub flatWhich : Which → List ℕ → List ℕ → SitgurpWhich

@@ -3,9 +3,9 @@
 use Prim.Native.Nat.{ℕ}
 use mathlib.Core.Path.{_≡_}
 use mathlib.Core.List.{List}
-use Rattle.rules.specs.Tidying.{Tidied}
-use Rattle.flat_answers.specs.declared.flat.SitgurpAnswer.{SitgurpAnswer}
-use Rattle.flat_answers.specs.Flat.{flatOf}
+use Rattle.rules.specs.Calls.Tidying.{Tidied}
+use Rattle.capi.specs.declared.numbers.flat.SitgurpAnswer.{SitgurpAnswer}
+use Rattle.capi.specs.Numbers.Flat.{flatOf}
 
 -- what tidying answers, and its two buffers
 pub record FlatTidied (tidied : Tidied) (r : SitgurpAnswer) (cells output : List ℕ) : Type 0 where

@@ -1,9 +1,9 @@
 // Arrival times for C.
 ghost use mathlib.Core.Path.{_≡_};
-ghost use Rattle.rules.specs.Arrivals.{arrivalsCall};
-ghost use Rattle.flat_calls.specs.Timing.{flatTiming};
-use flat_calls::timing::SitgurpArrivalTimes;
-use flat_calls::timing::flat_timing;
+ghost use Rattle.rules.specs.Nets.Arrivals.{arrivalsCall};
+ghost use Rattle.capi.specs.Numbers.Timing.{flatTiming};
+use crate::numbers::timing::SitgurpArrivalTimes;
+use crate::numbers::timing::flat_timing;
 
 // When the output of a net settles, from an arrival sheet for its inputs and the gates' common delay in quarters of a microsecond.
 #[no_mangle]

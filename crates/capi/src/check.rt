@@ -1,8 +1,8 @@
 // Checking for C.
-ghost use Rattle.rules.specs.Checking.{checkCall};
+ghost use Rattle.rules.specs.Calls.Checking.{checkCall};
 ghost use Rattle.capi.specs.Check.{FlatChecked};
-use flat_calls::verdict::SitgurpVerdict;
-use flat_calls::verdict::flat_verdict;
+use crate::numbers::verdict::SitgurpVerdict;
+use crate::numbers::verdict::flat_verdict;
 
 // Checks a net sheet against a table sheet, and puts the table sheet's inks in the cells buffer.
 #[no_mangle]

@@ -1,8 +1,8 @@
 // The count of a table's trees for C.
-ghost use Rattle.rules.specs.FamilyCalls.{familyCountCall};
+ghost use Rattle.rules.specs.Calls.FamilyCalls.{familyCountCall};
 ghost use Rattle.capi.specs.Counted.{FlatCounted};
-use flat_answers::flat::SitgurpAnswer;
-use flat_answers::flat::flat;
+use crate::numbers::flat::SitgurpAnswer;
+use crate::numbers::flat::flat;
 
 // How many trees the table of a table sheet has, with the cells and the marks written.
 #[no_mangle]

@@ -1,8 +1,8 @@
 // The tree of an order number for C.
-ghost use Rattle.rules.specs.FamilyCalls.{familyTreeCall};
+ghost use Rattle.rules.specs.Calls.FamilyCalls.{familyTreeCall};
 ghost use Rattle.capi.specs.Made.{FlatMade};
-use flat_answers::flat::SitgurpAnswer;
-use flat_answers::flat::flat;
+use crate::numbers::flat::SitgurpAnswer;
+use crate::numbers::flat::flat;
 
 // Makes the net sheet of a number among the trees of a table sheet, with making's buffers.
 #[no_mangle]

@@ -1,8 +1,8 @@
 // Glyphs for C.
-ghost use Rattle.rules.specs.Glyphs.{glyphCall};
+ghost use Rattle.rules.specs.Calls.Glyphs.{glyphCall};
 ghost use Rattle.capi.specs.WriteTable.{FlatWritten};
-use flat_answers::flat::SitgurpAnswer;
-use flat_answers::flat::flat;
+use crate::numbers::flat::SitgurpAnswer;
+use crate::numbers::flat::flat;
 
 // Writes the glyph that a net sheet prints from a picture. The answer is the number of its cells.
 #[no_mangle]

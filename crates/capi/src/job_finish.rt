@@ -1,11 +1,11 @@
 // Finishing a job for C, by its parts.
 ghost use mathlib.Core.List.{List};
 ghost use Prim.Native.Nat.{ℕ};
-ghost use Rattle.rules.specs.Jobs.{finishJob};
+ghost use Rattle.rules.specs.Calls.Jobs.{finishJob};
 ghost use Rattle.jobs.specs.Forms.{jobIn};
 ghost use Rattle.capi.specs.Made.{FlatMade};
-use flat_answers::flat::SitgurpAnswer;
-use flat_answers::flat::flat;
+use crate::numbers::flat::SitgurpAnswer;
+use crate::numbers::flat::flat;
 use jobs::finishing;
 use jobs::job;
 use radix::limits;

@@ -2,11 +2,11 @@
 ghost use mathlib.Core.Path.{_≡_};
 ghost use mathlib.Core.List.{List};
 ghost use Prim.Native.Nat.{ℕ};
-ghost use Rattle.rules.specs.Jobs.{askJob};
+ghost use Rattle.rules.specs.Calls.Jobs.{askJob};
 ghost use Rattle.jobs.specs.Forms.{jobIn};
-ghost use Rattle.flat_calls.specs.Reached.{flatReached};
-use flat_calls::reached::SitgurpMark;
-use flat_calls::reached::flat_reached;
+ghost use Rattle.capi.specs.Numbers.Reached.{flatReached};
+use crate::numbers::reached::SitgurpMark;
+use crate::numbers::reached::flat_reached;
 use jobs::asking;
 use jobs::job;
 use marks::own;

@@ -1,7 +1,7 @@
 // Opening a job for C. The caller owns a job, and lends its parts; include/sitgurp.h has them in one struct.
 ghost use Rattle.capi.specs.JobOpen.{FlatOpened};
-use flat_answers::done::flat_done;
-use flat_answers::flat::SitgurpAnswer;
+use crate::numbers::done::flat_done;
+use crate::numbers::flat::SitgurpAnswer;
 use jobs::job;
 use jobs::opening;
 use marks::own;

@@ -1,6 +1,6 @@
 // A step of a job for C, by its parts.
 ghost use Rattle.capi.specs.JobStep.{FlatStepped};
-use flat_answers::flat::SitgurpAnswer;
+use crate::numbers::flat::SitgurpAnswer;
 use jobs::job;
 use jobs::next;
 use jobs::next::Next;

@@ -1,8 +1,8 @@
 // Keeping a wiring for C.
-ghost use Rattle.rules.specs.Keeping.{keepCall};
+ghost use Rattle.rules.specs.Calls.Keeping.{keepCall};
 ghost use Rattle.capi.specs.Keep.{FlatKept};
-use flat_calls::kept::SitgurpKept;
-use flat_calls::kept::flat_kept;
+use crate::numbers::kept::SitgurpKept;
+use crate::numbers::kept::flat_kept;
 
 // Fills the gates of a net sheet anew for a table sheet, whose inks go to the cells buffer, and writes the sheet.
 #[no_mangle]

@@ -1,8 +1,8 @@
 // Making for C.
-ghost use Rattle.rules.specs.Settling.{makeCall};
+ghost use Rattle.rules.specs.Calls.Settling.{makeCall};
 ghost use Rattle.capi.specs.Made.{FlatMade};
-use flat_answers::flat::SitgurpAnswer;
-use flat_answers::flat::flat;
+use crate::numbers::flat::SitgurpAnswer;
+use crate::numbers::flat::flat;
 
 // Makes the settled net sheet of a table sheet, with the buffers of sitgurp_settle.
 #[no_mangle]

@@ -1,8 +1,8 @@
 // Making of the shallow net for C.
-ghost use Rattle.rules.specs.ShallowSettling.{makeShallowCall};
+ghost use Rattle.rules.specs.Calls.ShallowSettling.{makeShallowCall};
 ghost use Rattle.capi.specs.Layered.{FlatLayered};
-use flat_answers::layered::SitgurpShallow;
-use flat_answers::layered::flat_layered;
+use crate::numbers::layered::SitgurpShallow;
+use crate::numbers::layered::flat_layered;
 
 // Makes the shallow net sheet of a table sheet, with the buffers of sitgurp_settle.
 #[no_mangle]

@@ -1,8 +1,8 @@
 // The marking call for C.
-ghost use Rattle.rules.specs.Marking.{markingCall};
+ghost use Rattle.rules.specs.Calls.Marking.{markingCall};
 ghost use Rattle.capi.specs.Marking.{FlatMarked};
-use flat_answers::flat::SitgurpAnswer;
-use flat_answers::flat::flat;
+use crate::numbers::flat::SitgurpAnswer;
+use crate::numbers::flat::flat;
 
 // The marks of every group of bare cells, written to `marks`, and the whole group's mark.
 #[no_mangle]
@@ -14,5 +14,5 @@ pub extern "C" fn sitgurp_marking(
 ) -> SitgurpAnswer
     ensures { λ r. ⌜ FlatMarked (markingCall m n (now (cells .entry)) (now (marks .entry))) r (now (marks .exit)) ⌝ }
 {
-    flat(marking::call::marking(m, n, cells, marks))
+    flat(marks::marking::marking(m, n, cells, marks))
 }

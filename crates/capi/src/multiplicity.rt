@@ -1,9 +1,9 @@
 // The multiplicity call for C.
 ghost use mathlib.Core.Path.{_≡_};
-ghost use Rattle.rules.specs.Multiplicity.{multiplicityCall};
-ghost use Rattle.flat_answers.specs.Flat.{flatOf};
-use flat_answers::flat::SitgurpAnswer;
-use flat_answers::flat::flat;
+ghost use Rattle.rules.specs.Calls.Multiplicity.{multiplicityCall};
+ghost use Rattle.capi.specs.Numbers.Flat.{flatOf};
+use crate::numbers::flat::SitgurpAnswer;
+use crate::numbers::flat::flat;
 
 // The multiplicity of a group of bare cells.
 #[no_mangle]
@@ -15,5 +15,5 @@ pub extern "C" fn sitgurp_multiplicity(
 ) -> SitgurpAnswer
     ensures { λ r. ⌜ r ≡ flatOf (multiplicityCall m n (now (cells .entry)) group) ⌝ }
 {
-    flat(key_counting::call::multiplicity(m, n, cells, group))
+    flat(classes::multiplicity::multiplicity(m, n, cells, group))
 }

@@ -1,8 +1,8 @@
 // Settling for C.
-ghost use Rattle.rules.specs.Settling.{settleCall};
+ghost use Rattle.rules.specs.Calls.Settling.{settleCall};
 ghost use Rattle.capi.specs.Made.{FlatMade};
-use flat_answers::flat::SitgurpAnswer;
-use flat_answers::flat::flat;
+use crate::numbers::flat::SitgurpAnswer;
+use crate::numbers::flat::flat;
 
 // Settles a net sheet: its table, its marks and its settled net sheet. The answer is the sheet's length.
 #[no_mangle]

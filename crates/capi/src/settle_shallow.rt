@@ -1,8 +1,8 @@
 // Settling of the shallow net for C.
-ghost use Rattle.rules.specs.ShallowSettling.{settleShallowCall};
+ghost use Rattle.rules.specs.Calls.ShallowSettling.{settleShallowCall};
 ghost use Rattle.capi.specs.Layered.{FlatLayered};
-use flat_answers::layered::SitgurpShallow;
-use flat_answers::layered::flat_layered;
+use crate::numbers::layered::SitgurpShallow;
+use crate::numbers::layered::flat_layered;
 
 // Settles a net sheet to its shallow net sheet, with the buffers of sitgurp_settle.
 #[no_mangle]

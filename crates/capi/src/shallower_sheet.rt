@@ -1,6 +1,6 @@
 // The shallower of two net sheets for C.
 ghost use mathlib.Core.Path.{_≡_};
-ghost use Rattle.rules.specs.Shallower.{whichOf};
+ghost use Rattle.rules.specs.Calls.Shallower.{whichOf};
 ghost use Rattle.capi.specs.Shallower.{flatWhich};
 use shallower::which::Which;
 use shallower::which::which_of;

@@ -1,17 +1,17 @@
 // The check call: a net sheet against a table sheet.
 ghost use mathlib.Core.Path.{_≡_};
-ghost use Rattle.rules.specs.Checking.{checkCall};
-ghost use Rattle.table_comparing.specs.Answers.{checkedOf};
+ghost use Rattle.rules.specs.Calls.Checking.{checkCall};
+ghost use Rattle.checking.specs.CheckAnswers.{checkedOf};
 ghost use Rattle.accepted.specs.Taken.{NetTaken};
-use agreement::both::check_accepted;
+use crate::both::check_accepted;
+use crate::verdict::Verdict;
 use answers::named::Named;
 use answers::outcome::Outcome;
-use net_reading::net::read_net;
+use net_sheets::reader::net::read_net;
 use nets::forms::Header;
 use nets::forms::Net;
 use radix::limits::MOST_CELLS;
-use table_comparing::verdict::Verdict;
-use table_reading::sheet::read_table;
+use table_reader::sheet::read_table;
 
 // The accepted net sheet s against the table sheet t.
 fn check_table(s: &[u8], header: Header, net: Net, t: &[u8], cells: &mut [u8]) -> Verdict

@@ -1,2 +1,5 @@
-// A net sheet against a table sheet.
+// The check of a net sheet against a table sheet.
+pub mod both;
 pub mod check;
+pub mod same;
+pub mod verdict;

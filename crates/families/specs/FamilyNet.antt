@@ -6,24 +6,24 @@ use mathlib.Core.Bool.{true}
 use mathlib.Core.List.{List}
 use native.Mathlib.Omega.{arith}
 use Rattle.rules.specs.Limits.{sizeFits}
-use Rattle.rules.specs.Marks.{marksOf}
-use Rattle.rules.specs.Wirings.{linksOf}
-use Rattle.rules.specs.Filling.{inputGroups}
-use Rattle.rules.specs.Leaves.{leavesOf}
-use Rattle.rules.specs.Family.{treeCount, familyGates}
-use Rattle.laws.specs.Sizes.{sized}
-use Rattle.trees.specs.Members.{size-le}
-use Rattle.trees.specs.LeafGroup.{leaves-below}
-use Rattle.trees.specs.Fillings.{Fillable}
-use Rattle.trees.specs.Families.{wired}
-use Rattle.trees.specs.FamilyCounts.{counted}
-use Rattle.trees.specs.FamilyWirings.{OfFamily, wiringNumbered, number-gives}
+use Rattle.rules.specs.Groups.Marks.{marksOf}
+use Rattle.rules.specs.Nets.Wirings.{linksOf}
+use Rattle.rules.specs.Nets.Filling.{inputGroups}
+use Rattle.rules.specs.Nets.Leaves.{leavesOf}
+use Rattle.rules.specs.Nets.Family.{treeCount, familyGates}
+use Rattle.laws.specs.Numbers.Sizes.{sized}
+use Rattle.trees.specs.Groups.Members.{size-le}
+use Rattle.trees.specs.Leaves.LeafGroup.{leaves-below}
+use Rattle.trees.specs.Filling.Fillings.{Fillable}
+use Rattle.trees.specs.Families.Families.{wired}
+use Rattle.trees.specs.Families.FamilyCounts.{counted}
+use Rattle.trees.specs.Families.FamilyWirings.{OfFamily, wiringNumbered, number-gives}
 use Rattle.nets.specs.declared.forms.Net.{Net}
 use Rattle.wirings.specs.declared.forms.Wiring.{Wiring}
 use Rattle.wirings.specs.Links.{linksIn}
-use Rattle.filling.specs.Filled.{Filled}
-use Rattle.filling.specs.MadeNet.{NetOf, some-level, wiring-fills, wiring-net}
-use Rattle.numbering.specs.Numbered.{InCount, WiringFound}
+use Rattle.gate_tables.specs.Filled.{Filled}
+use Rattle.gate_tables.specs.MadeNet.{NetOf, some-level, wiring-fills, wiring-net}
+use Rattle.tree_counts.specs.Numbered.{InCount, WiringFound}
 
 module _ (m n : ℕ) (fit : sizeFits m n ≡ true) (f : ℕ → ℕ) (own : List ℕ) (front : own ≡ marksOf m n f) (r : ℕ)
     (below : r < treeCount n (marksOf m n f) (leavesOf m n f)) where

@@ -9,15 +9,15 @@ use native.Mathlib.Omega.{arith}
 use lib.ListN.{length, getD, replicate, take}
 use lib.Pow.{pow-mono}
 use Rattle.rules.specs.Limits.{mostInputs, sizeFits}
-use Rattle.rules.specs.Marks.{marksOf, storedMarks}
-use Rattle.rules.specs.Leaves.{leavesOf}
-use Rattle.rules.specs.Family.{treeCount, countsOf}
-use Rattle.rules.specs.Answers.{inkIn, written}
-use Rattle.laws.specs.Sizes.{sized}
-use Rattle.trees.specs.MarkRule.{marks-length}
-use Rattle.trees.specs.LeafGroup.{leaves-below, leaves-some}
-use Rattle.filling.specs.MadeNet.{some-level, two-inputs}
-use Rattle.tree_counts.specs.Counts.{CountsKept, Countable, CountKept}
+use Rattle.rules.specs.Groups.Marks.{marksOf, storedMarks}
+use Rattle.rules.specs.Nets.Leaves.{leavesOf}
+use Rattle.rules.specs.Nets.Family.{treeCount, countsOf}
+use Rattle.rules.specs.Calls.Answers.{inkIn, written}
+use Rattle.laws.specs.Numbers.Sizes.{sized}
+use Rattle.trees.specs.Groups.MarkRule.{marks-length}
+use Rattle.trees.specs.Leaves.LeafGroup.{leaves-below, leaves-some}
+use Rattle.gate_tables.specs.MadeNet.{some-level, two-inputs}
+use Rattle.tree_counts.specs.Counts.{CountsKnown, Countable, CountKnown}
 
 -- no count is known yet
 abbrev pub NoneKnown : List ℕ → Type 0
@@ -38,7 +38,7 @@ pub record MarkedCount (m n : ℕ) (inks cells marks : List ℕ) (r : ℕ) (cell
   pub copied : cells-then ≡ written cells inks
   pub front : take (2 ^ n) own ≡ marksOf m n (inkIn inks)
   pub marked : marks-then ≡ written marks (storedMarks (marksOf m n (inkIn inks)))
-  pub kept : CountsKept (marksOf m n (inkIn inks)) counts
+  pub kept : CountsKnown (marksOf m n (inkIn inks)) counts
 
 module _ (m n : ℕ) (fit : sizeFits m n ≡ true) (f : ℕ → ℕ) where
   pos : 0 < m
@@ -48,7 +48,7 @@ module _ (m n : ℕ) (fit : sizeFits m n ≡ true) (f : ℕ → ℕ) where
   pub marks-front : (own : List ℕ) → take (2 ^ n) own ≡ marksOf m n f → (end : ℕ) → end ≡ 2 ^ n → take (end - 0) own ≡ marksOf m n f
   marks-front own front end is = ap (λ (k : ℕ). take k own) (sub-zero end ∙ is) ∙ front
 
-  module _ (own counts : List ℕ) (front : own ≡ marksOf m n f) (room : 2 ^ n ≤ length counts) (kept : CountsKept own counts) where
+  module _ (own counts : List ℕ) (front : own ≡ marksOf m n f) (room : 2 ^ n ≤ length counts) (kept : CountsKnown own counts) where
     -- so the trees on the leaves can be counted, ..
     pub leaves-countable : Countable own counts (leavesOf m n f)
     leaves-countable =
@@ -62,7 +62,7 @@ module _ (m n : ℕ) (fit : sizeFits m n ≡ true) (f : ℕ → ℕ) where
         }
 
   -- .. and are the table's
-  pub leaves-counted : (own : List ℕ) → own ≡ marksOf m n f → (g : ℕ) → g ≡ leavesOf m n f → (r : ℕ) (counts : List ℕ) → CountKept own g r counts
+  pub leaves-counted : (own : List ℕ) → own ≡ marksOf m n f → (g : ℕ) → g ≡ leavesOf m n f → (r : ℕ) (counts : List ℕ) → CountKnown own g r counts
       → r ≡ treeCount n (marksOf m n f) (leavesOf m n f)
   unfolding treeCount
   leaves-counted own front g leaves r counts found =

@@ -1,24 +1,24 @@
 -- What the two calls' answers and buffers stand for, and their outcomes as the code comes to them.
 -- Assumes nothing.
-use Prim.Native.Nat.{ℕ, _-_, _^_, _≤_, _<_}
-use mathlib.Core.Path.{_≡_, sym, ap, _∙_, subst}
+use Prim.Native.Nat.{ℕ, _≤_, _<_}
+use mathlib.Core.Path.{_≡_, sym, _∙_, subst}
 use mathlib.Core.List.{List}
-use lib.ListN.{take}
-use Rattle.rules.specs.Printed.{printedNet}
-use Rattle.rules.specs.Marks.{marksOf}
-use Rattle.rules.specs.Answers.{accepted, refused, inkIn}
-use Rattle.rules.specs.Settling.{roomFor, writtenSheet}
-use Rattle.rules.specs.Family.{familyGates}
-use Rattle.rules.specs.FamilyCalls.{Counted, countOfTable, familyNet, countedInto, afterCount, numberedInto, familyCountCall, familyTreeCall}
-use Rattle.laws.specs.FamilyCalls.{counted-room, count-17, count-tree, family-count-accepted, family-tree-accepted}
+use Rattle.rules.specs.Sheets.Printed.{printedNet}
+use Rattle.rules.specs.Groups.Marks.{marksOf}
+use Rattle.rules.specs.Calls.Answers.{accepted, refused, inkIn}
+use Rattle.rules.specs.Calls.Settling.{roomFor, writtenSheet}
+use Rattle.rules.specs.Nets.Family.{familyGates}
+use Rattle.rules.specs.Calls.FamilyCalls.{Counted, countOfTable, familyNet, countedInto, afterCount, familyCountCall, familyTreeCall}
+use Rattle.laws.specs.Calls.FamilyCalls.{counted-refused, counted-room, numbered-refused, numbered-room, count-17, count-tree, family-count-refused, family-count-accepted, family-tree-refused, family-tree-accepted}
 use Rattle.nets.specs.declared.forms.Header.{Header}
 use Rattle.nets.specs.declared.forms.Net as own
 use Rattle.nets.specs.Forms.{headerOf, netIn, tableIn}
 use Rattle.answers.specs.declared.answer.Answer.{Answer}
-use Rattle.answers.specs.Answers.{answerOf, madeOf}
-use Rattle.accepted.specs.Taken.{FullTaken, Given, inks-table}
-use Rattle.filling.specs.MadeNet.{NetOf}
-use Rattle.synthesis.specs.Outcomes.{net-is}
+use Rattle.answers.specs.AnswerMaps.{answerOf, madeOf}
+use Rattle.accepted.specs.Taken.{Given}
+use Rattle.gate_tables.specs.MadeNet.{NetOf}
+use Rattle.settling.specs.Outcomes.{net-is}
+use Rattle.settling.specs.Input.{SettlingTurnedBack, by-sheet, by-room, InputTaken}
 use Rattle.families.specs.Marked.{MarkedCount}
 
 -- the answer, and the two buffers after the call
@@ -65,13 +65,25 @@ module _ (s : List ℕ) (h : Header) (inks cells marks : List ℕ) (r : ℕ) (ce
           ∙ (λ i. writtenSheet (printedNet (tree-is i)) (did .copied i) (did .marked i) output)
           ∙ sym (count-tree order (tableIn s h inks) cells marks output (subst (λ (k : ℕ). order < k) counted-is below))
 
--- ---- an accepted sheet, and its inks at the front of their buffer
+-- ---- a table sheet, turned back or with room for its table
 
-module _ (s : List ℕ) (h : Header) (inks : List ℕ) (taken : FullTaken s h inks) (count : ℕ) (is : count ≡ h .levels ^ h .inputs) (cells marks : List ℕ) where
-  pub table-counted : countedInto (tableIn s h (take (count - 0) inks)) cells marks ≡ familyCountCall s cells marks
-  table-counted =
-      ap (λ t. countedInto t cells marks) (inks-table s h inks count is) ∙ sym (family-count-accepted s cells marks _ (taken .reads))
+module _ (s cells marks : List ℕ) where
+  pub count-turned : {number place : ℕ} → SettlingTurnedBack s cells marks number place
+      → record { answer = refused number place; cells = cells; marks = marks } ≡ familyCountCall s cells marks
+  count-turned (by-sheet e) = sym (family-count-refused s cells marks _ _ e)
+  count-turned (by-room t reads short) = sym (counted-refused t cells marks _ _ short) ∙ sym (family-count-accepted s cells marks t reads)
 
-  pub table-numbered : (order : ℕ) (output : List ℕ) → numberedInto order (tableIn s h (take (count - 0) inks)) cells marks output ≡ familyTreeCall s order cells marks output
-  table-numbered order output =
-      ap (λ t. numberedInto order t cells marks output) (inks-table s h inks count is) ∙ sym (family-tree-accepted s order cells marks output _ (taken .reads))
+  pub input-counted : (h : Header) (inks : List ℕ) → InputTaken s h inks cells marks → countedInto (tableIn s h inks) cells marks ≡ familyCountCall s cells marks
+  input-counted h inks taken = sym (family-count-accepted s cells marks _ (taken .reads))
+
+  module _ (order : ℕ) (output : List ℕ) where
+    pub tree-turned : {number place : ℕ} → SettlingTurnedBack s cells marks number place
+        → record { answer = refused number place; cells = cells; marks = marks; output = output } ≡ familyTreeCall s order cells marks output
+    tree-turned (by-sheet e) = sym (family-tree-refused s order cells marks output _ _ e)
+    tree-turned (by-room t reads short) =
+        sym (numbered-refused order t cells marks output _ _ short) ∙ sym (family-tree-accepted s order cells marks output t reads)
+
+    pub input-numbered : (h : Header) (inks : List ℕ) → InputTaken s h inks cells marks
+        → afterCount order (tableIn s h inks) cells marks output ≡ familyTreeCall s order cells marks output
+    input-numbered h inks taken =
+        sym (numbered-room order (tableIn s h inks) cells marks output (taken .room)) ∙ sym (family-tree-accepted s order cells marks output _ (taken .reads))

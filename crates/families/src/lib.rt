@@ -1,4 +1,4 @@
-// The family of a table's trees, from a sheet: how many there are, and the net of a number.
+// The family of a table's trees: how many there are, and the net of each number.
 pub mod count;
 pub mod marked;
 pub mod net;

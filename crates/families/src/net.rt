@@ -4,18 +4,18 @@ ghost use mathlib.Core.Bool.{true};
 ghost use Prim.Native.Nat.{ℕ, _^_, _≤_, _<_};
 ghost use lib.ListN.{length};
 ghost use Rattle.rules.specs.Limits.{sizeFits};
-ghost use Rattle.rules.specs.Marks.{marksOf};
-ghost use Rattle.rules.specs.Leaves.{leavesOf};
-ghost use Rattle.rules.specs.Family.{treeCount, familyGates};
-ghost use Rattle.rules.specs.Answers.{inkIn};
-ghost use Rattle.filling.specs.MadeNet.{NetOf};
+ghost use Rattle.rules.specs.Groups.Marks.{marksOf};
+ghost use Rattle.rules.specs.Nets.Leaves.{leavesOf};
+ghost use Rattle.rules.specs.Nets.Family.{treeCount, familyGates};
+ghost use Rattle.rules.specs.Calls.Answers.{inkIn};
+ghost use Rattle.gate_tables.specs.MadeNet.{NetOf};
 ghost use Rattle.tree_counts.specs.Counts.{Countable};
-use filling::fill;
-use leaves::group;
+use gate_tables::fill;
 use nets::forms;
-use numbering::numbered;
+use tree_counts::numbered;
+use wirings::leaves::group;
 
-// The net of number r of a table, which is below its count. `marks` has the table's marks and no further byte.
+// Returns the net of number r of a table; r is below the count of trees. `marks` has exactly the table's marks.
 pub fn family_net(
     m: usize,
     n: usize,

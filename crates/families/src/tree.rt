@@ -2,24 +2,23 @@
 ghost use mathlib.Core.Path.{_≡_};
 ghost use Prim.Native.Nat.{_≤_};
 ghost use lib.ListN.{length};
-ghost use Rattle.rules.specs.Marks.{marksLength};
-ghost use Rattle.rules.specs.FamilyCalls.{afterCount, numberedInto, familyTreeCall};
+ghost use Rattle.rules.specs.Groups.Marks.{marksLength};
+ghost use Rattle.rules.specs.Calls.FamilyCalls.{afterCount, familyTreeCall};
 ghost use Rattle.nets.specs.Forms.{tableIn};
-ghost use Rattle.answers.specs.Answers.{madeOf};
+ghost use Rattle.answers.specs.AnswerMaps.{madeOf};
 ghost use Rattle.accepted.specs.Taken.{Given};
 use crate::marked;
 use crate::net;
 use answers::answer::Answer;
 use answers::outcome::Outcome;
-use buffers::room::room;
 use marks::own;
-use net_output::output;
+use net_sheets::printer::output;
 use nets::forms::Header;
 use radix::limits;
 use radix::powers;
-use table_reading::full;
+use settling::input::read_input;
 
-// The cells and the marks, and then refusal 17, refusal 15 or the sheet.
+// Writes the cells and the marks, then the sheet of the tree; or refuses with 17 or 15.
 fn tree_marked(
     s: &[u8],
     header: Header,
@@ -49,27 +48,6 @@ fn tree_marked(
     output::write_sheet(s, header, net, out)
 }
 
-// Refusals 13 and 14, or what the table comes to. `inks` is the table, and `header` its first three lines in the sheet s.
-fn tree_into(
-    s: &[u8],
-    header: Header,
-    inks: &[u8],
-    order: u64,
-    cells: &mut [u8],
-    marks: &mut [u8],
-    out: &mut [u8],
-) -> Answer
-    requires { ⌜ Given (now s) header (now inks) ⌝ }
-    ensures { λ r. ⌜ madeOf r (now (cells .exit)) (now (marks .exit)) (now (out .exit))
-        ≡ numberedInto order (tableIn (now (s .entry)) header (now (inks .entry))) (now (cells .entry)) (now (marks .entry)) (now (out .entry)) ⌝ }
-{
-    let judged = room(header, inks, cells, marks);
-    match judged {
-        Outcome::Refused { number, place } => Answer::Refused { number, place },
-        Outcome::Accepted => tree_marked(s, header, inks, order, cells, marks, out),
-    }
-}
-
 // Reads a table sheet, and writes its table, its marks and the sheet of the tree of that number, from 0.
 pub fn family_tree(
     s: &[u8],
@@ -82,14 +60,12 @@ pub fn family_tree(
         ≡ familyTreeCall (now (s .entry)) order (now (cells .entry)) (now (marks .entry)) (now (out .entry)) ⌝ }
 {
     let mut inks = [0u8; limits::MOST_CELLS];
-    let read = full::read_full(s, &mut inks);
-    let outcome = read.outcome;
-    let header = read.header;
+    let input = read_input(s, &mut inks, cells, marks);
+    let outcome = input.outcome;
+    let header = input.header;
+    let count = input.count;
     match outcome {
         Outcome::Refused { number, place } => Answer::Refused { number, place },
-        Outcome::Accepted => {
-            let count = powers::power(header.levels, header.inputs);
-            tree_into(s, header, &inks[0..count], order, cells, marks, out)
-        }
+        Outcome::Accepted => tree_marked(s, header, &inks[0..count], order, cells, marks, out),
     }
 }

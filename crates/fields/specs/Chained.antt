@@ -6,10 +6,10 @@ use mathlib.Core.List.{List}
 use native.Mathlib.Omega.{arith}
 use lib.ListN.{length, drop, drop-of-length-le}
 use lib.Seq.{drop-cons}
-use Rattle.rules.specs.Fields.{Read, read, turnedBack, Reader, then, _>>=_, give, closed}
-use Rattle.rules.specs.Reading.{answered}
+use Rattle.rules.specs.Sheets.Fields.{Read, read, turnedBack, Reader, then, _>>=_, give, closed}
+use Rattle.rules.specs.Sheets.Reading.{answered}
 use Rattle.fields.specs.Steps.{stepAs}
-use Rattle.answers.specs.Answers.{outcomeAs}
+use Rattle.answers.specs.AnswerMaps.{outcomeAs}
 use Rattle.answers.specs.declared.outcome.Outcome.{Outcome}
 use Rattle.answers.specs.declared.outcome.Outcome.the-variants.{Accepted, Refused}
 use Rattle.fields.specs.declared.steps.Step.{Step}
@@ -71,10 +71,10 @@ module _ {B : Type 0} (s : List ℕ) (at : ℕ) (b : B) (Held : Type 0) where
 
 -- ---- readers and steps
 
-pub then-then : {A B C : Type 0} (x : Read A) (f : A → Reader B) (g : B → Reader C) → then (then x f) g ≡ then x (λ a. f a >>= g)
+pub field-then-then : {A B C : Type 0} (x : Read A) (f : A → Reader B) (g : B → Reader C) → then (then x f) g ≡ then x (λ a. f a >>= g)
 unfolding then
-then-then (read a rest place) f g = refl
-then-then (turnedBack number place) f g = refl
+field-then-then (read a rest place) f g = refl
+field-then-then (turnedBack number place) f g = refl
 
 -- a step is one of the two
 pub never-both : (step : Step) (number place value next : ℕ) → step ≡ Back number place → step ≡ On value next → ⊥

@@ -5,11 +5,11 @@ use mathlib.Core.Path.{_≡_, ap, _∙_}
 use mathlib.Core.List.{List, [], _∷_, _++_}
 use native.Mathlib.Omega.{arith}
 use Rattle.rules.specs.Text.{digitByte, decimal, zeroByte}
-use Rattle.laws.specs.Decimals.{decimal-one as one-digit, decimal-more}
+use Rattle.laws.specs.Numbers.Decimals.{decimal-one as one-digit, decimal-more}
 
-pub decimal-one : (n : ℕ) → n < 10 → decimal n ≡ (zeroByte + n % 10) ∷ []
+pub field-decimal-one : (n : ℕ) → n < 10 → decimal n ≡ (zeroByte + n % 10) ∷ []
 unfolding digitByte
-decimal-one n h = one-digit n h ∙ ap {B = List ℕ} (λ d. (zeroByte + d) ∷ []) (omega arith)
+field-decimal-one n h = one-digit n h ∙ ap {B = List ℕ} (λ d. (zeroByte + d) ∷ []) (omega arith)
 
 pub decimal-two : (n : ℕ) → 10 ≤ n → n < 100 → decimal n ≡ (zeroByte + n / 10) ∷ (zeroByte + n % 10) ∷ []
 unfolding digitByte

@@ -10,9 +10,9 @@ use lib.ListN.{length, drop, getD, drop-of-length-le}
 use lib.Seq.{drop-cons, drop-drop}
 use lib.Dec.{eqb}
 use borrow.Author.Tests.{eq-eqb, ne-eqb}
-use Rattle.rules.specs.Fields.{Read, read, turnedBack, Judge, judged, separator, spaces, looseSeparator, separatorIn, afterFieldIn, fieldOfIn, field, fieldIn, run, past, then, pastSpaces, spacesIn, Layout, strict, loose}
+use Rattle.rules.specs.Sheets.Fields.{Read, read, turnedBack, Judge, judged, separator, spaces, looseSeparator, separatorIn, afterFieldIn, fieldOfIn, field, fieldIn, run, past, then, pastSpaces, spacesIn, Layout, strict, loose}
 use Rattle.rules.specs.Text.{space, spaceByte}
-use Rattle.laws.specs.Runs.{run-rest}
+use Rattle.laws.specs.Lists.Runs.{run-rest}
 use Rattle.fields.specs.Runs.{spacesEnd, spaces-past}
 use Rattle.fields.specs.Steps.{tested, judgedAs, judgedField, judgedFieldIn, stepAs, itself}
 use Rattle.fields.specs.declared.steps.Step.{Step}
@@ -44,9 +44,9 @@ module _ (s : List ℕ) (end value due : ℕ) where
   loose-line-end r e reads = rw (ne-eqb due spaceByte e, looseSeparator) (reads ∙ ap (λ t. separator value due t (spacesEnd s end)) (spaces-past s end))
 
   module _ (step : Step) (e : due ≡ spaceByte) (reads : stepAs itself s step ≡ separator value due (drop end s) end) where
-    pub loose-back : (number place : ℕ) → step ≡ Back number place → turnedBack number place ≡ looseSeparator value due (drop end s) end
+    pub field-loose-back : (number place : ℕ) → step ≡ Back number place → turnedBack number place ≡ looseSeparator value due (drop end s) end
     unfolding looseSeparator then space
-    loose-back number place q = rw (eq-eqb due spaceByte e, looseSeparator, ← reads, q) refl
+    field-loose-back number place q = rw (eq-eqb due spaceByte e, looseSeparator, ← reads, q) refl
 
     pub loose-space : (v next : ℕ) → step ≡ On v next → read v (drop (spacesEnd s next) s) (spacesEnd s next) ≡ looseSeparator value due (drop end s) end
     unfolding looseSeparator then space spaces spacesEnd

@@ -1,5 +1,6 @@
 pub mod Chained
 pub mod Decimals
+pub mod Header
 pub mod Judging
 pub mod Runs
 pub mod Steps

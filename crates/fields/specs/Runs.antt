@@ -11,8 +11,8 @@ use lib.ListN.{length, take, drop, getD, length-drop, drop-of-length-le}
 use lib.Seq.{drop-cons, drop-drop}
 use borrow.Author.Tests.{eq-eqb, ne-eqb}
 use Rattle.rules.specs.Text.{space, newline, spaceByte, newlineByte}
-use Rattle.rules.specs.Fields.{isSeparator, run, pastSpaces, spacesIn}
-use Rattle.laws.specs.Runs.{run-front, run-most, at-space, at-other, spaces-rest}
+use Rattle.rules.specs.Sheets.Fields.{isSeparator, run, pastSpaces, spacesIn}
+use Rattle.laws.specs.Lists.Runs.{run-front, run-most, at-space, at-other, spaces-rest}
 
 pub is-space : (b : ℕ) → b ≡ spaceByte → isSeparator b ≡ true
 unfolding isSeparator space newline

@@ -6,8 +6,8 @@ use mathlib.Core.List.{List}
 use mathlib.Core.Option.{Option, none, some}
 use lib.ListN.{drop}
 use Rattle.rules.specs.Lists.{same}
-use Rattle.rules.specs.Fields.{Read, read, turnedBack, Judge, Judged, good, bad, judged, fieldIn, strict, loose}
-use Rattle.rules.specs.Fields as fields
+use Rattle.rules.specs.Sheets.Fields.{Read, read, turnedBack, Judge, Judged, good, bad, judged, fieldIn, strict, loose}
+use Rattle.rules.specs.Sheets.Fields as fields
 use Rattle.fields.specs.declared.steps.Found.{Found}
 use Rattle.fields.specs.declared.steps.Found.the-variants.{At, Nowhere}
 use Rattle.fields.specs.declared.steps.Layout.{Layout}

@@ -11,10 +11,10 @@ use lib.Dec.{eqb}
 use Rattle.rules.specs.Lists.{same}
 use Rattle.rules.specs.Text.{space, isDigit, decimal, zeroByte}
 use Rattle.rules.specs.Limits.{levelsFit, cellsFit, fewestInputs, mostInputs}
-use Rattle.rules.specs.Fields.{Read, read, turnedBack, Judge, Judged, good, bad, judged, then, separator, spaces, looseSeparator, separatorIn, afterFieldIn, fieldOfIn, field, fieldIn, run, past, pastSpaces, spacesIn, Layout, strict, loose}
-use Rattle.rules.specs.Sheets.{levelsField, inputsOf, inputsField}
-use Rattle.laws.specs.Finds.{found-is, first-in-range}
-use Rattle.laws.specs.Runs.{run-past, spaces-rest, spaces-most}
+use Rattle.rules.specs.Sheets.Fields.{Read, read, turnedBack, Judge, Judged, good, bad, judged, then, separator, spaces, looseSeparator, separatorIn, afterFieldIn, fieldOfIn, field, fieldIn, run, past, pastSpaces, spacesIn, Layout, strict, loose}
+use Rattle.rules.specs.Sheets.Sheets.{levelsField, inputsOf, inputsField}
+use Rattle.laws.specs.Lists.Finds.{found-is, first-in-range}
+use Rattle.laws.specs.Lists.Runs.{run-past, spaces-rest, spaces-most}
 use Rattle.fields.specs.Steps.{stepAs, itself}
 use Rattle.fields.specs.declared.steps.Step.{Step}
 use Rattle.fields.specs.declared.steps.Step.the-variants.{On}
@@ -92,23 +92,23 @@ field-read-in layout judge a due t rest at next e =
     (good-x ∙ ap good (sym (told .0)), told .1, omega (arith, told .2, simp length-append at (ap length (run-past t))))
 
 -- in a strict sheet the next place is just after the separator
-pub field-read : {A : Type 0} (judge : Judge A) (a : A) (due : ℕ) (t rest : List ℕ) (at next : ℕ)
+pub taken-field-read : {A : Type 0} (judge : Judge A) (a : A) (due : ℕ) (t rest : List ℕ) (at next : ℕ)
     → field judge due t at ≡ read a rest next → (judge (run t) ≡ good a) × (next ≡ at + length (run t) + 1) × (next ≤ at + length t)
 unfolding fieldIn
-field-read judge a due t rest at next e =
+taken-field-read judge a due t rest at next e =
     let (x, good-x, sep) = of-read strict judge a due (run t) (past t) rest at next e in
     let told = separator-read x a due (past t) rest (at + length (run t)) next sep in
     (good-x ∙ ap good (sym (told .0)), omega (arith, told .1), omega (arith, told .1, told .2, simp length-append at (ap length (run-past t))))
 
-pub judged-good : {A : Type 0} (t : Bool) (x a : A) (number : ℕ) → judged t x number ≡ good a → (t ≡ true) × (x ≡ a)
-judged-good true x a number e = (refl, cc)
-judged-good false x a number e = let z : _≡_ {A = ℕ} 0 1 = cc in absurd (omega arith)
+pub field-judged-good : {A : Type 0} (t : Bool) (x a : A) (number : ℕ) → judged t x number ≡ good a → (t ≡ true) × (x ≡ a)
+field-judged-good true x a number e = (refl, cc)
+field-judged-good false x a number e = let z : _≡_ {A = ℕ} 0 1 = cc in absurd (omega arith)
 
 levels-told : (w : List ℕ) (m : ℕ) → levelsField w ≡ good m → levelsFit m ≡ true
 unfolding levelsField
 levels-told [] m e = let z : _≡_ {A = ℕ} 0 1 = cc in absurd (omega arith)
 levels-told (b ∷ []) m e =
-    let told = judged-good (isDigit 10 b && levelsFit (b - zeroByte)) (b - zeroByte) m 2 e in
+    let told = field-judged-good (isDigit 10 b && levelsFit (b - zeroByte)) (b - zeroByte) m 2 e in
     rw (told .1) at (and-eq-true-iff (isDigit 10 b) (levelsFit (b - zeroByte)) .0 (told .0) .1)
 levels-told (b ∷ d ∷ w) m e = let z : _≡_ {A = ℕ} 0 1 = cc in absurd (omega arith)
 
@@ -126,7 +126,7 @@ inputs-told m n w e = go (inputsOf w) refl e
         → (fewestInputs ≤ n) × (n ≤ mostInputs) × (cellsFit m n ≡ true)
     go none q h = let z : _≡_ {A = ℕ} 0 1 = cc in absurd (omega arith)
     go (some k) q h =
-        let told = judged-good (cellsFit m k) k n 3 h in
+        let told = field-judged-good (cellsFit m k) k n 3 h in
         let found = inputs-found w k q in
         (rw (told .1) at (found .0), rw (told .1) at (found .1), rw (told .1) at (told .0))
 
@@ -147,7 +147,7 @@ pub record TakenIn {A : Type 0} (judge : Judge A) (a : A) (s : List ℕ) (at nex
 module _ (s : List ℕ) (step : Step) (at value next : ℕ) (on : step ≡ On value next) where
   pub field-on : {A : Type 0} (f : ℕ → A) (judge : Judge A) (due : ℕ) → stepAs f s step ≡ field judge due (drop at s) at → Taken judge (f value) s at next
   field-on f judge due e =
-      let told = field-read judge (f value) due (drop at s) (drop next s) at next (sym e ∙ ap (stepAs f s) on) in
+      let told = taken-field-read judge (f value) due (drop at s) (drop next s) at next (sym e ∙ ap (stepAs f s) on) in
       record { judged = told .0; ends = told .1; within = omega (arith, told .1, rw length-drop at (told .2)) }
 
   pub field-on-in : (layout : Layout) {A : Type 0} (f : ℕ → A) (judge : Judge A) (due : ℕ) → stepAs f s step ≡ fieldIn layout judge due (drop at s) at

@@ -4,7 +4,7 @@ use Prim.Native.Nat.{ℕ}
 use mathlib.Core.Path.{_≡_, refl}
 use mathlib.Core.List.{List}
 use lib.ListN.{drop}
-use Rattle.rules.specs.Fields.{Reader, _>>=_, fieldIn, Layout, strict}
+use Rattle.rules.specs.Sheets.Fields.{Reader, _>>=_, fieldIn, Layout, strict}
 use Rattle.rules.specs.Text.{spaceByte, newlineByte}
 use Rattle.fields.specs.Chained.{chained-back, chained-on}
 use Rattle.fields.specs.Steps.{stepAs, nothing, spelled}

@@ -1,7 +1,7 @@
 // A field's verdict, and the separator that is due after it.
 ghost use mathlib.Core.Path.{_≡_};
 ghost use lib.ListN.{drop};
-ghost use Rattle.rules.specs.Fields.{run, separator, looseSeparator, separatorIn};
+ghost use Rattle.rules.specs.Sheets.Fields.{run, separator, looseSeparator, separatorIn};
 ghost use Rattle.fields.specs.Steps.{tested, judgedField, judgedFieldIn, stepAs, itself, layoutOf};
 use crate::runs::SPACE;
 use crate::runs::spaces_end;
@@ -9,7 +9,7 @@ use crate::steps::Layout;
 use crate::steps::Step;
 use crate::steps::Verdict;
 
-// The verdict of a test: the value, or the number that turns the sheet back.
+// Returns the verdict of a test: the value, or the refusal's number.
 pub fn judged(test: bool, value: usize, number: usize) -> Verdict
     ensures { λ r. ⌜ r ≡ tested test value number ⌝ }
 {
@@ -19,7 +19,7 @@ pub fn judged(test: bool, value: usize, number: usize) -> Verdict
     Verdict::Bad(number)
 }
 
-// After a field with this value: `due` stands at `end`.
+// Checks that `due` follows a field with this value, at `end`.
 pub fn separated(s: &[u8], end: usize, value: usize, due: u8) -> Step
     ensures { λ r. ⌜ stepAs itself (now (s .entry)) r ≡ separator value due (drop end (now (s .entry))) end ⌝ }
 {
@@ -37,7 +37,7 @@ pub fn separated(s: &[u8], end: usize, value: usize, due: u8) -> Step
     }
 }
 
-// The same in a loose sheet: more spaces may stand after a space, and any before a line feed.
+// Does the same in a loose sheet: further spaces may follow a space, and any may precede a line feed.
 pub fn loosely_separated(s: &[u8], end: usize, value: usize, due: u8) -> Step
     ensures { λ r. ⌜ stepAs itself (now (s .entry)) r ≡ looseSeparator value due (drop end (now (s .entry))) end ⌝ }
 {
@@ -53,7 +53,7 @@ pub fn loosely_separated(s: &[u8], end: usize, value: usize, due: u8) -> Step
     }
 }
 
-// The same in either layout.
+// Does the same in either layout.
 pub fn separated_in(s: &[u8], end: usize, value: usize, due: u8, layout: Layout) -> Step
     ensures { λ r. ⌜ stepAs itself (now (s .entry)) r ≡ separatorIn (layoutOf layout) value due (drop end (now (s .entry))) end ⌝ }
 {
@@ -63,7 +63,7 @@ pub fn separated_in(s: &[u8], end: usize, value: usize, due: u8, layout: Layout)
     }
 }
 
-// The field w at `at` was judged: an empty one or a bad one turns the sheet back, and after a good one stands `due`.
+// Goes on after the judged field w at `at`: an empty or bad field refuses the sheet, and `due` must follow a good one.
 pub fn after_field_in(
     s: &[u8],
     at: usize,
@@ -87,7 +87,7 @@ pub fn after_field_in(
     }
 }
 
-// The same in a strict sheet.
+// Does the same in a strict sheet.
 pub fn after_field(s: &[u8], at: usize, w: &[u8], verdict: Verdict, due: u8) -> Step
     requires { ⌜ now w ≡ run (drop at (now s)) ⌝ }
     ensures { λ r. ⌜ stepAs itself (now (s .entry)) r ≡ judgedField verdict due (now (s .entry)) at ⌝ }

@@ -1,5 +1,6 @@
-// Reading a sheet field by field, strictly or loosely laid.
+// Fields, separators and the first three lines of a sheet, strict or loose.
 pub mod ends;
+pub mod header;
 pub mod numbers;
 pub mod runs;
 pub mod same;

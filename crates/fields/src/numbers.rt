@@ -5,7 +5,7 @@ ghost use Rattle.rules.specs.Lists.{same};
 ghost use Rattle.rules.specs.Text.{decimal};
 use crate::same::same_bytes;
 
-// Is w the decimal value of n?
+// Tests whether w is the decimal value of n.
 pub fn is_decimal(w: &[u8], n: usize) -> bool
     requires { ⌜ n < 100 ⌝ }
     ensures { λ r. ⌜ r ≡ same (now (w .entry)) (decimal n) ⌝ }

@@ -1,7 +1,7 @@
 // A field is a longest run of bytes other than space and line feed. Runs of spaces part the fields of a loose sheet.
 ghost use mathlib.Core.Path.{_≡_};
 ghost use lib.ListN.{drop};
-ghost use Rattle.rules.specs.Fields.{run};
+ghost use Rattle.rules.specs.Sheets.Fields.{run};
 ghost use Rattle.fields.specs.Runs.{fieldEnd, spacesEnd};
 
 pub const SPACE: u8 = b' ';
@@ -11,7 +11,7 @@ pub const NEWLINE: u8 = b'\n';
 // The byte of the digit 0, where digits are counted from it.
 pub const ZERO: usize = b'0' as usize;
 
-// Where the field that starts at `at` ends.
+// Returns where the field that starts at `at` ends.
 pub fn field_end(s: &[u8], at: usize) -> usize
     ensures { λ r. ⌜ r ≡ fieldEnd (now (s .entry)) at ⌝ }
 {
@@ -29,7 +29,7 @@ pub fn field_end(s: &[u8], at: usize) -> usize
     end
 }
 
-// Where the spaces that stand at `at` end.
+// Returns where the spaces at `at` end.
 pub fn spaces_end(s: &[u8], at: usize) -> usize
     ensures { λ r. ⌜ r ≡ spacesEnd (now (s .entry)) at ⌝ }
 {
@@ -43,7 +43,7 @@ pub fn spaces_end(s: &[u8], at: usize) -> usize
     end
 }
 
-// The field that starts at `at`: an empty one where the sheet ends before it.
+// Returns the field that starts at `at`: an empty one if the sheet ends before it.
 pub fn field_at(s: &[u8], at: usize) -> &[u8]
     ensures { λ r. ⌜ now r ≡ run (drop at (now (s .entry))) ⌝ }
 {

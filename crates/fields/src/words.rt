@@ -1,7 +1,7 @@
 // Fields that are fixed words.
 ghost use mathlib.Core.Path.{_≡_};
 ghost use lib.ListN.{drop};
-ghost use Rattle.rules.specs.Fields.{field, fieldIn};
+ghost use Rattle.rules.specs.Sheets.Fields.{field, fieldIn};
 ghost use Rattle.fields.specs.Steps.{stepAs, nothing, spelled, layoutOf};
 ghost use Rattle.fields.specs.Words.{twoWords, twoWordsIn};
 use crate::ends::after_field_in;
@@ -13,6 +13,7 @@ use crate::same::same_bytes;
 use crate::steps::Layout;
 use crate::steps::Step;
 
+// Reads a field that must be this word.
 pub fn word_field_in(s: &[u8], at: usize, word: &[u8], due: u8, layout: Layout) -> Step
     ensures { λ r. ⌜ stepAs nothing (now (s .entry)) r ≡ fieldIn (layoutOf layout) (spelled (now (word .entry))) due (drop at (now (s .entry))) at ⌝ }
 {
@@ -21,14 +22,14 @@ pub fn word_field_in(s: &[u8], at: usize, word: &[u8], due: u8, layout: Layout) 
     after_field_in(s, at, w, verdict, due, layout)
 }
 
-// The same in a strict sheet.
+// Does the same in a strict sheet.
 pub fn word_field(s: &[u8], at: usize, word: &[u8], due: u8) -> Step
     ensures { λ r. ⌜ stepAs nothing (now (s .entry)) r ≡ field (spelled (now (word .entry))) due (drop at (now (s .entry))) at ⌝ }
 {
     word_field_in(s, at, word, due, Layout::Strict)
 }
 
-// Two words, to the end of their line.
+// Reads two words, to the end of their line.
 pub fn two_words_in(s: &[u8], at: usize, first: &[u8], second: &[u8], layout: Layout) -> Step
     ensures { λ r. ⌜ stepAs nothing (now (s .entry)) r ≡ twoWordsIn (layoutOf layout) (now (first .entry)) (now (second .entry)) (drop at (now (s .entry))) at ⌝ }
 {
@@ -38,7 +39,7 @@ pub fn two_words_in(s: &[u8], at: usize, first: &[u8], second: &[u8], layout: La
     }
 }
 
-// The same in a strict sheet.
+// Does the same in a strict sheet.
 pub fn two_words(s: &[u8], at: usize, first: &[u8], second: &[u8]) -> Step
     ensures { λ r. ⌜ stepAs nothing (now (s .entry)) r ≡ twoWords (now (first .entry)) (now (second .entry)) (drop at (now (s .entry))) at ⌝ }
 {

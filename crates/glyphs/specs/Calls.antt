@@ -7,11 +7,11 @@ use mathlib.Core.List.{List}
 use native.Mathlib.Nat.{mul-le-mul}
 use lib.ListN.{length}
 use lib.IntN.{ℤ}
-use Rattle.rules.specs.Answers.{accepted, refused, written}
-use Rattle.rules.specs.TableWriting.{Written}
-use Rattle.rules.specs.Glyphs.{mostSide, newCell, glyph, pictureFits, offsetsFit, glyphCall}
-use Rattle.laws.specs.Glyphs.{picture-fits, offsets-fit, glyph-24, glyph-25, glyph-15, glyph-printed}
-use Rattle.answers.specs.Answers.{answerOf}
+use Rattle.rules.specs.Calls.Answers.{accepted, refused, written}
+use Rattle.rules.specs.Calls.TableWriting.{Written}
+use Rattle.rules.specs.Calls.Glyphs.{mostSide, newCell, glyph, pictureFits, offsetsFit, glyphCall}
+use Rattle.laws.specs.Calls.Glyphs.{picture-fits, offsets-fit, glyph-24, glyph-25, glyph-15, glyph-printed}
+use Rattle.answers.specs.AnswerMaps.{answerOf}
 use Rattle.answers.specs.declared.answer.Answer.{Answer}
 use Rattle.nets.specs.declared.forms.Header.{Header}
 use Rattle.nets.specs.declared.forms.Net.{Net}

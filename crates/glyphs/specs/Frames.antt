@@ -11,10 +11,10 @@ use lib.ListN.{length, getD, take, drop, length-drop}
 use lib.Seq.{sets, length-sets, length-take-le, getD-take, getD-drop}
 use lib.IntN.{ℤ, pos, negsuc, subℕ}
 use borrow.Author.Tests.{lt-ltb, le-ltb}
-use Rattle.rules.specs.Glyphs.{levelAt}
-use Rattle.laws.specs.Glyphs.{IsSide}
-use Rattle.laws.specs.Pastes.{sets-before, sets-behind, sets-there}
-use Rattle.laws.specs.Pictures.{level-in, level-across, level-along, level-left, level-above}
+use Rattle.rules.specs.Calls.Glyphs.{levelAt}
+use Rattle.laws.specs.Calls.Glyphs.{IsSide}
+use Rattle.laws.specs.Lists.Pastes.{sets-before, sets-behind, sets-there}
+use Rattle.laws.specs.Nets.Pictures.{level-in, level-across, level-along, level-left, level-above}
 use Rattle.glyphs.specs.Offsets.{span}
 
 -- the cells of the framed picture
@@ -22,12 +22,12 @@ abbrev pub frameSize : ℕ
 frameSize = span * span
 
 -- a frame with no picture in it yet
-pub record Empty (wires : List ℕ) : Type 0 where
+pub record GlyphEmpty (wires : List ℕ) : Type 0 where
   pub room : frameSize ≤ length wires
   pub zeros : (q : ℕ) → getD wires q 0 ≡ 0
 
 -- The frame around the first `height` rows: in column c and row r, each counted from two before the picture's first, stands the picture's level.
-pub record Framed (width height : ℕ) (picture before wires : List ℕ) : Type 0 where
+pub record GlyphFramed (width height : ℕ) (picture before wires : List ℕ) : Type 0 where
   pub same : length wires ≡ length before
   pub level : (c r : ℕ) → c < span → r < span → getD wires (r * span + c) 0 ≡ levelAt width height picture (subℕ c 2) (subℕ r 2)
 
@@ -39,7 +39,7 @@ place-in c h = rw (le-ltb c 2 h)
 pub place-out : (c : ℕ) → c < 2 → subℕ c 2 ≡ negsuc (1 - c)
 place-out c h = rw (lt-ltb c 2 h) (ap negsuc (let e : 2 - suc c ≡ 1 - c = omega arith in e))
 
-pub framed-none : (width : ℕ) (picture wires : List ℕ) → Empty wires → Framed width 0 picture wires wires
+pub framed-none : (width : ℕ) (picture wires : List ℕ) → GlyphEmpty wires → GlyphFramed width 0 picture wires wires
 framed-none width picture wires empty =
     record { same = refl; level = λ c r h k. empty .zeros (r * span + c) ∙ sym (go c r (decLe 2 r)) }
   where
@@ -48,8 +48,8 @@ framed-none width picture wires empty =
     go c r (no h) = let low : r < 2 = omega arith in rw (place-out r low) (level-above width 0 picture (subℕ c 2) (1 - r))
 
 -- a part of a list by its two ends
-pub part-is : (from width : ℕ) (l : List ℕ) → take (from + width - from) (drop from l) ≡ take width (drop from l)
-part-is from width l = ap (λ (k : ℕ). take k (drop from l)) (let e : from + width - from ≡ width = omega arith in e)
+pub glyph-part-is : (from width : ℕ) (l : List ℕ) → take (from + width - from) (drop from l) ≡ take width (drop from l)
+glyph-part-is from width l = ap (λ (k : ℕ). take k (drop from l)) (let e : from + width - from ≡ width = omega arith in e)
 
 -- ---- one row more
 
@@ -73,7 +73,7 @@ module _ (width height : ℕ) (wide : IsSide width) (high : IsSide height) (pict
     pub row-room : rowPlace y + length text ≤ length wires
     row-room = omega (arith, text-length, wide .most, high .most)
 
-    module _ (framed : Framed width y picture before wires) where
+    module _ (framed : GlyphFramed width y picture before wires) where
       abbrev after : List ℕ
       after = sets wires (rowPlace y) text
 
@@ -82,7 +82,7 @@ module _ (width height : ℕ) (wide : IsSide width) (high : IsSide height) (pict
       other c r (inl h) = sets-before text wires (rowPlace y) (r * span + c) 0 h
       other c r (inr h) = sets-behind text wires (rowPlace y) (r * span + c) 0 (omega (arith, text-length))
 
-      pub framed-more : Framed width (y + 1) picture before (sets wires (rowPlace y) text)
+      pub framed-more : GlyphFramed width (y + 1) picture before (sets wires (rowPlace y) text)
       framed-more = record { same = length-sets wires (rowPlace y) text ∙ framed .same; level = λ c r h k. cell c r h k (ℕ-discrete r (y + 2)) }
         where
           -- with one row more the level is the same in every other row
@@ -135,5 +135,5 @@ module _ (width height : ℕ) (wide : IsSide width) (high : IsSide height) (pict
               apart off (yes above) = inl (omega arith)
               apart off (no below) = inr (omega (arith, wide .most))
 
-      pub framed-put : (then : List ℕ) → then ≡ sets wires (rowPlace y) text → Framed width (y + 1) picture before then
-      framed-put then e = subst⁻¹ (Framed width (y + 1) picture before) e framed-more
+      pub framed-put : (then : List ℕ) → then ≡ sets wires (rowPlace y) text → GlyphFramed width (y + 1) picture before then
+      framed-put then e = subst⁻¹ (GlyphFramed width (y + 1) picture before) e framed-more

@@ -9,20 +9,21 @@ use lib.ListN.{length, getD, drop, replicate, length-drop, length-replicate}
 use lib.Seq.{ext-getD, length-take-le, getD-take, getD-drop}
 use lib.IntN.{ℤ, pos, _+ℤ_}
 use Rattle.rules.specs.Lists.{range, concatMap}
-use Rattle.rules.specs.Answers.{written}
-use Rattle.rules.specs.Sheets.{Gate}
-use Rattle.rules.specs.Glyphs.{mostSide, levelAt, across, down, levelsRead, valueWith}
-use Rattle.laws.specs.Concat.{concat-length}
-use Rattle.laws.specs.Glyphs.{IsPicture, AreOffsets}
-use Rattle.laws.specs.Pictures.{level-below}
-use Rattle.laws.specs.Ranges.{map-range-length, map-range-at, map-range-same, range-length}
+use Rattle.rules.specs.Calls.Answers.{written}
+use Rattle.rules.specs.Sheets.Sheets.{Gate}
+use Rattle.rules.specs.Calls.Glyphs.{mostSide, levelAt, across, down, levelsRead}
+use Rattle.rules.specs.Nets.Value.{valueWith}
+use Rattle.laws.specs.Lists.Concat.{concat-length}
+use Rattle.laws.specs.Calls.Glyphs.{IsPicture, AreOffsets}
+use Rattle.laws.specs.Nets.Pictures.{picture-level-below}
+use Rattle.laws.specs.Lists.Ranges.{map-range-length, map-range-at, map-range-same, range-length}
 use Rattle.nets.specs.declared.forms.Net.{Net}
 use Rattle.nets.specs.Forms.{gatesOf}
 use Rattle.nets.specs.Room.{mostGates}
-use Rattle.nets.specs.Sound.{Sound, sound-size, gates-count, levels-pos}
-use Rattle.columns.specs.Values.{levelsIn, ValuesReady, ValuesDone}
+use Rattle.nets.specs.Sound.{Sound, sound-size, gates-count, net-levels-pos}
+use Rattle.evaluation.specs.Values.{levelsIn, ValuesReady, ValuesDone}
 use Rattle.glyphs.specs.Offsets.{span, reach, startOf, moved, across-there, down-there, across-near, down-near}
-use Rattle.glyphs.specs.Frames.{frameSize, Empty, Framed}
+use Rattle.glyphs.specs.Frames.{frameSize, GlyphEmpty, GlyphFramed}
 use Rattle.glyphs.specs.Rows.{rowAt, rowsFrom, RowsReady}
 
 -- the new picture of a gate list
@@ -59,7 +60,7 @@ zeros-at (suc k) zero = refl
 zeros-at (suc k) (suc q) = zeros-at k q
 
 -- so many zeros are a frame with no picture in it yet
-pub blank : (k : ℕ) → frameSize ≤ k → Empty (replicate k 0)
+pub blank : (k : ℕ) → frameSize ≤ k → GlyphEmpty (replicate k 0)
 blank k h = record { room = rw length-replicate h; zeros = zeros-at k }
 
 pub blank-long : (k : ℕ) → length (replicate {A = ℕ} k 0) ≡ k
@@ -73,7 +74,7 @@ concat-range-same f h from (suc count) e =
 
 module _ (net : Net) (width height : ℕ) (picture : List ℕ) (offsets : List ℤ) (out : List ℕ) (ready : GlyphReady net width height picture offsets out)
     (starts : List ℕ) (each : (i : ℕ) → i < net .inputs → getD starts i 0 ≡ startOf offsets i)
-    (before wires : List ℕ) (framed : Framed width height picture before wires) (long : length before ≡ mostValues) where
+    (before wires : List ℕ) (framed : GlyphFramed width height picture before wires) (long : length before ≡ mostValues) where
   -- ---- the levels that are read
 
   abbrev wide : width ≤ mostSide
@@ -108,10 +109,10 @@ module _ (net : Net) (width height : ℕ) (picture : List ℕ) (offsets : List �
       let row : q / span < span = div-lt-iff-lt-mul some .1 h in
       let column : q % span < span = mod-lt q some in
       subst (λ (p : ℕ). getD wires p 0 < net .levels) (div-add-mod' q span)
-      (rw (framed .level (q % span) (q / span) column row) (level-below (net .levels) width height picture (ready .picture-is) (levels-pos net (ready .sound)) _ _))
+      (rw (framed .level (q % span) (q / span) column row) (picture-level-below (net .levels) width height picture (ready .picture-is) (net-levels-pos net (ready .sound)) _ _))
 
-  pub values-ready : ValuesReady net starts frameSize (placesOf width height) wires
-  values-ready =
+  pub glyph-values-ready : ValuesReady net starts frameSize (placesOf width height) wires
+  glyph-values-ready =
       record {
         sound = ready .sound;
         inputs-there = λ i low.

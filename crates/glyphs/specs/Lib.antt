@@ -1,6 +1,6 @@
+pub mod Calls
+pub mod Frames
+pub mod Glyph
 pub mod Offsets
 pub mod Pictures
-pub mod Frames
 pub mod Rows
-pub mod Glyph
-pub mod Calls

@@ -17,9 +17,9 @@ use mir.Val.{SFits, ofZ, toZ}
 use mir.Facts.{toZ-ofZ}
 use borrow.Author.Tests.{le-leb, lt-leb, lt-ltb, le-ltb}
 use Rattle.rules.specs.Lists.{all}
-use Rattle.rules.specs.Glyphs.{mostSide, mostOffset, across, down}
-use Rattle.laws.specs.Glyphs.{AreOffsets}
-use Rattle.laws.specs.Tests.{all-cons}
+use Rattle.rules.specs.Calls.Glyphs.{mostSide, mostOffset, across, down}
+use Rattle.laws.specs.Calls.Glyphs.{AreOffsets}
+use Rattle.laws.specs.Lists.Tests.{all-cons}
 use Rattle.nets.specs.Room.{mostWires}
 
 -- the cells from one row of the framed picture to the next
@@ -133,9 +133,9 @@ module _ (offsets : List ℤ) (k : ℕ) (turn : k < length offsets) (left : allN
       let near : natAbs (getD offsets k (pos 0)) ≤ mostOffset = not-far (getD offsets k (pos 0)) e in
       left ∙ first-left ∙ rw (le-leb _ _ near)
 
-pub none-left : (offsets : List ℤ) (k : ℕ) → length offsets ≤ k → allNear offsets ≡ allNear (drop k offsets) → true ≡ allNear offsets
+pub glyph-none-left : (offsets : List ℤ) (k : ℕ) → length offsets ≤ k → allNear offsets ≡ allNear (drop k offsets) → true ≡ allNear offsets
 unfolding all
-none-left offsets k h e = sym (e ∙ rw (drop-of-length-le offsets {i = k} h))
+glyph-none-left offsets k h e = sym (e ∙ rw (drop-of-length-le offsets {i = k} h))
 
 -- ---- where the inputs' levels begin
 
@@ -160,9 +160,9 @@ pub record StartsAt (offsets : List ℤ) (i : ℕ) (starts : List ℕ) : Type 0 
   pub each : (j : ℕ) → j < i → getD starts j 0 ≡ startOf offsets j
 
 -- one input more
-pub starts-more : (offsets : List ℤ) (i : ℕ) (starts : List ℕ) → StartsAt offsets i starts → i < mostWires → (start : ℕ) → start ≡ startOf offsets i
+pub glyph-starts-more : (offsets : List ℤ) (i : ℕ) (starts : List ℕ) → StartsAt offsets i starts → i < mostWires → (start : ℕ) → start ≡ startOf offsets i
     → StartsAt offsets (i + 1) (set starts i start)
-starts-more offsets i starts at low start is = record { room = length-set starts i start ∙ at .room; each = λ j h. go j h (ℕ-discrete j i) }
+glyph-starts-more offsets i starts at low start is = record { room = length-set starts i start ∙ at .room; each = λ j h. go j h (ℕ-discrete j i) }
   where
     go : (j : ℕ) → j < i + 1 → Dec (j ≡ i) → getD (set starts i start) j 0 ≡ startOf offsets j
     go j h (yes e) = rw e (getD-set-same starts i start 0 (omega (arith, at .room)) ∙ is)

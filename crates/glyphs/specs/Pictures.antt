@@ -1,38 +1,34 @@
--- A picture's levels, tested one after the other.
+-- Whether a picture fits, test by test.
 -- Assumes nothing.
-use Prim.Native.Nat.{ℕ, _+_, _*_, _≤_, _<_}
-use mathlib.Core.Path.{_≡_, sym, _∙_}
-use mathlib.Core.Bool.{Bool, true, false, _&&_}
+use Prim.Native.Nat.{ℕ, _*_, _≤_, _<_}
+use mathlib.Core.Path.{_≡_, refl, sym, _∙_}
+use mathlib.Core.Bool.{Bool, true, false}
 use mathlib.Core.List.{List}
 use native.Mathlib.Nat.{mul-le-mul}
-use native.Mathlib.Numerals.{add-one}
-use lib.ListN.{length, getD, drop, drop-of-length-le}
-use lib.Seq.{drop-cons}
-use lib.Dec.{ltb}
-use borrow.Author.Tests.{lt-ltb, le-ltb, eq-eqb, ne-eqb}
+use native.Mathlib.Decide.{decLt}
+use native.Mathlib.Omega.{arith}
+use lib.ListN.{length}
+use lib.Dec.{eqb, ltb}
+use borrow.Author.Tests.{lt-ltb, ltb-true, eq-eqb, ne-eqb}
 use Rattle.rules.specs.Lists.{all}
-use Rattle.rules.specs.Glyphs.{sideFits, pictureFits}
-use Rattle.laws.specs.Glyphs.{side-fits}
-use Rattle.laws.specs.Tests.{all-cons}
+use Rattle.rules.specs.Calls.Glyphs.{sideFits, pictureFits}
+use Rattle.laws.specs.Calls.Glyphs.{side-fits}
+use Rattle.laws.specs.Lists.Places.{mem-getD}
+use Rattle.laws.specs.Lists.Tests.{all-mem, all-each}
+use Rattle.cells.specs.Bound.{FirstAtLeast}
 
-abbrev pub allBelow : ℕ → List ℕ → Bool
-allBelow m picture = all (λ l. ltb l m) picture
-
--- a level that is not below m decides, ..
-module _ (m : ℕ) (picture : List ℕ) (k : ℕ) (turn : k < length picture) (left : allBelow m picture ≡ allBelow m (drop k picture)) where
-  first-left : allBelow m (drop k picture) ≡ (ltb (getD picture k 0) m && allBelow m (drop (k + 1) picture))
-  first-left = rw (drop-cons picture k 0 turn, all-cons, add-one)
-
-  pub over-decides : m ≤ getD picture k 0 → allBelow m picture ≡ false
-  over-decides h = left ∙ first-left ∙ rw (le-ltb _ _ h)
-
-  -- .. and one below m is passed
-  pub below-passes : getD picture k 0 < m → allBelow m picture ≡ allBelow m (drop (k + 1) picture)
-  below-passes h = left ∙ first-left ∙ rw (lt-ltb _ _ h)
-
-pub none-left : (m : ℕ) (picture : List ℕ) (k : ℕ) → length picture ≤ k → allBelow m picture ≡ allBelow m (drop k picture) → true ≡ allBelow m picture
-unfolding all
-none-left m picture k h e = sym (e ∙ rw (drop-of-length-le picture {i = k} h))
+-- every level is below m where no cell is at least m
+below-decides : (m : ℕ) (picture : List ℕ) (k : ℕ) → FirstAtLeast m picture k → eqb k (length picture) ≡ all (λ l. ltb l m) picture
+below-decides m picture k first = go (all (λ l. ltb l m) picture) refl (decLt k (length picture))
+  where
+    go : (b : Bool) → all (λ l. ltb l m) picture ≡ b → Dec (k < length picture) → eqb k (length picture) ≡ b
+    go true e (yes h) = absurd (omega (arith, ltb-true _ m (all-mem (λ l. ltb l m) (mem-getD picture k 0 h) e), first .reached h))
+    go true e (no end) = eq-eqb k (length picture) (omega (arith, first .most))
+    go false e (yes h) = ne-eqb k (length picture) (λ same. omega arith)
+    go false e (no end) =
+        let all-pass : all (λ l. ltb l m) picture ≡ true = all-each (λ l. ltb l m) 0 picture (λ p l. lt-ltb _ m (first .below p (omega arith))) in
+        let z : _≡_ {A = ℕ} 0 1 = cc in
+        absurd (omega arith)
 
 -- ---- the picture, test by test
 
@@ -55,6 +51,6 @@ module _ (m width height : ℕ) (picture : List ℕ) where
       unfolding pictureFits
       count-bad e = rw (wide, high, ne-eqb _ _ e)
 
-      pub cells-decide : length picture ≡ width * height → pictureFits m width height picture ≡ allBelow m picture
+      pub cells-decide : length picture ≡ width * height → (k : ℕ) → FirstAtLeast m picture k → eqb k (length picture) ≡ pictureFits m width height picture
       unfolding pictureFits
-      cells-decide e = rw (wide, high, eq-eqb _ _ e)
+      cells-decide e k first = below-decides m picture k first ∙ sym (rw (wide, high, eq-eqb _ _ e))

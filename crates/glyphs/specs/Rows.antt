@@ -9,9 +9,9 @@ use native.Mathlib.Omega.{arith}
 use lib.ListN.{length, take, drop, length-append, length-drop}
 use lib.Seq.{sets, sets-eq, take-at, drop-append-add, drop-drop, length-take-le}
 use Rattle.rules.specs.Lists.{range, concatMap}
-use Rattle.laws.specs.Glyphs.{IsSide}
-use Rattle.laws.specs.Ranges.{range-suc}
-use Rattle.laws.specs.Concat.{concat-append}
+use Rattle.laws.specs.Calls.Glyphs.{IsSide}
+use Rattle.laws.specs.Lists.Ranges.{range-suc}
+use Rattle.laws.specs.Lists.Concat.{concat-append}
 use Rattle.glyphs.specs.Offsets.{span}
 
 -- row y
@@ -59,8 +59,8 @@ module _ (wires : List ℕ) (start width height : ℕ) (before : List ℕ) (read
       ap length (done .text) ∙ omega (arith, length-append (rowsFrom wires start width y) (drop (y * width) before), length-drop (y * width) before, done .count, ready .room)
 
   module _ (turn : y < height) where
-    pub row-there : from + width ≤ length wires
-    row-there = omega (arith, done .from-is, ready .there)
+    pub glyph-row-there : from + width ≤ length wires
+    glyph-row-there = omega (arith, done .from-is, ready .there)
 
     pub row-fits : at + width ≤ length out
     row-fits =
@@ -72,7 +72,7 @@ module _ (wires : List ℕ) (start width height : ℕ) (before : List ℕ) (read
       row-is = is ∙ ap (λ (k : ℕ). take width (drop k wires)) (done .from-is)
 
       pub row-length : length text ≡ width
-      row-length = ap length is ∙ length-take-le width (drop from wires) (rw length-drop (omega (arith, row-there)))
+      row-length = ap length is ∙ length-take-le width (drop from wires) (rw length-drop (omega (arith, glyph-row-there)))
 
       more-rows : rowsFrom wires start width (y + 1) ≡ rowsFrom wires start width y ++ text
       unfolding concatMap

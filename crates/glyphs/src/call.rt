@@ -1,6 +1,6 @@
 // The glyph call.
 ghost use mathlib.Core.Path.{_≡_};
-ghost use Rattle.rules.specs.Glyphs.{glyphCall};
+ghost use Rattle.rules.specs.Calls.Glyphs.{glyphCall};
 ghost use Rattle.accepted.specs.Taken.{NetTaken};
 ghost use Rattle.glyphs.specs.Calls.{writtenOf};
 use crate::offsets::offsets_fit;
@@ -8,11 +8,11 @@ use crate::picture::picture_fits;
 use crate::print::print_glyph;
 use answers::answer::Answer;
 use answers::outcome::Outcome;
-use net_reading::net::read_net;
+use net_sheets::reader::net::read_net;
 use nets::forms::Header;
 use nets::forms::Net;
 
-// Refusals 24, 25 and 15, in this order, or the glyph that the net of an accepted sheet prints.
+// Returns refusal 24, 25 or 15, in this order, or prints the glyph of an accepted sheet's net and returns its number of cells.
 fn print_accepted(
     sheet: &[u8],
     header: Header,
@@ -49,7 +49,7 @@ fn print_accepted(
     Answer::Accepted(need)
 }
 
-// Writes the glyph that a net sheet prints from a picture of `width` times `height` cells to the front of `out`, and answers how many cells it
+// Writes the glyph that a net sheet prints from a picture of `width` times `height` cells to the front of `out`, and returns how many cells it
 // has. For each input an offset across and one down says which cell it is read from. Any bytes and numbers may come in.
 pub fn glyph(
     sheet: &[u8],

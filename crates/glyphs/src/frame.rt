@@ -2,16 +2,16 @@
 ghost use mathlib.Core.Path.{_≡_};
 ghost use Prim.Native.Nat.{_*_};
 ghost use lib.ListN.{length};
-ghost use Rattle.laws.specs.Glyphs.{IsSide};
-ghost use Rattle.glyphs.specs.Frames.{Empty, Framed};
+ghost use Rattle.laws.specs.Calls.Glyphs.{IsSide};
+ghost use Rattle.glyphs.specs.Frames.{GlyphEmpty, GlyphFramed};
 use crate::limits::MOST_OFFSET;
 use crate::limits::SPAN;
-use lines::put::copy;
+use net_sheets::text::put::copy;
 
 // Puts the picture's rows into the frame, which is all zeros.
 pub fn frame(picture: &[u8], width: usize, height: usize, wires: &mut [u8])
-    requires { ⌜ IsSide width × IsSide height × (length (now picture) ≡ width * height) × Empty (now wires) ⌝ }
-    ensures { λ _. ⌜ Framed width height (now (picture .entry)) (now (wires .entry)) (now (wires .exit)) ⌝ }
+    requires { ⌜ IsSide width × IsSide height × (length (now picture) ≡ width * height) × GlyphEmpty (now wires) ⌝ }
+    ensures { λ _. ⌜ GlyphFramed width height (now (picture .entry)) (now (wires .entry)) (now (wires .exit)) ⌝ }
 {
     let mut from: usize = 0;
     let mut y: usize = 0;

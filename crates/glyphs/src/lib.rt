@@ -1,4 +1,4 @@
-// Whole glyphs, for the panel product: the picture that a net prints from a picture. Of the net library it uses what is promised of a net's value.
+// Glyphs for the panel product, above the net library.
 pub mod call;
 pub mod frame;
 pub mod limits;

@@ -3,8 +3,8 @@ ghost use mathlib.Core.Path.{_≡_};
 ghost use Prim.Native.Nat.{ℕ, _≤_, _<_};
 ghost use lib.ListN.{getD};
 ghost use Rattle.rules.specs.Limits.{mostInputs};
-ghost use Rattle.rules.specs.Glyphs.{offsetsFit};
-ghost use Rattle.laws.specs.Glyphs.{AreOffsets};
+ghost use Rattle.rules.specs.Calls.Glyphs.{offsetsFit};
+ghost use Rattle.laws.specs.Calls.Glyphs.{AreOffsets};
 ghost use Rattle.glyphs.specs.Offsets.{reach, allNear, startOf};
 use crate::limits::SPAN;
 use nets::forms::MOST_WIRES;
@@ -12,7 +12,7 @@ use nets::forms::MOST_WIRES;
 // Past every reach.
 const TOO_FAR: usize = 5;
 
-// An offset counted from the farthest one, so that it is no less than 0; or `TOO_FAR`.
+// Returns an offset counted from the farthest one, so that it is at least 0; or `TOO_FAR`.
 fn reach_of(offset: i8) -> usize
     ensures { λ r. ⌜ r ≡ reach offset ⌝ }
 {
@@ -26,7 +26,7 @@ fn reach_of(offset: i8) -> usize
     }
 }
 
-// Is every offset near?
+// Returns whether every offset is near.
 fn all_near(offsets: &[i8]) -> bool
     ensures { λ r. ⌜ r ≡ allNear (now (offsets .entry)) ⌝ }
 {
@@ -41,7 +41,7 @@ fn all_near(offsets: &[i8]) -> bool
     true
 }
 
-// Are these the offsets of n inputs?
+// Returns whether these are the offsets of n inputs.
 pub fn offsets_fit(n: usize, offsets: &[i8]) -> bool
     requires { ⌜ n ≤ mostInputs ⌝ }
     ensures { λ r. ⌜ r ≡ offsetsFit n (now (offsets .entry)) ⌝ }
@@ -52,7 +52,7 @@ pub fn offsets_fit(n: usize, offsets: &[i8]) -> bool
     all_near(offsets)
 }
 
-// Where in the framed picture the levels of each input begin: at the cell that is read for the first cell of the picture.
+// Returns where in the framed picture the levels of each input begin: at the cell that is read for the first cell of the picture.
 pub fn starts_of(n: usize, offsets: &[i8]) -> [usize; MOST_WIRES]
     requires { ⌜ (n ≤ mostInputs) × AreOffsets n (now offsets) ⌝ }
     ensures { λ r. ⌜ ((i : ℕ) → i < n → getD r i 0 ≡ startOf (now (offsets .entry)) i) ⌝ }

@@ -1,23 +1,12 @@
 // Whether a picture has sides and cells as they must be.
 ghost use mathlib.Core.Path.{_≡_};
-ghost use Rattle.rules.specs.Glyphs.{sideFits, pictureFits};
-ghost use Rattle.glyphs.specs.Pictures.{allBelow};
+ghost use Prim.Native.Nat.{_≤_};
+ghost use Rattle.rules.specs.Limits.{mostLevels};
+ghost use Rattle.rules.specs.Calls.Glyphs.{sideFits, pictureFits};
 use crate::limits::MOST_SIDE;
+use cells::bound::first_at_least;
 
-// Is every cell's level below m?
-fn all_below(m: usize, picture: &[u8]) -> bool
-    ensures { λ r. ⌜ r ≡ allBelow m (now (picture .entry)) ⌝ }
-{
-    let mut k: usize = 0;
-    while k < picture.len() {
-        if m <= picture[k] as usize {
-            return false;
-        }
-        k += 1;
-    }
-    true
-}
-
+// Returns whether a picture may have so many cells on a side.
 fn side_fits(side: usize) -> bool
     ensures { λ r. ⌜ r ≡ sideFits side ⌝ }
 {
@@ -27,8 +16,9 @@ fn side_fits(side: usize) -> bool
     side <= MOST_SIDE
 }
 
-// Any numbers may come in: the sides are judged before their product is taken.
+// Returns whether a picture has good sides, a cell for each place, and levels below m. Any sides may come in: they are judged before their product is taken.
 pub fn picture_fits(m: usize, width: usize, height: usize, picture: &[u8]) -> bool
+    requires { ⌜ m ≤ mostLevels ⌝ }
     ensures { λ r. ⌜ r ≡ pictureFits m width height (now (picture .entry)) ⌝ }
 {
     if !side_fits(width) {
@@ -40,5 +30,5 @@ pub fn picture_fits(m: usize, width: usize, height: usize, picture: &[u8]) -> bo
     if picture.len() != width * height {
         return false;
     }
-    all_below(m, picture)
+    first_at_least(m, picture) == picture.len()
 }

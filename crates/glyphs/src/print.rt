@@ -1,6 +1,6 @@
 // The new picture, all at once: the framed picture, the net's value at every place of it, and the rows of these.
 ghost use mathlib.Core.Path.{_≡_};
-ghost use Rattle.rules.specs.Answers.{written};
+ghost use Rattle.rules.specs.Calls.Answers.{written};
 ghost use Rattle.glyphs.specs.Glyph.{GlyphReady, glyphOf};
 use crate::frame::frame;
 use crate::limits::FRAME;
@@ -8,7 +8,7 @@ use crate::limits::MOST_VALUES;
 use crate::limits::SPAN;
 use crate::offsets::starts_of;
 use crate::rows::print_rows;
-use columns::values::values;
+use evaluation::values::values;
 use nets::forms::Net;
 
 pub fn print_glyph(

@@ -5,7 +5,7 @@ ghost use mathlib.Core.List.{_++_};
 ghost use lib.ListN.{drop};
 ghost use Rattle.glyphs.specs.Rows.{RowsReady, rowsFrom};
 use crate::limits::SPAN;
-use lines::put::copy;
+use net_sheets::text::put::copy;
 
 // Writes the first `width` cells of each of `height` rows, one after the other, to the front of `out`. The first row begins at `start`.
 pub fn print_rows(wires: &[u8], start: usize, width: usize, height: usize, out: &mut [u8])

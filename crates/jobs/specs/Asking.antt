@@ -7,14 +7,14 @@ use native.Mathlib.Decide.{ℕ-discrete}
 use native.Mathlib.Omega.{arith}
 use lib.ListN.{getD}
 use lib.Seq.{getD-take}
-use Rattle.rules.specs.Answers as answers
-use Rattle.rules.specs.Answers.{accepted, refused}
-use Rattle.rules.specs.Jobs as rules
-use Rattle.rules.specs.Jobs.{noTable, Asked, askJob, final, notReached}
-use Rattle.laws.specs.Jobs.{ask-empty, ask-over, ask-passed, ask-ahead}
+use Rattle.rules.specs.Calls.Answers as answers
+use Rattle.rules.specs.Calls.Answers.{accepted, refused}
+use Rattle.rules.specs.Calls.Jobs as rules
+use Rattle.rules.specs.Calls.Jobs.{noTable, Asked, askJob, final, notReached}
+use Rattle.laws.specs.Calls.Jobs.{ask-empty, ask-over, ask-passed, ask-ahead}
 use Rattle.nets.specs.declared.forms.Header.{Header}
 use Rattle.nets.specs.Forms.{headerOf}
-use Rattle.jobs.specs.Forms.{Fronted, tableFrom, jobIn, front-table}
+use Rattle.jobs.specs.Forms.{Fronted, tableFrom, jobIn, job-front-table}
 use Rattle.jobs.specs.declared.asking.Reached.{Reached}
 use Rattle.jobs.specs.declared.asking.Reached.the-variants.{Final, NotReached, Refused}
 
@@ -41,7 +41,7 @@ module _ (lines : List ℕ) (h : Header) (is : Fronted lines h) (marks : List �
 
   inputs-are : job .table .header .inputs ≡ h .inputs
   unfolding jobIn headerOf
-  inputs-are = ap (λ t. t .header .inputs) (front-table lines h is cells)
+  inputs-are = ap (λ t. t .header .inputs) (job-front-table lines h is cells)
 
   pub asked-empty : g ≡ 0 → refused 11 0 ≡ askJob job g .answer
   asked-empty e = sym (ap (λ (a : Asked). a .answer) (ask-empty job g e))

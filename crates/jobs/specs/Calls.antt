@@ -3,17 +3,17 @@
 use Prim.Native.Nat.{ℕ, _+_}
 use mathlib.Core.Path.{_≡_, sym, ap, _∙_}
 use mathlib.Core.List.{List}
-use Rattle.rules.specs.Sheets.{Table}
-use Rattle.rules.specs.Answers.{accepted, refused}
-use Rattle.rules.specs.OpenCells.{readFull}
-use Rattle.rules.specs.Jobs.{openJob, Opened, stepJob, Stepped, further, askJob, finishJob}
-use Rattle.laws.specs.OpenCells.{read-accepted}
-use Rattle.laws.specs.Jobs.{open-refused, open-accepted, step-done, step-on}
-use Rattle.readback.specs.ReadBack.{table-accepted}
+use Rattle.rules.specs.Sheets.Sheets.{Table}
+use Rattle.rules.specs.Calls.Answers.{accepted, refused}
+use Rattle.rules.specs.Calls.OpenCells.{readFull}
+use Rattle.rules.specs.Calls.Jobs.{openJob, Opened, stepJob, Stepped, further, askJob, finishJob}
+use Rattle.laws.specs.Calls.OpenCells.{read-accepted}
+use Rattle.laws.specs.Calls.Jobs.{open-refused, open-accepted, step-done, step-on}
+use Rattle.readback.specs.Sheets.ReadBack.{table-accepted}
 use Rattle.answers.specs.declared.outcome.Outcome.the-variants.{Accepted, Refused}
-use Rattle.answers.specs.Answers.{madeOf, outcomeAs}
+use Rattle.answers.specs.AnswerMaps.{madeOf, outcomeAs}
 use Rattle.jobs.specs.Forms.{jobIn, jobOf}
-use Rattle.jobs.specs.Opening.{openedBytes, newBytes, noBytes, new-job, empty-job}
+use Rattle.jobs.specs.Opening.{openedBytes, newBytes, noBytes, new-job, opened-empty-job}
 use Rattle.jobs.specs.Stepping.{NextMark, withMark, after, marks-same, marks-further, job-further}
 use Rattle.jobs.specs.Asking.{reachedAs}
 use Rattle.jobs.specs.declared.next.Next.the-variants.{Done, Mark}
@@ -51,7 +51,7 @@ module _ (s : List ℕ) (job : Job) where
   opened-none is number place e =
       record {
         bytes = is ∙ sym (rw (e, openedBytes));
-        job = ap jobOf is ∙ empty-job ∙ sym (ap (λ (o : Opened). o .job) (open-refused s number place e));
+        job = ap jobOf is ∙ opened-empty-job ∙ sym (ap (λ (o : Opened). o .job) (open-refused s number place e));
         outcome = sym (ap (λ (o : Opened). o .answer) (open-refused s number place e));
       }
 

@@ -7,20 +7,20 @@ use native.Mathlib.Nat.{sub-zero}
 use native.Mathlib.Omega.{arith}
 use lib.ListN.{take}
 use Rattle.rules.specs.Limits.{levelsFit, sizeFits}
-use Rattle.rules.specs.Sheets.{Table}
-use Rattle.rules.specs.Answers as answers
-use Rattle.rules.specs.Answers.{accepted, refused}
-use Rattle.rules.specs.OpenCells.{fullCells}
-use Rattle.rules.specs.Settling.{settledNet, madeInto}
-use Rattle.rules.specs.Jobs.{Job, noTable, groupsOf, mayFinish, Finished, finishJob}
-use Rattle.laws.specs.Answers.{not-refused}
-use Rattle.laws.specs.BareCells.{bare-size}
-use Rattle.laws.specs.OpenCells.{cells-refused, cells-sized, cells-below}
-use Rattle.laws.specs.Jobs.{may-refused, may-22, may-on, finish-refused, finish-on}
+use Rattle.rules.specs.Sheets.Sheets.{Table}
+use Rattle.rules.specs.Calls.Answers as answers
+use Rattle.rules.specs.Calls.Answers.{accepted, refused}
+use Rattle.rules.specs.Calls.OpenCells.{fullCells}
+use Rattle.rules.specs.Calls.Settling.{settledNet, madeInto}
+use Rattle.rules.specs.Calls.Jobs.{Job, noTable, groupsOf, mayFinish, Finished, finishJob}
+use Rattle.laws.specs.Calls.Answers.{not-refused}
+use Rattle.laws.specs.Calls.BareCells.{bare-size}
+use Rattle.laws.specs.Calls.OpenCells.{cells-refused, cells-sized, cells-below}
+use Rattle.laws.specs.Calls.Jobs.{may-refused, may-22, may-on, finish-refused, finish-on}
 use Rattle.nets.specs.declared.forms.Header.{Header}
 use Rattle.nets.specs.Forms.{headerOf, tableIn}
 use Rattle.accepted.specs.Taken.{Given, names-inside}
-use Rattle.jobs.specs.Forms.{Fronted, tableFrom, jobIn, front-job, front-kept}
+use Rattle.jobs.specs.Forms.{Fronted, tableFrom, jobIn, front-job, job-front-kept}
 
 -- ---- a job with no table
 
@@ -73,7 +73,7 @@ module _ (lines : List ℕ) (h : Header) (is : Fronted lines h) (inks : List ℕ
       record {
         names = names-inside lines h (is .held);
         kept = record {
-          header = front-kept lines h is;
+          header = job-front-kept lines h is;
           count = cells-sized (h .levels) (h .inputs) inks good .1;
           within = λ k l. omega (arith, cells-below (h .levels) (h .inputs) inks good k l);
         };

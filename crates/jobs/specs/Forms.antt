@@ -8,19 +8,19 @@ use lib.ListN.{take}
 use lib.Pow.{pow-mono}
 use Rattle.rules.specs.Limits.{mostInputs}
 use Rattle.rules.specs.Text.{space}
-use Rattle.rules.specs.Fields.{read, turnedBack}
-use Rattle.rules.specs.Sheets as sheets
-use Rattle.rules.specs.Sheets.{Table, headerLines}
-use Rattle.rules.specs.Kept.{KeptHeader}
-use Rattle.rules.specs.Jobs as rules
-use Rattle.rules.specs.Jobs.{noTable}
-use Rattle.laws.specs.Sizes.{Size, sized, kept-size}
-use Rattle.readback.specs.Fields.{parts-space}
-use Rattle.readback.specs.Header.{spells-header}
+use Rattle.rules.specs.Sheets.Fields.{read, turnedBack}
+use Rattle.rules.specs.Sheets.Sheets as sheets
+use Rattle.rules.specs.Sheets.Sheets.{Table, headerLines}
+use Rattle.rules.specs.Sheets.SheetRules.{HeaderRules}
+use Rattle.rules.specs.Calls.Jobs as rules
+use Rattle.rules.specs.Calls.Jobs.{noTable}
+use Rattle.laws.specs.Numbers.Sizes.{Size, sized, kept-size}
+use Rattle.readback.specs.Readers.Fields.{parts-space}
+use Rattle.readback.specs.Sheets.Header.{spells-header}
 use Rattle.nets.specs.declared.forms.Header.{Header}
 use Rattle.nets.specs.Forms.{headerOf, tableIn}
-use Rattle.header_reading.specs.Header.{HeaderHeld, HeaderRest}
-use Rattle.header_reading.specs.declared.lines.HeaderRead.{HeaderRead}
+use Rattle.fields.specs.Header.FirstLines.{HeaderHeld, HeaderRest}
+use Rattle.fields.specs.declared.header.name_line.HeaderRead.{HeaderRead}
 use Rattle.fields.specs.declared.steps.Step.the-variants.{On, Back}
 use Rattle.jobs.specs.declared.job.Job.{Job}
 
@@ -49,8 +49,8 @@ abbrev pub jobOf : Job → rules.Job
 jobOf job = jobIn (job .lines) (job .cells) (job .marks) (job .passed)
 
 -- a header that keeps the rules has room for its groups
-pub groups-room : (h : sheets.Header) → KeptHeader h → 2 ^ h .inputs ≤ mostGroups
-groups-room h kept = pow-mono (kept-size h kept .inputs-most)
+pub job-groups-room : (h : sheets.Header) → HeaderRules h → 2 ^ h .inputs ≤ mostGroups
+job-groups-room h kept = pow-mono (kept-size h kept .inputs-most)
 
 -- ---- lines that are a sheet's first lines
 
@@ -74,22 +74,22 @@ module _ (lines : List ℕ) (h : Header) (is : Fronted lines h) where
   pub front-size : Size (h .levels) (h .inputs)
   front-size = sized (h .levels) (h .inputs) (is .held .fits)
 
-  pub front-table : (cells : List ℕ) → tableFrom lines cells ≡ tableIn lines h (take (h .levels ^ h .inputs) cells)
+  pub job-front-table : (cells : List ℕ) → tableFrom lines cells ≡ tableIn lines h (take (h .levels ^ h .inputs) cells)
   unfolding tableFrom headerOf
-  front-table cells = rw (is .reads, tableFrom)
+  job-front-table cells = rw (is .reads, tableFrom)
 
   pub front-job : (cells marks : List ℕ) (passed : ℕ)
       → jobIn lines cells marks passed
       ≡ record { table = tableIn lines h (take (h .levels ^ h .inputs) cells); marks = take (2 ^ h .inputs) marks; passed = passed }
   unfolding jobIn headerOf
-  front-job cells marks passed = λ i. let t = front-table cells i in record { table = t; marks = take (2 ^ t .header .inputs) marks; passed = passed }
+  front-job cells marks passed = λ i. let t = job-front-table cells i in record { table = t; marks = take (2 ^ t .header .inputs) marks; passed = passed }
 
   -- the header keeps the rules
-  pub front-kept : KeptHeader (headerOf lines h)
-  front-kept =
+  pub job-front-kept : HeaderRules (headerOf lines h)
+  job-front-kept =
       let (x, e, _, _) = spells-header space parts-space .only lines 0 (headerOf lines h) (is .rest) (is .place) (is .reads) in
       rw e (x .1)
 
   pub front-groups : 2 ^ h .inputs ≤ mostGroups
   unfolding headerOf
-  front-groups = groups-room (headerOf lines h) front-kept
+  front-groups = job-groups-room (headerOf lines h) job-front-kept

@@ -1,7 +1,7 @@
+pub mod Asking
+pub mod Calls
+pub mod Finishing
 pub mod Forms
 pub mod Opening
-pub mod Stepping
-pub mod Asking
-pub mod Finishing
-pub mod Calls
 pub mod Reached
+pub mod Stepping

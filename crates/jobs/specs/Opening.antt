@@ -10,28 +10,28 @@ use lib.Seq.{take-at}
 use Rattle.rules.specs.Lists.{range}
 use Rattle.rules.specs.Limits.{mostCells}
 use Rattle.rules.specs.Text.{space, newline, text, decimal}
-use Rattle.rules.specs.Fields.{read, turnedBack}
-use Rattle.rules.specs.Sheets as sheets
-use Rattle.rules.specs.Sheets.{Table, headerLines}
-use Rattle.rules.specs.Printed.{line}
-use Rattle.rules.specs.Kept.{GoodNames, KeptHeader, KeptTable}
-use Rattle.rules.specs.Answers.{accepted, refused, written}
-use Rattle.rules.specs.OpenCells.{readFull}
-use Rattle.rules.specs.Jobs.{noTable, newJob, emptyJob}
+use Rattle.rules.specs.Sheets.Fields.{read, turnedBack}
+use Rattle.rules.specs.Sheets.Sheets as sheets
+use Rattle.rules.specs.Sheets.Sheets.{Table, headerLines}
+use Rattle.rules.specs.Sheets.Printed.{line}
+use Rattle.rules.specs.Sheets.SheetRules.{GoodNames, HeaderRules, TableRules}
+use Rattle.rules.specs.Calls.Answers.{accepted, refused, written}
+use Rattle.rules.specs.Calls.OpenCells.{readFull}
+use Rattle.rules.specs.Calls.Jobs.{noTable, newJob, emptyJob}
 use Rattle.rules.specs.Evaluation.{computing}
-use Rattle.laws.specs.Answers.{written-front}
-use Rattle.laws.specs.Decimals.{decimal-length}
-use Rattle.laws.specs.Sizes.{kept-size}
-use Rattle.readback.specs.Fields.{parts-space}
-use Rattle.readback.specs.Judges.{name-parts}
-use Rattle.readback.specs.Names.{ended}
-use Rattle.readback.specs.Header.{headText, spells-header}
+use Rattle.laws.specs.Calls.Answers.{written-front}
+use Rattle.laws.specs.Numbers.Decimals.{decimal-length}
+use Rattle.laws.specs.Numbers.Sizes.{kept-size}
+use Rattle.readback.specs.Readers.Fields.{parts-space}
+use Rattle.readback.specs.Readers.Judges.{name-parts}
+use Rattle.readback.specs.Readers.Names.{ended}
+use Rattle.readback.specs.Sheets.Header.{headText, spells-header}
 use Rattle.nets.specs.declared.forms.Header.{Header}
 use Rattle.nets.specs.Forms.{nameIn, headerOf, tableIn}
-use Rattle.lines.specs.Lines.{spaced, spacedFrom, spaced-all}
-use Rattle.lines.specs.Names.{NamesInside}
+use Rattle.net_sheets.specs.Text.Lines.{spaced, spacedFrom, spaced-all}
+use Rattle.net_sheets.specs.Text.Names.{NamesInside}
 use Rattle.accepted.specs.Taken.{Given}
-use Rattle.jobs.specs.Forms.{mostLines, mostGroups, tableFrom, jobIn, jobOf, groups-room}
+use Rattle.jobs.specs.Forms.{mostLines, mostGroups, tableFrom, jobIn, jobOf, job-groups-room}
 use Rattle.jobs.specs.declared.job.Job.{Job}
 
 -- ---- the bytes
@@ -89,7 +89,7 @@ unfolding text
 words-length = pair-length (text "levels") (text "inputs")
 
 -- so there is room for them
-pub head-room : (h : sheets.Header) → KeptHeader h → length (headText space h) ≤ mostLines
+pub head-room : (h : sheets.Header) → HeaderRules h → length (headText space h) ≤ mostLines
 unfolding headText
 head-room h kept =
     let words : List ℕ = line (text "levels" ∷ text "inputs" ∷ []) in
@@ -133,7 +133,7 @@ take-zeros k most h =
     ∙ ap (take {A = ℕ} k) (sym (replicate-append-replicate k (most - k) 0))
     ∙ take-at {A = ℕ} (replicate k 0) (replicate (most - k) 0) k (length-replicate k 0)
 
-module _ (t : Table) (kept : KeptTable t) where
+module _ (t : Table) (kept : TableRules t) where
   new-table : tableFrom (linesOf (t .header)) (cellsOf (t .inks)) ≡ t
   unfolding tableFrom linesOf cellsOf written
   new-table =
@@ -153,7 +153,7 @@ module _ (t : Table) (kept : KeptTable t) where
   unfolding newBytes jobIn newJob
   new-job =
       (λ i. let own = new-table i in record { table = own; marks = take (2 ^ own .header .inputs) (replicate mostGroups 0); passed = 0 })
-      ∙ (λ i. record { table = t; marks = take-zeros (2 ^ t .header .inputs) mostGroups (groups-room (t .header) (kept .header)) i; passed = 0 })
+      ∙ (λ i. record { table = t; marks = take-zeros (2 ^ t .header .inputs) mostGroups (job-groups-room (t .header) (kept .header)) i; passed = 0 })
 
 -- zeros are no first lines
 zeros-lines : headerLines space (replicate mostLines 0) 0 ≡ turnedBack 1 0
@@ -164,6 +164,6 @@ no-table : tableFrom (replicate mostLines 0) (replicate mostCells 0) ≡ noTable
 unfolding tableFrom
 no-table = rw (zeros-lines, tableFrom)
 
-pub empty-job : jobOf noBytes ≡ emptyJob
+pub opened-empty-job : jobOf noBytes ≡ emptyJob
 unfolding noBytes jobIn emptyJob newJob noTable
-empty-job = λ i. let t = no-table i in record { table = t; marks = take (2 ^ t .header .inputs) (replicate mostGroups 0); passed = 0 }
+opened-empty-job = λ i. let t = no-table i in record { table = t; marks = take (2 ^ t .header .inputs) (replicate mostGroups 0); passed = 0 }

@@ -3,8 +3,8 @@
 use Prim.Native.Nat.{ℕ}
 use mathlib.Core.Path.{_≡_, refl, sym, ap, _∙_}
 use mathlib.Core.List.{List, [], _∷_, _++_}
-use Rattle.rules.specs.Jobs.{openJob, stepJob, askJob, Move, step, ask, moved, afterMoves}
-use Rattle.rules.specs.Jobs as rules
+use Rattle.rules.specs.Calls.Jobs.{openJob, stepJob, askJob, Move, step, ask, moved, afterMoves}
+use Rattle.rules.specs.Calls.Jobs as rules
 use Rattle.jobs.specs.Forms.{jobOf}
 use Rattle.jobs.specs.Calls.{OpenDone, StepDone, AskDone}
 use Rattle.jobs.specs.declared.job.Job.{Job}
@@ -19,7 +19,7 @@ pub data Got (s : List ℕ) : List Move → Job → Type 0 where
   asked : (moves : List Move) (job : Job) → Got s moves job → (g : ℕ) (r : Asked) → AskDone job g r → Got s (moves ++ (ask g ∷ [])) (r .job)
 
 -- one move more, at the end
-after-last : (moves : List Move) (move : Move) (job : rules.Job) → afterMoves (moves ++ (move ∷ [])) job ≡ moved move (afterMoves moves job)
+pub after-last : (moves : List Move) (move : Move) (job : rules.Job) → afterMoves (moves ++ (move ∷ [])) job ≡ moved move (afterMoves moves job)
 unfolding afterMoves
 after-last [] move job = refl
 after-last (first ∷ moves) move job = after-last moves move (moved first job)

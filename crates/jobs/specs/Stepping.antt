@@ -6,16 +6,17 @@ use mathlib.Core.List.{List, [], _∷_, _++_}
 use native.Mathlib.Nat.{sub-zero}
 use native.Mathlib.Omega.{arith}
 use lib.ListN.{length, take, drop, set, length-set, take-append-drop}
+use lib.Pow.{pow-mono}
 use lib.Seq.{drop-set-lt, length-take-le}
-use Rattle.rules.specs.Sheets.{Table}
-use Rattle.rules.specs.Groups.{wholeGroup}
-use Rattle.rules.specs.Marks.{markOf}
-use Rattle.rules.specs.Answers.{inkIn, written}
-use Rattle.rules.specs.Jobs as rules
-use Rattle.rules.specs.Jobs.{noTable, groupsOf, further}
+use Rattle.rules.specs.Sheets.Sheets.{Table}
+use Rattle.rules.specs.Groups.Groups.{wholeGroup}
+use Rattle.rules.specs.Groups.Marks.{markOf}
+use Rattle.rules.specs.Calls.Answers.{inkIn, written}
+use Rattle.rules.specs.Calls.Jobs as rules
+use Rattle.rules.specs.Calls.Jobs.{noTable, groupsOf, further}
 use Rattle.nets.specs.declared.forms.Header.{Header}
 use Rattle.nets.specs.Forms.{headerOf}
-use Rattle.jobs.specs.Forms.{mostGroups, tableFrom, jobIn, Fronted, front-table, front-job, front-groups}
+use Rattle.jobs.specs.Forms.{mostGroups, tableFrom, jobIn, Fronted, job-front-table, front-job, front-groups}
 use Rattle.jobs.specs.declared.job.Job.{Job}
 use Rattle.jobs.specs.declared.next.Next.{Next}
 use Rattle.jobs.specs.declared.next.Next.the-variants.{Done, Mark}
@@ -95,9 +96,13 @@ pub part-length : (k : ℕ) (l : List ℕ) → k ≤ length l → length (take (
 part-length k l h = ap (λ (j : ℕ). length (take j l)) (sub-zero k) ∙ length-take-le k l h
 
 -- the whole group, by the number past it
-pub whole-group : (n past : ℕ) → past ≡ 2 ^ n → (g : ℕ) → past - 1 ≡ g → wholeGroup n ≡ g
+pub whole-group : (n past : ℕ) → past ≡ 2 ^ n → (g : ℕ) → past - 1 ≡ g → g ≡ wholeGroup n
 unfolding wholeGroup
-whole-group n past e g is = ap (λ (k : ℕ). k - 1) (sym e) ∙ is
+whole-group n past e g is = sym is ∙ ap (λ (k : ℕ). k - 1) e
+
+pub whole-some : (n : ℕ) → 0 < n → (g : ℕ) → g ≡ wholeGroup n → 0 < g
+unfolding wholeGroup
+whole-some n some g is = omega (arith, pow-mono some)
 
 -- a job with no table
 pub next-none : (lines cells marks : List ℕ) (passed : ℕ) → tableFrom lines cells ≡ noTable → NextMark (jobIn lines cells marks passed) Done
@@ -109,7 +114,7 @@ next-none lines cells marks passed none =
 module _ (lines : List ℕ) (h : Header) (is : Fronted lines h) (cells marks : List ℕ) (passed end : ℕ) (all : end ≡ 2 ^ h .inputs) where
   groups-are : groupsOf (jobIn lines cells marks passed) ≡ end - 1
   unfolding groupsOf jobIn headerOf
-  groups-are = ap (λ (t : Table). 2 ^ t .header .inputs - 1) (front-table lines h is cells) ∙ ap (λ (k : ℕ). k - 1) (sym all)
+  groups-are = ap (λ (t : Table). 2 ^ t .header .inputs - 1) (job-front-table lines h is cells) ∙ ap (λ (k : ℕ). k - 1) (sym all)
 
   pub next-done : end - 1 ≤ passed → NextMark (jobIn lines cells marks passed) Done
   unfolding jobIn

@@ -3,12 +3,12 @@ ghost use mathlib.Core.Path.{_≡_};
 ghost use mathlib.Core.List.{List};
 ghost use Prim.Native.Nat.{ℕ, _≤_};
 ghost use lib.ListN.{length};
-ghost use Rattle.rules.specs.Jobs.{askJob};
+ghost use Rattle.rules.specs.Calls.Jobs.{askJob};
 ghost use Rattle.jobs.specs.Forms.{Fronted, mostGroups, jobIn};
 ghost use Rattle.jobs.specs.Asking.{reachedAs};
+use fields::header::first_lines::header_lines;
 use fields::runs::SPACE;
 use fields::steps::Step;
-use header_reading::header::header_lines;
 use nets::forms::Header;
 use radix::powers;
 
@@ -19,7 +19,7 @@ pub enum Reached {
     Refused { number: usize, place: usize },
 }
 
-// Under the header h of the job's lines.
+// Returns a group's mark in a job whose lines have the header h.
 fn mark_under(lines: &[u8], h: Header, marks: &[u8], passed: usize, group: usize) -> Reached
     requires { ⌜ Fronted (now lines) h × (mostGroups ≤ length (now marks)) ⌝ }
     ensures { λ r. ⌜ ((cells : List ℕ) → reachedAs r ≡ askJob (jobIn (now (lines .entry)) cells (now (marks .entry)) passed) group .answer) ⌝ }
@@ -42,7 +42,7 @@ fn mark_under(lines: &[u8], h: Header, marks: &[u8], passed: usize, group: usize
     Reached::Final(marks[group])
 }
 
-// Of a job by its parts. Lines that are no sheet's first lines have no groups.
+// Returns a group's mark in a job given by its parts. Lines that are no sheet's first lines have no groups.
 pub fn mark_in(lines: &[u8], marks: &[u8], passed: usize, group: usize) -> Reached
     requires { ⌜ mostGroups ≤ length (now marks) ⌝ }
     ensures { λ r. ⌜ ((cells : List ℕ) → reachedAs r ≡ askJob (jobIn (now (lines .entry)) cells (now (marks .entry)) passed) group .answer) ⌝ }

@@ -1,24 +1,24 @@
-// Finishing a job: what making comes to, from the job's own table.
+// Finishing a job: what making returns for the job's own table.
 ghost use mathlib.Core.Path.{_≡_};
 ghost use mathlib.Core.List.{List};
 ghost use Prim.Native.Nat.{ℕ, _≤_};
 ghost use lib.ListN.{length};
 ghost use Rattle.rules.specs.Limits.{mostCells};
-ghost use Rattle.rules.specs.Jobs.{mayFinish, finishJob};
+ghost use Rattle.rules.specs.Calls.Jobs.{mayFinish, finishJob};
 ghost use Rattle.nets.specs.Forms.{tableIn};
-ghost use Rattle.answers.specs.Answers.{madeOf, outcomeAs};
+ghost use Rattle.answers.specs.AnswerMaps.{madeOf, outcomeAs};
 ghost use Rattle.jobs.specs.Forms.{Fronted, jobIn};
 use answers::answer::Answer;
 use answers::outcome::Outcome;
-use bare_cells::bare;
+use cells::bare;
+use fields::header::first_lines::header_lines;
 use fields::runs::SPACE;
 use fields::steps::Step;
-use header_reading::header::header_lines;
 use nets::forms::Header;
 use radix::powers;
 use settling::table;
 
-// Refusals 9, 10, 27 and 22, of the table `inks` with so many groups passed.
+// Returns refusal 9, 10, 27 or 22, or that the table `inks` may be finished with so many groups passed.
 fn may_finish(lines: &[u8], h: Header, inks: &[u8], passed: usize) -> Outcome
     requires { ⌜ Fronted (now lines) h ⌝ }
     ensures { λ r. ⌜ ((marks : List ℕ) → outcomeAs tt r
@@ -40,7 +40,7 @@ fn may_finish(lines: &[u8], h: Header, inks: &[u8], passed: usize) -> Outcome
     }
 }
 
-// Under the header h of the job's lines.
+// Finishes a job whose lines have the header h.
 fn finish_under(
     lines: &[u8],
     h: Header,
@@ -62,7 +62,7 @@ fn finish_under(
     }
 }
 
-// Of a job by its parts, of which `own` are its cells. Lines that are no sheet's first lines have no table.
+// Finishes a job given by its parts; `own` are its cells. Lines that are no sheet's first lines have no table.
 pub fn finish_in(
     lines: &[u8],
     own: &[u8],

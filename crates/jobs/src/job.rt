@@ -23,7 +23,7 @@ pub struct Job {
     pub passed: usize,
 }
 
-// What opening comes to: beside a refusal the empty job.
+// What opening returns: beside a refusal the empty job.
 pub struct Opened {
     pub job: Job,
     pub outcome: Outcome,
@@ -52,7 +52,7 @@ impl Job {
         opening::open(s)
     }
 
-    // One group further, or refusal 21.
+    // Returns the job one group further, or refusal 21.
     pub fn step(self) -> Stepped
         ensures { λ r. ⌜ StepDone self r ⌝ }
     {
@@ -76,7 +76,7 @@ impl Job {
         }
     }
 
-    // The mark of a group that has been passed, that it is not reached, or refusal 11.
+    // Returns the mark of a group that has been passed, that it is not reached, or refusal 11.
     pub fn mark(self, group: usize) -> Asked
         ensures { λ r. ⌜ AskDone self group r ⌝ }
     {
@@ -89,7 +89,7 @@ impl Job {
         }
     }
 
-    // Refusals 9, 10, 27 and 22, or what making comes to.
+    // Returns refusal 9, 10, 27 or 22, or what making returns.
     pub fn finish(self, cells: &mut [u8], marks: &mut [u8], out: &mut [u8]) -> Finished
         ensures { λ r. ⌜ FinishDone self (now (cells .entry)) (now (marks .entry)) (now (out .entry)) r (now (cells .exit)) (now (marks .exit)) (now (out .exit)) ⌝ }
     {

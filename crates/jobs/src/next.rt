@@ -1,19 +1,20 @@
 // The next group of a job: its mark, or that all groups have been passed.
 ghost use mathlib.Core.Path.{_≡_};
 ghost use mathlib.Core.Bool.{true};
-ghost use Prim.Native.Nat.{_+_, _^_, _≤_, _<_};
+ghost use Prim.Native.Nat.{ℕ, _+_, _^_, _≤_, _<_};
 ghost use lib.ListN.{length};
 ghost use Rattle.rules.specs.Limits.{sizeFits, mostCells};
-ghost use Rattle.rules.specs.Marks.{markOf};
-ghost use Rattle.rules.specs.Answers.{inkIn};
+ghost use Rattle.rules.specs.Groups.Groups.{wholeGroup};
+ghost use Rattle.rules.specs.Groups.Marks.{markOf};
+ghost use Rattle.rules.specs.Calls.Answers.{inkIn};
 ghost use Rattle.jobs.specs.Forms.{Fronted, mostGroups, jobIn};
 ghost use Rattle.jobs.specs.Stepping.{NextMark, withMark};
 use crate::job::Job;
+use cells::bound::first_at_least;
+use fields::header::first_lines::header_lines;
 use fields::runs::SPACE;
 use fields::steps::Step;
-use group_marks::group;
-use header_reading::header::header_lines;
-use marking::whole;
+use marks::group_mark;
 use nets::forms::Header;
 use radix::limits;
 use radix::powers;
@@ -23,21 +24,32 @@ pub enum Next {
     Mark(u8),
 }
 
-// The mark of group g, from those of the groups below it. The work arrays stand here. The whole group's classes are its inks, so that its step
-// is not longer than the others.
-fn mark_one(m: usize, n: usize, inks: &[u8], g: usize, marks: &[u8]) -> u8
-    requires { ⌜ (sizeFits m n ≡ true) × (m ^ n ≤ length (now inks)) × (g < 2 ^ n) × (2 ^ n ≤ length (now marks)) ⌝ }
-    ensures { λ r. ⌜ r ≡ markOf m n (inkIn (now (inks .entry))) (now (marks .entry)) g ⌝ }
+// Returns whether g is the whole group and every ink is a level. Such a group has at most m classes, since its classes are the inks.
+fn is_whole_of_full(m: usize, n: usize, inks: &[u8], g: usize) -> bool
+    requires { ⌜ (sizeFits m n ≡ true) × (length (now inks) ≡ m ^ n) ⌝ }
+    ensures { λ r. ⌜ (r ≡ true → (g ≡ wholeGroup n) × ((p : ℕ) → p < m ^ n → inkIn (now (inks .entry)) p < m)) ⌝ }
 {
-    let mut xs = [0u16; limits::MOST_CELLS];
-    let mut ys = [0u16; limits::MOST_CELLS];
-    if powers::power(2, n) - 1 == g {
-        return whole::mark_whole(m, n, inks, &mut xs, &mut ys, marks);
+    if powers::power(2, n) - 1 != g {
+        return false;
     }
-    group::mark_group(m, n, inks, g, &mut xs, &mut ys, marks)
+    first_at_least(m, inks) == inks.len()
 }
 
-// Under the header h of the job's lines.
+// Returns the mark of group g, from the marks of the groups below it. The whole group of a full table is not counted, so that its step takes no longer
+// than the others.
+fn mark_one(m: usize, n: usize, inks: &[u8], g: usize, marks: &[u8]) -> u8
+    requires { ⌜ (sizeFits m n ≡ true) × (length (now inks) ≡ m ^ n) × (g < 2 ^ n) × (2 ^ n ≤ length (now marks)) ⌝ }
+    ensures { λ r. ⌜ r ≡ markOf m n (inkIn (now (inks .entry))) (now (marks .entry)) g ⌝ }
+{
+    if is_whole_of_full(m, n, inks, g) {
+        return group_mark::few_mark(marks, g);
+    }
+    let mut xs = [0u16; limits::MOST_CELLS];
+    let mut ys = [0u16; limits::MOST_CELLS];
+    group_mark::mark_group(m, n, inks, g, &mut xs, &mut ys, marks)
+}
+
+// Returns the next group's mark in a job whose lines have the header h, or that it is done.
 fn next_under(lines: &[u8], h: Header, cells: &[u8], marks: &[u8], passed: usize) -> Next
     requires { ⌜ Fronted (now lines) h × (mostCells ≤ length (now cells)) × (mostGroups ≤ length (now marks)) ⌝ }
     ensures { λ r. ⌜ NextMark (jobIn (now (lines .entry)) (now (cells .entry)) (now (marks .entry)) passed) r ⌝ }
@@ -52,7 +64,7 @@ fn next_under(lines: &[u8], h: Header, cells: &[u8], marks: &[u8], passed: usize
     Next::Mark(mark_one(levels, inputs, &cells[0..count], passed + 1, &marks[0..end]))
 }
 
-// Of a job by its parts. Lines that are no sheet's first lines have no groups.
+// Returns the next group's mark in a job given by its parts, or that it is done. Lines that are no sheet's first lines have no groups.
 pub fn next_mark(lines: &[u8], cells: &[u8], marks: &[u8], passed: usize) -> Next
     requires { ⌜ (mostCells ≤ length (now cells)) × (mostGroups ≤ length (now marks)) ⌝ }
     ensures { λ r. ⌜ NextMark (jobIn (now (lines .entry)) (now (cells .entry)) (now (marks .entry)) passed) r ⌝ }
@@ -69,7 +81,7 @@ pub fn next_mark(lines: &[u8], cells: &[u8], marks: &[u8], passed: usize) -> Nex
     }
 }
 
-// The job with the next group's mark.
+// Returns the job with the next group's mark.
 pub fn marked(job: Job, mark: u8) -> Job
     requires { ⌜ job .passed + 1 < mostGroups ⌝ }
     ensures { λ r. ⌜ r ≡ withMark job mark ⌝ }

@@ -11,15 +11,15 @@ use crate::job;
 use crate::job::Job;
 use crate::job::Opened;
 use answers::outcome::Outcome;
-use lines::header;
-use lines::put::copy;
 use marks::own;
+use net_sheets::text::header;
+use net_sheets::text::put::copy;
 use nets::forms::Header;
 use radix::limits;
 use radix::powers;
-use table_reading::full;
+use table_reader::full;
 
-// The empty job: no bytes of it are a sheet's first lines.
+// Returns the empty job: its bytes are not a sheet's first lines.
 fn no_job() -> Job
     ensures { λ r. ⌜ r ≡ noBytes ⌝ }
 {
@@ -31,7 +31,7 @@ fn no_job() -> Job
     }
 }
 
-// The first lines up to the last name, with a space after each name.
+// Returns the first lines up to the last name, with a space after each name.
 fn own_lines(s: &[u8], h: Header) -> [u8; job::MOST_LINES]
     requires { ⌜ OwnLines (now s) h ⌝ }
     ensures { λ r. ⌜ r ≡ linesOf (headerOf (now (s .entry)) h) ⌝ }
@@ -53,7 +53,7 @@ fn own_cells(inks: &[u8]) -> [u8; limits::MOST_CELLS]
     cells
 }
 
-// A job on the table `inks`, of which `h` is the first three lines in the sheet s.
+// Returns a job on the table `inks`, whose first three lines in the sheet s are `h`.
 fn new_job(s: &[u8], h: Header, inks: &[u8]) -> Job
     requires { ⌜ Given (now s) h (now inks) ⌝ }
     ensures { λ r. ⌜ r ≡ newBytes (tableIn (now (s .entry)) h (now (inks .entry))) ⌝ }

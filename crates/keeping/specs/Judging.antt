@@ -8,27 +8,27 @@ use native.Mathlib.Nat.{lt-of-not-le}
 use native.Mathlib.Decide.{decLe}
 use native.Mathlib.Omega.{arith}
 use lib.Dec.{eqb}
-use lib.ListN.{length, take, length-take}
+use lib.ListN.{length, getD, take, length-take}
 use borrow.Author.Tests.{lt-ltb, le-ltb, not-true, not-false}
-use Rattle.rules.specs.Sheets as sheets
-use Rattle.rules.specs.Sheets.{Table}
-use Rattle.rules.specs.Printed.{printedNet}
-use Rattle.rules.specs.Kept.{KeptHeader}
-use Rattle.rules.specs.Answers.{accepted, inkIn, neither, refused, tableNamed, written}
-use Rattle.rules.specs.OpenCells.{full, fullTable}
-use Rattle.rules.specs.Checking.{sameNames, sameHeader}
-use Rattle.rules.specs.Keeping.{keptNet, roomyBefore, leavesOut, turnedAway, KeptWiring, keptInto, keepCall}
-use Rattle.laws.specs.Tests.{both-eqb}
-use Rattle.laws.specs.Settling.{sheet-15, sheet-written}
-use Rattle.laws.specs.Keeping.{keep-accepted, keep-12, keep-27, keep-13, keep-23-0, keep-23, keep-15, keep-written}
-use Rattle.readback.specs.ReadBack.{net-accepted}
+use Rattle.rules.specs.Sheets.Sheets as sheets
+use Rattle.rules.specs.Sheets.Sheets.{Table}
+use Rattle.rules.specs.Sheets.Printed.{printedNet}
+use Rattle.rules.specs.Sheets.SheetRules.{HeaderRules}
+use Rattle.rules.specs.Calls.Answers.{accepted, inkIn, neither, refused, tableNamed, written}
+use Rattle.rules.specs.Calls.OpenCells.{full, fullTable}
+use Rattle.rules.specs.Calls.Checking.{sameNames, sameHeader}
+use Rattle.rules.specs.Calls.Keeping.{keptNet, roomyBefore, leavesOut, turnedAway, KeptWiring, keptInto, keepCall}
+use Rattle.laws.specs.Lists.Tests.{both-eqb}
+use Rattle.laws.specs.Calls.Settling.{sheet-15, sheet-written}
+use Rattle.laws.specs.Calls.Keeping.{keep-accepted, keep-12, keep-27, keep-13, keep-23-0, keep-23, keep-15, keep-written}
+use Rattle.readback.specs.Sheets.ReadBack.{net-accepted}
 use Rattle.nets.specs.declared.forms.Header.{Header}
 use Rattle.nets.specs.declared.forms.Net.{Net}
 use Rattle.nets.specs.Forms.{headerOf, tableIn, netIn}
-use Rattle.table_reading.specs.Answers.{inksIn}
+use Rattle.table_reader.specs.TableReading.{inksIn}
 use Rattle.accepted.specs.Taken.{NetTaken, TableTaken, Given, names-inside, taken-full, inks-front, inks-kept, inks-given}
-use Rattle.refilling.specs.Refilling.{full-short, full-long}
-use Rattle.refilling.specs.Answers.{withChanged, sheetKept, filledInto, fullInto}
+use Rattle.keeping.specs.Rewriting.{full-short, full-long}
+use Rattle.keeping.specs.KeepAnswers.{withChanged, sheetKept, filledInto, fullInto}
 
 -- ---- past 27
 
@@ -57,7 +57,7 @@ module _ (net : sheets.Net) (t : Table) (cells output : List ℕ) (same : sameHe
       go (no short) = keep-13 net t cells output same whole (lt-of-not-le short) ∙ full-short net t cells output (lt-of-not-le short)
 
 -- the header of an accepted net sheet keeps the rules
-own-header : (s : List ℕ) (h : Header) (net : Net) → NetTaken s h net → KeptHeader (headerOf s h)
+own-header : (s : List ℕ) (h : Header) (net : Net) → NetTaken s h net → HeaderRules (headerOf s h)
 own-header s h net taken = net-accepted s (netIn s h net) (taken .reads) .1 .header
 
 -- the table's header has no say in what follows
@@ -73,8 +73,8 @@ module _ (s : List ℕ) (h : Header) (net : Net) (taken : NetTaken s h net) (t :
 
   -- the headers compared, and the test of the answer
   module _ (same : Bool) (told : same ≡ sameHeader (headerOf s h) (headerOf t k)) where
-    pub headers-differ : not same ≡ true → record { answer = turnedAway neither 12 0; cells = cells; output = output } ≡ keepCall s t cells output
-    headers-differ differ = sym (both-accepted ∙ keep-12 (netIn s h net) (tableIn t k (inksIn inks k)) cells output (sym told ∙ not-true same differ))
+    pub keeping-headers-differ : not same ≡ true → record { answer = turnedAway neither 12 0; cells = cells; output = output } ≡ keepCall s t cells output
+    keeping-headers-differ differ = sym (both-accepted ∙ keep-12 (netIn s h net) (tableIn t k (inksIn inks k)) cells output (sym told ∙ not-true same differ))
 
     module _ (alike : not same ≡ false) (count : ℕ) (is : count ≡ h .levels ^ h .inputs) where
       agreed : sameHeader (headerOf s h) (headerOf t k) ≡ true
@@ -99,6 +99,11 @@ module _ (s : List ℕ) (h : Header) (net : Net) (taken : NetTaken s h net) (t :
       -- the buffer holds all inks
       pub inks-long : count ≤ length inks
       inks-long = omega (arith, front-length, length-take (count - 0) inks)
+
+      -- no ink is above the levels
+      pub inks-within : (p : ℕ) → p < length (take (count - 0) inks) → getD (take (count - 0) inks) p 0 ≤ k .levels
+      unfolding headerOf
+      inks-within = inks-kept t k inks count count-is other .within
 
       -- 27, which names the table sheet
       pub table-open : (number place : ℕ) → refused number place ≡ full (k .levels) (take (count - 0) inks)

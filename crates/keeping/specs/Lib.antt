@@ -1,1 +1,6 @@
+pub mod Changed
+pub mod Groups
 pub mod Judging
+pub mod KeepAnswers
+pub mod LeftOut
+pub mod Rewriting

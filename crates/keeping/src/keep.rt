@@ -1,20 +1,20 @@
 // The keep call: a net sheet's wiring, filled anew for a table sheet.
 ghost use mathlib.Core.Path.{_≡_};
-ghost use Rattle.rules.specs.Keeping.{keepCall};
-ghost use Rattle.refilling.specs.Answers.{keptOf};
+ghost use Rattle.rules.specs.Calls.Keeping.{keepCall};
+ghost use Rattle.keeping.specs.KeepAnswers.{keptOf};
 ghost use Rattle.accepted.specs.Taken.{NetTaken, TableTaken};
-use answers::full::judge_full;
+use crate::answer::Kept;
+use crate::filled::keep_full;
 use answers::named::Named;
 use answers::outcome::Outcome;
-use net_reading::net::read_net;
+use cells::full::judge_full;
+use fields::header::same::same_header;
+use net_sheets::reader::net::read_net;
 use nets::forms::Header;
 use nets::forms::Net;
 use radix::limits::MOST_CELLS;
 use radix::powers::power;
-use refilling::answer::Kept;
-use refilling::filled::keep_full;
-use same_headers::headers::same_header;
-use table_reading::sheet::read_table;
+use table_reader::sheet::read_table;
 
 // The net sheet s and the table sheet t, both accepted: refusal 12, refusal 27, which names the table sheet, or what a full table comes to. The inks
 // of t stand at the front of `inks`.

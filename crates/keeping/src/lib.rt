@@ -1,2 +1,9 @@
-// A net sheet's wiring kept, and its gates filled anew for a table sheet.
+// Keeping a net's wiring: its gates are filled again for another table.
+pub mod answer;
+pub mod changed;
+pub mod filled;
 pub mod keep;
+pub mod left_out;
+pub mod rewrite;
+pub mod too_many;
+pub mod wiring;

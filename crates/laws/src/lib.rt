@@ -1,1 +1,1 @@
-// Laws of the definitions: of the list functions that they use, and one for each outcome of each call; in specs/. This crate has no code.
+// Laws of the list functions and of the calls' definitions, in specs/. This crate has no code.

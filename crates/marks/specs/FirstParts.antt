@@ -8,12 +8,12 @@ use native.Mathlib.Omega.{arith}
 use lib.Bits.{and-self}
 use lib.Dec.{eqb}
 use lib.Pow.{pow-pos}
-use Rattle.rules.specs.Groups.{member}
-use Rattle.rules.specs.Marks.{inside, markIn, partsAt}
-use Rattle.rules.specs.Wirings.{firstInput}
-use Rattle.trees.specs.MarkTwo.{isA}
-use Rattle.trees.specs.MarkRule.{parts-at-holds}
-use Rattle.radix.specs.Parts.{Part, Next, without-first}
+use Rattle.rules.specs.Groups.Groups.{member}
+use Rattle.rules.specs.Groups.Marks.{inside, markIn, partsAt}
+use Rattle.rules.specs.Nets.Wirings.{firstInput}
+use Rattle.trees.specs.Trees.MarkTwo.{isA}
+use Rattle.trees.specs.Groups.MarkRule.{parts-at-holds}
+use Rattle.radix.specs.Parts.{PartOf, Next, without-first}
 use Rattle.marks.specs.Splits.{holds-part, part-holds}
 
 -- ---- what is looked for
@@ -54,11 +54,11 @@ module _ (g rest : ℕ) (some : 0 < g) (is-rest : (n : ℕ) → g < 2 ^ n → re
     first = omega (arith, is-rest n g<, without-first n g some g< .0)
 
     -- a part that holds it is the first-listed input and a part of the others, ..
-    pub is-part-of : (u : ℕ) → u < g → inside n u g ≡ true → member (firstInput n g) u ≡ true → (g - rest ≤ u) × Part (u - (g - rest)) rest
+    pub is-part-of : (u : ℕ) → u < g → inside n u g ≡ true → member (firstInput n g) u ≡ true → (g - rest ≤ u) × PartOf (u - (g - rest)) rest
     is-part-of u u< is-inside is-held = let is = holds-part n g some g< u (omega arith) is-inside is-held in rw (first, is-rest n g<) is
 
     -- .. and those two together are such a part
-    pub part-at : (part : ℕ) → part < rest → Part part rest
+    pub part-at : (part : ℕ) → part < rest → PartOf part rest
         → (0 < (g - rest) + part) × ((g - rest) + part < g) × (inside n ((g - rest) + part) g ≡ true) × (member (firstInput n g) ((g - rest) + part) ≡ true)
     part-at part more is-part =
         let holds = part-holds n g some g< part (rw (← (is-rest n g<)) is-part) in (
@@ -72,7 +72,7 @@ module _ (g rest : ℕ) (some : 0 < g) (is-rest : (n : ℕ) → g < 2 ^ n → re
 
   module _ (test : ℕ → ℕ → Bool) (look : ℕ → Bool) (looked : Looked g test look) (n : ℕ) (g< : g < 2 ^ n) where
     -- is the first-listed input and a part of the others: nothing below that input by itself, ..
-    passes : (u : ℕ) → u < g → test n u ≡ true → (g - rest ≤ u) × Part (u - (g - rest)) rest
+    passes : (u : ℕ) → u < g → test n u ≡ true → (g - rest ≤ u) × PartOf (u - (g - rest)) rest
     passes u u< e = let is = looked .within n u e in is-part-of n g< u u< (is .0) (is .1)
 
     pub none-below : (u : ℕ) → u < g - rest → test n u ≡ false
@@ -86,7 +86,7 @@ module _ (g rest : ℕ) (some : 0 < g) (is-rest : (n : ℕ) → g < 2 ^ n → re
         omega (arith, after .least (u - (g - rest)) (omega arith) (is .1))
 
     -- the part of g that is looked at
-    pub here : (part : ℕ) → part < rest → Part part rest → (0 < (g - rest) + part) × ((g - rest) + part < g) × (test n ((g - rest) + part) ≡ look ((g - rest) + part))
+    pub here : (part : ℕ) → part < rest → PartOf part rest → (0 < (g - rest) + part) × ((g - rest) + part < g) × (test n ((g - rest) + part) ≡ look ((g - rest) + part))
     here part more is-part =
         let at = part-at n g< part more is-part in
         (at .0, at .1, looked .at-part n ((g - rest) + part) (at .2) (at .3))

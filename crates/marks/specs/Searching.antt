@@ -9,17 +9,17 @@ use native.Mathlib.Omega.{arith}
 use lib.Bits.{and-self}
 use lib.Pow.{pow-pos}
 use Rattle.rules.specs.Lists.{range, firstPlace}
-use Rattle.rules.specs.Wirings.{firstInput}
-use Rattle.radix.specs.Parts.{Part, Next, without-first}
+use Rattle.rules.specs.Nets.Wirings.{firstInput}
+use Rattle.radix.specs.Parts.{PartOf, Next, without-first}
 use Rattle.marks.specs.Splits.{skip-to}
 use Rattle.marks.specs.FirstParts.{Looked, first, none-below, none-between}
 use Rattle.marks.specs.FirstParts as parts
-use Rattle.laws.specs.FirstPlaces.{stop-at}
+use Rattle.laws.specs.Lists.FirstPlaces.{stop-at}
 
 -- the search from A on is the search, where A is the first-listed input and the part `part` of the others
 pub record Sought (test : ℕ → ℕ → Bool) (g rest part : ℕ) : Type 0 where
   pub low : part ≤ rest
-  pub is-part : Part part rest
+  pub is-part : PartOf part rest
   pub left : (n : ℕ) → g < 2 ^ n →
       let a = (g - rest) + part in
       a + firstPlace (test n) (range a (g - a)) ≡ 1 + firstPlace (test n) (range 1 (g - 1))

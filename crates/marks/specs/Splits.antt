@@ -9,18 +9,18 @@ use lib.Bits.{and-le-r}
 use lib.Dec.{eqb, ltb, leb·suc-suc}
 use borrow.Author.Tests.{eqb-true, eq-eqb}
 use Rattle.rules.specs.Lists.{range, any, firstPlace}
-use Rattle.rules.specs.Groups.{member}
-use Rattle.rules.specs.Marks.{inside, markIn, partsAt}
-use Rattle.rules.specs.Wirings.{firstInput}
-use Rattle.rules.specs.Settled.{splitOf}
-use Rattle.trees.specs.Trees.{Apart}
-use Rattle.trees.specs.Members.{member-single, single-below, member-join, inside-member, member-inside, inside-le, member-rest, first-member}
-use Rattle.laws.specs.FirstPlaces.{first-passes, any-place, place-agree, skip}
-use Rattle.laws.specs.Ranges.{mem-range, range-length}
-use Rattle.laws.specs.Tests.{two-ways, mem-any}
-use Rattle.trees.specs.MarkRule.{search-parts}
-use Rattle.trees.specs.MarkTwo.{isA, some-A}
-use Rattle.radix.specs.Parts.{Part, inside-part, part-inside}
+use Rattle.rules.specs.Groups.Groups.{member}
+use Rattle.rules.specs.Groups.Marks.{inside, markIn, partsAt}
+use Rattle.rules.specs.Nets.Wirings.{firstInput}
+use Rattle.rules.specs.Nets.Settled.{splitOf}
+use Rattle.rules.specs.Nets.Trees.{Apart}
+use Rattle.trees.specs.Groups.Members.{member-single, single-below, member-join, inside-member, member-inside, inside-le, member-rest, first-member}
+use Rattle.laws.specs.Lists.FirstPlaces.{first-passes, any-place, place-agree, skip}
+use Rattle.laws.specs.Lists.Ranges.{mem-range, range-length}
+use Rattle.laws.specs.Lists.Tests.{two-ways, mem-any}
+use Rattle.trees.specs.Groups.MarkRule.{search-parts}
+use Rattle.trees.specs.Trees.MarkTwo.{isA, some-A}
+use Rattle.radix.specs.Parts.{PartOf, inside-part, part-inside}
 
 -- ---- parts that hold the first-listed input
 
@@ -56,7 +56,7 @@ module _ (n g : ℕ) (some : 0 < g) (g< : g < 2 ^ n) where
       member-rest i n alone u alone-below u< (alone-inside u e) i< ∙ ap (λ t. member i u && not t) (member-single i first)
 
   pub holds-part : (u : ℕ) → u < 2 ^ n → inside n u g ≡ true → member (firstInput n g) u ≡ true
-      → (alone ≤ u) × Part (u - alone) (g - alone)
+      → (alone ≤ u) × PartOf (u - alone) (g - alone)
   unfolding first
   holds-part u u< h e =
       (inside-le n alone u alone-below u< (alone-inside u e), inside-part n (u - alone) (g - alone) (omega arith) (member-inside n (u - alone) (g - alone) go))
@@ -66,7 +66,7 @@ module _ (n g : ℕ) (some : 0 < g) (g< : g < 2 ^ n) where
           let both = and-eq-true-iff _ _ .0 (sym (rest-member i u i< u< e) ∙ is) in
           rest-member i g i< g< (first-member n g g< some .1) ∙ rw (inside-member i n u g h i< (both .0), both .1)
 
-  pub part-holds : (s : ℕ) → Part s (g - alone) → (inside n (alone + s) g ≡ true) × (member (firstInput n g) (alone + s) ≡ true)
+  pub part-holds : (s : ℕ) → PartOf s (g - alone) → (inside n (alone + s) g ≡ true) × (member (firstInput n g) (alone + s) ≡ true)
   unfolding first
   part-holds s p = (
     member-inside n (alone + s) g (λ i i< is. go i i< (member i alone) refl (sym (joined i i<) ∙ is)),

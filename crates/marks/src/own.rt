@@ -2,7 +2,7 @@
 ghost use mathlib.Core.Path.{_≡_};
 ghost use Prim.Native.Nat.{_<_};
 ghost use lib.ListN.{length, set};
-ghost use Rattle.rules.specs.Marks.{markIn};
+ghost use Rattle.rules.specs.Groups.Marks.{markIn};
 use radix::limits::MOST_INPUTS;
 
 // The groups of the most inputs.

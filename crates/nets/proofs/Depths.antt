@@ -9,9 +9,9 @@ use native.Mathlib.Omega.{arith}
 use lib.ListN.{length, getD, take, set, replicate, length-set, length-replicate, replicate-append-replicate}
 use lib.Seq.{take-at, getD-take, getD-set-same, getD-set-other, take-suc-set}
 use Rattle.rules.specs.Lists.{range}
-use Rattle.rules.specs.Layers.{layers}
-use Rattle.laws.specs.Layers.{gateDepth, withDepths, depths-snoc, layers-depth}
-use Rattle.laws.specs.Ranges.{map-range-suc}
+use Rattle.rules.specs.Nets.Layers.{layers}
+use Rattle.laws.specs.Nets.Layers.{gateDepth, withDepths, depths-snoc, layers-depth}
+use Rattle.laws.specs.Lists.Ranges.{map-range-suc}
 use Rattle.nets.specs.declared.forms.Net.{Net}
 use Rattle.nets.specs.Forms.{gateOf, gatesOf}
 use Rattle.nets.specs.Room.{mostWires}

@@ -1,2 +1,1 @@
-mod Depths
-mod Stepping
+pub mod Depths

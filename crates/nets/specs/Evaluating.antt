@@ -4,8 +4,8 @@ use Prim.Native.Nat.{ℕ, _^_}
 use mathlib.Core.Path.{_≡_}
 use mathlib.Core.List.{List}
 use lib.ListN.{take}
-use Rattle.rules.specs.Value.{tableOf}
-use Rattle.rules.specs.Answers.{written}
+use Rattle.rules.specs.Nets.Value.{tableOf}
+use Rattle.rules.specs.Calls.Answers.{written}
 use Rattle.nets.specs.declared.forms.Net.{Net}
 use Rattle.nets.specs.Forms.{gatesOf}
 

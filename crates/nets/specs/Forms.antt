@@ -5,9 +5,9 @@ use mathlib.Core.Path.{_≡_}
 use mathlib.Core.List.{List, map}
 use lib.ListN.{length, getD, take, drop, replicate}
 use Rattle.rules.specs.Lists.{range}
-use Rattle.rules.specs.Sheets as sheets
+use Rattle.rules.specs.Sheets.Sheets as sheets
 use Rattle.rules.specs.Limits.{mostInputs}
-use Rattle.laws.specs.Ranges.{map-range-length}
+use Rattle.laws.specs.Lists.Ranges.{map-range-length}
 use Rattle.nets.specs.Room.{mostGates, mostDigits}
 use Rattle.nets.specs.declared.forms.Header.{Header}
 use Rattle.nets.specs.declared.forms.Net.{Net}

@@ -9,9 +9,9 @@ use native.Mathlib.Omega.{arith}
 use lib.ListN.{length, take, drop, set}
 use lib.Seq.{paste, getD-set-same, getD-set-other}
 use Rattle.rules.specs.Lists.{range}
-use Rattle.rules.specs.Sheets.{Gate}
-use Rattle.laws.specs.Pastes.{part-before, part-pasted}
-use Rattle.laws.specs.Ranges.{map-range-suc, map-range-same}
+use Rattle.rules.specs.Sheets.Sheets.{Gate}
+use Rattle.laws.specs.Lists.Pastes.{part-before, part-pasted}
+use Rattle.laws.specs.Lists.Ranges.{map-range-suc, map-range-same}
 use Rattle.nets.specs.Forms.{gateOf, gatesOf}
 use Rattle.nets.specs.declared.forms.Net.{Net}
 

@@ -1,8 +1,8 @@
+pub mod Evaluating
 pub mod Forms
 pub mod Growing
+pub mod References
 pub mod Room
 pub mod Sound
-pub mod References
 pub mod Tables
-pub mod Evaluating
 pub mod Values

@@ -9,7 +9,7 @@ use borrow.Author.Tests.{leb-true}
 use lib.Dec.{leb}
 use Rattle.rules.specs.Lists.{range, all}
 use Rattle.rules.specs.Limits.{mostInputs, levelsFit, inputsFit, cellsFit, sizeFits}
-use Rattle.laws.specs.Sizes.{sized, everySize, at-size}
+use Rattle.laws.specs.Numbers.Sizes.{sized, everySize, at-size}
 
 -- the gates of a net
 abbrev pub mostGates : ℕ

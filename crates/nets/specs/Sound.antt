@@ -6,9 +6,9 @@ use mathlib.Core.Bool.{true}
 use native.Mathlib.Omega.{arith}
 use lib.ListN.{length}
 use Rattle.rules.specs.Limits.{sizeFits}
-use Rattle.rules.specs.Kept.{IsNet}
-use Rattle.laws.specs.Ranges.{map-range-length}
-use Rattle.laws.specs.Sizes.{Size, sized}
+use Rattle.rules.specs.Sheets.SheetRules.{IsNet}
+use Rattle.laws.specs.Lists.Ranges.{map-range-length}
+use Rattle.laws.specs.Numbers.Sizes.{Size, sized}
 use Rattle.nets.specs.declared.forms.Net.{Net}
 use Rattle.nets.specs.Forms.{gateOf, gatesOf}
 use Rattle.nets.specs.Room.{mostWires}
@@ -26,8 +26,8 @@ module _ (net : Net) (sound : Sound net) where
   pub sound-size : Size (net .levels) (net .inputs)
   sound-size = sized (net .levels) (net .inputs) (sound .size)
 
-  pub levels-pos : 0 < net .levels
-  levels-pos = omega (arith, sound-size .levels-least)
+  pub net-levels-pos : 0 < net .levels
+  net-levels-pos = omega (arith, sound-size .levels-least)
 
   -- "A net sheet may have from 1 to n − 1 gate lines" (document 02, K12)
   pub gates-pos : 0 < net .gates

@@ -7,11 +7,11 @@ use native.Mathlib.Nat.{zero-add, add-zero, mul-pos}
 use native.Mathlib.Omega.{arith}
 use lib.ListN.{length, length-take, length-drop}
 use Rattle.rules.specs.Lists.{range}
-use Rattle.rules.specs.Sheets.{Gate}
-use Rattle.rules.specs.Kept.{GateTable, Tables}
+use Rattle.rules.specs.Sheets.Sheets.{Gate}
+use Rattle.rules.specs.Sheets.SheetRules.{GateTable, Tables}
 use Rattle.nets.specs.declared.forms.Net.{Net}
 use Rattle.nets.specs.Forms.{gateOf, gatesOf}
-use Rattle.nets.specs.Sound.{Sound, levels-pos}
+use Rattle.nets.specs.Sound.{Sound, net-levels-pos}
 
 -- ---- what holds of a gate list holds of each gate
 
@@ -27,10 +27,10 @@ module _ (f : ℕ → Gate) where
 -- ---- the gate with k gates before it
 
 module _ (net : Net) (sound : Sound net) (k : ℕ) (turn : k < net .gates) where
-  pub gate-table : GateTable (net .levels) (gateOf net k .digits)
+  pub net-gate-table : GateTable (net .levels) (gateOf net k .digits)
   unfolding gatesOf
-  gate-table = rw zero-add at (table-at (gateOf net) (net .levels) 0 (net .gates) k turn (sound .gates .rules .tables))
+  net-gate-table = rw zero-add at (table-at (gateOf net) (net .levels) 0 (net .gates) k turn (sound .gates .rules .tables))
 
   pub digits-within : k * (net .levels * net .levels) + net .levels * net .levels ≤ length (net .digits)
   unfolding gateOf
-  digits-within = omega (arith, mul-pos (levels-pos net sound) (levels-pos net sound), simp (length-take, length-drop) at (gate-table .count))
+  digits-within = omega (arith, mul-pos (net-levels-pos net sound) (net-levels-pos net sound), simp (length-take, length-drop) at (net-gate-table .count))

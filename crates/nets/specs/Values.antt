@@ -3,8 +3,8 @@
 use Prim.Native.Nat.{ℕ}
 use mathlib.Core.Path.{_≡_, refl}
 use mathlib.Core.List.{List, [], _∷_, _++_}
-use Rattle.rules.specs.Sheets.{Gate}
-use Rattle.rules.specs.Value.{gateValue, withGates}
+use Rattle.rules.specs.Sheets.Sheets.{Gate}
+use Rattle.rules.specs.Nets.Value.{gateValue, withGates}
 
 pub with-snoc : (m : ℕ) (vs : List ℕ) (gates : List Gate) (g : Gate)
     → withGates m vs (gates ++ (g ∷ [])) ≡ withGates m vs gates ++ (gateValue m (withGates m vs gates) g ∷ [])

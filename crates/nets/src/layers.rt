@@ -1,7 +1,7 @@
 // The layers of a net: the most gates on a way from an input to the output.
 ghost use mathlib.Core.Path.{_≡_};
 ghost use Prim.Native.Nat.{max};
-ghost use Rattle.rules.specs.Layers.{layers};
+ghost use Rattle.rules.specs.Nets.Layers.{layers};
 ghost use Rattle.nets.specs.Forms.{gatesOf};
 ghost use Rattle.nets.specs.Sound.{Sound};
 use crate::forms::MOST_WIRES;

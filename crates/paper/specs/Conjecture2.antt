@@ -9,16 +9,17 @@ use mathlib.Core.List.{[], _∷_}
 use native.Mathlib.Omega.{arith}
 use lib.Dec.{eqb, lit<}
 use Rattle.rules.specs.Lists.{range, those}
-use Rattle.rules.specs.Groups.{member, others, wholeGroup, size}
-use Rattle.rules.specs.Filling.{classNumber}
-use Rattle.rules.specs.Marks.{markIn, marksOf}
-use Rattle.rules.specs.Answers.{inkIn}
-use Rattle.rules.specs.Cases.{named, byRule, abcd, oneIf, seven}
+use Rattle.rules.specs.Groups.Groups.{member, others, wholeGroup, size}
+use Rattle.rules.specs.Nets.Filling.{classNumber}
+use Rattle.rules.specs.Groups.Marks.{markIn, marksOf}
+use Rattle.rules.specs.Calls.Answers.{inkIn}
+use Rattle.rules.specs.Cases.Cases.{seven}
+use Rattle.rules.specs.Cases.Written.{named, byRule, abcd, oneIf}
 use Rattle.rules.specs.Evaluation.{computing}
-use Rattle.trees.specs.Members.{others-below}
+use Rattle.trees.specs.Groups.Members.{others-below}
 use Rattle.paper.specs.Decompositions.{Complex, Labels, class-labels, class-complex, columns-simple, simple-tells}
 use Rattle.paper.specs.FanoutFree.{FanoutFree, fanout-free-mark, classes-fanout-free, marked-few}
-use Rattle.laws.specs.Bounds.{inks-below}
+use Rattle.laws.specs.Lists.Bounds.{inks-below}
 
 -- which CDD's are meant
 abbrev pub Kind : Type 1

@@ -8,16 +8,16 @@ use native.Mathlib.Omega.{arith}
 use lib.ListN.{getD}
 use lib.Dec.{lit<, lit≤}
 use Rattle.rules.specs.Text.{text}
-use Rattle.rules.specs.Groups.{part, others, wholeGroup, classes, multiplicity}
-use Rattle.rules.specs.Sheets.{level}
-use Rattle.rules.specs.Cases.{digits}
+use Rattle.rules.specs.Groups.Groups.{part, others, wholeGroup, classes, multiplicity}
+use Rattle.rules.specs.Sheets.Sheets.{level}
+use Rattle.rules.specs.Cases.Written.{digits}
 use Rattle.rules.specs.Evaluation.{computing}
-use Rattle.trees.specs.Members.{inside-member}
-use Rattle.trees.specs.Levels.{level-part-in, part-ext}
-use Rattle.trees.specs.MarkRule.{marked}
+use Rattle.trees.specs.Groups.Members.{inside-member}
+use Rattle.trees.specs.Groups.Levels.{level-part-in, part-ext}
+use Rattle.trees.specs.Groups.MarkRule.{marked}
 use Rattle.paper.specs.Decompositions.{Simple, Labels, class-labels, class-simple}
 use Rattle.paper.specs.FanoutFree.{FanoutFree, ink-fanout-free, own-ink-mark}
-use Rattle.laws.specs.Bounds.{inks-below}
+use Rattle.laws.specs.Lists.Bounds.{inks-below}
 
 -- H, a function of a wire in place of inputs i and j and of the other inputs, as one of all inputs but j: input i stands for the wire
 abbrev pub withWire : ℕ → ℕ → ℕ → ℕ → (ℕ → ℕ → ℕ) → ℕ → ℕ
@@ -28,11 +28,11 @@ abbrev pub RestFanoutFree : ℕ → ℕ → ℕ → ℕ → (ℕ → ℕ → ℕ
 RestFanoutFree m n i j H = FanoutFree m n (others n (2 ^ j)) (withWire m n i j H)
 
 -- which decompositions are meant
-abbrev pub Kind : Type 1
-Kind = (m n : ℕ) (f : ℕ → ℕ) (x : ℕ) → Simple m n f x → Type 0
+abbrev pub KindOf3 : Type 1
+KindOf3 = (m n : ℕ) (f : ℕ → ℕ) (x : ℕ) → Simple m n f x → Type 0
 
 -- of any two that are meant, f(Z) = H1(g1(xi, xj), Z − {xi, xj}) (18) and f(Z) = H2(g2(xk, xl), Z − {xk, xl}) (19)
-abbrev pub PairsAgree : Kind → Type 0
+abbrev pub PairsAgree : KindOf3 → Type 0
 PairsAgree Meant =
     (m n : ℕ) (f : ℕ → ℕ) → 1 < m → ((p : ℕ) → p < m ^ n → f p < m)
     → (i j k l : ℕ) → (i < n) × (j < n) × (i ≢ j) → (k < n) × (l < n) × (k ≢ l)

@@ -6,13 +6,13 @@ use mathlib.Core.Path.{_≡_, sym, ap, _∙_, _≡⟨_⟩_, _∎}
 use mathlib.Core.Logic.{_↔_}
 use native.Mathlib.Nat.{add-comm, lt-of-lt-of-le}
 use lib.ListN.{getD}
-use Rattle.rules.specs.Groups.{part, others, classes, multiplicity}
-use Rattle.rules.specs.Filling.{classNumber}
-use Rattle.trees.specs.Trees.{mix, Alike, Tells}
-use Rattle.trees.specs.Members.{others-below}
-use Rattle.trees.specs.Levels.{part-mix, mix-below, mix-self}
-use Rattle.trees.specs.Points.{points-are-parts}
-use Rattle.trees.specs.Classes.{alike-class, class-below, class-listed, class-part, classes-are-points, few-classes}
+use Rattle.rules.specs.Groups.Groups.{part, others, classes, multiplicity}
+use Rattle.rules.specs.Nets.Filling.{classNumber}
+use Rattle.trees.specs.Trees.Trees.{mix, Alike, Tells}
+use Rattle.trees.specs.Groups.Members.{others-below}
+use Rattle.trees.specs.Groups.Levels.{part-mix, mix-below, mix-self}
+use Rattle.trees.specs.Groups.Points.{points-are-parts}
+use Rattle.trees.specs.Groups.Classes.{alike-class, class-below, class-listed, class-part, classes-are-points, few-classes}
 use Rattle.paper.specs.PartitionMatrix.{columnMultiplicity, rowMultiplicity, column-multiplicity, row-multiplicity, others-others}
 
 -- "f(Z) has a simple disjunctive decomposition (SDD) if and only if f(Z) = F(g(X), Y)": g has k values, and is given the levels

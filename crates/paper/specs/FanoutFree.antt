@@ -6,20 +6,21 @@ use mathlib.Core.Path.{_≡_, refl, sym, ap, _∙_}
 use mathlib.Core.Logic.{_≢_, _⊎_, inl, inr}
 use mathlib.Core.Bool.{Bool, true, false}
 use native.Mathlib.Omega.{arith}
-use Rattle.rules.specs.Groups.{part, size, multiplicity}
-use Rattle.rules.specs.Marks.{marksOf}
-use Rattle.rules.specs.Wirings.{Wiring, input, gate, groupOf}
-use Rattle.rules.specs.Filling.{classNumber, given}
-use Rattle.rules.specs.Settled.{settledWiring}
-use Rattle.laws.specs.Tests.{not-both}
-use Rattle.trees.specs.Trees.{Tree, wiringIn, treeValue, Filled, fill, WiringOf, EachGate, Apart, Tells, mix}
-use Rattle.trees.specs.Members.{member-single, single-below, join-below, size-single}
-use Rattle.trees.specs.Levels.{part-below, part-part, part-mix}
-use Rattle.trees.specs.Classes.{Few, class-part, few-classes}
-use Rattle.trees.specs.Wirings.{tree-part, necessity, gate-sufficiency, fill-filled}
-use Rattle.trees.specs.GateLists.{fill-wiring}
-use Rattle.trees.specs.MarkRule.{Way, to-none, to-two, to-one, way, marked, three-way}
-use Rattle.trees.specs.MarkTwo.{wiring-mark, settled-wiring-of}
+use Rattle.rules.specs.Groups.Groups.{part, size, multiplicity}
+use Rattle.rules.specs.Groups.Marks.{marksOf}
+use Rattle.rules.specs.Nets.Wirings.{Wiring, input, gate, groupOf}
+use Rattle.rules.specs.Nets.Filling.{classNumber, given}
+use Rattle.rules.specs.Nets.Settled.{settledWiring}
+use Rattle.laws.specs.Lists.Tests.{not-both}
+use Rattle.trees.specs.Trees.Trees.{fill, WiringOf, EachGate, Tells, mix}
+use Rattle.rules.specs.Nets.Trees.{Tree, wiringIn, treeValue, Filled, Apart}
+use Rattle.trees.specs.Groups.Members.{member-single, single-below, join-below, size-single}
+use Rattle.trees.specs.Groups.Levels.{part-below, part-part, part-mix}
+use Rattle.trees.specs.Groups.Classes.{Few, class-part, few-classes}
+use Rattle.trees.specs.Trees.Wirings.{tree-part, necessity, gate-sufficiency, fill-filled}
+use Rattle.trees.specs.Trees.GateLists.{fill-wiring}
+use Rattle.trees.specs.Groups.MarkRule.{Way, to-none, to-two, to-one, way, marked, three-way}
+use Rattle.trees.specs.Trees.MarkTwo.{wiring-mark, settled-wiring-of}
 
 -- A network of 2-input gates over the inputs of X, each used once, that has the values of g. "Thus, the structure is a tree whose
 -- root node is a gate supplying the (single) network output."

@@ -10,12 +10,13 @@ use native.Mathlib.Omega.{arith}
 use lib.ListN.{length, length-map}
 use lib.Dec.{eqb}
 use Rattle.rules.specs.Lists.{all, same}
-use Rattle.rules.specs.Groups.{size, others, wholeGroup, points, alikeOver, firsts, classes, multiplicity}
-use Rattle.rules.specs.Answers.{inkIn}
-use Rattle.rules.specs.Cases.{digits, byRule, figureRows, figure}
+use Rattle.rules.specs.Groups.Groups.{size, others, wholeGroup, points, alikeOver, firsts, classes, multiplicity}
+use Rattle.rules.specs.Calls.Answers.{inkIn}
+use Rattle.rules.specs.Cases.Cases.{figureRows, figure}
+use Rattle.rules.specs.Cases.Written.{digits, byRule}
 use Rattle.rules.specs.Evaluation.{computing}
-use Rattle.trees.specs.Firsts.{firsts-map}
-use Rattle.trees.specs.Points.{points-length}
+use Rattle.trees.specs.Groups.Firsts.{firsts-map}
+use Rattle.trees.specs.Groups.Points.{points-length}
 
 -- "the Y|X partition matrix has m^|X| columns and m^|Y| rows labeled by all possible assignments of values to X and Y,
 -- respectively. Each square contains the value of f for the assignment of values to X corresponding to the column labelling and

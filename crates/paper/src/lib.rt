@@ -1,1 +1,1 @@
-// Butler's paper (document 003) in its own terms: its partition matrix, theorems and conjectures. There is no code here.
+// Butler's theorems and conjectures in the paper's own terms, in specs/. This crate has no code.

@@ -8,8 +8,8 @@ use native.Mathlib.Nat.{pow-zero, pow-suc, pow-le-pow-right, mul-le-mul-right, l
 use native.Mathlib.Omega.{arith}
 use lib.ListN.{length, getD, take, set}
 use lib.Seq.{getD-take}
-use Rattle.rules.specs.Groups.{member, points}
-use Rattle.laws.specs.Bounds.{below-at}
+use Rattle.rules.specs.Groups.Groups.{member, points}
+use Rattle.laws.specs.Lists.Bounds.{below-at}
 use Rattle.radix.specs.Fronts.{Front}
 use Rattle.radix.specs.Offsets.{widened, widened-length, tail, tail-member, tail-other, tail-below, tail-length, points-tail}
 

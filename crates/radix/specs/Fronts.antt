@@ -6,7 +6,7 @@ use mathlib.Core.List.{List}
 use native.Mathlib.Nat.{sub-zero}
 use native.Mathlib.Omega.{arith}
 use lib.ListN.{length, take, length-take}
-use Rattle.rules.specs.Groups.{wholeGroup, others}
+use Rattle.rules.specs.Groups.Groups.{wholeGroup, others}
 
 -- xs is the front r of out
 pub record Front (xs : List ℕ) (r : ℕ) (out : List ℕ) : Type 0 where

@@ -1,6 +1,6 @@
 pub mod Fronts
-pub mod Offsets
-pub mod Widths
-pub mod Parts
 pub mod Members
+pub mod Offsets
+pub mod Parts
 pub mod Weights
+pub mod Widths

@@ -8,9 +8,9 @@ use native.Mathlib.Omega.{arith}
 use borrow.Author.Tests.{eq-eqb, ne-eqb}
 use lib.Count.{trailingZeros, under}
 use lib.Dec.{eqb}
-use Rattle.rules.specs.Groups.{member, size}
-use Rattle.rules.specs.Wirings.{firstInput}
-use Rattle.trees.specs.Members.{low-bit, first-odd, first-even, size-single, size-one, first-member}
+use Rattle.rules.specs.Groups.Groups.{member, size}
+use Rattle.rules.specs.Nets.Wirings.{firstInput}
+use Rattle.trees.specs.Groups.Members.{low-bit, first-odd, first-even, size-single, size-one, first-member}
 use Rattle.radix.specs.Parts.{without-first}
 
 -- one member: the first-listed is all

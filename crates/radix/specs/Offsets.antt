@@ -10,11 +10,11 @@ use native.Mathlib.Omega.{arith}
 use lib.ListN.{length, getD, take, length-append, length-map, List·getD-append}
 use lib.Seq.{take-at, getD-append-add}
 use Rattle.rules.specs.Lists.{range, concatMap}
-use Rattle.rules.specs.Groups.{member, points}
-use Rattle.laws.specs.Bounds.{Below, below-append, below-map, below-more}
-use Rattle.laws.specs.Concat.{concat-append, concat-concat, concat-map, map-concat, concat-same, map-same}
-use Rattle.laws.specs.Places.{map-at}
-use Rattle.laws.specs.Ranges.{range-suc, range-shift}
+use Rattle.rules.specs.Groups.Groups.{member, points}
+use Rattle.laws.specs.Lists.Bounds.{Below, below-append, below-map, below-more}
+use Rattle.laws.specs.Lists.Concat.{concat-append, concat-concat, concat-map, map-concat, concat-same, map-same}
+use Rattle.laws.specs.Lists.Places.{map-at}
+use Rattle.laws.specs.Lists.Ranges.{range-suc, range-shift}
 
 -- the offsets xs for each level of an input of weight w
 unfoldable pub widened : ℕ → ℕ → List ℕ → List ℕ

@@ -6,20 +6,20 @@ use mathlib.Core.Bool.{Bool, true, false, cond, _&&_}
 use native.Mathlib.Decide.{decLt}
 use native.Mathlib.Omega.{arith}
 use lib.Bits.{bitAnd, and-step, and-zero-r, and-le-l, and-self}
-use Rattle.rules.specs.Groups.{member}
-use Rattle.rules.specs.Wirings.{firstInput}
-use Rattle.rules.specs.Marks.{inside}
-use Rattle.trees.specs.Members.{low-bit, low-member, member-suc, member-ext, inside-member, member-inside, first-odd, first-even}
+use Rattle.rules.specs.Groups.Groups.{member}
+use Rattle.rules.specs.Nets.Wirings.{firstInput}
+use Rattle.rules.specs.Groups.Marks.{inside}
+use Rattle.trees.specs.Groups.Members.{low-bit, low-member, member-suc, member-ext, inside-member, member-inside, first-odd, first-even}
 
 -- every bit of s is one of r
-abbrev pub Part : ℕ → ℕ → Type 0
-Part s r = bitAnd s r ≡ s
+abbrev pub PartOf : ℕ → ℕ → Type 0
+PartOf s r = bitAnd s r ≡ s
 
 -- by the lowest bit, and the half
-part-half : (s r : ℕ) → Part s r → Part (s / 2) (r / 2) × (s % 2 ≤ r % 2)
+part-half : (s r : ℕ) → PartOf s r → PartOf (s / 2) (r / 2) × (s % 2 ≤ r % 2)
 part-half s r p = omega (arith, and-step s r, and-le-l (s / 2) (r / 2))
 
-half-part : (s r : ℕ) → Part (s / 2) (r / 2) → s % 2 ≤ r % 2 → Part s r
+half-part : (s r : ℕ) → PartOf (s / 2) (r / 2) → s % 2 ≤ r % 2 → PartOf s r
 half-part s r p low = omega (arith, and-step s r)
 
 -- `bitAnd` by the lowest bits, and of halves that are known
@@ -29,12 +29,12 @@ and-halves x r y low e d = and-step x r ∙ ap₂ (λ (z l : ℕ). bitAnd z (r /
 -- ---- the next part
 
 pub record Next (r s t : ℕ) : Type 0 where
-  pub part : Part t r
+  pub part : PartOf t r
   pub above : s < t
-  pub least : (u : ℕ) → s < u → Part u r → t ≤ u
+  pub least : (u : ℕ) → s < u → PartOf u r → t ≤ u
 
 -- a part and all that is not of r, without what is not of r
-fill : (k s r : ℕ) → r < 2 ^ k → Part s r → bitAnd (s + (2 ^ k - 1 - r)) r ≡ s
+fill : (k s r : ℕ) → r < 2 ^ k → PartOf s r → bitAnd (s + (2 ^ k - 1 - r)) r ≡ s
 fill zero s r r< p =
     let none : r ≡ 0 = omega arith in
     let x : ℕ = s + (2 ^ 0 - 1 - r) in
@@ -47,7 +47,7 @@ fill (suc k) s r r< p =
     ∙ omega arith
 
 -- a part whose lowest bit is free: the next is one more
-next-here : (k r s t : ℕ) → r < 2 ^ suc k → s % 2 < r % 2 → Part (s / 2) (r / 2) → t ≡ bitAnd (s + 2 ^ suc k - r) r → s < r → Next r s t
+next-here : (k r s t : ℕ) → r < 2 ^ suc k → s % 2 < r % 2 → PartOf (s / 2) (r / 2) → t ≡ bitAnd (s + 2 ^ suc k - r) r → s < r → Next r s t
 next-here k r s t r< free p e s< = record { part = half-part t r (rw half p) (omega arith); above = omega (arith, is); least = λ u s<u q. omega (arith, is) }
   where
     x : ℕ
@@ -75,15 +75,15 @@ next-on r s t low next =
     half = omega arith
 
 -- The next part: the carry of an addition runs through all that is not of r.
-pub next-part : (k r s : ℕ) → r < 2 ^ k → s < r → Part s r → Next r s (bitAnd (s + 2 ^ k - r) r)
+pub next-part : (k r s : ℕ) → r < 2 ^ k → s < r → PartOf s r → Next r s (bitAnd (s + 2 ^ k - r) r)
 next-part zero r s r< s< p = absurd (omega arith)
 next-part (suc k) r s r< s< p = go (part-half s r p) (decLt (s % 2) (r % 2)) (next-part k (r / 2) (s / 2))
   where
     x : ℕ
     x = s + 2 ^ suc k - r
 
-    go : Part (s / 2) (r / 2) × (s % 2 ≤ r % 2) → Dec (s % 2 < r % 2)
-        → (r / 2 < 2 ^ k → s / 2 < r / 2 → Part (s / 2) (r / 2) → Next (r / 2) (s / 2) (bitAnd (s / 2 + 2 ^ k - r / 2) (r / 2)))
+    go : PartOf (s / 2) (r / 2) × (s % 2 ≤ r % 2) → Dec (s % 2 < r % 2)
+        → (r / 2 < 2 ^ k → s / 2 < r / 2 → PartOf (s / 2) (r / 2) → Next (r / 2) (s / 2) (bitAnd (s / 2 + 2 ^ k - r / 2) (r / 2)))
         → Next r s (bitAnd x r)
     go halves (yes free) next = next-here k r s _ r< free (halves .0) refl s<
     go halves (no full) next =
@@ -134,12 +134,12 @@ member-and (suc i) a g =
     ∙ member-and i (a / 2) (g / 2)
     ∙ ap₂ _&&_ (sym (member-suc i a)) (sym (member-suc i g))
 
-pub inside-part : (n a g : ℕ) → a < 2 ^ n → inside n a g ≡ true → Part a g
+pub inside-part : (n a g : ℕ) → a < 2 ^ n → inside n a g ≡ true → PartOf a g
 inside-part n a g a< h = member-ext n (bitAnd a g) a (omega (arith, and-le-l a g)) a< (λ i i<. member-and i a g ∙ go i i< (member i a) refl)
   where
     go : (i : ℕ) → i < n → (b : Bool) → member i a ≡ b → (member i a && member i g) ≡ member i a
     go i i< true e = rw (e, inside-member i n a g h i< e)
     go i i< false e = rw e
 
-pub part-inside : (n a g : ℕ) → Part a g → inside n a g ≡ true
+pub part-inside : (n a g : ℕ) → PartOf a g → inside n a g ≡ true
 part-inside n a g p = member-inside n a g (λ i i< e. rw e at (sym (member-and i a g) ∙ ap (member i) p ∙ e))

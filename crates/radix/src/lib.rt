@@ -1,4 +1,5 @@
-// Sizes, and a group's assignments as offsets into the cells.
+// Limits, powers, the count of the assignments, groups as bits, and the offsets of a group's assignments.
+pub mod levels;
 pub mod limits;
 pub mod members;
 pub mod offsets;

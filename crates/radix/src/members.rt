@@ -2,9 +2,9 @@
 ghost use mathlib.Core.Path.{_≡_};
 ghost use Prim.Native.Nat.{ℕ, _-_, _^_, _≤_, _<_};
 ghost use lib.Dec.{eqb};
-ghost use Rattle.rules.specs.Groups.{member, size};
-ghost use Rattle.rules.specs.Wirings.{firstInput};
-ghost use Rattle.radix.specs.Parts.{Part, Next};
+ghost use Rattle.rules.specs.Groups.Groups.{member, size};
+ghost use Rattle.rules.specs.Nets.Wirings.{firstInput};
+ghost use Rattle.radix.specs.Parts.{PartOf, Next};
 ghost use Rattle.radix.specs.Widths.{groupsEnd};
 
 // 2 to the power 16: past every group.
@@ -74,7 +74,7 @@ pub fn single(g: usize) -> bool
 
 // The next part of `all` after `part`, by number. A carry runs through the bits that are not of `all`.
 pub fn next_part(all: usize, part: usize) -> usize
-    requires { ⌜ (all < groupsEnd) × (part < all) × (Part part all) ⌝ }
+    requires { ⌜ (all < groupsEnd) × (part < all) × (PartOf part all) ⌝ }
     ensures { λ r. ⌜ Next all part r ⌝ }
 {
     (part + PAST - all) & all

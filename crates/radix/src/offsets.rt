@@ -2,7 +2,7 @@
 ghost use mathlib.Core.Path.{_≡_};
 ghost use Prim.Native.Nat.{ℕ, _+_, _*_, _^_, _≤_, _<_};
 ghost use lib.ListN.{length, take, getD};
-ghost use Rattle.rules.specs.Groups.{points, others};
+ghost use Rattle.rules.specs.Groups.Groups.{points, others};
 ghost use Rattle.radix.specs.Fronts.{Front};
 ghost use Rattle.radix.specs.Offsets.{widened};
 ghost use Rattle.radix.specs.Widths.{mostMembers, offsetsEnd, mostOffsets};

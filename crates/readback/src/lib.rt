@@ -1,1 +1,1 @@
-// Sheets read back: the theorems about reading and printing, in specs/. This crate has no code.
+// Theorems about sheets and their readers, in specs/. This crate has no code.

@@ -1,1 +1,1 @@
-// Document 01 as definitions, in specs/. This crate has no code.
+// Documents 01 and 02 as definitions, in specs/. This crate has no code.

@@ -4,64 +4,81 @@ use Prim.Native.Nat.{ℕ, _-_, _^_}
 use mathlib.Core.Path.{_≡_, refl, sym, ap, _∙_}
 use mathlib.Core.List.{List}
 use lib.ListN.{take}
-use Rattle.rules.specs.Sheets.{Table}
-use Rattle.rules.specs.Sheets as sheets
-use Rattle.rules.specs.Answers.{Answer, accepted, onward, refused}
-use Rattle.rules.specs.Reading.{readNet, tableOfNet}
-use Rattle.rules.specs.OpenCells.{readFull}
-use Rattle.rules.specs.Settling.{Made, settledNet, madeInto, settleCall, makeCall}
-use Rattle.rules.specs.ShallowSettling.{LayeredMade, layeredInto, makeShallowCall, settleShallowCall, shallowNet, withLayers}
-use Rattle.laws.specs.Settling.{settle-accepted, settle-refused, make-accepted, make-refused}
-use Rattle.laws.specs.ShallowSettling.{plain, plain-layered}
+use Rattle.rules.specs.Sheets.Sheets.{Table}
+use Rattle.rules.specs.Sheets.Sheets as sheets
+use Rattle.rules.specs.Calls.Answers.{Answer, accepted, onward, refused}
+use Rattle.rules.specs.Sheets.Reading.{readNet, tableOfNet}
+use Rattle.rules.specs.Calls.OpenCells.{readFull}
+use Rattle.rules.specs.Calls.Settling.{Made, settledNet, afterMarks, madeInto, settleCall, makeCall}
+use Rattle.rules.specs.Calls.ShallowSettling.{LayeredMade, layeredInto, makeShallowCall, netLayers, settleShallowCall, withLayers}
+use Rattle.laws.specs.Calls.Settling.{settle-accepted, settle-refused, make-accepted, make-refused}
+use Rattle.laws.specs.Calls.ShallowSettling.{plainAnswer, plain-layered, settle-shallow-refused, settle-shallow-accepted, make-shallow-refused, make-shallow-accepted}
 use Rattle.answers.specs.declared.answer.Answer as own-answer
 use Rattle.answers.specs.declared.layered.Layered as own
-use Rattle.answers.specs.Answers.{answerOf, madeOf}
+use Rattle.answers.specs.AnswerMaps.{answerOf, madeOf}
 use Rattle.answers.specs.Layered.{layeredOf, layeredMadeOf}
 use Rattle.nets.specs.declared.forms.Header.{Header}
 use Rattle.nets.specs.declared.forms.Net.{Net}
 use Rattle.nets.specs.Evaluating.{Tabled}
 use Rattle.nets.specs.Forms.{tableIn}
-use Rattle.accepted.specs.Taken.{NetTaken, FullTaken, Given, own-cells, front-table, front-given, inks-table}
+use Rattle.wirings.specs.declared.choice.Choice.{Choice}
+use Rattle.wirings.specs.declared.choice.Choice.the-variants.{Settled, Shallow}
+use Rattle.accepted.specs.Taken.{NetTaken, Given, own-cells, front-table, front-given}
+use Rattle.settling.specs.Outcomes.{netBy, layered-refused, layered-marked}
+use Rattle.settling.specs.Input.{SettlingTurnedBack, by-sheet, by-room, InputTaken}
 
--- ---- a call, whatever net is made of the table
+-- ---- a call, by either choice of a net
 
-unfoldable pub settlesBy : (Table → sheets.Net) → List ℕ → List ℕ → List ℕ → List ℕ → LayeredMade
-settlesBy netFor sheet cells marks output =
+unfoldable pub settledLayers : List ℕ → List ℕ → List ℕ → List ℕ → LayeredMade
+settledLayers sheet cells marks output =
     elim (readNet sheet) [
       | refused number place ↦ record { answer = refused number place; cells = cells; marks = marks; output = output }
-      | accepted net ↦ layeredInto netFor (tableOfNet net) cells marks output
+      | accepted net ↦ layeredInto settledNet (tableOfNet net) cells marks output
     ]
 
-unfoldable pub makesBy : (Table → sheets.Net) → List ℕ → List ℕ → List ℕ → List ℕ → LayeredMade
-makesBy netFor sheet cells marks output =
+unfoldable pub madeLayers : List ℕ → List ℕ → List ℕ → List ℕ → LayeredMade
+madeLayers sheet cells marks output =
     elim (readFull sheet) [
       | refused number place ↦ record { answer = refused number place; cells = cells; marks = marks; output = output }
-      | accepted t ↦ layeredInto netFor t cells marks output
+      | accepted t ↦ layeredInto settledNet t cells marks output
     ]
 
-module _ (netFor : Table → sheets.Net) (s cells marks output : List ℕ) where
-  pub settles-refused : (number place : ℕ) → readNet s ≡ refused number place
-      → settlesBy netFor s cells marks output ≡ record { answer = refused number place; cells = cells; marks = marks; output = output }
-  unfolding settlesBy
-  settles-refused number place e = rw (e, settlesBy)
+abbrev pub settlesBy : Choice → List ℕ → List ℕ → List ℕ → List ℕ → LayeredMade
+settlesBy Settled = settledLayers
+settlesBy Shallow = settleShallowCall
 
-  settles-accepted : (net : sheets.Net) → readNet s ≡ accepted net → settlesBy netFor s cells marks output ≡ layeredInto netFor (tableOfNet net) cells marks output
-  unfolding settlesBy
-  settles-accepted net e = rw (e, settlesBy)
+abbrev pub makesBy : Choice → List ℕ → List ℕ → List ℕ → List ℕ → LayeredMade
+makesBy Settled = madeLayers
+makesBy Shallow = makeShallowCall
 
-  pub makes-refused : (number place : ℕ) → readFull s ≡ refused number place
-      → makesBy netFor s cells marks output ≡ record { answer = refused number place; cells = cells; marks = marks; output = output }
-  unfolding makesBy
-  makes-refused number place e = rw (e, makesBy)
+pub settles-refused : (choice : Choice) (s cells marks output : List ℕ) (number place : ℕ) → readNet s ≡ refused number place
+    → settlesBy choice s cells marks output ≡ record { answer = refused number place; cells = cells; marks = marks; output = output }
+unfolding settledLayers
+settles-refused Settled s cells marks output number place e = rw (e, settledLayers)
+settles-refused Shallow s cells marks output number place e = settle-shallow-refused s cells marks output number place e
 
-  makes-accepted : (t : Table) → readFull s ≡ accepted t → makesBy netFor s cells marks output ≡ layeredInto netFor t cells marks output
-  unfolding makesBy
-  makes-accepted t e = rw (e, makesBy)
+settles-accepted : (choice : Choice) (s cells marks output : List ℕ) (net : sheets.Net) → readNet s ≡ accepted net
+    → settlesBy choice s cells marks output ≡ layeredInto (netBy choice) (tableOfNet net) cells marks output
+unfolding settledLayers
+settles-accepted Settled s cells marks output net e = rw (e, settledLayers)
+settles-accepted Shallow s cells marks output net e = settle-shallow-accepted s cells marks output net e
+
+makes-refused : (choice : Choice) (s cells marks output : List ℕ) (number place : ℕ) → readFull s ≡ refused number place
+    → makesBy choice s cells marks output ≡ record { answer = refused number place; cells = cells; marks = marks; output = output }
+unfolding madeLayers
+makes-refused Settled s cells marks output number place e = rw (e, madeLayers)
+makes-refused Shallow s cells marks output number place e = make-shallow-refused s cells marks output number place e
+
+makes-accepted : (choice : Choice) (s cells marks output : List ℕ) (t : Table) → readFull s ≡ accepted t
+    → makesBy choice s cells marks output ≡ layeredInto (netBy choice) t cells marks output
+unfolding madeLayers
+makes-accepted Settled s cells marks output t e = rw (e, madeLayers)
+makes-accepted Shallow s cells marks output t e = make-shallow-accepted s cells marks output t e
 
 -- ---- without the count of layers
 
 unfoldable pub plainMade : LayeredMade → Made
-plainMade made = record { answer = plain (made .answer); cells = made .cells; marks = made .marks; output = made .output }
+plainMade made = record { answer = plainAnswer (made .answer); cells = made .cells; marks = made .marks; output = made .output }
 
 plain-with : (count : ℕ) (made : Made) → plainMade (withLayers count made) ≡ made
 unfolding plainMade withLayers
@@ -75,43 +92,33 @@ into-plain netFor t cells marks output = plain-with _ _
 
 module _ (s cells marks output : List ℕ) where
   -- document 01's settling, ..
-  pub settles-plain : plainMade (settlesBy settledNet s cells marks output) ≡ settleCall s cells marks output
-  unfolding plainMade plain onward layeredInto
+  pub settles-plain : plainMade (settlesBy Settled s cells marks output) ≡ settleCall s cells marks output
+  unfolding plainMade plainAnswer onward layeredInto
   settles-plain = go (readNet s) refl
     where
-      go : (a : Answer sheets.Net) → readNet s ≡ a → plainMade (settlesBy settledNet s cells marks output) ≡ settleCall s cells marks output
+      go : (a : Answer sheets.Net) → readNet s ≡ a → plainMade (settlesBy Settled s cells marks output) ≡ settleCall s cells marks output
       go (accepted net) e =
-          ap plainMade (settles-accepted settledNet s cells marks output net e) ∙ plain-with _ _ ∙ sym (settle-accepted s cells marks output net e)
+          ap plainMade (settles-accepted Settled s cells marks output net e) ∙ plain-with _ _ ∙ sym (settle-accepted s cells marks output net e)
       go (refused number place) e =
-          ap plainMade (settles-refused settledNet s cells marks output number place e) ∙ sym (settle-refused s cells marks output number place e)
+          ap plainMade (settles-refused Settled s cells marks output number place e) ∙ sym (settle-refused s cells marks output number place e)
 
   -- .. and making
-  pub makes-plain : plainMade (makesBy settledNet s cells marks output) ≡ makeCall s cells marks output
-  unfolding plainMade plain onward layeredInto
+  pub makes-plain : plainMade (makesBy Settled s cells marks output) ≡ makeCall s cells marks output
+  unfolding plainMade plainAnswer onward layeredInto
   makes-plain = go (readFull s) refl
     where
-      go : (a : Answer Table) → readFull s ≡ a → plainMade (makesBy settledNet s cells marks output) ≡ makeCall s cells marks output
+      go : (a : Answer Table) → readFull s ≡ a → plainMade (makesBy Settled s cells marks output) ≡ makeCall s cells marks output
       go (accepted t) e =
-          ap plainMade (makes-accepted settledNet s cells marks output t e) ∙ plain-with _ _ ∙ sym (make-accepted s cells marks output t e)
+          ap plainMade (makes-accepted Settled s cells marks output t e) ∙ plain-with _ _ ∙ sym (make-accepted s cells marks output t e)
       go (refused number place) e =
-          ap plainMade (makes-refused settledNet s cells marks output number place e) ∙ sym (make-refused s cells marks output number place e)
+          ap plainMade (makes-refused Settled s cells marks output number place e) ∙ sym (make-refused s cells marks output number place e)
 
 -- a call's answer without its count, and its buffers
-module _ (r : own.Layered) (answer : own-answer.Answer) (alone : answerOf answer ≡ plain (layeredOf r)) (cells marks output : List ℕ) (made : LayeredMade)
+module _ (r : own.Layered) (answer : own-answer.Answer) (alone : answerOf answer ≡ plainAnswer (layeredOf r)) (cells marks output : List ℕ) (made : LayeredMade)
     (is : layeredMadeOf r cells marks output ≡ made) where
   pub made-plain : madeOf answer cells marks output ≡ plainMade made
   unfolding plainMade
   made-plain = (λ i. record { answer = alone i; cells = cells; marks = marks; output = output }) ∙ ap plainMade is
-
--- the calls of the shallow net
-module _ (s cells marks output : List ℕ) where
-  pub settles-shallow : settlesBy shallowNet s cells marks output ≡ settleShallowCall s cells marks output
-  unfolding settlesBy settleShallowCall
-  settles-shallow = refl
-
-  pub makes-shallow : makesBy shallowNet s cells marks output ≡ makeShallowCall s cells marks output
-  unfolding makesBy makeShallowCall
-  makes-shallow = refl
 
 -- ---- accepted sheets
 
@@ -123,16 +130,20 @@ module _ (s : List ℕ) (h : Header) (net : Net) (taken : NetTaken s h net) (bef
   pub net-given : Given s h (take (count - 0) after)
   net-given = front-given s h net taken before after count count did all-cells
 
-  pub net-settled : (netFor : Table → sheets.Net) (cells marks output : List ℕ)
-      → layeredInto netFor (tableIn s h (take (count - 0) after)) cells marks output ≡ settlesBy netFor s cells marks output
-  net-settled netFor cells marks output =
-      ap (λ t. layeredInto netFor t cells marks output) (front-table s h net taken before after count count did all-cells)
-      ∙ sym (settles-accepted netFor s cells marks output _ (taken .reads))
+  pub net-settled : (choice : Choice) (cells marks output : List ℕ)
+      → layeredInto (netBy choice) (tableIn s h (take (count - 0) after)) cells marks output ≡ settlesBy choice s cells marks output
+  net-settled choice cells marks output =
+      ap (λ t. layeredInto (netBy choice) t cells marks output) (front-table s h net taken before after count count did all-cells)
+      ∙ sym (settles-accepted choice s cells marks output _ (taken .reads))
 
--- a table, and its inks at the front of their buffer
-pub table-settled : (s : List ℕ) (h : Header) (inks : List ℕ) → FullTaken s h inks → (count : ℕ) → count ≡ h .levels ^ h .inputs
-    → (netFor : Table → sheets.Net) (cells marks output : List ℕ)
-    → layeredInto netFor (tableIn s h (take (count - 0) inks)) cells marks output ≡ makesBy netFor s cells marks output
-table-settled s h inks taken count is netFor cells marks output =
-    ap (λ t. layeredInto netFor t cells marks output) (inks-table s h inks count is)
-    ∙ sym (makes-accepted netFor s cells marks output _ (taken .reads))
+-- a table sheet, turned back or with room for its table
+module _ (choice : Choice) (s cells marks output : List ℕ) where
+  pub makes-turned : {number place : ℕ} → SettlingTurnedBack s cells marks number place
+      → record { answer = refused number place; cells = cells; marks = marks; output = output } ≡ makesBy choice s cells marks output
+  makes-turned (by-sheet e) = sym (makes-refused choice s cells marks output _ _ e)
+  makes-turned (by-room t reads short) = layered-refused (netBy choice) t cells marks output _ _ short ∙ sym (makes-accepted choice s cells marks output t reads)
+
+  pub makes-marked : (h : Header) (inks : List ℕ) → InputTaken s h inks cells marks
+      → withLayers (netLayers (netBy choice (tableIn s h inks))) (afterMarks (netBy choice) (tableIn s h inks) cells marks output) ≡ makesBy choice s cells marks output
+  makes-marked h inks taken =
+      layered-marked (netBy choice) (tableIn s h inks) cells marks output (taken .room) ∙ sym (makes-accepted choice s cells marks output _ (taken .reads))

@@ -1,17 +1,17 @@
 // Settling and making: document 01's calls. Any sheet and buffers of any length may come in.
 ghost use mathlib.Core.Path.{_≡_};
-ghost use Rattle.rules.specs.Settling.{settleCall, makeCall};
-ghost use Rattle.laws.specs.ShallowSettling.{plain};
-ghost use Rattle.answers.specs.Answers.{answerOf, madeOf};
+ghost use Rattle.rules.specs.Calls.Settling.{settleCall, makeCall};
+ghost use Rattle.laws.specs.Calls.ShallowSettling.{plainAnswer};
+ghost use Rattle.answers.specs.AnswerMaps.{answerOf, madeOf};
 ghost use Rattle.answers.specs.Layered.{layeredOf};
 use crate::chosen;
 use answers::answer::Answer;
 use answers::layered::Layered;
 use wirings::choice::Choice;
 
-// The answer without the count of layers.
+// Drops the count of layers from an answer.
 pub fn length_alone(answer: Layered) -> Answer
-    ensures { λ r. ⌜ answerOf r ≡ plain (layeredOf answer) ⌝ }
+    ensures { λ r. ⌜ answerOf r ≡ plainAnswer (layeredOf answer) ⌝ }
 {
     match answer {
         Layered::Accepted { length, layers } => Answer::Accepted(length),

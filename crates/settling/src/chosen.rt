@@ -2,18 +2,17 @@
 ghost use mathlib.Core.Path.{_≡_};
 ghost use Rattle.answers.specs.Layered.{layeredMadeOf};
 ghost use Rattle.accepted.specs.Taken.{NetTaken};
-ghost use Rattle.synthesis.specs.Outcomes.{netBy};
 ghost use Rattle.settling.specs.Calls.{settlesBy, makesBy};
+use crate::input::read_input;
+use crate::into;
+use crate::marked::settle_marked;
 use answers::layered::Layered;
 use answers::outcome::Outcome;
-use buffers::into;
-use net_reading::net;
+use evaluation::table;
+use net_sheets::reader::net;
 use nets::forms::Header;
 use nets::forms::Net;
 use radix::limits;
-use radix::powers;
-use table_reading::full;
-use tabling::table;
 use wirings::choice::Choice;
 
 // The net's table goes into an array of its own first: a refusal must change no buffer.
@@ -28,7 +27,7 @@ fn settle_net(
 ) -> Layered
     requires { ⌜ NetTaken (now s) header gates ⌝ }
     ensures { λ r. ⌜ layeredMadeOf r (now (cells .exit)) (now (marks .exit)) (now (out .exit))
-        ≡ settlesBy (netBy choice) (now (s .entry)) (now (cells .entry)) (now (marks .entry)) (now (out .entry)) ⌝ }
+        ≡ settlesBy choice (now (s .entry)) (now (cells .entry)) (now (marks .entry)) (now (out .entry)) ⌝ }
 {
     let mut inks = [0u8; limits::MOST_CELLS];
     let count = table::table(gates, &mut inks);
@@ -44,7 +43,7 @@ pub fn settle_by(
     out: &mut [u8],
 ) -> Layered
     ensures { λ r. ⌜ layeredMadeOf r (now (cells .exit)) (now (marks .exit)) (now (out .exit))
-        ≡ settlesBy (netBy choice) (now (s .entry)) (now (cells .entry)) (now (marks .entry)) (now (out .entry)) ⌝ }
+        ≡ settlesBy choice (now (s .entry)) (now (cells .entry)) (now (marks .entry)) (now (out .entry)) ⌝ }
 {
     let read = net::read_net(s);
     let outcome = read.outcome;
@@ -65,17 +64,17 @@ pub fn make_by(
     out: &mut [u8],
 ) -> Layered
     ensures { λ r. ⌜ layeredMadeOf r (now (cells .exit)) (now (marks .exit)) (now (out .exit))
-        ≡ makesBy (netBy choice) (now (s .entry)) (now (cells .entry)) (now (marks .entry)) (now (out .entry)) ⌝ }
+        ≡ makesBy choice (now (s .entry)) (now (cells .entry)) (now (marks .entry)) (now (out .entry)) ⌝ }
 {
     let mut inks = [0u8; limits::MOST_CELLS];
-    let read = full::read_full(s, &mut inks);
-    let outcome = read.outcome;
-    let header = read.header;
+    let input = read_input(s, &mut inks, cells, marks);
+    let outcome = input.outcome;
+    let header = input.header;
+    let count = input.count;
     match outcome {
         Outcome::Refused { number, place } => Layered::Refused { number, place },
         Outcome::Accepted => {
-            let count = powers::power(header.levels, header.inputs);
-            into::settle_into(choice, s, header, &inks[0..count], cells, marks, out)
+            settle_marked(choice, s, header, &inks[0..count], cells, marks, out)
         }
     }
 }

@@ -1,6 +1,10 @@
-// Settling and making: from a sheet to the sheet of its settled net, or of its shallow one, and what the two programs print.
+// Settling and making, and what the two programs print.
 pub mod calls;
 pub mod chosen;
+pub mod input;
+pub mod into;
+pub mod marked;
 pub mod program;
+pub mod room;
 pub mod shallow;
 pub mod table;

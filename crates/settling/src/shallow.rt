@@ -1,6 +1,6 @@
 // Settling and making of the shallow net. Any sheet and buffers of any length may come in.
 ghost use mathlib.Core.Path.{_≡_};
-ghost use Rattle.rules.specs.ShallowSettling.{settleShallowCall, makeShallowCall};
+ghost use Rattle.rules.specs.Calls.ShallowSettling.{settleShallowCall, makeShallowCall};
 ghost use Rattle.answers.specs.Layered.{layeredMadeOf};
 use crate::chosen;
 use answers::layered::Layered;

@@ -1,12 +1,12 @@
 // Making from a table that was read before: `inks` is the table, and `header` its first three lines in `s`.
 ghost use mathlib.Core.Path.{_≡_};
-ghost use Rattle.rules.specs.Settling.{settledNet, madeInto};
+ghost use Rattle.rules.specs.Calls.Settling.{settledNet, madeInto};
 ghost use Rattle.nets.specs.Forms.{tableIn};
-ghost use Rattle.answers.specs.Answers.{madeOf};
+ghost use Rattle.answers.specs.AnswerMaps.{madeOf};
 ghost use Rattle.accepted.specs.Taken.{Given};
 use crate::calls::length_alone;
+use crate::into;
 use answers::answer::Answer;
-use buffers::into;
 use nets::forms::Header;
 use wirings::choice::Choice;
 

@@ -4,8 +4,8 @@ use Prim.Native.Nat.{ℕ}
 use mathlib.Core.Path.{_≡_, refl}
 use mathlib.Core.List.{List, []}
 use denote.Ref.{RefT, now}
-use Rattle.rules.specs.Shallower as rules
-use Rattle.rules.specs.Shallower.{firstSheet, secondSheet, noSheet, shallowerCall, whichOf}
+use Rattle.rules.specs.Calls.Shallower as rules
+use Rattle.rules.specs.Calls.Shallower.{firstSheet, secondSheet, noSheet, shallowerCall, whichOf}
 use Rattle.shallower.specs.declared.which.Which.{Which}
 use Rattle.shallower.specs.declared.which.Which.the-variants.{First, Second, Neither}
 

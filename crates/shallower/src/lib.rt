@@ -1,3 +1,3 @@
-// The shallower of two net sheets, as they are wired.
+// The shallower of two net sheets.
 pub mod sheet;
 pub mod which;

@@ -1,7 +1,7 @@
 // The shallower sheet itself.
 ghost use mathlib.Core.Path.{_≡_};
 ghost use denote.Ref.{ptr};
-ghost use Rattle.rules.specs.Shallower.{whichOf};
+ghost use Rattle.rules.specs.Calls.Shallower.{whichOf};
 ghost use Rattle.shallower.specs.Which.{handed};
 use crate::which;
 use crate::which::Which;

@@ -1,11 +1,11 @@
 // Which of two net sheets is handed back.
 ghost use mathlib.Core.Path.{_≡_};
-ghost use Rattle.rules.specs.Shallower.{layersIn, whichBy, whichOf};
-ghost use Rattle.answers.specs.Answers.{answerOf};
+ghost use Rattle.rules.specs.Calls.Shallower.{layersIn, whichBy, whichOf};
+ghost use Rattle.answers.specs.AnswerMaps.{answerOf};
 ghost use Rattle.shallower.specs.Which.{whichAs};
 use answers::answer::Answer;
 use answers::outcome::Outcome;
-use net_reading::net;
+use net_sheets::reader::net;
 use nets::layers;
 
 // One of the two, or an empty part of the first.
@@ -53,6 +53,7 @@ fn which_by(first: Answer, second: Answer) -> Which
     }
 }
 
+// Returns which of two net sheets has fewer layers.
 pub fn which_of(first: &[u8], second: &[u8]) -> Which
     ensures { λ r. ⌜ whichAs r ≡ whichOf (now (first .entry)) (now (second .entry)) ⌝ }
 {

@@ -1,6 +1,6 @@
 -- Counts as the code finds them and keeps them, for groups within the limits; they are the same for every number of inputs that has the group.
 -- Assumes nothing.
-use Prim.Native.Nat.{ℕ, _-_, _*_, _^_, _≤_, _<_}
+use Prim.Native.Nat.{ℕ, _+_, _-_, _*_, _^_, _≤_, _<_}
 use mathlib.Core.Path.{_≡_, refl, ap₂, _∙_}
 use mathlib.Core.Logic.{_⊎_, inl, inr, ⊎-elim, _≢_}
 use mathlib.Core.Bool.{Bool, true, false, _&&_, and-eq-true-iff}
@@ -13,25 +13,26 @@ use lib.ListN.{length, getD, set}
 use lib.Seq.{getD-set-same, getD-set-other}
 use borrow.Author.Tests.{eqb-true, eqb-false}
 use Rattle.rules.specs.Limits.{mostInputs}
-use Rattle.rules.specs.Groups.{member}
-use Rattle.rules.specs.Marks.{inside, markIn}
-use Rattle.rules.specs.Wirings.{firstInput}
-use Rattle.rules.specs.SettledLaws.{MayBeA}
-use Rattle.rules.specs.Family.{splitCount}
-use Rattle.trees.specs.FamilyCounts.{counted, splitCounted, is-split, count-none, split-most}
-use Rattle.trees.specs.FamilyBounds.{count-fits}
-use Rattle.trees.specs.Families.{split-sizes}
+use Rattle.rules.specs.Groups.Groups.{member, size}
+use Rattle.rules.specs.Groups.Marks.{inside, markIn}
+use Rattle.rules.specs.Nets.Wirings.{firstInput}
+use Rattle.rules.specs.Nets.SettledLaws.{MayBeA}
+use Rattle.rules.specs.Nets.Family.{splitCount}
+use Rattle.trees.specs.Groups.Members.{rest-apart, size-join, size-pos}
+use Rattle.trees.specs.Families.FamilyCounts.{counted, splitCounted, is-split, no-parts-count, split-most}
+use Rattle.trees.specs.Families.FamilyBounds.{count-fits}
+use Rattle.trees.specs.Families.Families.{split-sizes}
 use Rattle.marks.specs.FirstParts.{bothTwo}
 
 -- ---- what is kept
 
 -- each entry is 0, for not yet known, or the group's count
-abbrev pub CountsKept : List ℕ → List ℕ → Type 0
-CountsKept marks counts = (g : ℕ) → (getD counts g 0 ≡ 0) ⊎ ((n : ℕ) → g < 2 ^ n → getD counts g 0 ≡ counted n marks g)
+abbrev pub CountsKnown : List ℕ → List ℕ → Type 0
+CountsKnown marks counts = (g : ℕ) → (getD counts g 0 ≡ 0) ⊎ ((n : ℕ) → g < 2 ^ n → getD counts g 0 ≡ counted n marks g)
 
 -- one count more
-pub one-kept : (marks counts : List ℕ) (g count : ℕ) → CountsKept marks counts → g < length counts → ((n : ℕ) → g < 2 ^ n → count ≡ counted n marks g)
-    → CountsKept marks (set counts g count)
+pub one-kept : (marks counts : List ℕ) (g count : ℕ) → CountsKnown marks counts → g < length counts → ((n : ℕ) → g < 2 ^ n → count ≡ counted n marks g)
+    → CountsKnown marks (set counts g count)
 one-kept marks counts g count kept room is h = go (ℕ-discrete h g)
   where
     go : Dec (h ≡ g) → (getD (set counts g count) h 0 ≡ 0) ⊎ ((n : ℕ) → h < 2 ^ n → getD (set counts g count) h 0 ≡ counted n marks h)
@@ -46,7 +47,7 @@ pub record Countable (marks counts : List ℕ) (g : ℕ) : Type 0 where
   pub below : g < 2 ^ mostInputs
   pub marked : g < length marks
   pub room : g < length counts
-  pub kept : CountsKept marks counts
+  pub kept : CountsKnown marks counts
 
 -- g has mark 2, and a is a part that holds its first-listed input
 pub record Splittable (marks counts : List ℕ) (g a : ℕ) : Type 0 where
@@ -56,18 +57,30 @@ pub record Splittable (marks counts : List ℕ) (g a : ℕ) : Type 0 where
   pub less : a < g
   pub holds : (n : ℕ) → g < 2 ^ n → (inside n a g ≡ true) × (member (firstInput n g) a ≡ true)
 
+-- both parts have members, and together as many as the group
+pub splittable-sizes : (marks counts : List ℕ) (g a n : ℕ) → g < 2 ^ n → Splittable marks counts g a
+    → (size n g ≡ size n a + size n (g - a)) × (0 < size n a) × (0 < size n (g - a))
+splittable-sizes marks counts g a n g< is =
+    let whole : a + (g - a) ≡ g = omega (arith, is .less) in
+    let a< : a < 2 ^ n = omega (arith, is .less) in
+    let b< : g - a < 2 ^ n = omega arith in (
+      rw whole at (size-join n a (g - a) a< b< (rest-apart n a g a< g< (is .holds n g< .0))),
+      size-pos n a a< (is .some),
+      size-pos n (g - a) b< (omega (arith, is .less)),
+    )
+
 -- r is the group's count, and what is kept is right
-pub record CountKept (marks : List ℕ) (g r : ℕ) (counts : List ℕ) : Type 0 where
+pub record CountKnown (marks : List ℕ) (g r : ℕ) (counts : List ℕ) : Type 0 where
   pub count : (n : ℕ) → g < 2 ^ n → r ≡ counted n marks g
-  pub kept : CountsKept marks counts
+  pub kept : CountsKnown marks counts
 
 -- .. the split's
-pub record SplitKept (marks : List ℕ) (g a r : ℕ) (counts : List ℕ) : Type 0 where
+pub record SplitKnown (marks : List ℕ) (g a r : ℕ) (counts : List ℕ) : Type 0 where
   pub count : (n : ℕ) → g < 2 ^ n → r ≡ splitCounted n marks g a
-  pub kept : CountsKept marks counts
+  pub kept : CountsKnown marks counts
 
 -- a smaller group, with the counts that are kept by then
-pub smaller : (marks counts later : List ℕ) (g a : ℕ) → Countable marks counts g → 0 < a → a < g → length later ≡ length counts → CountsKept marks later
+pub smaller : (marks counts later : List ℕ) (g a : ℕ) → Countable marks counts g → 0 < a → a < g → length later ≡ length counts → CountsKnown marks later
     → Countable marks later a
 smaller marks counts later g a group some less same kept =
     record {
@@ -87,8 +100,8 @@ module _ (n : ℕ) (marks : List ℕ) (g a : ℕ) (g< : g < 2 ^ n) (some : 0 < a
   split-none = go (eqb (markIn marks a) 2) refl
     where
       go : (b : Bool) → eqb (markIn marks a) 2 ≡ b → (b && eqb (markIn marks (g - a)) 2) ≡ false → counted n marks a * counted n marks (g - a) ≡ 0
-      go true e other = rw (count-none n marks (g - a) (omega arith) (eqb-false _ 2 other)) (mul-zero _)
-      go false e other = rw (count-none n marks a (omega arith) (eqb-false _ 2 e)) (zero-mul _)
+      go true e other = rw (no-parts-count n marks (g - a) (omega arith) (eqb-false _ 2 other)) (mul-zero _)
+      go false e other = rw (no-parts-count n marks a (omega arith) (eqb-false _ 2 e)) (zero-mul _)
 
   -- at most the group's count
   pub split-within : markIn marks g ≡ 2 → inside n a g ≡ true → member (firstInput n g) a ≡ true → splitCounted n marks g a ≤ counted n marks g

@@ -10,13 +10,13 @@ use native.Mathlib.Omega.{arith}
 use lib.Bits.{and-self}
 use lib.Pow.{pow-pos}
 use Rattle.rules.specs.Lists.{range, those, total}
-use Rattle.rules.specs.Wirings.{firstInput}
-use Rattle.rules.specs.Family.{splitsOf, Numbered, numberedAt}
-use Rattle.laws.specs.Ranges.{range-next, range-none}
-use Rattle.laws.specs.Totals.{those-cons, those-past, numbered-here, numbered-later}
-use Rattle.trees.specs.MarkTwo.{isA}
-use Rattle.trees.specs.FamilyCounts.{splitCounted}
-use Rattle.radix.specs.Parts.{Part, Next, without-first}
+use Rattle.rules.specs.Nets.Wirings.{firstInput}
+use Rattle.rules.specs.Nets.Family.{splitsOf, Numbered, numberedAt}
+use Rattle.laws.specs.Lists.Ranges.{range-next, range-none}
+use Rattle.laws.specs.Lists.Totals.{those-cons, those-past, numbered-here, numbered-later}
+use Rattle.trees.specs.Trees.MarkTwo.{isA}
+use Rattle.trees.specs.Families.FamilyCounts.{splitCounted}
+use Rattle.radix.specs.Parts.{PartOf, Next, without-first}
 use Rattle.marks.specs.FirstParts.{bothTwo, settledTest, settled-looked, first, here, none-below, none-between}
 use Rattle.tree_counts.specs.Counts.{split-none}
 
@@ -51,7 +51,7 @@ module _ (marks : List ℕ) (g rest : ℕ) (some : 0 < g) (is-rest : (n : ℕ) �
       ap (those (isA n marks g)) (range-none (at part) g (omega (arith, first g rest some is-rest n g<, is-rest n g<, without-first n g some g< .0)))
 
   -- one, if its two parts have mark 2, and those after it
-  module _ (part next : ℕ) (more : part < rest) (is-part : Part part rest) (after : Next rest part next) where
+  module _ (part next : ℕ) (more : part < rest) (is-part : PartOf part rest) (after : Next rest part next) where
     splits-next : splitsFrom n marks g (at part) ≡ cond (bothTwo marks g (at part)) (at part ∷ splitsFrom n marks g (at next)) (splitsFrom n marks g (at next))
     splits-next =
         let is = here g rest some is-rest (settledTest marks g) (bothTwo marks g) (settled-looked marks g) n g< part more is-part in

@@ -9,21 +9,21 @@ use native.Mathlib.Omega.{arith}
 use lib.Bits.{and-self}
 use lib.ListN.{length}
 use Rattle.rules.specs.Limits.{mostInputs}
-use Rattle.rules.specs.Groups.{size}
-use Rattle.rules.specs.Marks.{markIn}
-use Rattle.rules.specs.Wirings.{firstInput}
+use Rattle.rules.specs.Groups.Groups.{size}
+use Rattle.rules.specs.Groups.Marks.{markIn}
+use Rattle.rules.specs.Nets.Wirings.{firstInput}
 use Rattle.rules.specs.Lists.{total}
-use Rattle.rules.specs.Family.{splitsOf, numberedAt}
-use Rattle.trees.specs.FamilyCounts.{counted, splitCounted, count-several}
-use Rattle.radix.specs.Parts.{Part, Next, next-part}
+use Rattle.rules.specs.Nets.Family.{splitsOf, numberedAt}
+use Rattle.trees.specs.Families.FamilyCounts.{counted, splitCounted, count-several}
+use Rattle.radix.specs.Parts.{PartOf, Next, next-part}
 use Rattle.marks.specs.FirstParts.{part-at}
-use Rattle.tree_counts.specs.Counts.{Countable, Splittable, CountsKept}
+use Rattle.tree_counts.specs.Counts.{Countable, Splittable, CountsKnown}
 use Rattle.tree_counts.specs.Walk.{splitsFrom, countsFor, falls, splits-all, splits-none, counts-next, falls-here, falls-later}
 
 -- where the walk stands
 pub record Passed (rest part : ℕ) : Type 0 where
   pub low : part ≤ rest
-  pub is-part : Part part rest
+  pub is-part : PartOf part rest
 
 pub passed-none : (rest : ℕ) → Passed rest 0
 passed-none rest = record { low = omega arith; is-part = refl }
@@ -37,13 +37,13 @@ Summed marks g rest part sum =
     (n : ℕ) → g < 2 ^ n → sum + countsFor n marks g (splitsFrom n marks g ((g - rest) + part)) ≡ countsFor n marks g (splitsOf n marks g)
 
 -- what is left of the number falls, of the splits that are left, where the number falls of all
-abbrev pub Left : List ℕ → ℕ → ℕ → ℕ → ℕ → ℕ → Type 0
-Left marks g rest r part left =
+abbrev pub SplitsLeft : List ℕ → ℕ → ℕ → ℕ → ℕ → ℕ → Type 0
+SplitsLeft marks g rest r part left =
     (n : ℕ) → g < 2 ^ n → falls n marks g (splitsFrom n marks g ((g - rest) + part)) left ≡ falls n marks g (splitsOf n marks g) r
 
 module _ (marks : List ℕ) (g rest : ℕ) (some : 0 < g) (is-rest : (n : ℕ) → g < 2 ^ n → rest ≡ g - 2 ^ firstInput n g) where
   -- the split that is looked at
-  module _ (counts later : List ℕ) (group : Countable marks counts g) (two : markIn marks g ≡ 2) (same : length later ≡ length counts) (kept : CountsKept marks later)
+  module _ (counts later : List ℕ) (group : Countable marks counts g) (two : markIn marks g ≡ 2) (same : length later ≡ length counts) (kept : CountsKnown marks later)
       (part : ℕ) (more : part < rest) (passed : Passed rest part) where
     pub looked : Splittable marks later g ((g - rest) + part)
     looked =
@@ -89,15 +89,15 @@ module _ (marks : List ℕ) (g rest : ℕ) (some : 0 < g) (is-rest : (n : ℕ) �
   -- ---- the number
 
   module _ (r : ℕ) where
-    pub left-all : Left marks g rest r 0 r
+    pub left-all : SplitsLeft marks g rest r 0 r
     left-all n g< = ap (λ (splits : List ℕ). falls n marks g splits r) (splits-all marks g rest some is-rest n g<)
 
-    pub left-none : (part left : ℕ) → Left marks g rest r part left → rest ≤ part
+    pub left-none : (part left : ℕ) → SplitsLeft marks g rest r part left → rest ≤ part
         → (n : ℕ) → g < 2 ^ n → record { part = 0; number = left } ≡ falls n marks g (splitsOf n marks g) r
     unfolding numberedAt
     left-none part left so-far end n g< = sym (ap (λ (splits : List ℕ). falls n marks g splits left) (splits-none marks g rest some is-rest n g< part end)) ∙ so-far n g<
 
-    module _ (part left count : ℕ) (more : part < rest) (passed : Passed rest part) (so-far : Left marks g rest r part left)
+    module _ (part left count : ℕ) (more : part < rest) (passed : Passed rest part) (so-far : SplitsLeft marks g rest r part left)
         (is : (n : ℕ) → g < 2 ^ n → count ≡ splitCounted n marks g ((g - rest) + part)) where
       pub left-here : g < 2 ^ mostInputs → left < count
           → (n : ℕ) → g < 2 ^ n → record { part = (g - rest) + part; number = left } ≡ falls n marks g (splitsOf n marks g) r
@@ -105,7 +105,7 @@ module _ (marks : List ℕ) (g rest : ℕ) (some : 0 < g) (is-rest : (n : ℕ) �
           let after = next-part mostInputs rest part (omega (arith, is-rest mostInputs small)) more (passed .is-part) in
           sym (falls-here marks g rest some is-rest n g< part _ more (passed .is-part) after left (omega (arith, is n g<))) ∙ so-far n g<
 
-      pub left-later : (next : ℕ) → Next rest part next → count ≤ left → Left marks g rest r next (left - count)
+      pub left-later : (next : ℕ) → Next rest part next → count ≤ left → SplitsLeft marks g rest r next (left - count)
       left-later next after past n g< =
           ap (λ (k : ℕ). falls n marks g (splitsFrom n marks g ((g - rest) + next)) (left - k)) (is n g<)
           ∙ sym (falls-later marks g rest some is-rest n g< part next more (passed .is-part) after left (omega (arith, is n g<)))

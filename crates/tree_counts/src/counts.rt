@@ -2,12 +2,12 @@
 ghost use mathlib.Core.Path.{_≡_};
 ghost use Prim.Native.Nat.{_-_, _*_, _^_, _<_};
 ghost use lib.ListN.{length, getD};
-ghost use Rattle.tree_counts.specs.Counts.{Countable, Splittable, CountKept, SplitKept};
+ghost use Rattle.tree_counts.specs.Counts.{Countable, Splittable, CountKnown, SplitKnown};
 use marks::own;
 use marks::split;
 use radix::members;
 
-// What is kept of a and of the rest of g, multiplied: 0 where one of the two is not yet known.
+// Returns the product of the recorded counts of a and of the rest of g: 0 if one of the two is not yet known.
 pub fn kept_product(counts: &[u64], g: usize, a: usize) -> u64
     requires { ⌜ (a < g) × (g < length (now counts)) × (getD (now counts) a 0 * getD (now counts) (g - a) 0 < 2 ^ 64) ⌝ }
     ensures { λ r. ⌜ r ≡ getD (now (counts .entry)) a 0 * getD (now (counts .entry)) (g - a) 0 ⌝ }
@@ -15,11 +15,11 @@ pub fn kept_product(counts: &[u64], g: usize, a: usize) -> u64
     counts[a] * counts[g - a]
 }
 
-// The count of group g. `counts` has at each group's number its count, or 0 where it is not yet known. Goes through the parts that hold the
-// first-listed input.
+// Returns the number of trees of group g. `counts` has each group's count at its number, or 0 if it is not yet known. Goes through the parts that hold
+// the first-listed input.
 pub fn group_count(marks: &[u8], counts: &mut [u64], g: usize) -> u64
     requires { ⌜ Countable (now marks) (now counts) g ⌝ }
-    ensures { λ r. ⌜ CountKept (now (marks .entry)) g r (now (counts .exit)) ⌝ }
+    ensures { λ r. ⌜ CountKnown (now (marks .entry)) g r (now (counts .exit)) ⌝ }
 {
     if own::mark_at(marks, g) != 2 {
         return 0;
@@ -50,10 +50,10 @@ pub fn group_count(marks: &[u8], counts: &mut [u64], g: usize) -> u64
     sum
 }
 
-// The count of the split of group g, which has mark 2, into a and the rest: a tree of the one and one of the other, each with each.
+// Returns the number of trees of the split of group g, which has mark 2, into a and the rest: that of a times that of the rest.
 pub fn split_count(marks: &[u8], counts: &mut [u64], g: usize, a: usize) -> u64
     requires { ⌜ Splittable (now marks) (now counts) g a ⌝ }
-    ensures { λ r. ⌜ SplitKept (now (marks .entry)) g a r (now (counts .exit)) ⌝ }
+    ensures { λ r. ⌜ SplitKnown (now (marks .entry)) g a r (now (counts .exit)) ⌝ }
 {
     if !split::both_two(marks, g, a) {
         return 0;

@@ -1,2 +1,4 @@
-// How many trees a group has, by its splits.
+// How many trees a group has, and the wiring of each number.
 pub mod counts;
+pub mod fast;
+pub mod numbered;

@@ -1,1 +1,1 @@
-// The theory of the definitions in `rules`, in specs/. This crate has no code.
+// Theorems about trees, wirings, classes and marks, in specs/. This crate has no code.

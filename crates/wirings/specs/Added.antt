@@ -6,10 +6,10 @@ use mathlib.Core.Logic.{_≢_}
 use mathlib.Core.Bool.{true}
 use native.Mathlib.Omega.{arith}
 use borrow.Author.Tests.{eq-eqb, ne-eqb}
-use Rattle.rules.specs.Groups.{size}
-use Rattle.rules.specs.Marks.{inside}
-use Rattle.rules.specs.Wirings.{input, gate, firstInput, wiringBy}
-use Rattle.trees.specs.MarkTwo.{Splits, parted-sizes}
+use Rattle.rules.specs.Groups.Groups.{size}
+use Rattle.rules.specs.Groups.Marks.{inside}
+use Rattle.rules.specs.Nets.Wirings.{input, gate, firstInput, wiringBy}
+use Rattle.trees.specs.Trees.MarkTwo.{Splits, parted-sizes}
 use Rattle.wirings.specs.declared.forms.Wiring.{Wiring}
 use Rattle.wirings.specs.Links.{Linked}
 use Rattle.wirings.specs.AddedWiring.{AddedWiring, wiring-input, wiring-gate}

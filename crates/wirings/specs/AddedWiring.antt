@@ -4,8 +4,8 @@ use Prim.Native.Nat.{ℕ, _+_}
 use mathlib.Core.Path.{_≡_, refl, sym, ap, ap₂, _∙_}
 use mathlib.Core.List.{List, [], _∷_, _++_, append-nil, append-assoc}
 use native.Mathlib.Omega.{arith}
-use Rattle.rules.specs.Wirings.{input, gate, Link, gatesIn, referenceTo, linksOf}
-use Rattle.rules.specs.Wirings as rules
+use Rattle.rules.specs.Nets.Wirings.{input, gate, Link, gatesIn, referenceTo, linksOf}
+use Rattle.rules.specs.Nets.Wirings as rules
 use Rattle.wirings.specs.declared.forms.Wiring.{Wiring}
 use Rattle.wirings.specs.Links.{linksIn, Linked}
 

@@ -4,8 +4,8 @@ use Prim.Native.Nat.{ℕ, _≤_, _<_}
 use mathlib.Core.List.{List}
 use native.Mathlib.Nat.{lt-of-le-of-lt}
 use lib.ListN.{length}
-use Rattle.rules.specs.Settled.{splitOf}
-use Rattle.rules.specs.Shallow.{shallowSplit}
+use Rattle.rules.specs.Nets.Settled.{splitOf}
+use Rattle.rules.specs.Nets.Shallow.{shallowSplit}
 use Rattle.wirings.specs.declared.choice.Choice.{Choice}
 use Rattle.wirings.specs.declared.choice.Choice.the-variants.{Settled, Shallow}
 

@@ -8,11 +8,11 @@ use mathlib.Core.List.{List, _++_}
 use native.Mathlib.Nat.{zero-add}
 use lib.ListN.{length}
 use Rattle.rules.specs.Limits.{mostInputs}
-use Rattle.rules.specs.Groups.{size}
-use Rattle.rules.specs.Marks.{inside, markIn}
-use Rattle.rules.specs.Wirings.{Link, linksOf, wiringBy}
-use Rattle.trees.specs.Members.{member-inside, size-le}
-use Rattle.trees.specs.MarkTwo.{Splits, inside-trans, two-some, parted, parted-sizes, a-below, b-below, a-inside, b-inside}
+use Rattle.rules.specs.Groups.Groups.{size}
+use Rattle.rules.specs.Groups.Marks.{inside, markIn}
+use Rattle.rules.specs.Nets.Wirings.{Link, linksOf, wiringBy}
+use Rattle.trees.specs.Groups.Members.{member-inside, size-le}
+use Rattle.trees.specs.Trees.MarkTwo.{Splits, inside-trans, two-some, parted, parted-sizes, a-below, b-below, a-inside, b-inside}
 use Rattle.wirings.specs.declared.forms.Wiring.{Wiring}
 use Rattle.wirings.specs.Links.{linksIn, none-in, Linked}
 use Rattle.wirings.specs.Added.{Added, added-several}

@@ -10,8 +10,8 @@ use lib.ListN.{length, getD, set, replicate}
 use lib.Seq.{getD-set-same, getD-set-other}
 use Rattle.rules.specs.Lists.{range}
 use Rattle.rules.specs.Limits.{mostInputs}
-use Rattle.rules.specs.Wirings.{Link}
-use Rattle.laws.specs.Ranges.{map-range-length, map-range-at, map-range-suc, map-range-same}
+use Rattle.rules.specs.Nets.Wirings.{Link}
+use Rattle.laws.specs.Lists.Ranges.{map-range-length, map-range-at, map-range-suc, map-range-same}
 use Rattle.wirings.specs.declared.forms.Wiring.{Wiring}
 
 -- the gate with k gates before it

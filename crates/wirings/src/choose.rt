@@ -1,6 +1,6 @@
 // A wiring by a choice of parts: a group's two parts first, then its own gate.
 ghost use Prim.Native.Nat.{_+_, _≤_};
-ghost use Rattle.rules.specs.Groups.{size};
+ghost use Rattle.rules.specs.Groups.Groups.{size};
 ghost use Rattle.wirings.specs.Choice.{splitBy, LayersRoom};
 ghost use Rattle.wirings.specs.Added.{Added};
 ghost use Rattle.wirings.specs.Chosen.{Choosable, Chosen};
@@ -46,7 +46,7 @@ fn wire_group(
     }
 }
 
-// The wiring of the group `leaves`, which has mark 2.
+// Returns the wiring of the group `leaves`, which has mark 2.
 pub fn choose(choice: Choice, n: usize, marks: &[u8], fewest: &[u8], leaves: usize) -> forms::Wiring
     requires { ⌜ (Choosable n (now marks) (splitBy choice n (now marks) (now fewest)) leaves) × (LayersRoom choice leaves (now fewest)) ⌝ }
     ensures { λ r. ⌜ Chosen n (splitBy choice n (now (marks .entry)) (now (fewest .entry))) leaves r ⌝ }

@@ -13,7 +13,7 @@ pub struct Wiring {
     pub right: [u8; MOST_GATES],
 }
 
-// A wiring with no gate yet.
+// Returns a wiring with no gate.
 pub fn no_links() -> Wiring
     ensures { λ r. ⌜ r ≡ noLinks ⌝ }
 {
@@ -24,7 +24,7 @@ pub fn no_links() -> Wiring
     }
 }
 
-// The wiring with one more gate, that joins `left` and `right`.
+// Returns the wiring with one more gate, which joins `left` and `right`.
 pub fn link(left: u8, right: u8, wiring: Wiring) -> Wiring
     requires { ⌜ wiring .gates + 1 < mostInputs ⌝ }
     ensures { λ r. ⌜ Linked left right wiring r ⌝ }

@@ -5,6 +5,8 @@ use load::calls::{Call, Kind, Times};
 use std::collections::BTreeMap;
 
 const CALLS: u64 = 40_000;
+/// Each call is made so many times by both, and the least time of each is taken.
+const TIMES: usize = 8;
 const SEED: u64 = 21;
 
 /// The times of one kind of call, summed for each size.
@@ -14,14 +16,27 @@ type BySize = BTreeMap<(usize, usize), Times>;
 fn times() -> Vec<BySize> {
     let mut times = vec![BySize::new(); Kind::ALL.len()];
     for k in 0..CALLS {
-        let call = Call::of(load::seed_of(SEED, k));
+        let seed = load::seed_of(SEED, k);
+        let call = Call::of(seed);
         if call.proved.answer.number() == 0 {
+            let least = least_times(seed, call.times);
             let sum = times[call.kind as usize].entry(call.size).or_default();
-            sum.proved += call.times.proved;
-            sum.second += call.times.second;
+            sum.proved += least.proved;
+            sum.second += least.second;
         }
     }
     times
+}
+
+/// Returns the least times of a call, which took the given times once.
+fn least_times(seed: u64, once: Times) -> Times {
+    (1..TIMES).fold(once, |least, _| {
+        let again = Call::of(seed).times;
+        Times {
+            proved: least.proved.min(again.proved),
+            second: least.second.min(again.second),
+        }
+    })
 }
 
 /// A line for each call: the geometric mean over the sizes, the least and the greatest.

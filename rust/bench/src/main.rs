@@ -1,5 +1,6 @@
 //! Times the proved library against plain Rust in the same run, on the same inputs: `cargo run --release -p bench`.
-//! A ratio is the proved library's time over the other's; below 1 the library is the quicker. `--bin stack` measures the stack of its calls.
+//! A ratio is the proved library's time over the other's; below 1 the library is the quicker. `-- calls` times only every call against the second
+//! implementation. `--bin stack` measures the stack of its calls.
 //!
 //! | module         | idea                                                          |
 //! |----------------|---------------------------------------------------------------|
@@ -37,6 +38,9 @@ fn by_size(title: &str, ratio: impl Fn(usize, usize, TableKind) -> f64) {
 }
 
 fn main() {
+    if std::env::args().nth(1).as_deref() == Some("calls") {
+        return calls::report();
+    }
     by_size("marking, proved / plain", ratios::marking);
     by_size("making, proved / plain", ratios::making);
     by_size(

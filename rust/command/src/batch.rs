@@ -1,62 +1,71 @@
 //! Many sheets at once, on all cores. One that is refused stops no other.
 
 use crate::call::Call;
+use crate::identity::Identity;
 use crate::json::Json;
 use crate::outcome::{self, Failure, GOOD, NO, WRONG};
 use crate::output;
 use crate::progress::Progress;
-use crate::words::count;
-use std::collections::BTreeMap;
-use std::ffi::{OsStr, OsString};
+use crate::words::{count, file_name, thousands};
+use std::collections::{BTreeMap, BTreeSet};
+use std::ffi::OsStr;
 use std::fs;
 use std::path::{Path, PathBuf};
 use std::sync::atomic::{AtomicUsize, Ordering};
 use std::sync::mpsc;
 use std::thread;
 
-/// What came of a sheet: the file that was written, or why there is none.
-type Done = Result<(), Failure>;
+/// What came of a sheet: the notes on it where its file was written, or why there is none.
+type Done = Result<Vec<String>, Failure>;
 
+/// Runs the command for each sheet, and returns the status.
 pub fn run(call: &Call) -> u8 {
     let folder = call.folder.as_deref().unwrap_or(OsStr::new("."));
+    let progress = Progress::of(call.operands.len());
+    progress.at(0);
     let targets = match targets(call, Path::new(folder)) {
         Ok(targets) => targets,
-        Err(failure) => return outcome::failed(&failure, false),
+        Err(failure) => {
+            progress.end();
+            return outcome::failed(&failure, false);
+        }
     };
-    let results = all(call, &targets);
+    let results = all(call, &targets, &progress);
     tell(call, folder, &targets, &results)
 }
 
-/// The file for each sheet. No two have the same, and none is a sheet itself.
+/// Lists the file for each sheet. No two sheets have the same one, and none is a sheet itself.
 fn targets(call: &Call, folder: &Path) -> Result<Vec<PathBuf>, Failure> {
     fs::create_dir_all(folder)
-        .map_err(|error| crate::input::cannot("write", &folder.to_string_lossy(), &error))?;
+        .map_err(|error| crate::input::cannot("write", &file_name(folder.as_os_str()), &error))?;
     let ending = call.ending().unwrap_or("out");
-    let mut taken: BTreeMap<OsString, &OsString> = BTreeMap::new();
+    let sheets = call.operands.iter().map(Path::new);
+    let read: BTreeSet<Identity> = sheets.filter_map(Identity::at).collect();
+    let mut taken = BTreeMap::new();
     let mut targets = Vec::new();
     for sheet in &call.operands {
         let name = Path::new(sheet).file_stem().filter(|_| sheet != "-");
         let name = name.ok_or_else(|| call.wrong("with -d every sheet is a file".to_string()))?;
-        if let Some(other) = taken.insert(name.to_owned(), sheet) {
+        let mut file = name.to_owned();
+        file.push(".");
+        file.push(ending);
+        let target = folder.join(file);
+        // by its path behind all links, or by the file where there is one
+        let known = Identity::at(&target);
+        let path = output::behind_links(&target).unwrap_or_else(|_| target.clone());
+        let by_name = taken.insert(Place::Path(path), sheet);
+        let by_file = known.and_then(|known| taken.insert(Place::File(known), sheet));
+        if let Some(other) = by_name.or(by_file) {
             return Err(call.wrong(format!(
                 "`{}` and `{}` would be written to the same file",
-                other.to_string_lossy(),
-                sheet.to_string_lossy()
+                file_name(other),
+                file_name(sheet)
             )));
         }
-        let target = folder.join(format!("{}.{ending}", name.to_string_lossy()));
-        let same = |a: &Path, b: &Path| match (fs::canonicalize(a), fs::canonicalize(b)) {
-            (Ok(a), Ok(b)) => a == b,
-            _ => false,
-        };
-        if call
-            .operands
-            .iter()
-            .any(|sheet| same(Path::new(sheet), &target))
-        {
+        if known.is_some_and(|known| read.contains(&known)) {
             return Err(call.wrong(format!(
                 "`{}` is one of the sheets, and would be written over: name another folder",
-                target.display()
+                file_name(target.as_os_str())
             )));
         }
         targets.push(target);
@@ -64,12 +73,18 @@ fn targets(call: &Call, folder: &Path) -> Result<Vec<PathBuf>, Failure> {
     Ok(targets)
 }
 
+/// Where a result is written.
+#[derive(PartialEq, Eq, PartialOrd, Ord)]
+enum Place {
+    Path(PathBuf),
+    File(Identity),
+}
+
 /// Every sheet's result, in the order of the sheets.
-fn all(call: &Call, targets: &[PathBuf]) -> Vec<Done> {
+fn all(call: &Call, targets: &[PathBuf], progress: &Progress) -> Vec<Done> {
     let total = targets.len();
     let cores = thread::available_parallelism().map_or(1, |cores| cores.get());
     let next = AtomicUsize::new(0);
-    let progress = Progress::of(total);
     let (sender, receiver) = mpsc::channel();
     let mut results: Vec<Option<Done>> = (0..total).map(|_| None).collect();
     thread::scope(|scope| {
@@ -86,7 +101,6 @@ fn all(call: &Call, targets: &[PathBuf]) -> Vec<Done> {
                 }
             });
         }
-        progress.at(0);
         for (done, (k, result)) in receiver.iter().take(total).enumerate() {
             results[k] = Some(result);
             progress.at(done + 1);
@@ -96,10 +110,15 @@ fn all(call: &Call, targets: &[PathBuf]) -> Vec<Done> {
     results.into_iter().flatten().collect()
 }
 
+/// Writes the result of one sheet. It counts once its file is there.
 fn one(call: &Call, sheet: &OsStr, target: &Path) -> Done {
     let call = call.of_sheet(sheet);
     let answer = (call.command.run)(&call)?;
-    output::to_file(target, &answer.text)
+    call.may_write(target)?;
+    output::to_file(target, &answer.text)?;
+    fs::metadata(target)
+        .map_err(|error| crate::input::cannot("write", &file_name(target.as_os_str()), &error))?;
+    Ok(answer.notes)
 }
 
 /// Says what was refused and what was done, and gives the status: the worst of all.
@@ -110,8 +129,9 @@ fn tell(call: &Call, folder: &OsStr, targets: &[PathBuf], results: &[Done]) -> u
     for ((result, target), sheet) in results.iter().zip(targets).zip(&call.operands) {
         let sheet = Json::text(sheet.to_string_lossy());
         list.push(match result {
-            Ok(()) => {
+            Ok(notes) => {
                 written += 1;
+                notes.iter().for_each(|note| output::to_error(note));
                 let target = Json::text(target.to_string_lossy());
                 Json::object([("file", sheet), ("written", target)])
             }
@@ -127,16 +147,17 @@ fn tell(call: &Call, folder: &OsStr, targets: &[PathBuf], results: &[Done]) -> u
             }
         });
     }
-    let folder = folder.to_string_lossy();
+    let folder = file_name(folder);
     let mut words = format!(
-        "{}: {written} written to {folder}",
-        count(results.len(), "sheet")
+        "{}: {} written to {folder}",
+        count(results.len(), "sheet"),
+        thousands(written)
     );
     if refused > 0 {
-        words += &format!(", {refused} refused");
+        words += &format!(", {} refused", thousands(refused));
     }
     if failed > 0 {
-        words += &format!(", {failed} not read or not written");
+        words += &format!(", {} not read or not written", thousands(failed));
     }
     let text = match call.json {
         true => Json::object([("sheets", Json::List(list))]).to_string(),

@@ -2,9 +2,12 @@
 
 use crate::commands::{self, Command};
 use crate::help;
+use crate::identity::Identity;
 use crate::outcome::Failure;
+use crate::words::{file_name, quoted};
 use std::ffi::{OsStr, OsString};
 use std::path::Path;
+use std::sync::{Mutex, PoisonError};
 
 /// An option of a command; `value` is what its value is called, where it takes one.
 pub struct Opt {
@@ -14,6 +17,8 @@ pub struct Opt {
     pub ending: Option<&'static str>,
     /// Whether it may be given more than once.
     pub many: bool,
+    /// What it does, in a line or two.
+    pub says: &'static str,
 }
 
 impl Opt {
@@ -23,6 +28,7 @@ impl Opt {
             value: None,
             ending: None,
             many: false,
+            says: "",
         }
     }
 
@@ -31,6 +37,11 @@ impl Opt {
             value: Some(value),
             ..Opt::flag(name)
         }
+    }
+
+    /// The option with what it does.
+    pub const fn says(self, says: &'static str) -> Opt {
+        Opt { says, ..self }
     }
 }
 
@@ -46,15 +57,39 @@ pub struct Call {
     /// Whether it is a sheet of many, whose progress is shown for all.
     pub of_many: bool,
     given: Vec<(&'static str, OsString)>,
+    /// The sheets themselves, in a stream, which names no files.
+    pub lent: Option<Vec<Vec<u8>>>,
+    /// The files that were read.
+    read: Mutex<Vec<Identity>>,
 }
 
 /// What was asked for: a text, such as help, or a command.
 pub enum Asked {
     Text(String),
+    /// Manual pages and completions below a folder.
+    Generate(OsString),
     Call(Call),
 }
 
 impl Call {
+    /// Notes that a file was read.
+    pub fn has_read(&self, file: Identity) {
+        let mut read = self.read.lock().unwrap_or_else(PoisonError::into_inner);
+        read.push(file);
+    }
+
+    /// Refuses to write to a file that was read.
+    pub fn may_write(&self, file: &Path) -> Result<(), Failure> {
+        let read = self.read.lock().unwrap_or_else(PoisonError::into_inner);
+        match Identity::at(file) {
+            Some(known) if read.contains(&known) => Err(self.wrong(format!(
+                "`{}` is a sheet that it reads, and would be written over: name another file",
+                file_name(file.as_os_str())
+            ))),
+            _ => Ok(()),
+        }
+    }
+
     /// Whether an option was given.
     pub fn has(&self, option: &str) -> bool {
         self.given.iter().any(|(name, _)| *name == option)
@@ -113,6 +148,8 @@ impl Call {
             folder: None,
             of_many: true,
             given: self.given.clone(),
+            lent: None,
+            read: Mutex::default(),
         }
     }
 
@@ -138,6 +175,12 @@ pub fn asked(words: &[OsString]) -> Result<Asked, Failure> {
     match first.to_str() {
         Some("--help" | "-h") => Ok(Asked::Text(help::general())),
         Some("--version" | "-V") => Ok(Asked::Text(help::version())),
+        Some("generate") => match rest {
+            [prefix] => Ok(Asked::Generate(prefix.clone())),
+            _ => Err(Failure::Usage(help::named(
+                "usage: sitgurp generate PREFIX".to_string(),
+            ))),
+        },
         Some("help") => match rest {
             [] => Ok(Asked::Text(help::general())),
             [name, ..] => named(name).map(|command| Asked::Text(help::of(command))),
@@ -152,16 +195,46 @@ fn named(name: &OsStr) -> Result<&'static Command, Failure> {
         .find(|command| name == command.name)
         .copied()
         .ok_or_else(|| {
-            let name = name.to_string_lossy();
             // a sheet where a command is due
-            let likely = match Path::new(&*name).is_file() {
-                true => format!("`sitgurp make {name}` makes its tree, and "),
+            let likely = match Path::new(name).is_file() {
+                true => format!("`sitgurp make {}` makes its tree, and ", quoted(name)),
                 false => String::new(),
             };
             Failure::Usage(help::named(format!(
-                "there is no command `{name}`; {likely}`sitgurp --help` lists the commands"
+                "there is no command `{}`; {likely}`sitgurp --help` lists the commands",
+                file_name(name)
             )))
         })
+}
+
+/// Returns the call of a line of a stream: its further words, and its sheets themselves. It reads and writes no files.
+pub fn of_stream(
+    command: &'static Command,
+    words: Vec<OsString>,
+    sheets: Vec<Vec<u8>>,
+) -> Result<Call, Failure> {
+    let Asked::Call(call) = parsed(command, &words)? else {
+        return Err(wrong(command, "a stream gives no help".to_string()));
+    };
+    let is_file = |word: &OsString| !command.more || !word.to_string_lossy().contains('=');
+    if let Some(word) = call.operands.iter().find(|word| is_file(word)) {
+        return Err(wrong(
+            command,
+            format!(
+                "`{}` is no option: a stream has its sheets in `sheets`",
+                file_name(word)
+            ),
+        ));
+    }
+    if call.output.is_some() || call.folder.is_some() {
+        return Err(wrong(command, "a stream writes no files".to_string()));
+    }
+    Ok(Call {
+        json: true,
+        of_many: true,
+        lent: Some(sheets),
+        ..call
+    })
 }
 
 fn parsed(command: &'static Command, words: &[OsString]) -> Result<Asked, Failure> {
@@ -173,6 +246,8 @@ fn parsed(command: &'static Command, words: &[OsString]) -> Result<Asked, Failur
         folder: None,
         of_many: false,
         given: Vec::new(),
+        lent: None,
+        read: Mutex::default(),
     };
     let mut words = words.iter();
     let mut options_end = false;
@@ -234,7 +309,8 @@ fn option(
         None => Ok((known, OsString::new())),
         Some(what) => {
             let value = after.or_else(next);
-            let value = value.ok_or_else(|| wrong(command, format!("{name} needs a {what}")))?;
+            let value =
+                value.ok_or_else(|| wrong(command, format!("{name} needs a value: {what}")))?;
             Ok((known, value))
         }
     }
@@ -252,7 +328,7 @@ fn fits(call: &Call) -> Result<(), Failure> {
         };
     }
     if count > *sheets && !more {
-        let extra = call.operands[*sheets].to_string_lossy();
+        let extra = file_name(&call.operands[*sheets]);
         let many = match (call.command.ending, sheets) {
             (Some(_), 1) => "; for several sheets add -d FOLDER",
             _ => "",

@@ -1,24 +1,47 @@
 //! What has likely gone wrong with a refused sheet. A repair is tried on a copy, and the library asked again: where it then gets further, what was repaired
 //! is the likely cause.
 
+use crate::csv::Csv;
 use crate::refused::judged;
-use crate::repairs::{Repair, REPAIRS};
+use crate::repairs::{wide_encoding, Repair, REPAIRS};
 use crate::sentence::{Due, Front};
 use crate::words::{self, count};
 use sitgurp::{Kind, Net, Refusal, Table};
 use std::collections::BTreeSet;
 
-/// The likely causes, each with what to do. None where none of the usual mistakes explains the refusal.
+/// Lists the likely causes of a refusal, each with what to do. The list is empty where none of the usual mistakes explains it.
 pub fn causes(due: Due, sheet: &[u8], refusal: &Refusal, inputs: &[String]) -> Vec<String> {
-    if let Some(words) = other_sheet(due, sheet) {
-        return vec![words];
+    match encoding(sheet).or_else(|| other_sheet(due, sheet)) {
+        Some(words) => vec![words],
+        None => usual(due, sheet, refusal, inputs),
     }
+}
+
+/// Lists the likely causes of a refusal of CSV.
+pub fn causes_in_csv(file: &[u8], csv: &Csv, refusal: &Refusal) -> Vec<String> {
+    match encoding(file).or_else(|| csv.cause(refusal.place)) {
+        Some(words) => vec![words],
+        None => usual(Due::Csv, &csv.text, refusal, &[]),
+    }
+}
+
+fn encoding(file: &[u8]) -> Option<String> {
+    let encoding = wide_encoding(file)?;
+    Some(format!(
+        "the file is {encoding}; save it as plain text, UTF-8 or ASCII"
+    ))
+}
+
+/// Lists the usual mistakes that explain a refusal. One that the sheet itself does not have is left out, even if mending others leaves it behind.
+fn usual(due: Due, sheet: &[u8], refusal: &Refusal, inputs: &[String]) -> Vec<String> {
     let mut causes = Vec::new();
     let mut copy = sheet.to_vec();
     let mut current = Some(refusal.clone());
     while let Some(fault) = &current {
         let front = Front::of(due, &copy, fault, inputs);
-        let of_lines = of_rows(&front, fault.kind()).or_else(|| of_gates(&front, fault.kind()));
+        let of_lines = of_rows(&front, fault.kind())
+            .or_else(|| of_gates(&front, fault.kind()))
+            .or_else(|| of_names(&front, fault.kind()));
         if let Some(words) = of_lines {
             causes.push(words);
             break;
@@ -26,7 +49,9 @@ pub fn causes(due: Due, sheet: &[u8], refusal: &Refusal, inputs: &[String]) -> V
         let Some(repaired) = repaired(due, &copy, fault, inputs) else {
             break;
         };
-        causes.extend(repaired.words.iter().map(|words| words.to_string()));
+        let repairs = repaired.repairs.iter();
+        let own = repairs.filter(|repair| (repair.mend)(sheet) != sheet);
+        causes.extend(own.map(|repair| repair.words.to_string()));
         copy = repaired.sheet;
         current = repaired.refusal;
     }
@@ -35,7 +60,7 @@ pub fn causes(due: Due, sheet: &[u8], refusal: &Refusal, inputs: &[String]) -> V
 
 /// What the fewest of the repairs that get the library further leave, and what is then refused.
 struct Repaired {
-    words: Vec<&'static str>,
+    repairs: Vec<&'static Repair>,
     sheet: Vec<u8>,
     refusal: Option<Refusal>,
     /// How much was read.
@@ -43,7 +68,7 @@ struct Repaired {
 }
 
 impl Repaired {
-    fn by(due: Due, sheet: &[u8], repairs: &[&Repair], inputs: &[String]) -> Repaired {
+    fn by(due: Due, sheet: &[u8], repairs: Vec<&'static Repair>, inputs: &[String]) -> Repaired {
         let mended = repairs
             .iter()
             .fold(sheet.to_vec(), |sheet, repair| (repair.mend)(&sheet));
@@ -53,7 +78,7 @@ impl Repaired {
             Some(refusal) => content(&mended[..refusal.place.min(mended.len())]),
         };
         Repaired {
-            words: repairs.iter().map(|repair| repair.words).collect(),
+            repairs,
             sheet: mended,
             refusal,
             read,
@@ -61,22 +86,20 @@ impl Repaired {
     }
 }
 
-/// All repairs at once, and then without each that is not needed to get as far.
+/// Tries all repairs at once, and then leaves out each that is not needed to get as far.
 fn repaired(due: Due, sheet: &[u8], fault: &Refusal, inputs: &[String]) -> Option<Repaired> {
-    let mut repairs: Vec<&Repair> = REPAIRS.iter().collect();
-    let mut best = Repaired::by(due, sheet, &repairs, inputs);
+    let all = REPAIRS.iter().filter(|repair| repair.sheets.contains(&due));
+    let all: Vec<&Repair> = all.collect();
+    let mut best = Repaired::by(due, sheet, all.clone(), inputs);
     if best.read <= content(&sheet[..fault.place.min(sheet.len())]) {
         return None;
     }
-    for repair in &REPAIRS {
-        let fewer: Vec<&Repair> = repairs
-            .iter()
-            .copied()
-            .filter(|other| !std::ptr::eq(*other, repair))
-            .collect();
-        let without = Repaired::by(due, sheet, &fewer, inputs);
+    for repair in all {
+        let mut fewer = best.repairs.clone();
+        fewer.retain(|other| !std::ptr::eq(*other, repair));
+        let without = Repaired::by(due, sheet, fewer, inputs);
         if without.read >= best.read {
-            (repairs, best) = (fewer, without);
+            best = without;
         }
     }
     Some(best)
@@ -93,7 +116,9 @@ fn content(bytes: &[u8]) -> usize {
 /// A sheet of another kind than the one that is due.
 fn other_sheet(due: Due, sheet: &[u8]) -> Option<String> {
     let name = match due {
-        Due::Table | Due::Loose | Due::Arrivals if Net::read(sheet).is_ok() => Due::Net.name(),
+        Due::Table | Due::Loose | Due::Csv | Due::Arrivals if Net::read(sheet).is_ok() => {
+            Due::Net.name()
+        }
         Due::Net | Due::Arrivals if Table::read(sheet).is_ok() => Due::Table.name(),
         _ if sheet.starts_with(b"name from to") && due != Due::Arrivals => Due::Arrivals.name(),
         _ => return None,
@@ -111,7 +136,7 @@ fn other_sheet(due: Due, sheet: &[u8]) -> Option<String> {
 
 /// Rows that are missing, repeated, or in another order.
 fn of_rows(front: &Front, kind: Kind) -> Option<String> {
-    if kind != Kind::Row || front.due == Due::Loose {
+    if kind != Kind::Row || front.due != Due::Table {
         return None;
     }
     let due = front.line - 4;
@@ -149,13 +174,22 @@ fn of_rows(front: &Front, kind: Kind) -> Option<String> {
     }
     if here < due {
         return Some(format!(
-            "the row `{}` stands twice: lines {} and {}",
+            "the row `{}` is there twice, in lines {} and {}",
             levels(here),
             here + 4,
             front.line
         ));
     }
     None
+}
+
+/// More names in line 3 than line 2 says.
+fn of_names(front: &Front, kind: Kind) -> Option<String> {
+    let extra = kind == Kind::Layout && front.names_too_many().is_some();
+    extra.then(|| {
+        "a name has a space in it, which makes it two, or the number of inputs in line 2 is wrong"
+            .to_string()
+    })
 }
 
 /// The last lines of a net that uses every input: gates are left that no line joins.

@@ -48,18 +48,18 @@ const LONGEST: usize = 64;
 
 impl<'a> Cells<'a> {
     /// Reads a picture for a net of so many levels, or says in words why it is none.
-    pub fn read(file: &'a Sheet, levels: usize) -> Result<Cells<'a>, Refused> {
+    pub fn read(file: &'a Sheet, levels: usize) -> Result<Cells<'a>, Box<Refused>> {
         match Format::of(&file.bytes) {
             Format::Text => Cells::of_text(file, levels),
             Format::Graymap => Cells::of_graymap(file, levels),
         }
     }
 
-    fn of_text(file: &'a Sheet, levels: usize) -> Result<Cells<'a>, Refused> {
+    fn of_text(file: &'a Sheet, levels: usize) -> Result<Cells<'a>, Box<Refused>> {
         let text = std::str::from_utf8(&file.bytes).ok();
         let picture = text
             .and_then(Picture::from_text)
-            .ok_or_else(|| text_fault(file, levels))?;
+            .ok_or_else(|| Box::new(text_fault(file, levels)))?;
         let is_cell = |(_, byte): &(usize, &u8)| !matches!(byte, b'\r' | b'\n');
         let cells = file.bytes.iter().enumerate().filter(is_cell);
         let places: Vec<usize> = cells.map(|(place, _)| place).collect();
@@ -73,11 +73,11 @@ impl<'a> Cells<'a> {
         })
     }
 
-    fn of_graymap(file: &'a Sheet, levels: usize) -> Result<Cells<'a>, Refused> {
+    fn of_graymap(file: &'a Sheet, levels: usize) -> Result<Cells<'a>, Box<Refused>> {
         let text = std::str::from_utf8(&file.bytes).ok();
         let (picture, _) = text
             .and_then(Picture::from_pgm)
-            .ok_or_else(|| graymap_fault(file, levels))?;
+            .ok_or_else(|| Box::new(graymap_fault(file, levels)))?;
         let places: Vec<usize> = fields(&file.bytes).iter().map(|(at, _)| *at).collect();
         Ok(Cells {
             picture,
@@ -178,7 +178,7 @@ fn other_file(file: &Sheet, byte: u8) -> Option<String> {
     }
     match byte {
         b' ' | b',' | b';' | b'\t' => {
-            Some("cells stand side by side, with nothing between them".to_string())
+            Some("cells are written side by side, with nothing between them".to_string())
         }
         0xef => Some("the file begins with a byte order mark; save it without one".to_string()),
         0x80.. => Some(

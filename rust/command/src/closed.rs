@@ -1,18 +1,24 @@
-//! Whether standard output was closed before the program began. Rust's start puts `/dev/null` in the place of a closed one, where everything can be
-//! written and nothing arrives; so this is asked before that.
+//! Whether standard input or output was closed before the program began. Rust's start puts `/dev/null` in the place of a closed one: reading that gives
+//! nothing, and writing to it loses everything without an error. So the program asks before that.
 
 use std::sync::atomic::{AtomicBool, Ordering};
 
-static CLOSED: AtomicBool = AtomicBool::new(false);
+static INPUT: AtomicBool = AtomicBool::new(false);
+static OUTPUT: AtomicBool = AtomicBool::new(false);
 
-/// Whether what is written to standard output would be lost.
+/// Returns whether there was no standard input to read.
+pub fn input_is_closed() -> bool {
+    INPUT.load(Ordering::Relaxed)
+}
+
+/// Returns whether what is written to standard output would be lost.
 pub fn output_is_closed() -> bool {
-    CLOSED.load(Ordering::Relaxed)
+    OUTPUT.load(Ordering::Relaxed)
 }
 
 #[cfg(target_os = "linux")]
 mod before_the_start {
-    use super::{Ordering, CLOSED};
+    use super::{Ordering, INPUT, OUTPUT};
 
     extern "C" {
         fn fcntl(file: i32, command: i32, ...) -> i32;
@@ -20,12 +26,13 @@ mod before_the_start {
 
     /// Asks for the flags of a file, which an open one has.
     const F_GETFD: i32 = 1;
-    const STANDARD_OUTPUT: i32 = 1;
 
     extern "C" fn look() {
-        // nothing but a question to the system, which needs nothing of the program's start
-        let flags = unsafe { fcntl(STANDARD_OUTPUT, F_GETFD) };
-        CLOSED.store(flags < 0, Ordering::Relaxed);
+        for (file, closed) in [(0, &INPUT), (1, &OUTPUT)] {
+            // SAFETY: F_GETFD only asks the system about a number, open or not, and takes no pointer.
+            let flags = unsafe { fcntl(file, F_GETFD) };
+            closed.store(flags < 0, Ordering::Relaxed);
+        }
     }
 
     /// What stands in this section is called before `main`.

@@ -5,19 +5,23 @@ mod check;
 mod count;
 mod draw;
 mod eval;
+mod fill;
 mod gates;
 mod glyph;
 mod invert;
 mod keep;
+mod larger;
 mod make;
 mod matrix;
 mod page;
 mod same;
 mod settle;
 mod shallower;
+mod stream;
 mod table;
 mod tidy;
 pub mod why;
+mod widen;
 
 use crate::call::{Call, Opt};
 use crate::outcome::{Answer, Failure};
@@ -41,10 +45,20 @@ pub struct Command {
     pub run: fn(&Call) -> Result<Answer, Failure>,
 }
 
+impl Command {
+    /// Returns whether this is `stream`, which writes as it goes and has no one answer.
+    pub fn is_stream(&self) -> bool {
+        self.name == stream::COMMAND.name
+    }
+}
+
 /// All of them, in the order of the list that `--help` prints.
 pub static ALL: &[&Command] = &[
     &make::COMMAND,
     &why::COMMAND,
+    &fill::COMMAND,
+    &widen::COMMAND,
+    &larger::COMMAND,
     &check::COMMAND,
     &tidy::COMMAND,
     &invert::COMMAND,
@@ -61,7 +75,8 @@ pub static ALL: &[&Command] = &[
     &matrix::COMMAND,
     &page::COMMAND,
     &glyph::COMMAND,
+    &stream::COMMAND,
 ];
 
 /// `--shallow`, of making and settling.
-const SHALLOW: Opt = Opt::flag("--shallow");
+const SHALLOW: Opt = Opt::flag("--shallow").says("write a tree of fewest layers instead");

@@ -5,7 +5,8 @@ const WIDEST: usize = 90;
 /// How much is shown before the place in a wider one.
 const BEFORE: usize = 40;
 
-/// The line of a place and a line with a caret below it, both indented; nothing where the line is empty. What is no printable letter is shown in another way, such as `\t`.
+/// Returns the line of a place and a line with a caret below it, both indented; nothing where the line is empty. A byte that is no printable letter is shown
+/// in another way, such as `\t`. A place at the line's end is shown as `\n` or `<end of file>`, so the caret is always below something.
 pub fn excerpt(sheet: &[u8], place: usize) -> String {
     let place = place.min(sheet.len());
     let start = sheet[..place]
@@ -19,6 +20,14 @@ pub fn excerpt(sheet: &[u8], place: usize) -> String {
     }
     let (before, after) = line.split_at(place - start);
     let (mut before, mut after) = (shown(before), shown(after));
+    if after.is_empty() {
+        let end = if length.is_some() {
+            "\\n"
+        } else {
+            "<end of file>"
+        };
+        after = end.to_string();
+    }
     if before.chars().count() + after.chars().count() > WIDEST {
         let skipped = before.chars().count().saturating_sub(BEFORE);
         if skipped > 0 {
@@ -33,13 +42,13 @@ pub fn excerpt(sheet: &[u8], place: usize) -> String {
     format!("    {before}{after}\n    {indent}^\n")
 }
 
-/// Where a line begins, counted from 0.
+/// Returns where a line begins, counted from 0.
 pub fn line_start(sheet: &[u8], line: usize) -> usize {
     let lines = sheet.split_inclusive(|&byte| byte == b'\n');
     lines.take(line).map(<[u8]>::len).sum()
 }
 
-/// A field of a sheet, as it is shown in a sentence.
+/// Returns a field of a sheet as it is shown in a sentence.
 pub fn field(bytes: &[u8]) -> String {
     const LONGEST: usize = 40;
     match bytes.get(..LONGEST) {
@@ -48,6 +57,7 @@ pub fn field(bytes: &[u8]) -> String {
     }
 }
 
+/// Returns bytes as they are shown, each that is no printable letter in another way.
 fn shown(bytes: &[u8]) -> String {
     let mut text = String::new();
     for &byte in bytes {

@@ -1,17 +1,37 @@
 //! Sheets, read from files or from standard input.
 
 use crate::call::Call;
+use crate::closed::input_is_closed;
+use crate::identity::Identity;
 use crate::outcome::Failure;
 use crate::output::to_error;
-use crate::words::count;
-use std::ffi::OsStr;
+use crate::words::{count, file_name, quoted};
+use std::ffi::{OsStr, OsString};
 use std::fs::File;
-use std::io::{self, IsTerminal, Read};
+use std::io::{self, BufRead, BufReader, IsTerminal, Read};
 
 /// What was read, and what it is called in messages.
 pub struct Sheet {
     pub name: String,
     pub bytes: Vec<u8>,
+    /// Its file, which standard input has not.
+    file: Option<OsString>,
+}
+
+impl Sheet {
+    /// Returns its file's name as it is, which a program can use.
+    pub fn file(&self) -> String {
+        match &self.file {
+            Some(file) => file.to_string_lossy().into_owned(),
+            None => self.name.clone(),
+        }
+    }
+
+    /// Returns how the sheet is named in a command, with a space before it: nothing for standard input.
+    pub fn operand(&self) -> String {
+        let file = self.file.as_deref();
+        file.map_or(String::new(), |file| format!(" {}", quoted(file)))
+    }
 }
 
 /// More than any sheet has, loosely laid ones with all their spaces too.
@@ -27,6 +47,9 @@ pub fn sheets<const N: usize>(call: &Call) -> Result<[Sheet; N], Failure> {
 
 /// The sheets of these names.
 pub fn of_names<const N: usize>(call: &Call, names: &[&OsStr]) -> Result<[Sheet; N], Failure> {
+    if let Some(sheets) = &call.lent {
+        return lent(call, sheets);
+    }
     let mut names = names.to_vec();
     if names.len() + 1 == N {
         names.push("-".as_ref());
@@ -40,25 +63,86 @@ pub fn of_names<const N: usize>(call: &Call, names: &[&OsStr]) -> Result<[Sheet;
     }
     let mut sheets = Vec::with_capacity(N);
     for name in names {
-        sheets.push(read(name)?);
+        sheets.push(read(call, name)?);
     }
     Ok(sheets
         .try_into()
         .unwrap_or_else(|_| unreachable!("a sheet for each name")))
 }
 
-fn read(name: &OsStr) -> Result<Sheet, Failure> {
+/// The sheets of a stream's line.
+fn lent<const N: usize>(call: &Call, sheets: &[Vec<u8>]) -> Result<[Sheet; N], Failure> {
+    let names: &[&str] = match N {
+        1 => &["the sheet"],
+        _ => &["the first sheet", "the second sheet"],
+    };
+    let sheets = sheets.iter().zip(names).map(|(bytes, name)| Sheet {
+        name: name.to_string(),
+        bytes: bytes.clone(),
+        file: None,
+    });
+    let sheets: Vec<Sheet> = sheets.collect();
+    let takes = count(N, "sheet");
+    sheets
+        .try_into()
+        .map_err(|_| call.wrong(format!("it takes {takes}")))
+}
+
+/// Opens a file, or standard input where the name is `-`, to be read line by line.
+pub fn lines(call: &Call, name: &OsStr) -> Result<Box<dyn BufRead>, Failure> {
     if name == "-" {
+        if input_is_closed() {
+            return Err(closed());
+        }
+        noted(call, STANDARD, Identity::of_open(&io::stdin()))?;
+        return Ok(Box::new(io::stdin().lock()));
+    }
+    let shown = file_name(name);
+    let file = File::open(name).map_err(|error| cannot("read", &shown, &error))?;
+    noted(call, &shown, Identity::of_open(&file))?;
+    Ok(Box::new(BufReader::with_capacity(1 << 16, file)))
+}
+
+fn closed() -> Failure {
+    cannot("read", STANDARD, &io::Error::other("it is closed"))
+}
+
+/// Reads a file, or standard input where the name is `-`, and notes which file it is.
+fn read(call: &Call, name: &OsStr) -> Result<Sheet, Failure> {
+    if name == "-" {
+        if input_is_closed() {
+            return Err(closed());
+        }
         if io::stdin().is_terminal() {
             to_error("reading a sheet from the keyboard: its lines, then Ctrl-D\n");
         }
+        noted(call, STANDARD, Identity::of_open(&io::stdin()))?;
         return whole(STANDARD.to_string(), io::stdin());
     }
-    let shown = name.to_string_lossy().into_owned();
+    let shown = file_name(name);
     let file = File::open(name).map_err(|error| cannot("read", &shown, &error))?;
-    whole(shown, file)
+    noted(call, &shown, Identity::of_open(&file))?;
+    Ok(Sheet {
+        file: Some(name.to_owned()),
+        ..whole(shown, file)?
+    })
 }
 
+/// Notes that a file is read. One that is standard output too has been emptied already, or would grow while it is read.
+fn noted(call: &Call, name: &str, file: Option<Identity>) -> Result<(), Failure> {
+    let Some(file) = file else {
+        return Ok(());
+    };
+    if Identity::of_open(&io::stdout()) == Some(file) {
+        return Err(Failure::File(format!(
+            "{name}: cannot be read: it is standard output too, and would be written over"
+        )));
+    }
+    call.has_read(file);
+    Ok(())
+}
+
+/// Reads a whole sheet, unless it is too long to be one.
 fn whole(name: String, from: impl Read) -> Result<Sheet, Failure> {
     let mut bytes = Vec::new();
     let read = from.take(MOST + 1).read_to_end(&mut bytes);
@@ -68,7 +152,8 @@ fn whole(name: String, from: impl Read) -> Result<Sheet, Failure> {
             "{name}: cannot be a sheet: it is longer than {MOST} bytes"
         )));
     }
-    Ok(Sheet { name, bytes })
+    let file = None;
+    Ok(Sheet { name, bytes, file })
 }
 
 /// `FILE: cannot be read: No such file or directory`.

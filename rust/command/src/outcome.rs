@@ -4,6 +4,8 @@ use crate::call::Call;
 use crate::json::Json;
 use crate::output;
 use crate::refused::Refused;
+use crate::words::printable;
+use std::path::Path;
 
 /// The answer of a command.
 pub struct Answer {
@@ -47,6 +49,12 @@ pub enum Failure {
     File(String),
 }
 
+impl From<Box<Refused>> for Failure {
+    fn from(refused: Box<Refused>) -> Failure {
+        Failure::Refused(vec![*refused])
+    }
+}
+
 impl From<Refused> for Failure {
     fn from(refused: Refused) -> Failure {
         Failure::Refused(vec![refused])
@@ -71,6 +79,11 @@ pub fn told(call: &Call, result: Result<Answer, Failure>) -> u8 {
         Ok(answer) => answer,
         Err(failure) => return failed(&failure, call.json),
     };
+    let file = call.output.as_deref().filter(|file| *file != "-");
+    let file = file.map(Path::new);
+    if let Some(Err(failure)) = file.map(|file| call.may_write(file)) {
+        return failed(&failure, false);
+    }
     for note in &answer.notes {
         output::to_error(note);
     }
@@ -78,9 +91,9 @@ pub fn told(call: &Call, result: Result<Answer, Failure>) -> u8 {
         true => answer.json.to_string().into_bytes(),
         false => answer.text,
     };
-    let written = match &call.output {
-        Some(file) if file != "-" => output::to_file(file.as_ref(), &text),
-        _ => output::to_standard(&text),
+    let written = match file {
+        Some(file) => output::to_file(file, &text),
+        None => output::to_standard(&text),
     };
     match written {
         Err(failure) => failed(&failure, false),
@@ -107,7 +120,7 @@ pub fn failed(failure: &Failure, json: bool) -> u8 {
             NO
         }
         Failure::Usage(words) | Failure::File(words) => {
-            output::to_error(&format!("{}\n", words.trim_end()));
+            output::to_error(&format!("{}\n", printable(words.trim_end())));
             WRONG
         }
     }

@@ -1,17 +1,20 @@
 //! A refusal as it is said: the file, the line and the column, what is due there, the line itself with a caret, and the likely cause.
 
-use crate::cause::causes;
+use crate::cause::{causes, causes_in_csv};
+use crate::csv::{Csv, Flaw, Separator};
 use crate::excerpt::{excerpt, line_start};
 use crate::input::Sheet;
 use crate::json::Json;
-use crate::loose::Loose;
-use crate::sentence::{sentence, Due, Front};
+use crate::sentence::{blank_cell, sentence, Due, Front};
 use crate::words::{self, thousands};
 use sitgurp::{Kind, Net, Refusal, Table};
 use std::fmt;
 
 /// A refusal in words.
 pub struct Refused {
+    /// What the file is called in words.
+    name: String,
+    /// The file itself, for programs.
     file: String,
     refusal: Refusal,
     sentence: String,
@@ -31,11 +34,12 @@ impl Refused {
             _ => refusal.place,
         };
         Refused {
-            file: sheet.name.clone(),
+            name: sheet.name.clone(),
+            file: sheet.file(),
             sentence: sentence(refusal.kind(), &front),
             excerpt: excerpt(&sheet.bytes, place),
             causes: causes(due, &sheet.bytes, &refusal, inputs),
-            hint: (due == Due::Table).then(|| tidy(sheet)).flatten(),
+            hint: tidy(due, sheet),
             refusal: Refusal {
                 position: Some(position(&sheet.bytes, place)),
                 ..refusal
@@ -43,31 +47,31 @@ impl Refused {
         }
     }
 
-    /// Of a loosely laid table, or of what a spreadsheet wrote and was turned into one: then the place is told where it stands in the file.
-    pub fn of_loose(sheet: &Sheet, loose: Option<&Loose>, refusal: Refusal) -> Refused {
-        let Some(loose) = loose else {
-            return Refused::of_sheet(Due::Loose, sheet, refusal, &[]);
+    /// Of a loosely laid table.
+    pub fn of_loose(sheet: &Sheet, refusal: Refusal) -> Refused {
+        Refused::of_sheet(Due::Loose, sheet, refusal, &[])
+    }
+
+    /// Of CSV that was turned into a loose table. The place is the one in the file.
+    pub fn of_csv(sheet: &Sheet, csv: &Csv, refusal: Refusal) -> Refused {
+        let mut front = Front::of(Due::Csv, &csv.text, &refusal, &[]);
+        front.given = csv.shown(refusal.place);
+        let sentence = match csv.flaw(refusal.place) {
+            Some(Flaw::Blank) => blank_cell(refusal.kind(), &front),
+            _ => sentence(refusal.kind(), &front),
         };
-        let front = Front::of(Due::Loose, &loose.text, &refusal, &[]);
-        let place = loose.source(refusal.place, sheet.bytes.len());
-        Refused {
-            file: sheet.name.clone(),
-            sentence: sentence(refusal.kind(), &front),
-            excerpt: excerpt(&sheet.bytes, place),
-            causes: causes(Due::Loose, &loose.text, &refusal, &[]),
-            hint: None,
-            refusal: Refusal {
-                place,
-                position: Some(position(&sheet.bytes, place)),
-                ..refusal
-            },
-        }
+        let place = csv.source(refusal.place);
+        let causes = causes_in_csv(&sheet.bytes, csv, &refusal);
+        let refused = Refused::at(sheet, place, Refusal { place, ..refusal }, sentence);
+        let words = csv.separator.words();
+        Refused { causes, ..refused }.hinted(format!("{words} separate the fields of this file"))
     }
 
     /// Of two sheets together.
-    pub fn of_headers(first: &Sheet, second: &Sheet, refusal: Refusal, differ: String) -> Refused {
+    fn of_headers(first: &Sheet, second: &Sheet, refusal: Refusal, differ: String) -> Refused {
         Refused {
-            file: format!("{} and {}", first.name, second.name),
+            name: format!("{} and {}", first.name, second.name),
+            file: format!("{} and {}", first.file(), second.file()),
             sentence: differ,
             excerpt: String::new(),
             causes: Vec::new(),
@@ -79,7 +83,8 @@ impl Refused {
     /// Of a place in a file that is told by its line and column.
     pub fn at(file: &Sheet, place: usize, refusal: Refusal, sentence: String) -> Refused {
         Refused {
-            file: file.name.clone(),
+            name: file.name.clone(),
+            file: file.file(),
             sentence,
             excerpt: excerpt(&file.bytes, place),
             causes: Vec::new(),
@@ -94,7 +99,8 @@ impl Refused {
     /// Of a file as a whole.
     pub fn of_file(file: &Sheet, refusal: Refusal, sentence: String) -> Refused {
         Refused {
-            file: file.name.clone(),
+            name: file.name.clone(),
+            file: file.file(),
             sentence,
             excerpt: String::new(),
             causes: Vec::new(),
@@ -127,9 +133,9 @@ impl Refused {
         // behind the row's levels, each with a space after it
         let row = line_start(&sheet.bytes, refusal.place + 3);
         let place = row + 2 * table.names().len();
-        let (program, operand) = (words::program(), words::operand(&sheet.name));
+        let (program, operand) = (words::program(), sheet.operand());
         Refused::at(sheet, place, refusal, sentence).hinted(format!(
-            "`{program} check NET{operand}` passes over open cells"
+            "`{program} fill{operand}` finds inks for open cells; `{program} check NET{operand}` passes over them"
         ))
     }
 
@@ -139,7 +145,7 @@ impl Refused {
             return Refused::of_open_cells(sheet, table, refusal);
         }
         let none = "no tree of two-input gates computes this table";
-        let (program, operand) = (words::program(), words::operand(&sheet.name));
+        let (program, operand) = (words::program(), sheet.operand());
         let why = format!("`{program} why{operand}` says what to change");
         let (sentence, hint) = match refusal.kind() {
             Kind::NoTree => {
@@ -151,28 +157,24 @@ impl Refused {
                     format!("{none}, so it has no number {}", refusal.place),
                     Some(why),
                 ),
-                1 => (
-                    format!(
-                        "the table has one tree, number 0, and none of number {}",
-                        refusal.place
-                    ),
-                    None,
-                ),
                 size => {
-                    let last = size - 1;
-                    (
-                        format!(
-                            "the table has {size} trees, 0 to {last}, and none of number {}",
-                            refusal.place
-                        ),
-                        None,
-                    )
+                    let numbers = match size - 1 {
+                        0 => "number 0".to_string(),
+                        last => format!("0 to {last}"),
+                    };
+                    let trees = trees(table, size);
+                    let words = format!(
+                        "the table has {trees}, {numbers}, and none of number {}",
+                        refusal.place
+                    );
+                    (words, None)
                 }
             },
             _ => (refusal.words().to_string(), None),
         };
         Refused {
-            file: sheet.name.clone(),
+            name: sheet.name.clone(),
+            file: sheet.file(),
             sentence,
             excerpt: String::new(),
             causes: Vec::new(),
@@ -199,7 +201,7 @@ impl Refused {
 
 impl fmt::Display for Refused {
     fn fmt(&self, f: &mut fmt::Formatter<'_>) -> fmt::Result {
-        write!(f, "{}:", self.file)?;
+        write!(f, "{}:", self.name)?;
         if let Some((line, column)) = self.refusal.position {
             write!(f, "{line}:{column}:")?;
         }
@@ -222,29 +224,36 @@ fn position(bytes: &[u8], place: usize) -> (usize, usize) {
     (lines.len(), lines.last().map_or(0, |line| line.len()) + 1)
 }
 
-/// What to call where the table is only laid loosely, or written by a spreadsheet.
-fn tidy(sheet: &Sheet) -> Option<String> {
-    let parts = |byte: &u8| matches!(byte, b',' | b';' | b'\t' | b'\r' | b'"' | 0xef);
-    let option = if sitgurp::tidied(&sheet.bytes).is_ok() {
-        ""
-    } else if sheet.bytes.iter().any(parts)
-        && sitgurp::tidied(&Loose::of(&sheet.bytes).text).is_ok()
-    {
-        " --csv"
-    } else {
+/// Says which `tidy` reads a table that is laid loosely or is CSV.
+fn tidy(due: Due, sheet: &Sheet) -> Option<String> {
+    let is_table = matches!(due, Due::Table | Due::Loose);
+    if !is_table || Net::read(&sheet.bytes).is_ok() {
         return None;
-    };
-    let (program, operand) = (words::program(), words::operand(&sheet.name));
-    Some(format!(
-        "`{program} tidy{option}{operand}` writes it as a table sheet"
-    ))
+    }
+    let (program, operand) = (words::program(), sheet.operand());
+    if due == Due::Table && sitgurp::tidied(&sheet.bytes).is_ok() {
+        return Some(format!(
+            "`{program} tidy{operand}` writes it as a table sheet"
+        ));
+    }
+    let is_mark = |byte: &u8| matches!(byte, b',' | b';' | b'\t' | b'\r' | b'"' | 0xef);
+    let csv = Csv::of(&sheet.bytes);
+    if sheet.bytes.iter().any(is_mark) && sitgurp::tidied(&csv.text).is_ok() {
+        return Some(format!(
+            "`{program} tidy --csv{operand}` writes it as a table sheet"
+        ));
+    }
+    let is_csv = due == Due::Loose && csv.separator != Separator::Space;
+    is_csv.then(|| {
+        format!("`{program} tidy --csv{operand}` takes commas, semicolons or tabs between fields")
+    })
 }
 
 /// What the library says of a sheet of this kind.
 pub fn judged(due: Due, sheet: &[u8], inputs: &[String]) -> Result<(), Refusal> {
     match due {
         Due::Table => Table::read(sheet).map(drop),
-        Due::Loose => sitgurp::tidied(sheet).map(drop),
+        Due::Loose | Due::Csv => sitgurp::tidied(sheet).map(drop),
         Due::Net => Net::read(sheet).map(drop),
         Due::Arrivals => sitgurp::arrivals(&any_net(inputs), sheet, 0).map(drop),
     }
@@ -269,23 +278,40 @@ fn any_net(inputs: &[String]) -> Vec<u8> {
 }
 
 /// Reads a table sheet, or says in words why not.
-pub fn table(sheet: &Sheet) -> Result<Table, Refused> {
-    Table::read(&sheet.bytes).map_err(|refusal| Refused::of_sheet(Due::Table, sheet, refusal, &[]))
+pub fn table(sheet: &Sheet) -> Result<Table, Box<Refused>> {
+    Table::read(&sheet.bytes)
+        .map_err(|refusal| Box::new(Refused::of_sheet(Due::Table, sheet, refusal, &[])))
 }
 
 /// Reads a table sheet that leaves no cell open, or says in words why not.
-pub fn full_table(sheet: &Sheet) -> Result<Table, Refused> {
+pub fn full_table(sheet: &Sheet) -> Result<Table, Box<Refused>> {
     let table = table(sheet)?;
     // whatever needs a full table is refused alike
     match table.multiplicity(1) {
-        Err(refusal) => Err(Refused::of_table(sheet, &table, refusal)),
+        Err(refusal) => Err(Box::new(Refused::of_table(sheet, &table, refusal))),
         Ok(_) => Ok(table),
     }
 }
 
 /// Reads a net sheet, or says in words why not.
-pub fn net(sheet: &Sheet) -> Result<Net, Refused> {
-    Net::read(&sheet.bytes).map_err(|refusal| Refused::of_sheet(Due::Net, sheet, refusal, &[]))
+pub fn net(sheet: &Sheet) -> Result<Net, Box<Refused>> {
+    Net::read(&sheet.bytes)
+        .map_err(|refusal| Box::new(Refused::of_sheet(Due::Net, sheet, refusal, &[])))
+}
+
+/// Reads the net sheet and the table sheet of a command that takes both. The net is judged first.
+pub fn net_and_table(sheets: &[Sheet; 2]) -> Result<(Net, Table), Box<Refused>> {
+    Ok((net(&sheets[0])?, table(&sheets[1])?))
+}
+
+/// Of two sheets whose first lines differ.
+pub fn headers_differ(
+    sheets: &[Sheet; 2],
+    first: &Table,
+    second: &Table,
+    refusal: Refusal,
+) -> Refused {
+    Refused::of_headers(&sheets[0], &sheets[1], refusal, headers(first, second))
 }
 
 /// Of an arrival sheet for these inputs.
@@ -293,8 +319,31 @@ pub fn arrivals(sheet: &Sheet, refusal: Refusal, inputs: &[String]) -> Refused {
     Refused::of_sheet(Due::Arrivals, sheet, refusal, inputs)
 }
 
+/// Says how many trees a table has: `1 tree`, or `3 trees on a and b` where other inputs never matter. Trees with those are not counted.
+pub fn trees(table: &Table, size: u64) -> String {
+    let trees = match size {
+        1 => "1 tree".to_string(),
+        size => format!("{size} trees"),
+    };
+    match leaves(table) {
+        Some((used, unused)) if !unused.is_empty() => format!("{trees} on {}", words::list(&used)),
+        _ => trees,
+    }
+}
+
+/// Lists the inputs that the trees of a table have as leaves, and those that they leave out.
+pub fn leaves(table: &Table) -> Option<(Vec<&str>, Vec<&str>)> {
+    let unused = table.settled().ok()?.unused();
+    let names = table.names().iter().map(String::as_str).enumerate();
+    let (out, used): (Vec<_>, Vec<_>) = names.partition(|(input, _)| unused.contains(input));
+    Some((
+        used.into_iter().map(|(_, name)| name).collect(),
+        out.into_iter().map(|(_, name)| name).collect(),
+    ))
+}
+
 /// In what the first lines of two sheets differ.
-pub fn headers(first: &Table, second: &Table) -> String {
+fn headers(first: &Table, second: &Table) -> String {
     let differ = |what: &str, one: String, other: String| {
         format!("the two differ in {what}: {one} against {other}")
     };

@@ -10,6 +10,8 @@ pub enum Due {
     Table,
     /// A table sheet, loosely laid: any spaces between fields, rows in any order.
     Loose,
+    /// A table in CSV, turned into a loose sheet.
+    Csv,
     Net,
     Arrivals,
 }
@@ -18,9 +20,26 @@ impl Due {
     pub fn name(self) -> &'static str {
         match self {
             Due::Table => "a table sheet",
-            Due::Loose => "a table",
+            Due::Loose | Due::Csv => "a table",
             Due::Net => "a net sheet",
             Due::Arrivals => "an arrival sheet",
+        }
+    }
+
+    fn is_table(self) -> bool {
+        matches!(self, Due::Table | Due::Loose | Due::Csv)
+    }
+
+    fn is_loose(self) -> bool {
+        matches!(self, Due::Loose | Due::Csv)
+    }
+
+    /// Says what separates fields.
+    fn apart(self) -> &'static str {
+        match self {
+            Due::Loose => "with spaces between them",
+            Due::Csv => "each in a cell of its own",
+            _ => "one space apart",
         }
     }
 }
@@ -35,6 +54,8 @@ pub struct Front<'a> {
     pub levels: usize,
     pub inputs: usize,
     pub names: Vec<String>,
+    /// The field at the place as it is in the file, where the sheet was made from one.
+    pub given: Option<String>,
 }
 
 impl<'a> Front<'a> {
@@ -65,11 +86,15 @@ impl<'a> Front<'a> {
                 count
             },
             names: names.into_iter().take(count.max(inputs.len())).collect(),
+            given: None,
         }
     }
 
-    /// The field that begins at the place.
+    /// Returns the field that begins at the place.
     pub fn field(&self) -> String {
+        if let Some(given) = &self.given {
+            return given.clone();
+        }
         let is_end = |&byte: &u8| byte == b' ' || byte == b'\n';
         let rest = &self.sheet[self.place..];
         let length = rest.iter().position(is_end).unwrap_or(rest.len());
@@ -79,10 +104,26 @@ impl<'a> Front<'a> {
     /// How many lines the sheet should have, a net sheet at most, once its second line is read.
     fn lines_due(&self) -> usize {
         match self.due {
-            Due::Table | Due::Loose => 3 + self.rows(),
+            Due::Table | Due::Loose | Due::Csv => 3 + self.rows(),
             Due::Net => 4 + self.inputs - 1,
             Due::Arrivals => 1 + self.inputs,
         }
+    }
+
+    /// Returns how many names line 3 has, if all names that line 2 says come before the place, and more names follow.
+    pub fn names_too_many(&self) -> Option<usize> {
+        let is_names = self.line == 3 && self.due != Due::Arrivals;
+        if !is_names || fields_of_line(self).len() != self.inputs {
+            return None;
+        }
+        let line = self.sheet.split(|&byte| byte == b'\n').nth(2)?;
+        let mut fields = fields(line);
+        fields.retain(|field| !field.is_empty());
+        if self.due.is_table() && fields.pop()? != "ink" {
+            return None;
+        }
+        let names = !fields.iter().any(|field| field == "ink");
+        (names && fields.len() > self.inputs).then_some(fields.len())
     }
 
     /// The two references of each gate line before the place.
@@ -144,7 +185,7 @@ impl<'a> Front<'a> {
 /// The fields of a line; in a loose sheet any number of spaces parts them.
 fn fields_in(due: Due, line: &[u8]) -> Vec<String> {
     let mut fields = fields(line);
-    if due == Due::Loose {
+    if due.is_loose() {
         fields.retain(|field| !field.is_empty());
     }
     fields
@@ -162,20 +203,10 @@ pub fn sentence(kind: Kind, front: &Front) -> String {
         Kind::Levels => format!("levels should be one digit from 2 to 9, not `{field}`"),
         Kind::Inputs => inputs(front, &field),
         Kind::Name => name(front, &field),
-        Kind::Row if front.due == Due::Loose => {
-            format!(
-                "an input's level should be one digit from 0 to {}, not `{field}`",
-                front.levels - 1
-            )
-        }
+        Kind::Row if front.due.is_loose() => format!("{}, not `{field}`", level_due(front)),
         Kind::Row => row(front),
         Kind::RepeatedRow => repeated(front),
-        Kind::Digits if front.due != Due::Net => {
-            format!(
-                "an ink should be one digit from 0 to {}, or `-` for an open cell, not `{field}`",
-                front.levels - 1
-            )
-        }
+        Kind::Digits if front.due != Due::Net => format!("{}, not `{field}`", ink_due(front)),
         Kind::Digits => gate_table(front, &field),
         Kind::UnknownReference => unknown(front, &field),
         Kind::UsedReference => used(front, &field),
@@ -190,6 +221,29 @@ pub fn sentence(kind: Kind, front: &Front) -> String {
     }
 }
 
+/// The sentence of a refusal at a blank cell of CSV.
+pub fn blank_cell(kind: Kind, front: &Front) -> String {
+    let due = match kind {
+        Kind::Row => format!(
+            "{}; only an ink may be left open, with `-`",
+            level_due(front)
+        ),
+        Kind::Digits => ink_due(front),
+        _ => line_due(front),
+    };
+    format!("this cell is blank: {due}")
+}
+
+fn level_due(front: &Front) -> String {
+    let most = front.levels - 1;
+    format!("an input's level should be one digit from 0 to {most}")
+}
+
+fn ink_due(front: &Front) -> String {
+    let most = front.levels - 1;
+    format!("an ink should be one digit from 0 to {most}, or `-` for an open cell")
+}
+
 /// A fixed word, a separator, or the sheet's end.
 fn layout(front: &Front) -> String {
     let line = front.line;
@@ -200,13 +254,15 @@ fn layout(front: &Front) -> String {
     if size_known && line > front.lines_due() {
         let rest = front.sheet[front.place..].trim_ascii();
         let all = match front.due {
-            Due::Table | Due::Loose => format!("all {} stand above", count(front.rows(), "row")),
+            Due::Table | Due::Loose | Due::Csv => {
+                format!("all {} come before it", count(front.rows(), "row"))
+            }
             Due::Net => format!(
-                "{} above, and {} inputs have no more",
-                stand(front.inputs - 1, "gate"),
+                "{} before it, and {} inputs need no more",
+                come(front.inputs - 1, "gate"),
                 front.inputs
             ),
-            Due::Arrivals => format!("all {} stand above", count(front.inputs, "input")),
+            Due::Arrivals => format!("all {} come before it", count(front.inputs, "input")),
         };
         return match rest.is_empty() {
             true => format!("the sheet should end before this line, which is blank: {all}"),
@@ -216,11 +272,22 @@ fn layout(front: &Front) -> String {
     if front.at_end() {
         return early_end(front);
     }
-    let all_names = fields_of_line(front).len() == front.inputs;
-    let is_table = matches!(front.due, Due::Table | Due::Loose);
-    if is_table && line == 3 && all_names && !front.field().is_empty() {
+    if let Some(names) = front.names_too_many() {
+        let ink = if front.due.is_table() {
+            " before `ink`"
+        } else {
+            ""
+        };
         return format!(
-            "`{}` stands where `ink` is due: line 2 says {}, and their names stand before it",
+            "line 3 has {}{ink}, and line 2 says {}",
+            count(names, "name"),
+            count(front.inputs, "input")
+        );
+    }
+    let all_names = fields_of_line(front).len() == front.inputs;
+    if front.due.is_table() && line == 3 && all_names && !front.field().is_empty() {
+        return format!(
+            "`{}` is where `ink` should be, after the names of the {}",
             front.field(),
             count(front.inputs, "input")
         );
@@ -261,7 +328,7 @@ fn early_end(front: &Front) -> String {
                 ),
             }
         }
-        (Due::Loose, 4..) => {
+        (Due::Loose | Due::Csv, 4..) => {
             let known = rows_above(front);
             let missing = (0..front.rows()).filter(|row| !known.iter().any(|(one, _)| one == row));
             let missing: Vec<usize> = missing.collect();
@@ -289,34 +356,31 @@ fn are(number: usize, one: &str) -> String {
     format!("{} {verb}", count(number, one))
 }
 
-fn stand(number: usize, one: &str) -> String {
-    let verb = if number == 1 { "stands" } else { "stand" };
+fn come(number: usize, one: &str) -> String {
+    let verb = if number == 1 { "comes" } else { "come" };
     format!("{} {verb}", count(number, one))
 }
 
-/// What the line of the place should be.
+/// Says what the line of the place should be.
 fn line_due(front: &Front) -> String {
-    let inputs = front.inputs;
+    let (inputs, apart) = (front.inputs, front.due.apart());
     match (front.due, front.line) {
         (Due::Arrivals, 1) => "line 1 should be `name from to`".to_string(),
         (Due::Arrivals, _) => {
-            "a line should have an input's name and two times, one space apart".to_string()
+            format!("a line should have an input's name and two times, {apart}")
         }
+        (Due::Csv, 1) => format!("line 1 should be `levels` and `inputs`, {apart}"),
         (_, 1) => "line 1 should be `levels inputs`".to_string(),
-        (_, 2) => "line 2 should have two numbers, levels and inputs, one space apart".to_string(),
-        (Due::Table | Due::Loose, 3) => {
-            format!("line 3 should have the names of the {inputs} inputs and then `ink`, one space apart")
+        (_, 2) => format!("line 2 should have two numbers, levels and inputs, {apart}"),
+        (Due::Net, 3) => format!("line 3 should have the names of the {inputs} inputs, {apart}"),
+        (_, 3) => {
+            format!("line 3 should have the names of the {inputs} inputs and then `ink`, {apart}")
         }
-        (Due::Net, 3) => {
-            format!("line 3 should have the names of the {inputs} inputs, one space apart")
-        }
-        (Due::Table | Due::Loose, _) => format!(
-            "a row should have {} and an ink, one space apart",
-            count(inputs, "level")
-        ),
         (Due::Net, 4) => "line 4 should be `left right table`".to_string(),
-        (Due::Net, _) => {
-            "a gate line should have left, right and table, one space apart".to_string()
+        (Due::Net, _) => format!("a gate line should have left, right and table, {apart}"),
+        (_, _) => {
+            let levels = count(inputs, "level");
+            format!("a row should have {levels} and an ink, {apart}")
         }
     }
 }
@@ -353,16 +417,19 @@ fn name(front: &Front, field: &str) -> String {
     let earlier = fields_of_line(front);
     if field == "ink" {
         return match front.due {
-            Due::Table | Due::Loose => format!(
-                "`ink` stands where a name is due: line 2 says {}, and {} there",
+            Due::Table | Due::Loose | Due::Csv => format!(
+                "`ink` is where a name should be: line 2 says {}, and there {}",
                 count(front.inputs, "input"),
-                are(earlier.len(), "name")
+                match earlier.len() {
+                    1 => "is 1 name".to_string(),
+                    names => format!("are {}", count(names, "name")),
+                }
             ),
             _ => "`ink` is no input's name".to_string(),
         };
     }
     if earlier.iter().any(|other| other == field) {
-        return format!("the name `{field}` stands twice");
+        return format!("the name `{field}` is there twice");
     }
     let rule = "a name has 1 to 8 lowercase letters and digits, a letter first";
     match field.len() > 8 && field.bytes().all(|byte| byte.is_ascii_alphanumeric()) {
@@ -388,11 +455,8 @@ fn repeated(front: &Front) -> String {
         .find(|(one, _)| Some(*one) == row);
     let levels: Vec<String> = levels.into_iter().take(front.inputs).collect();
     match earlier {
-        Some((_, line)) => format!(
-            "the row `{}` stands in line {line} already",
-            levels.join(" ")
-        ),
-        None => format!("the row `{}` stands above already", levels.join(" ")),
+        Some((_, line)) => format!("the row `{}` is already in line {line}", levels.join(" ")),
+        None => format!("the row `{}` is already above", levels.join(" ")),
     }
 }
 

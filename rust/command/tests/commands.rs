@@ -49,7 +49,7 @@ fn make() {
     );
     refuses(
         folder.run("make seven.table --number 1"),
-        "seven.table: the table has one tree, number 0, and none of number 1 (refusal 17)\n",
+        "seven.table: the table has 1 tree, number 0, and none of number 1 (refusal 17)\n",
     );
     refuses(
         folder.run("make majority.table --number 0"),
@@ -267,7 +267,7 @@ fn arrivals() {
     refused(
         "name, from, to\na, 0, 0\nb, 0, 4\nc, 0, 0\n",
         "bad.arrivals:1:1: line 1 should be `name from to` (refusal 1)\n    name, from, to\n    ^\n\
-         likely cause: fields are parted by commas or semicolons; put one space between two fields\n",
+         likely cause: commas separate the fields; put one space between two fields\n",
     );
     refused(
         SUM_NET,

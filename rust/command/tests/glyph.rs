@@ -72,7 +72,7 @@ fn pictures_that_are_refused() {
     refused(
         "short.txt",
         ".11\n1.\n",
-        "2:3: row 2 has 2 cells, and the first row has 3 (refusal 24)\n    1.\n      ^\n",
+        "2:3: row 2 has 2 cells, and the first row has 3 (refusal 24)\n    1.\\n\n      ^\n",
     );
     refused(
         "blank.txt",
@@ -87,7 +87,7 @@ fn pictures_that_are_refused() {
     refused(
         "spaces.txt",
         "0 1\n1 0\n",
-        "1:2: a cell should be a digit from 0 to 1, or `.` for 0, not ` ` (refusal 24)\n    0 1\n     ^\nlikely cause: cells stand side by side, with nothing between them\n",
+        "1:2: a cell should be a digit from 0 to 1, or `.` for 0, not ` ` (refusal 24)\n    0 1\n     ^\nlikely cause: cells are written side by side, with nothing between them\n",
     );
     refused(
         "level.txt",
@@ -157,7 +157,7 @@ fn graymaps_that_are_refused() {
     );
     refused(
         "P2\n2",
-        "2:2: the height is missing (refusal 24)\n    2\n     ^\n",
+        "2:2: the height is missing (refusal 24)\n    2<end of file>\n     ^\n",
     );
     refused(
         "P2\n65 1\n1\n",
@@ -196,7 +196,7 @@ fn offsets() {
             "the offset of left is ACROSS,DOWN, two whole numbers from -2 to 2, and not `1`",
         ),
         ("--at left=0,0 --at left=1,0", "left is given twice"),
-        ("--at", "--at needs a NAME=ACROSS,DOWN"),
+        ("--at", "--at needs a value: NAME=ACROSS,DOWN"),
         ("--pgm --text", "--pgm and --text do not go together"),
     ] {
         is_wrong(

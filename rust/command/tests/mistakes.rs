@@ -33,8 +33,7 @@ const MARK: &str =
     "likely cause: the file begins with a byte order mark; save it as UTF-8 without one\n";
 const WINDOWS: &str =
     "likely cause: lines end in CR LF, as Windows writes them; save the file with LF line ends\n";
-const COMMAS: &str =
-    "likely cause: fields are parted by commas or semicolons; put one space between two fields\n";
+const COMMAS: &str = "likely cause: commas separate the fields; put one space between two fields\n";
 
 #[test]
 fn carriage_returns() {
@@ -55,7 +54,7 @@ fn tabs() {
     of_spreadsheet(
         "tabs",
         SUM_TABLE.replace(' ', "\t"),
-        &format!("{FIRST}    levels\\tinputs\n    ^\nlikely cause: fields are parted by tabs; put one space between two fields\n"),
+        &format!("{FIRST}    levels\\tinputs\n    ^\nlikely cause: tabs separate the fields; put one space between two fields\n"),
     );
 }
 
@@ -65,10 +64,11 @@ fn commas_and_semicolons() {
         of_spreadsheet(
             name,
             SUM_TABLE.replace(' ', mark),
-            &format!("{FIRST}    levels{mark}inputs\n    ^\n{COMMAS}"),
+            &format!("{FIRST}    levels{mark}inputs\n    ^\nlikely cause: {name} separate the fields; put one space between two fields\n"),
         );
     }
-    of_spreadsheet(
+    // commas in one row alone: a file has one separator, so `tidy --csv` does not take it
+    of_table(
         "one_comma",
         SUM_TABLE.replace("0 1 0 1", "0, 1, 0, 1"),
         &format!("my.table:6:1: this row should begin `0 1 0`, the next in the count (refusal 5)\n    0, 1, 0, 1\n    ^\n{COMMAS}"),
@@ -115,9 +115,9 @@ fn quotes_and_spaces() {
         "quotes",
         SUM_TABLE.replace("a b c ink", "\"a\" \"b\" \"c\" \"ink\""),
         "my.table:3:1: `\"a\"` is no name: a name has 1 to 8 lowercase letters and digits, a letter first (refusal 4)\n    \"a\" \"b\" \"c\" \"ink\"\n    ^\n\
-         likely cause: fields stand in quotes; leave the quotes out\n",
+         likely cause: there are quotes around fields; leave them out\n",
     );
-    let cause = "likely cause: there are spaces too many: one between two fields, none at a line's start or end\n";
+    let cause = "likely cause: there are too many spaces: one between two fields, none at a line's start or end\n";
     of_loose(
         "two_spaces",
         SUM_TABLE.replace("0 1 1 0", "0 1 1  0"),
@@ -150,7 +150,7 @@ fn blank_lines() {
     of_table(
         "blank_last",
         format!("{SUM_TABLE}\n"),
-        "my.table:12:1: the sheet should end before this line, which is blank: all 8 rows stand above (refusal 1)\n\
+        "my.table:12:1: the sheet should end before this line, which is blank: all 8 rows come before it (refusal 1)\n\
          likely cause: there is a blank line; delete it\n",
     );
     of_table(
@@ -171,7 +171,7 @@ fn a_missing_end() {
     of_table(
         "no_last_feed",
         SUM_TABLE.trim_end(),
-        "my.table:11:8: line 11 has no line feed at its end, or the sheet is cut: a row should have 3 levels and an ink, one space apart (refusal 1)\n    1 1 1 1\n           ^\n\
+        "my.table:11:8: line 11 has no line feed at its end, or the sheet is cut: a row should have 3 levels and an ink, one space apart (refusal 1)\n    1 1 1 1<end of file>\n           ^\n\
          likely cause: the last line has no line feed; press Enter at its end\n",
     );
     of_net(
@@ -182,7 +182,7 @@ fn a_missing_end() {
     of_net(
         "gate_too_many",
         format!("{SUM_NET}1 c 0110\n"),
-        "my.net:7:1: the sheet should end before this line: 2 gates stand above, and 3 inputs have no more (refusal 1)\n    1 c 0110\n    ^\n",
+        "my.net:7:1: the sheet should end before this line: 2 gates come before it, and 3 inputs need no more (refusal 1)\n    1 c 0110\n    ^\n",
     );
     of_net(
         "blank_line_at_the_end",
@@ -254,7 +254,7 @@ fn rows_missing_repeated_or_in_another_order() {
         "row_twice",
         SUM_TABLE.replace("0 0 1 1\n", "0 0 1 1\n0 0 1 1\n"),
         "my.table:6:3: this row should begin `0 1 0`, the next in the count (refusal 5)\n    0 0 1 1\n      ^\n\
-         likely cause: the row `0 0 1` stands twice: lines 5 and 6\n",
+         likely cause: the row `0 0 1` is there twice, in lines 5 and 6\n",
     );
     of_loose(
         "other_order",
@@ -276,13 +276,13 @@ fn sizes_and_names() {
     of_table("levels", with("2 3\n", "1 3\n"), "my.table:2:1: levels should be one digit from 2 to 9, not `1` (refusal 2)\n    1 3\n    ^\n");
     of_table("inputs", with("2 3\n", "2 13\n"), "my.table:2:3: inputs should be a number from 2 to 12, not `13` (refusal 3)\n    2 13\n      ^\n");
     of_table("cells", with("2 3\n", "4 7\n"), "my.table:2:3: 4 levels with 7 inputs are 16,384 cells, and 4,096 is the most: 6 inputs fit (refusal 3)\n    4 7\n      ^\n");
-    of_table("few_names", with("2 3\n", "2 4\n"), "my.table:3:7: `ink` stands where a name is due: line 2 says 4 inputs, and 3 names are there (refusal 4)\n    a b c ink\n          ^\n");
-    of_table("many_names", with("2 3\n", "2 2\n"), "my.table:3:5: `c` stands where `ink` is due: line 2 says 2 inputs, and their names stand before it (refusal 1)\n    a b c ink\n        ^\n");
+    of_table("few_names", with("2 3\n", "2 4\n"), "my.table:3:7: `ink` is where a name should be: line 2 says 4 inputs, and there are 3 names (refusal 4)\n    a b c ink\n          ^\n");
+    of_table("many_names", with("2 3\n", "2 2\n"), "my.table:3:5: line 3 has 3 names before `ink`, and line 2 says 2 inputs (refusal 1)\n    a b c ink\n        ^\nlikely cause: a name has a space in it, which makes it two, or the number of inputs in line 2 is wrong\n");
     of_table("long_name", with("a b c", "a backlight c"), "my.table:3:3: the name `backlight` is too long: a name has 1 to 8 lowercase letters and digits, a letter first (refusal 4)\n    a backlight c ink\n      ^\n");
     of_table(
         "same_name",
         with("a b c", "a b a"),
-        "my.table:3:5: the name `a` stands twice (refusal 4)\n    a b a ink\n        ^\n",
+        "my.table:3:5: the name `a` is there twice (refusal 4)\n    a b a ink\n        ^\n",
     );
     of_table("ink", with("1 1 1 1", "1 1 1 2"), "my.table:11:7: an ink should be one digit from 0 to 1, or `-` for an open cell, not `2` (refusal 6)\n    1 1 1 2\n          ^\n");
 }
@@ -301,7 +301,7 @@ fn gates() {
 
 #[test]
 fn another_sheet() {
-    of_table("net_for_table", SUM_NET, "my.table:3:6: line 3 should have the names of the 3 inputs and then `ink`, one space apart (refusal 1)\n    a b c\n         ^\nlikely cause: this is a net sheet, and a table sheet is due here\n");
+    of_table("net_for_table", SUM_NET, "my.table:3:6: line 3 should have the names of the 3 inputs and then `ink`, one space apart (refusal 1)\n    a b c\\n\n         ^\nlikely cause: this is a net sheet, and a table sheet is due here\n");
     of_net("table_for_net", SUM_TABLE, "my.net:3:6: line 3 should have the names of the 3 inputs, one space apart (refusal 1)\n    a b c ink\n         ^\nlikely cause: this is a table sheet, and a net sheet is due here; `sitgurp make` makes the net of a table\n");
 }
 

@@ -1,6 +1,6 @@
 //! Cells left open: what `check`, `tidy` and `page` say of them, and the commands that need a full table.
 
-use crate::common::{answers, refuses, Ended, Folder, SUM_NET, SUM_TABLE};
+use crate::common::{answers, answers_with_note, refuses, Ended, Folder, SUM_NET, SUM_TABLE};
 
 /// The sum's table with the cells of these rows open.
 fn open(rows: &[&str]) -> String {
@@ -66,18 +66,18 @@ fn a_full_table_is_needed() {
         refuses(
             folder.run(&format!("{command} one.table")),
             "one.table:7:7: this cell is open, and a full table is needed here (refusal 27)\n    0 1 1 -\n          ^\n\
-             `sitgurp check NET one.table` passes over open cells\n",
+             `sitgurp fill one.table` finds inks for open cells; `sitgurp check NET one.table` passes over them\n",
         );
         refuses(
             folder.run(&format!("{command} two.table")),
             "two.table:7:7: this cell is open, the first of 2, and a full table is needed here (refusal 27)\n    0 1 1 -\n          ^\n\
-             `sitgurp check NET two.table` passes over open cells\n",
+             `sitgurp fill two.table` finds inks for open cells; `sitgurp check NET two.table` passes over them\n",
         );
     }
     refuses(
         folder.run("keep sum.net two.table"),
         "two.table:7:7: this cell is open, the first of 2, and a full table is needed here (refusal 27)\n    0 1 1 -\n          ^\n\
-         `sitgurp check NET two.table` passes over open cells\n",
+         `sitgurp fill two.table` finds inks for open cells; `sitgurp check NET two.table` passes over them\n",
     );
     let json = folder.run("make two.table --json").out;
     assert_eq!(
@@ -100,7 +100,11 @@ fn tidying_carries_open_cells() {
     );
     let csv = "levels,inputs\n2,2\na,b,ink\n1,1,-\n0,1,0\n0,0,-\n1,0,1\n";
     folder.put("my.csv", csv);
-    answers(folder.run("tidy --csv my.csv"), table);
+    answers_with_note(
+        folder.run("tidy --csv my.csv"),
+        table,
+        "my.csv: commas separate the fields\n",
+    );
 }
 
 #[test]

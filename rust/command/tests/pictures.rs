@@ -1,6 +1,6 @@
-//! `draw`, `matrix` and `page`: the structure of what is written, and the committed pictures.
+//! `draw` and `matrix`: the structure of what is written, and the committed pictures.
 
-use crate::common::{answers, examples, is_wrong, repository, SUM_TABLE};
+use crate::common::{answers, examples, is_wrong, repository};
 
 #[test]
 fn draw() {
@@ -77,58 +77,7 @@ fn matrix() {
     );
 }
 
-/// Every element that is opened is closed in order, and nothing is fetched or run.
-fn stands_by_itself(html: &str) {
-    let mut open: Vec<&str> = Vec::new();
-    // what stands in a style is no element
-    let pieces = html
-        .split("<style>")
-        .map(|piece| piece.split("</style>").last().unwrap_or(""));
-    let plain: String = pieces.collect::<Vec<&str>>().concat();
-    for tag in plain.split('<').skip(1) {
-        let (tag, _) = tag.split_once('>').expect("a tag's end");
-        let name = tag
-            .trim_start_matches('/')
-            .split([' ', '/'])
-            .next()
-            .unwrap_or("");
-        match tag {
-            _ if tag.starts_with('!') || tag.ends_with('/') || name == "meta" => {}
-            _ if tag.starts_with('/') => assert_eq!(open.pop(), Some(name)),
-            _ => open.push(name),
-        }
-    }
-    assert_eq!(open, Vec::<&str>::new());
-    let without_namespace = html.replace("http://www.w3.org/2000/svg", "");
-    for word in [
-        "<script", "http:", "https:", "src=", "href=", "url(", "@import", "onload",
-    ] {
-        assert!(!without_namespace.contains(word), "{word}");
-    }
-    assert!(
-        html.contains("<meta name=\"viewport\" content=\"width=device-width, initial-scale=1\">")
-    );
-}
-
-#[test]
-fn a_page_of_a_tree() {
-    let folder = examples("page");
-    let page = folder.run("page shade.table").out;
-    stands_by_itself(&page);
-    assert!(page.contains("<h1>shade.table</h1>\n<p class=\"facts\">4 levels, 3 inputs: weight, light, near; 64 rows</p>"));
-    assert!(page.contains("<p>2 gates, 2 layers. It is the only tree of this table.</p>"));
-    assert!(page.contains(folder.run("draw shade.net").out.trim_end()));
-    assert!(page.contains(&folder.get("shade.net")));
-    assert_eq!(page.matches("<tr>").count(), 1 + 64);
-    assert_eq!(page.matches("<td style=\"background:rgb(").count(), 64);
-    folder.put("a&b.table", SUM_TABLE);
-    let page = folder.run("page a&b.table").out;
-    stands_by_itself(&page);
-    assert!(page.contains("<h1>a&amp;b.table</h1>"));
-    assert!(page.contains("<p>2 gates, 2 layers. It is one of 3 trees of this table.</p>"));
-}
-
-/// Inputs that never matter: the page says so, and the picture has them beside the tree.
+/// Inputs that never matter: the picture has them beside the tree, and the page says so.
 #[test]
 fn inputs_that_are_not_used() {
     let folder = examples("page_unused");
@@ -154,8 +103,7 @@ fn inputs_that_are_not_used() {
     let dot = folder.run("draw --dot pair.net").out;
     assert!(dot.contains("    \"a\" [style=\"rounded,dashed\"];\n"));
     let page = folder.run("page pair.table").out;
-    stands_by_itself(&page);
-    assert!(page.contains("<p>1 gate, 1 layer. It is the only tree of this table. The input a never matters, and is not used.</p>"));
+    assert!(page.contains("<p>1 gate, 1 layer. It is the only tree on the inputs that it uses. The input a never matters, and is not used.</p>"));
     folder.put("zero.table", sheet(|_, _, _| 0));
     let page = folder.run("page zero.table").out;
     assert!(page.contains(" The input c never matters, and is not used.</p>"));
@@ -172,29 +120,4 @@ fn inputs_that_are_not_used() {
     );
     let page = folder.run("page four.table").out;
     assert!(page.contains(" The inputs a and d never matter, and are not used.</p>"));
-}
-
-#[test]
-fn a_page_of_a_table_without_a_tree() {
-    let folder = examples("page_refused");
-    let page = folder.run("page majority.table").out;
-    stands_by_itself(&page);
-    for line in folder
-        .run("why majority.table")
-        .out
-        .lines()
-        .filter_map(|line| line.strip_prefix("    "))
-    {
-        assert!(page.contains(&format!("<li>{line}</li>\n")), "{line}");
-    }
-    for group in ["b,c", "a,b,c"] {
-        let matrix = folder
-            .run(&format!("matrix majority.table --group {group}"))
-            .out;
-        assert!(page.contains(matrix.trim_end()), "{group}");
-    }
-    // an unreadable table has no page
-    folder.put("bad.table", "x\n");
-    let refused = folder.run("page bad.table");
-    assert_eq!((refused.status, refused.out.as_str()), (1, ""));
 }

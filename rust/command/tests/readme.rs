@@ -1,4 +1,4 @@
-//! The transcripts of the README: each command says what stands below it.
+//! The transcripts of the README and of docs/COMMANDS.md: each command prints what the document shows below it.
 
 use crate::common::{repository, Folder};
 use std::process::Command;
@@ -41,9 +41,9 @@ fn steps(document: &str) -> Vec<Step> {
     steps
 }
 
-#[test]
-fn every_command_says_what_stands_below_it() {
-    let folder = Folder::new("readme");
+/// Runs the transcripts of a document in a folder of its own. Each has to have as many commands, or more.
+fn run_document(path: &str, least: usize) {
+    let folder = Folder::new(&path.replace(['/', '.'], "_"));
     let examples = repository().join("examples");
     std::os::unix::fs::symlink(examples, folder.0.join("examples")).expect("a link");
     let run = format!(
@@ -56,9 +56,9 @@ fn every_command_says_what_stands_below_it() {
         .current_dir(&folder.0)
         .status();
     assert!(chmod.expect("chmod runs").success());
-    let document = std::fs::read_to_string(repository().join("README.md")).expect("the README");
+    let document = std::fs::read_to_string(repository().join(path)).expect("a document");
     let steps = steps(&document);
-    assert!(steps.len() >= 10, "{} steps", steps.len());
+    assert!(steps.len() >= least, "{path}: {} steps", steps.len());
     for Step { command, says } in steps {
         let ended = Command::new("bash")
             .args(["-c", &format!("exec 2>&1\n{command}")])
@@ -67,4 +67,14 @@ fn every_command_says_what_stands_below_it() {
             .expect("bash runs");
         assert_eq!(String::from_utf8_lossy(&ended.stdout), says, "$ {command}");
     }
+}
+
+#[test]
+fn the_commands_of_the_readme_print_what_it_shows() {
+    run_document("README.md", 10);
+}
+
+#[test]
+fn the_commands_of_the_list_of_commands_print_what_it_shows() {
+    run_document("docs/COMMANDS.md", 10);
 }

@@ -5,16 +5,19 @@ use std::fs;
 use std::os::unix::fs::PermissionsExt;
 use std::process::Command;
 
-const RT: &str = "#!/bin/sh\necho 'rt: rules proved (3 s)'\necho 'fn x: proved'\necho 'rt: laws proved (2 s)' >&2\n\
+const RT: &str = "#!/bin/sh\necho \"$* ${RT_JOBS:-}\" >> asked\necho 'rt: rules proved (3 s)'\necho 'fn x: proved'\necho 'rt: laws proved (2 s)' >&2\n\
                   mkdir -p target/staticlib && : > target/staticlib/libcapi.a\necho 'rt: target/staticlib/libcapi.a has the functions of capi'\n";
 const BAD_RT: &str = "#!/bin/sh\necho 'rt: rules proved (3 s)'\necho 'error: not proved'\nexit 1\n";
 const CARGO: &str = "#!/bin/sh\nmkdir -p target/release\n\
-                     printf '#!/bin/sh\\necho \"$SITGURP_AS: $*\"\\n' > target/release/sitgurp\nchmod +x target/release/sitgurp\n";
+                     printf '#!/bin/sh\\necho \"$SITGURP_AS: $*${SITGURP_PAGE:+ in ${SITGURP_PAGE##*/}}\"\\n' > target/release/sitgurp\nchmod +x target/release/sitgurp\n";
+
+const WEB_BUILD: &str =
+    "#!/bin/sh\nmkdir -p target/web\n: > target/web/sitgurp.html\necho the page is built\n";
 
 /// A repository of scripts alone, with programs of its own in `bin`.
 fn scripts(name: &str, rt: &str) -> Folder {
     let folder = Folder::new(name);
-    for part in ["crates", "rust/command", "bin", "examples"] {
+    for part in ["crates", "rust/command", "web", "bin", "examples"] {
         fs::create_dir_all(folder.0.join(part)).expect("a folder");
     }
     for file in ["run", "rust/command/build.sh"] {
@@ -26,8 +29,9 @@ fn scripts(name: &str, rt: &str) -> Folder {
             "# names\nrules:\nlaws: rules\nother: rules\ncapi: laws\n",
         )
         .put("bin/rt", rt)
+        .put("web/build", WEB_BUILD)
         .put("bin/cargo", CARGO);
-    for file in ["bin/rt", "bin/cargo", "run"] {
+    for file in ["bin/rt", "bin/cargo", "web/build", "run"] {
         fs::set_permissions(folder.0.join(file), fs::Permissions::from_mode(0o755))
             .expect("rights");
     }
@@ -40,6 +44,7 @@ fn script(folder: &Folder) -> Command {
     let mut command = Command::new("./run");
     command
         .current_dir(&folder.0)
+        .env("RT_JOBS", "3")
         .env("PATH", format!("{}:{path}", folder.0.join("bin").display()));
     command
 }
@@ -62,8 +67,11 @@ fn the_first_run_counts_the_crates() {
     let (status, out, err) = run(&folder, &[]);
     assert_eq!(
         err,
-        "proving the library: once, some minutes\ncrate 1 of 3: rules\ncrate 2 of 3: laws\ncrate 3 of 3: capi\nbuilding the command: once\n"
+        "proving the library: once, some minutes, up to 3 crates at once\ncrate 1 of 3: rules\ncrate 2 of 3: laws\ncrate 3 of 3: capi\nbuilding the command: once\n"
     );
+    // several crates are proved at once; the archive is made afterwards
+    let asked = fs::read_to_string(folder.0.join("asked")).expect("what rt was asked");
+    assert_eq!(asked, "check capi 3\nstaticlib capi 3\n");
     let example = fs::canonicalize(&folder.0)
         .expect("the folder")
         .join("examples/seven.table");
@@ -101,13 +109,55 @@ fn the_first_run_counts_the_crates() {
 }
 
 #[test]
+fn a_page_is_built_before_it_is_written() {
+    let folder = scripts("run_page", RT);
+    let page = |err: &str| {
+        let words = ["page", "my.table"];
+        let due = "./run: page my.table in sitgurp.html\n".to_string();
+        let (status, out, said) = run(&folder, &words);
+        assert_eq!((status, out), (Some(0), due));
+        assert!(said.starts_with(err), "{said}");
+    };
+    page("building the page: once\nthe page is built\nproving the library: ");
+    // web/build is asked every time, and knows what is up to date
+    page("the page is built\n");
+}
+
+#[test]
 fn what_is_not_proved_is_told() {
     let folder = scripts("run_bad", BAD_RT);
     let (status, out, err) = run(&folder, &[]);
     assert_eq!((status, out.as_str()), (Some(2), ""));
     assert!(
         err.contains("crate 1 of 3: rules\n")
-            && err.contains("\nerror: not proved\nrt staticlib capi has failed; "),
+            && err.contains("\nerror: not proved\nrt check capi has failed; "),
         "{err}"
     );
+}
+
+/// What `jobs_for` of build.sh prints for a number of cores and of free megabytes.
+fn jobs_for(cores: usize, megabytes: usize) -> usize {
+    let script = repository().join("rust/command/build.sh");
+    let ended = Command::new("bash")
+        .arg("-c")
+        .arg(format!(
+            ". {}; jobs_for {cores} {megabytes}",
+            script.display()
+        ))
+        .output()
+        .expect("bash runs");
+    String::from_utf8_lossy(&ended.stdout)
+        .trim()
+        .parse()
+        .expect("a number")
+}
+
+#[test]
+fn cores_and_memory_choose_how_many_crates_are_proved_at_once() {
+    assert_eq!(jobs_for(2, 24_000), 8);
+    assert_eq!(jobs_for(8, 64_000), 16);
+    // each check may take 2.7 GB
+    assert_eq!(jobs_for(2, 8_000), 2);
+    assert_eq!(jobs_for(8, 16_000), 5);
+    assert_eq!(jobs_for(1, 500), 1);
 }

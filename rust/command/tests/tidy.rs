@@ -1,4 +1,4 @@
-//! `tidy`: loosely laid tables and what spreadsheets write, end to end.
+//! `tidy`: loosely laid tables, end to end.
 
 use crate::common::{answers, refuses, Folder, SUM_TABLE};
 
@@ -30,53 +30,41 @@ fn loose_tables() {
 }
 
 #[test]
-fn spreadsheets() {
-    let folder = Folder::new("tidy_csv");
-    let with = |mark: &str| SUM_TABLE.replace(' ', mark);
-    let padded = with(",")
-        .replace("inputs\n", "inputs,,\n")
-        .replace("2,3\n", "2,3,,\n");
-    for (name, text) in [
-        ("commas", with(",")),
-        ("semicolons", with(";")),
-        ("tabs", with("\t")),
-        ("windows", with(",").replace('\n', "\r\n")),
-        ("mark", format!("\u{feff}{}", with(","))),
-        (
-            "quotes",
-            with(",").replace("a,b,c,ink", "\"a\",\"b\",\"c\",\"ink\""),
-        ),
-        ("padded", padded),
-        ("no_end", with(",").trim_end().to_string()),
-        ("blank_end", with(",") + ",,,\n\n"),
-    ] {
-        folder.put(name, text);
-        answers(folder.run(&format!("tidy --csv {name}")), SUM_TABLE);
-    }
-}
-
-#[test]
-fn refusals_stand_where_they_are_in_the_file() {
-    let folder = Folder::new("tidy_refused");
-    let head = "levels,inputs,\r\n2,2,\r\na,b,ink\r\n";
+fn what_is_refused() {
+    let folder = Folder::new("tidy_loose_refused");
     let refused = |rows: &str, words: &str| {
-        folder.put("my.csv", format!("{head}{rows}"));
-        refuses(folder.run("tidy --csv my.csv"), words);
+        folder.put("my.txt", format!("levels inputs\n2 2\na b ink\n{rows}"));
+        refuses(folder.run("tidy my.txt"), words);
     };
     refused(
-        "0,0,0\r\n1,1,0\r\n0,0,1\r\n",
-        "my.csv:6:1: the row `0 0` stands in line 4 already (refusal 20)\n    0,0,1\\r\n    ^\n",
+        "0 0   \n",
+        "my.txt:4:7: a row should have 2 levels and an ink, with spaces between them (refusal 1)\n    0 0   \\n\n          ^\n",
     );
     refused(
-        "0,0,0\r\n1,\"1\",7\r\n",
-        "my.csv:5:7: an ink should be one digit from 0 to 1, or `-` for an open cell, not `7` (refusal 6)\n    1,\"1\",7\\r\n          ^\n",
+        "0  0 0\n 0 1 1\n1 0 1\n1 1 0\n",
+        "my.txt:5:1: a row should have 2 levels and an ink, with spaces between them (refusal 1)\n     0 1 1\n    ^\n\
+         likely cause: a line begins with a space; delete it\n",
     );
-    refused(
-        "0,0,0\r\n2,0,1\r\n",
-        "my.csv:5:1: an input's level should be one digit from 0 to 1, not `2` (refusal 5)\n    2,0,1\\r\n    ^\n",
-    );
-    refused(
-        "0,0,0\r\n1,1,0\r\n1,0,0\r\n",
-        "my.csv:7:1: the sheet ends here, and the row `0 1` is missing (refusal 1)\n",
-    );
+}
+
+/// Plain `tidy` on CSV says which `tidy` takes it, whether or not it has another fault.
+#[test]
+fn csv_without_the_option() {
+    let folder = Folder::new("tidy_hint");
+    for (mark, words, shown) in [
+        (",", "commas", ","),
+        (";", "semicolons", ";"),
+        ("\t", "tabs", "\\t"),
+    ] {
+        let front = format!("my.csv:1:1: line 1 should be `levels inputs` (refusal 1)\n    levels{shown}inputs\n    ^\n");
+        let cause = format!(
+            "likely cause: {words} separate the fields; put one space between two fields\n"
+        );
+        folder.put("my.csv", SUM_TABLE.replace(' ', mark));
+        let hint = "`sitgurp tidy --csv my.csv` writes it as a table sheet\n";
+        refuses(folder.run("tidy my.csv"), &format!("{front}{cause}{hint}"));
+        folder.put("my.csv", SUM_TABLE.replace(' ', mark).replace("0\n", "7\n"));
+        let hint = "`sitgurp tidy --csv my.csv` takes commas, semicolons or tabs between fields\n";
+        refuses(folder.run("tidy my.csv"), &format!("{front}{cause}{hint}"));
+    }
 }

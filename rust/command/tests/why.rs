@@ -1,6 +1,6 @@
 //! `why`: what it says, held against the library.
 
-use crate::common::{answers, examples, Folder, SUM_TABLE};
+use crate::common::{answers, examples, is_wrong, Folder, SUM_TABLE};
 use sitgurp::Table;
 
 /// Just enough of JSON to look into what `why` gives: the number behind each use of a name.
@@ -32,10 +32,18 @@ of b c):
     0 1 and 1 1: at a=0 the ink is 0 and 1
 
 More levels: with 3 levels on the wires between gates there would be a tree. Draw the same rule
-with 3 levels, where an input above 1 acts as 1, and it is made.
+with 3 levels, where an input above 1 acts as 1, and it is made; `widen` writes that table.
 
-Or other inks: with 1 row changed there is a tree; other changes may do as well:
-    line 8: a=1 b=0 c=0 has ink 1 in place of 0
+Larger gates: there is a tree with 1 gate of 3 inputs; `larger` shows it.
+
+Or other inks: with 1 row changed there is a tree. These are all such changes; `why --apply K`
+writes the table with change K:
+    1. line 5: a=0 b=0 c=1 has ink 1 in place of 0
+    2. line 6: a=0 b=1 c=0 has ink 1 in place of 0
+    3. line 7: a=0 b=1 c=1 has ink 0 in place of 1
+    4. line 8: a=1 b=0 c=0 has ink 1 in place of 0
+    5. line 9: a=1 b=0 c=1 has ink 0 in place of 1
+    6. line 10: a=1 b=1 c=0 has ink 0 in place of 1
 ",
     );
     answers(
@@ -47,7 +55,10 @@ Or other inks: with 1 row changed there is a tree; other changes may do as well:
         folder.run("why sum.table"),
         "nothing is wrong: there are 3 trees with this table\n",
     );
-    answers(folder.run("why sum.table --json"), "{\"trees\":3}\n");
+    answers(
+        folder.run("why sum.table --json"),
+        "{\"trees\":3,\"inputs\":[\"a\",\"b\",\"c\"]}\n",
+    );
 }
 
 /// Rules that want two things of the same inputs.
@@ -83,7 +94,6 @@ fn tables() -> Vec<Table> {
 #[test]
 fn what_it_says_is_so() {
     let folder = Folder::new("why_so");
-    let mut mended = 0;
     for table in tables() {
         folder.put("my.table", table.as_str());
         let refusal = table.settled().expect_err("no tree");
@@ -101,13 +111,12 @@ fn what_it_says_is_so() {
         assert_eq!(numbers_of(&json, "fewest_levels"), [fewest]);
         splits_are_so(&table, refusal.place, &json);
         pairs_are_so(&table, &json);
-        let lines = numbers_of(&json, "line");
-        let (from, to) = (numbers_of(&json, "from"), numbers_of(&json, "to"));
-        if lines.is_empty() {
-            assert!(json.contains("\"changes\":null"));
-            continue;
-        }
-        mended += 1;
+        let (json, nearest) = json.split_once("\"nearest\":").expect("a member");
+        let rows = numbers_of(json, "line").len();
+        assert!(numbers_of(nearest, "at_least") <= vec![rows], "{nearest}");
+        let lines = numbers_of(json, "line");
+        let (from, to) = (numbers_of(json, "from"), numbers_of(json, "to"));
+        assert!(!lines.is_empty());
         let mut inks = table.inks().to_vec();
         for ((line, from), to) in lines.iter().zip(from).zip(to) {
             assert_eq!(usize::from(inks[line - 4]), from);
@@ -119,7 +128,6 @@ fn what_it_says_is_so() {
         });
         assert!(changed.expect("a table").settled().is_ok());
     }
-    assert!(mended >= 4, "{mended}");
 }
 
 fn splits_are_so(table: &Table, group: usize, json: &str) {
@@ -210,4 +218,62 @@ fn a_long_list_is_cut() {
     let all = folder.run("why my.table --all").out;
     assert!(cut.contains(" more (`--all` tells every one)"), "{cut}");
     assert!(!all.contains("--all") && all.len() > cut.len());
+}
+
+/// Every change of the list gives a table with a tree that differs in these rows alone; there is no change of another number.
+#[test]
+fn a_change_is_applied() {
+    let folder = Folder::new("why_apply");
+    for table in tables() {
+        folder.put("my.table", table.as_str());
+        let json = folder.run("why my.table --json").out;
+        let (_, ways) = json.split_once("\"ways\":[[").expect("ways");
+        let ways: Vec<&str> = ways.split("],[").collect();
+        for number in [1, ways.len()] {
+            let ended = folder.run(&format!("why my.table --apply {number}"));
+            assert_eq!((ended.status, ended.err.as_str()), (0, ""));
+            let changed = Table::read(ended.out.as_bytes()).expect("a table");
+            assert!(changed.settled().is_ok());
+            let inks = table.inks().iter().zip(changed.inks()).enumerate();
+            let lines = inks
+                .filter(|(_, (a, b))| a != b)
+                .map(|(index, _)| index + 4);
+            assert_eq!(
+                lines.collect::<Vec<_>>(),
+                numbers_of(ways[number - 1], "line")
+            );
+        }
+        for number in [0, ways.len() + 1] {
+            let wrong = folder.run(&format!("why my.table --apply {number}"));
+            is_wrong(wrong, &format!("sitgurp why: --apply {number}: there "));
+        }
+    }
+    folder.put("sum.table", SUM_TABLE);
+    is_wrong(
+        folder.run("why sum.table --apply 1"),
+        "sitgurp why: the table has a tree, and nothing is to be changed\n",
+    );
+}
+
+/// It says whether fewer rows are ruled out, or were just not found.
+#[test]
+fn fewer_rows() {
+    let folder = Folder::new("why_fewer");
+    let mut ruled_out = 0;
+    for table in tables() {
+        folder.put("my.table", table.as_str());
+        let json = folder.run("why my.table --json").out;
+        let words = folder.run("why my.table --all").out.replace('\n', " ");
+        let (changes, nearest) = json.split_once("\"nearest\":").expect("a member");
+        let rows = numbers_of(changes, "line").len();
+        let at_least = numbers_of(nearest, "at_least")[0];
+        let due = match rows - at_least {
+            0 if rows == 1 => "with 1 row changed there is a tree. ".to_string(),
+            0 => format!("with {rows} rows changed there is a tree; fewer are ruled out. "),
+            _ => format!("with {rows} rows changed there is a tree; {at_least} "),
+        };
+        assert!(words.contains(&due), "{words}");
+        ruled_out += usize::from(rows == at_least);
+    }
+    assert!(ruled_out > 1);
 }

@@ -466,10 +466,11 @@ fn write_table(inputs: &mut Inputs) -> Both {
 /// More turns than any net has gates.
 const TURNS: usize = 14;
 
+/// The lister's turns. Each turn is then asked for by its number too; if that gives something else, it is what the proved library is said to have given.
 fn listing(inputs: &mut Inputs) -> Both {
     let sheet = inputs.net_sheet();
     let place = |line: &[u8]| (line.as_ptr() as usize - sheet.as_ptr() as usize, line.len());
-    both(
+    let mut both = both(
         in_words(&[&sheet], &[]),
         vec![],
         |_| {
@@ -482,7 +483,15 @@ fn listing(inputs: &mut Inputs) -> Both {
                 Answer::Turns((0..TURNS).map(|_| lister.next().map(place)).collect())
             })
         },
-    )
+    );
+    let turns: Result<_, _> = (0..TURNS)
+        .map(|k| sitgurp::gate_line(&sheet, k).map(|line| line.map(place)))
+        .collect();
+    let by_number = Answer::of_proved(turns, Answer::Turns);
+    if by_number != both.proved.answer {
+        both.proved.answer = by_number;
+    }
+    both
 }
 
 /// A loosely laid table sheet; the spaces of its first lines make the output a little longer than it needs.

@@ -1,15 +1,21 @@
 //! Random and damaged calls, each held against the second implementation.
 //!
-//! | module   | idea                                                                |
-//! |----------|---------------------------------------------------------------------|
-//! | `inputs` | what a call is given: sheets good and damaged, bare cells, buffers  |
-//! | `given`  | what a call gives back: its answer and every byte lent to it        |
-//! | `calls`  | one call of each kind by both implementations                       |
-//! | `tally`  | how many calls of each kind ended how                               |
+//! | module     | idea                                                                |
+//! |------------|---------------------------------------------------------------------|
+//! | `inputs`   | what a call is given: sheets good and damaged, bare cells, buffers  |
+//! | `given`    | what a call gives back: its answer and every byte lent to it        |
+//! | `calls`    | one call of each kind by both implementations                       |
+//! | `tally`    | how many calls of each kind ended how                               |
+//! | `c`        | the calls as C has them                                             |
+//! | `recorded` | calls with all that they are given and give back, to be replayed    |
+//! | `asked`    | what recorded calls are given                                       |
 
+pub mod asked;
+pub mod c;
 pub mod calls;
 pub mod given;
 pub mod inputs;
+pub mod recorded;
 pub mod tally;
 
 use reference::rng::Rng;

@@ -73,7 +73,7 @@ fn take_calls(next: &AtomicU64, calls: u64, seed: u64, first: u64) -> Result<Tal
         }
         let call = one(seed, first + k).inspect_err(|_| next.store(calls, Ordering::Relaxed));
         tally.add(&call.map_err(|difference| (first + k, difference))?);
-        if (k + 1) % PROGRESS == 0 {
+        if (k + 1).is_multiple_of(PROGRESS) {
             eprintln!("{} calls", k + 1);
         }
     }

@@ -10,6 +10,10 @@ const CELL: usize = 12;
 const DARKEST: usize = 225;
 
 /// The drawing of a picture that has that many levels, with a thin frame around it.
+///
+/// # Panics
+///
+/// Where the picture has cells and its width is 0.
 pub fn draw(picture: &Picture, levels: u8) -> String {
     let (width, height) = (picture.width * CELL, picture.height * CELL);
     let mut svg = format!(

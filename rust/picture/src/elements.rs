@@ -21,6 +21,10 @@ text { font-family: 'DejaVu Sans Mono', Menlo, Consolas, monospace; fill: #1f293
 const DARKEST: usize = 172;
 
 /// The grey of a level, which a digit can be read on.
+///
+/// # Panics
+///
+/// Where there are fewer than 2 levels, or the level is not one of them.
 pub fn shade(level: u8, levels: usize) -> String {
     let grey = 255 - (255 - DARKEST) * usize::from(level) / (levels - 1);
     format!("rgb({grey},{grey},{grey})")

@@ -50,6 +50,10 @@ impl<'a> Partition<'a> {
     }
 
     /// The index of a cell in the table.
+    ///
+    /// # Panics
+    ///
+    /// Where there is no such row or column, here and in the functions below.
     pub fn index(&self, row: usize, column: usize) -> usize {
         self.row_offsets[row] + self.column_offsets[column]
     }

@@ -8,6 +8,10 @@ pub fn root(net: &Net) -> Wire {
 }
 
 /// The digit of a gate where left has the level `row` and right the level `column`.
+///
+/// # Panics
+///
+/// Where the net has no such gate, or its table no such digit.
 pub fn digit(net: &Net, gate: usize, row: usize, column: usize) -> u8 {
     net.gates()[gate].digits[row * net.levels() + column]
 }

@@ -1,10 +1,11 @@
 //! What every call leaves in the buffers lent to it: each length around each
-//! need, with the bytes beyond the need and the bytes after a refusal.
+//! need, with the bytes beyond the need and the bytes after a refusal. The marks
+//! buffer of marking is in rust/sitgurp/tests/bare.rs, for both implementations.
 
 use crate::common::*;
 use reference::{
-    check, family_count, family_tree, glyph, keep, make, make_shallow, marking, settle,
-    settle_shallow, tidy, write_table, Job, Kept, Refusal, Verdict,
+    check, family_count, family_tree, glyph, keep, make, make_shallow, settle, settle_shallow,
+    tidy, write_table, Job, Kept, Refusal, Verdict,
 };
 
 /// A lent buffer with something in it: no two neighbours are equal, and none is
@@ -447,27 +448,6 @@ fn check_at_every_length() {
             } else {
                 assert_eq!(result, Ok(verdict));
                 assert_eq!(cells, written(length, &inks));
-            }
-        }
-    }
-}
-
-#[test]
-fn marking_at_every_length() {
-    let examples: [(&[u8], &[u8], u8); 2] = [
-        (&[0, 0, 0, 1, 0, 1, 1, 1], &[0x28, 0x42], 1),
-        (&[0, 1, 1, 0, 1, 0, 0, 1], &[0xa8, 0xaa], 2),
-    ];
-    for (cells, expected, whole) in examples {
-        for length in lengths(2) {
-            let mut marks = lent(length);
-            let result = marking(2, 3, cells, &mut marks);
-            if length < 2 {
-                assert_eq!(result, Err(of_neither(14, 2)));
-                assert_eq!(marks, lent(length));
-            } else {
-                assert_eq!(result, Ok(whole));
-                assert_eq!(marks, written(length, expected));
             }
         }
     }

@@ -294,7 +294,7 @@ fn constants_and_single_inputs_have_one_wiring() {
         let last = rule_sheet(m, names(n), |x| x[n - 1]);
         for (sheet, other) in [
             (constant, "b"),
-            (last, names(n).split(' ').last().expect("a name")),
+            (last, names(n).split(' ').next_back().expect("a name")),
         ] {
             assert_eq!(counted(&sheet), Ok(1));
             assert_eq!(numbered(&sheet, 0), made(&sheet));

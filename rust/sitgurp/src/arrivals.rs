@@ -12,7 +12,8 @@ pub struct Settling {
 /// The settling of a net's output, from a net sheet, an arrival sheet and the delay of every gate in quarter microseconds.
 ///
 /// An arrival sheet has the line `name from to`, then one line for each input, in order: the name, and between which two times it arrives, in
-/// whole quarter microseconds, 0 to 65,535. For given arrivals the output settles at the largest, over the inputs that the net uses, of arrival plus delay times
+/// whole quarter microseconds, 0 to 65,535. For given arrivals the output settles at the largest, over the inputs that the net uses, of arrival plus delay
+/// times
 /// gates on the way. Whatever the arrivals inside the ranges, it settles between the two times of the answer, and each of these is met
 /// by some.
 ///
@@ -32,6 +33,7 @@ pub struct Settling {
 /// );
 /// ```
 pub fn arrivals(net_sheet: &[u8], arrival_sheet: &[u8], delay: u8) -> Result<Settling, Refusal> {
+    // SAFETY: each pointer is that of a slice borrowed here, with its length.
     let times = unsafe {
         ffi::sitgurp_arrivals(
             net_sheet.as_ptr(),

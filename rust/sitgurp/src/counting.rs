@@ -13,9 +13,10 @@ struct Bare {
 /// any other refusal is the sheet's.
 fn bare(sheet: &[u8]) -> Result<Bare, Refusal> {
     let mut cells = vec![0; MOST_CELLS];
-    match make(sheet, &mut cells, &mut [0; MOST_MARKS], &mut []) {
-        Err(refusal) if !matches!(refusal.number, 15 | 16) => return Err(refusal),
-        _ => {}
+    if let Err(refusal) = make(sheet, &mut cells, &mut [0; MOST_MARKS], &mut []) {
+        if !matches!(refusal.kind(), Kind::OutputShort | Kind::NoTree) {
+            return Err(refusal);
+        }
     }
     let (m, n) = size(sheet);
     cells.truncate(m.pow(n as u32));

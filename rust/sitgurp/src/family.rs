@@ -8,6 +8,7 @@ use std::ops::Range;
 /// How many trees compute a table sheet's table; 0 where there is none, and never refusal 16. Its inks go into `cells` and its marks into
 /// `marks`, as in [`make`](crate::make).
 pub fn family_count(sheet: &[u8], cells: &mut [u8], marks: &mut [u8]) -> Result<u64, Refusal> {
+    // SAFETY: each pointer is that of a slice borrowed here, with its length, and borrowed buffers do not overlap.
     let answer = unsafe {
         ffi::sitgurp_family_count(
             sheet.as_ptr(),
@@ -30,6 +31,7 @@ pub fn family_tree(
     marks: &mut [u8],
     output: &mut [u8],
 ) -> Result<usize, Refusal> {
+    // SAFETY: each pointer is that of a slice borrowed here, with its length, and borrowed buffers do not overlap.
     let answer = unsafe {
         ffi::sitgurp_family_tree(
             sheet.as_ptr(),

@@ -46,6 +46,16 @@ pub struct Turn {
     pub second: usize,
 }
 
+/// `kind` is 0 where none is left, 1 for a line of `length` bytes from `start` on; `next` is the position of the next line.
+#[repr(C)]
+#[derive(Clone, Copy)]
+pub struct Line {
+    pub kind: usize,
+    pub start: usize,
+    pub length: usize,
+    pub next: usize,
+}
+
 /// `number` is 0 where the call is accepted, and the output settles between `earliest` and `latest`; otherwise a refusal's number and place, of the
 /// net sheet (`named` 1) or of the arrival sheet (2), and both times are 0.
 #[repr(C)]
@@ -66,7 +76,8 @@ pub struct Mark {
     pub value: usize,
 }
 
-/// `number` is 0 where the call is accepted, `value` is the sheet's length and `changed` the set of the gates that changed; otherwise a refusal's number and place,
+/// `number` is 0 where the call is accepted, `value` is the sheet's length and `changed` the set of the gates that changed; otherwise a refusal's number and
+/// place,
 /// that names the net sheet (`named` 1), the table sheet (2) or neither (0), and `changed` is 0.
 #[repr(C)]
 #[derive(Clone, Copy)]
@@ -90,6 +101,7 @@ pub type SheetCall<A> = unsafe extern "C" fn(
 ) -> A;
 
 extern "C" {
+    pub fn sitgurp_version() -> u32;
     pub fn sitgurp_multiplicity(
         m: usize,
         n: usize,
@@ -202,6 +214,8 @@ extern "C" {
         output: *mut u8,
         output_length: usize,
     ) -> Answer;
+    pub fn sitgurp_lister_open(sheet: *const u8, sheet_length: usize) -> Answer;
+    pub fn sitgurp_lister_next(sheet: *const u8, sheet_length: usize, at: usize) -> Line;
     pub fn sitgurp_gate_line(sheet: *const u8, sheet_length: usize, k: usize) -> Turn;
     pub fn sitgurp_arrivals(
         net_sheet: *const u8,

@@ -30,6 +30,7 @@ pub fn glyph(
     offsets: &[i8],
     output: &mut [u8],
 ) -> Result<usize, Refusal> {
+    // SAFETY: each pointer is that of a slice borrowed here, with its length, and borrowed buffers do not overlap.
     let answer = unsafe {
         ffi::sitgurp_glyph(
             net_sheet.as_ptr(),

@@ -2,7 +2,7 @@
 
 use std::iter::FusedIterator;
 
-use crate::{answered, ffi, with_buffers, Named, Refusal, MOST_CELLS};
+use crate::{answered, ffi, with_buffers, Kind, Named, Refusal, MOST_CELLS};
 
 /// The bytes that a job has for its first lines, and for its marks.
 const LINES: usize = 128;
@@ -38,6 +38,7 @@ impl Job {
             marks: [0; GROUPS],
             passed: 0,
         };
+        // SAFETY: the job's parts have the lengths that the call takes, and do not overlap; other pointers are those of borrowed slices, with their lengths.
         let answer = unsafe {
             ffi::sitgurp_job_open_parts(
                 sheet.as_ptr(),
@@ -61,6 +62,7 @@ impl Job {
 
     /// One group further; 21 where the job is done.
     pub fn step(&mut self) -> Result<(), Refusal> {
+        // SAFETY: the job's parts have the lengths that the call takes, and do not overlap; other pointers are those of borrowed slices, with their lengths.
         let answer = unsafe {
             ffi::sitgurp_job_step_parts(
                 self.lines.as_ptr(),
@@ -74,6 +76,7 @@ impl Job {
 
     /// The final mark of a group that has been passed, and none of one that is not reached; 11 where there is no such group.
     pub fn mark(&self, group: usize) -> Result<Option<u8>, Refusal> {
+        // SAFETY: the job's parts have the lengths that the call takes, and do not overlap; other pointers are those of borrowed slices, with their lengths.
         let mark = unsafe {
             ffi::sitgurp_job_mark_parts(
                 self.lines.as_ptr(),
@@ -85,7 +88,10 @@ impl Job {
         match mark.kind {
             0 => Ok(Some(mark.value as u8)),
             1 => Ok(None),
-            _ => Err(Refusal::new(11, mark.value, Named::Neither, &[])),
+            _ => {
+                let number = Kind::Group.number();
+                Err(Refusal::new(number, mark.value, Named::Neither, &[]))
+            }
         }
     }
 
@@ -96,6 +102,7 @@ impl Job {
         marks: &mut [u8],
         output: &mut [u8],
     ) -> Result<usize, Refusal> {
+        // SAFETY: the job's parts have the lengths that the call takes, and do not overlap; other pointers are those of borrowed slices, with their lengths.
         let answer = unsafe {
             ffi::sitgurp_job_finish_parts(
                 self.lines.as_ptr(),

@@ -20,7 +20,8 @@ impl Kept {
 /// Fills the gates of a net sheet anew, so that the net has the table of a table sheet under the same header, and writes the net sheet to the front of
 /// `output`. Which gate joins what, on which side and in which line stays as it is. The inks go to `cells`.
 ///
-/// Judged are the net sheet, the table sheet, 12, 27 where a cell of the table is open, 13, then 23 where no gate tables whatever give this wiring that table, then 15. The place of 23 is 0 where
+/// Judged are the net sheet, the table sheet, 12, 27 where a cell of the table is open, 13, then 23 where no gate tables whatever give this wiring that
+/// table, then 15. The place of 23 is 0 where
 /// the wiring leaves out an input that matters, and otherwise the number of the first gate whose group has more than `levels` classes. 23 and 15 leave the
 /// cells written and the output as it was.
 pub fn keep(
@@ -29,6 +30,7 @@ pub fn keep(
     cells: &mut [u8],
     output: &mut [u8],
 ) -> Result<Kept, Refusal> {
+    // SAFETY: each pointer is that of a slice borrowed here, with its length, and borrowed buffers do not overlap.
     let kept = unsafe {
         ffi::sitgurp_keep(
             net_sheet.as_ptr(),

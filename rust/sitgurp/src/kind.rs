@@ -109,6 +109,18 @@ impl Kind {
         known.copied().unwrap_or(Kind::Unknown)
     }
 
+    /// Returns whether the place is a byte of a sheet.
+    pub(crate) fn is_in_a_sheet(self) -> bool {
+        let others = [
+            Kind::ArrivalName,
+            Kind::ArrivalTime,
+            Kind::RepeatedRow,
+            Kind::UnusedGate,
+        ];
+        let first = Kind::Layout.number()..=Kind::UsedReference.number();
+        first.contains(&self.number()) || others.contains(&self)
+    }
+
     /// Its number.
     pub fn number(self) -> usize {
         self as usize

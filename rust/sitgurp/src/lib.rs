@@ -18,7 +18,8 @@
 //! Below them are the calls on bytes, in buffers that the caller lends; [`settled`], [`made`] and [`table_of`] lend buffers of the sizes that
 //! always suffice. [`settled_shallow`] and [`made_shallow`] give the
 //! tree of fewest layers in place of the settled one, and [`Family`] walks every tree that computes a table. [`multiplicities`] and
-//! [`fewest_levels`] put together what calls of the library answer about a table without a tree. [`arrivals`] says when a net's output settles. [`tidied`] makes a
+//! [`fewest_levels`] put together what calls of the library answer about a table without a tree. [`arrivals`] says when a net's output settles. [`tidied`]
+//! makes a
 //! table sheet of one that a spreadsheet exported.
 //! [`Job`] marks a table one group a step, so that its caller can do other things in between.
 //! [`kept`] keeps a net's wiring, and fills its gates anew for another table.
@@ -46,6 +47,9 @@
 //! let of_each_group: Vec<u8> = (0..8).map(|group| sitgurp::mark_of(&marks, group)).collect();
 //! assert_eq!(of_each_group, [0, 2, 2, 0, 2, 0, 0, 1]);
 //! ```
+
+// what can panic says when
+#![warn(clippy::missing_panics_doc)]
 
 // tables and nets as types
 mod header;
@@ -77,7 +81,7 @@ pub use family::{family_count, family_tree, Family};
 pub use glyph::{glyph, glyph_of};
 pub use job::{Job, Passing};
 pub use keep::{keep, kept, Kept};
-pub use lister::Lister;
+pub use lister::{gate_line, line_at, Lister};
 pub use picture::Picture;
 pub use refusal::{Named, Refusal};
 pub use shallow::{
@@ -96,6 +100,12 @@ pub const MOST_TABLE_SHEET: usize = 106_627;
 /// The output that always suffices for a picture.
 pub const MOST_PICTURE: usize = 64 * 64;
 
+/// Returns the version of the proved library as one number, with two digits each for minor and patch: 203 is 0.2.3.
+pub fn version() -> u32 {
+    // SAFETY: the call takes nothing and writes nothing.
+    unsafe { ffi::sitgurp_version() }
+}
+
 /// What checking says of a net and a table under the same header.
 #[derive(Clone, Copy, Debug, PartialEq, Eq)]
 pub enum Verdict {
@@ -104,23 +114,27 @@ pub enum Verdict {
     Differ(usize),
 }
 
-/// The answer of a call that takes one sheet or none: 1 to 8, 20, 26 and 27 are that sheet's.
+/// The answer of a call that takes one sheet or none. A refusal with a place in the sheet is that sheet's, and so is one of an open cell.
 fn answered(answer: ffi::Answer, named: Named, sheet: &[u8]) -> Result<usize, Refusal> {
-    match answer.number {
-        0 => Ok(answer.value),
-        number @ (1..=8 | 20 | 26 | 27) => Err(Refusal::new(number, answer.value, named, sheet)),
-        number => Err(Refusal::new(number, answer.value, Named::Neither, sheet)),
+    if answer.number == 0 {
+        return Ok(answer.value);
     }
+    let kind = Kind::of(answer.number);
+    let is_named = kind.is_in_a_sheet() || kind == Kind::OpenCell;
+    let named = if is_named { named } else { Named::Neither };
+    Err(Refusal::new(answer.number, answer.value, named, sheet))
 }
 
 /// The number of classes of a group of a table given as bare cells, however large. A cell of m is open, and refused with 27.
 pub fn multiplicity(m: usize, n: usize, cells: &[u8], group: usize) -> Result<usize, Refusal> {
+    // SAFETY: each pointer is that of a slice borrowed here, with its length.
     let answer = unsafe { ffi::sitgurp_multiplicity(m, n, cells.as_ptr(), cells.len(), group) };
     answered(answer, Named::Neither, &[])
 }
 
 /// Writes every group's mark to the front of `marks`, four to a byte ([`mark_of`] reads them), and answers the whole group's.
 pub fn marking(m: usize, n: usize, cells: &[u8], marks: &mut [u8]) -> Result<usize, Refusal> {
+    // SAFETY: each pointer is that of a slice borrowed here, with its length, and borrowed buffers do not overlap.
     let answer = unsafe {
         ffi::sitgurp_marking(
             m,
@@ -177,6 +191,7 @@ fn lent<A>(
     marks: &mut [u8],
     output: &mut [u8],
 ) -> A {
+    // SAFETY: each pointer is that of a slice borrowed here, with its length, and borrowed buffers do not overlap.
     unsafe {
         call(
             sheet.as_ptr(),
@@ -193,6 +208,7 @@ fn lent<A>(
 
 /// Checks a net sheet against a table sheet, and puts the table sheet's inks in `cells`. Open cells, which hold m there, are passed over.
 pub fn check(net_sheet: &[u8], table_sheet: &[u8], cells: &mut [u8]) -> Result<Verdict, Refusal> {
+    // SAFETY: each pointer is that of a slice borrowed here, with its length, and borrowed buffers do not overlap.
     let verdict = unsafe {
         ffi::sitgurp_check(
             net_sheet.as_ptr(),
@@ -215,6 +231,7 @@ pub fn check(net_sheet: &[u8], table_sheet: &[u8], cells: &mut [u8]) -> Result<V
 
 /// Writes the table sheet of a net sheet to the front of `output`. Answers its length.
 pub fn write_table(sheet: &[u8], output: &mut [u8]) -> Result<usize, Refusal> {
+    // SAFETY: each pointer is that of a slice borrowed here, with its length, and borrowed buffers do not overlap.
     let answer = unsafe {
         ffi::sitgurp_write_table(
             sheet.as_ptr(),

@@ -109,12 +109,21 @@ impl Net {
         self.table.clone()
     }
 
-    /// The settled net of the same table, on the inputs that matter. Two nets with the same header settle to the same sheet exactly when they have the same table.
+    /// The settled net of the same table, on the inputs that matter. Two nets with the same header settle to the same sheet exactly when they have the same
+    /// table.
+    ///
+    /// # Panics
+    ///
+    /// Never: a `Net` is an accepted sheet, and the library settles each of them.
     pub fn settled(&self) -> Net {
         Net::written(settled(self.sheet.as_bytes()).expect("an accepted sheet"))
     }
 
     /// A net of the same table that has fewest layers.
+    ///
+    /// # Panics
+    ///
+    /// Never, as [`settled`](Net::settled).
     pub fn shallow(&self) -> Shallow {
         let (sheet, layers) = settled_shallow(self.sheet.as_bytes()).expect("an accepted sheet");
         let net = Net::written(sheet);
@@ -122,6 +131,10 @@ impl Net {
     }
 
     /// The most gates on a way from an input to the output: when the output settles if every input is there at 0 and a gate takes a microsecond.
+    ///
+    /// # Panics
+    ///
+    /// Never: the arrival sheet has the names of the net.
     pub fn layers(&self) -> usize {
         let mut sheet = String::from("name from to\n");
         for name in self.names() {

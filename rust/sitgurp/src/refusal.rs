@@ -33,10 +33,10 @@ pub struct Refusal {
 
 impl Refusal {
     pub(crate) fn new(number: usize, place: usize, named: Named, sheet: &[u8]) -> Refusal {
-        let of_a_sheet = matches!(number, 1..=8 | 18..=20 | 26);
-        let position = of_a_sheet.then(|| position(sheet, place));
-        let inputs = match number {
-            16 => names_of(sheet, place),
+        let kind = Kind::of(number);
+        let position = kind.is_in_a_sheet().then(|| position(sheet, place));
+        let inputs = match kind {
+            Kind::NoTree => names_of(sheet, place),
             _ => Vec::new(),
         };
         Refusal {
@@ -55,35 +55,35 @@ impl Refusal {
 
     /// What is wrong, in words.
     pub fn words(&self) -> &'static str {
-        match self.number {
-            1 => "a fixed word or a separator is missing, the sheet ends too early, or bytes follow its last line",
-            2 => "levels is not one digit from 2 to 9",
-            3 => "inputs is not a number from 2 to 12, or there are over 4,096 cells",
-            4 => "a name is malformed, is `ink`, or is repeated",
-            5 => "a row's input level is not the next in the count, or in a loose sheet no digit below levels",
-            6 => "an ink is no digit below levels and not `-`, or a gate's table is not made of digits below levels",
-            7 => "a reference is to no input and to no earlier gate",
-            8 => "a reference was used before",
-            9 => "levels, inputs or the number of cells is out of bounds, or the cells are not levels to the power inputs",
-            10 => "a cell is above levels",
-            11 => "the group is empty, or no group of these inputs",
-            12 => "the two sheets differ in levels, inputs or names",
-            13 => "the cells buffer is too short",
-            14 => "the marks buffer is too short",
-            15 => "the output is too short",
-            16 => "no tree of two-input gates computes this table",
-            17 => "the table has no tree of this number",
-            18 => "a name is not the next input",
-            19 => "a time is not a number from 0 to 65,535, or `to` is below `from`",
-            20 => "a row's assignment was given in an earlier row",
-            21 => "the job is done",
-            22 => "the job is not done",
-            23 => "no gate tables give this wiring the table",
-            24 => "a side is not 1 to 64, the cells are not width times height, or a cell's level is not below levels",
-            25 => "there are not two offsets for each input, or one is not from -2 to 2",
-            26 => "an earlier gate is never used",
-            27 => "a cell is left open, and a full table is needed",
-            _ => "unknown refusal",
+        match self.kind() {
+            Kind::Layout => "a fixed word or a separator is missing, the sheet ends too early, or bytes follow its last line",
+            Kind::Levels => "levels is not one digit from 2 to 9",
+            Kind::Inputs => "inputs is not a number from 2 to 12, or there are over 4,096 cells",
+            Kind::Name => "a name is malformed, is `ink`, or is repeated",
+            Kind::Row => "a row's input level is not the next in the count, or in a loose sheet no digit below levels",
+            Kind::Digits => "an ink is no digit below levels and not `-`, or a gate's table is not made of digits below levels",
+            Kind::UnknownReference => "a reference is to no input and to no earlier gate",
+            Kind::UsedReference => "a reference was used before",
+            Kind::BareSize => "levels, inputs or the number of cells is out of bounds, or the cells are not levels to the power inputs",
+            Kind::BareCell => "a cell is above levels",
+            Kind::Group => "the group is empty, or no group of these inputs",
+            Kind::HeadersDiffer => "the two sheets differ in levels, inputs or names",
+            Kind::CellsShort => "the cells buffer is too short",
+            Kind::MarksShort => "the marks buffer is too short",
+            Kind::OutputShort => "the output is too short",
+            Kind::NoTree => "no tree of two-input gates computes this table",
+            Kind::NoSuchTree => "the table has no tree of this number",
+            Kind::ArrivalName => "a name is not the next input",
+            Kind::ArrivalTime => "a time is not a number from 0 to 65,535, or `to` is below `from`",
+            Kind::RepeatedRow => "a row's assignment was given in an earlier row",
+            Kind::JobDone => "the job is done",
+            Kind::JobUnfinished => "the job is not done",
+            Kind::Wiring => "no gate tables give this wiring the table",
+            Kind::Picture => "a side is not 1 to 64, the cells are not width times height, or a cell's level is not below levels",
+            Kind::Offsets => "there are not two offsets for each input, or one is not from -2 to 2",
+            Kind::UnusedGate => "an earlier gate is never used",
+            Kind::OpenCell => "a cell is left open, and a full table is needed",
+            Kind::Unknown => "unknown refusal",
         }
     }
 }
@@ -119,18 +119,22 @@ impl fmt::Display for Refusal {
             Named::Neither => "",
         };
         write!(f, "{sheet}{} (refusal {}", self.words(), self.number)?;
-        match (self.number, self.position) {
+        match (self.kind(), self.position) {
             (_, Some((line, column))) => {
                 write!(f, " at byte {}, line {line}, column {column})", self.place)
             }
-            (10 | 27, _) => write!(f, " at index {})", self.place),
-            (13..=15, _) if self.place == 1 => write!(f, "; 1 byte is needed)"),
-            (13..=15, _) => write!(f, "; {} bytes are needed)", self.place),
-            (16, _) => write!(f, " at group {}: {})", self.place, self.inputs.join(", ")),
-            (17, _) => write!(f, " at number {})", self.place),
-            (22, _) => write!(f, "; {} groups are still to go)", self.place),
-            (23, _) if self.place == 0 => write!(f, "; it leaves out an input that matters)"),
-            (23, _) => write!(f, " at gate {})", self.place),
+            (Kind::BareCell | Kind::OpenCell, _) => write!(f, " at index {})", self.place),
+            (Kind::CellsShort | Kind::MarksShort | Kind::OutputShort, _) => match self.place {
+                1 => write!(f, "; 1 byte is needed)"),
+                bytes => write!(f, "; {bytes} bytes are needed)"),
+            },
+            (Kind::NoTree, _) => write!(f, " at group {}: {})", self.place, self.inputs.join(", ")),
+            (Kind::NoSuchTree, _) => write!(f, " at number {})", self.place),
+            (Kind::JobUnfinished, _) => write!(f, "; {} groups are still to go)", self.place),
+            (Kind::Wiring, _) if self.place == 0 => {
+                write!(f, "; it leaves out an input that matters)")
+            }
+            (Kind::Wiring, _) => write!(f, " at gate {})", self.place),
             _ => write!(f, ")"),
         }
     }

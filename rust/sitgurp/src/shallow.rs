@@ -76,6 +76,7 @@ fn with_layers(
 /// levels, inputs and names need not be the same. A sheet that is not accepted loses to one that is; of two such, an empty part of
 /// the first.
 pub fn shallower<'a>(first: &'a [u8], second: &'a [u8]) -> &'a [u8] {
+    // SAFETY: each pointer is that of a slice borrowed here, with its length.
     let chosen = unsafe {
         ffi::sitgurp_shallower(first.as_ptr(), first.len(), second.as_ptr(), second.len())
     };

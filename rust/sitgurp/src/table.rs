@@ -67,6 +67,10 @@ impl Table {
 
     /// The table of a rule, which is asked for the ink of every assignment; `levels` leaves the cell open. Levels, names and inks are the library's to judge:
     /// refusals are those of the sheet that has this table.
+    ///
+    /// # Panics
+    ///
+    /// Where the rule does.
     pub fn from_rule<N: AsRef<str>>(
         levels: usize,
         names: &[N],
@@ -156,11 +160,16 @@ impl Table {
     }
 
     /// The rows, in their order: the last input changes fastest.
+    ///
+    /// # Panics
+    ///
+    /// Never: only rows of the table are asked for.
     pub fn rows(&self) -> impl DoubleEndedIterator<Item = Row> + ExactSizeIterator + '_ {
         (0..self.inks.len()).map(|index| self.row(index).expect("an index below the count"))
     }
 
-    /// The settled net, or refusal 16 where no tree computes the table, or 27 where a cell is open. It uses just the inputs that matter; where fewer than two do, the first-listed
+    /// The settled net, or refusal 16 where no tree computes the table, or 27 where a cell is open. It uses just the inputs that matter; where fewer than two
+    /// do, the first-listed
     /// others make up two.
     pub fn settled(&self) -> Result<Net, Refusal> {
         made(self.sheet.as_bytes()).map(Net::written)

@@ -5,7 +5,8 @@ use crate::{answered, ffi, Named, Refusal, MOST_CELLS, MOST_TABLE_SHEET};
 /// Tidies a loose table sheet: its inks into `cells`, in index order, and its table sheet into `output`. Answers that sheet's length.
 ///
 /// In a loose sheet fields are parted by one or more spaces, spaces may stand before a line feed, and the rows may stand in any order; every
-/// assignment has just one row. The sign of an open cell is carried over, and its cell holds m. Needed: as many cells as the table has, and the table sheet's length. A short output leaves the cells written; every
+/// assignment has just one row. The sign of an open cell is carried over, and its cell holds m. Needed: as many cells as the table has, and the table sheet's
+/// length. A short output leaves the cells written; every
 /// other refusal changes no buffer.
 ///
 /// ```
@@ -22,6 +23,7 @@ use crate::{answered, ffi, Named, Refusal, MOST_CELLS, MOST_TABLE_SHEET};
 /// );
 /// ```
 pub fn tidy(sheet: &[u8], cells: &mut [u8], output: &mut [u8]) -> Result<usize, Refusal> {
+    // SAFETY: each pointer is that of a slice borrowed here, with its length, and borrowed buffers do not overlap.
     let answer = unsafe {
         ffi::sitgurp_tidy(
             sheet.as_ptr(),

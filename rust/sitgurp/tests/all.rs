@@ -12,6 +12,7 @@ mod glyph;
 mod header;
 mod job;
 mod keep;
+mod lister;
 mod open_cells;
 mod programs;
 mod refusals;

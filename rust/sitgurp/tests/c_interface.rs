@@ -61,9 +61,10 @@ fn read(path: &str) -> String {
 /// The files of a folder, one after the other.
 fn read_all(folder: &str) -> String {
     let entries = std::fs::read_dir(repository().join(folder)).expect("a folder");
-    let names = entries.map(|entry| entry.expect("a file").file_name());
-    names
-        .map(|name| read(&format!("{folder}/{}", name.to_string_lossy())))
+    let entries = entries.map(|entry| entry.expect("an entry"));
+    let files = entries.filter(|entry| entry.path().is_file());
+    files
+        .map(|file| read(&format!("{folder}/{}", file.file_name().to_string_lossy())))
         .collect()
 }
 
@@ -75,6 +76,7 @@ fn c_type(rust: &str) -> String {
     let known = match rust {
         "usize" => "size_t",
         "u64" => "uint64_t",
+        "u32" => "uint32_t",
         "u8" => "uint8_t",
         "*const u8" => "const uint8_t *",
         "*mut u8" => "uint8_t *",
@@ -86,6 +88,7 @@ fn c_type(rust: &str) -> String {
         "Verdict" => "sitgurp_verdict",
         "ArrivalTimes" => "sitgurp_arrival_times",
         "Turn" => "sitgurp_turn",
+        "Line" => "sitgurp_line",
         "Mark" => "sitgurp_mark",
         "Kept" => "sitgurp_kept",
         other => panic!("type {other}"),
@@ -170,9 +173,7 @@ fn in_rattle(text: &str) -> Vec<(String, Vec<String>, String)> {
             other => panic!("type {other}"),
         });
         let result = rest.split_whitespace().nth(1).expect("a result");
-        let result = result
-            .strip_prefix("Sitgurp")
-            .expect("a struct of the crate");
+        let result = result.strip_prefix("Sitgurp").unwrap_or(result);
         (
             name.to_string(),
             types.map(String::from).collect(),
@@ -197,7 +198,7 @@ fn the_header_declares_what_rust_and_the_proved_crate_declare() {
         (name, types, result)
     });
     assert_eq!(rattle, c_types.collect::<Vec<_>>());
-    assert_eq!(rattle.len(), 20);
+    assert_eq!(rattle.len(), 23);
 }
 
 /// A job is a struct for its caller, and its parts are lent to the library: each of these calls hands the struct's own fields on, in the order of the

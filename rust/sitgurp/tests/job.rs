@@ -1,7 +1,7 @@
 //! Marking as a job, held against the second implementation: every step of small tables and many of the largest, lists of steps and askings, finishing
 //! against making, the empty job beside a refusal, buffers of every length around each need and full of other bytes.
 
-use crate::common::{around, due, full, got, sizes, Back, Lengths, ENOUGH};
+use crate::common::{around_each_need, due, full, got, sizes, Back, Lengths, ENOUGH};
 use reference::damage::byte_damages;
 use reference::generate::{Generator, TableKind};
 use sitgurp::Named;
@@ -156,22 +156,14 @@ fn lists_of_steps_and_askings() {
 fn every_buffer_around_its_need() {
     let mut generator = Generator::new(SEED + 3);
     for (m, n) in [(2, 2), (2, 3), (3, 3), (2, 6), (9, 3), (2, 12)] {
-        let lengths = match n {
-            12 => |need| vec![need - 1, need],
-            _ => around,
-        };
         for kind in [TableKind::OfNet, TableKind::Random] {
             let sheet = generator.table_sheet(m, n, kind);
             let mut jobs = Jobs::on(&sheet);
             assert_eq!(jobs.all_steps(), (1 << n) - 1);
             let need = jobs.finish(ENOUGH).map_or(200, |net| net.len());
-            for cells in lengths(m.pow(n as u32)) {
-                for marks in lengths((1 << n) / 4) {
-                    for output in lengths(need) {
-                        jobs.finish(Lengths(cells, marks, output)).ok();
-                    }
-                }
-            }
+            around_each_need(m, n, need, |lengths| {
+                jobs.finish(lengths).ok();
+            });
         }
     }
 }

@@ -1,4 +1,4 @@
-//! The examples of docs/REFUSALS.md: they are the list of crates/rules/specs/Refusals.antt, in its order; the library gives each its
+//! The examples of docs/REFUSALS.md: they are the list of crates/rules/specs/Cases/Refusals.antt, in its order; the library gives each its
 //! number, its place and its buffers; and the mark in the document stands at the place.
 
 use sitgurp::{Job, Layered, Lister, Named, Refusal};
@@ -198,7 +198,7 @@ fn digits(text: &str) -> String {
 
 /// The examples of the list `refusals`.
 fn listed() -> Vec<Example> {
-    let specs = file("crates/rules/specs/Refusals.antt");
+    let specs = file("crates/rules/specs/Cases/Refusals.antt");
     let (_, list) = specs.split_once("\nrefusals =\n").expect("the list");
     let (list, _) = list.split_once("∷ []\n").expect("the list's end");
     let list: String = list

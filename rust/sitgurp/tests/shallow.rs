@@ -1,7 +1,7 @@
 //! Shallow settling and making and the shallower of two, held against the second implementation: every allowed size, tables with and
 //! without trees, damaged sheets, buffers of every length around each need and full of other bytes.
 
-use crate::common::{around, due, got, same_call, sizes, Back, Lengths, ENOUGH};
+use crate::common::{around_each_need, due, got, same_call, sizes, Back, Lengths, ENOUGH};
 use reference::damage::byte_damages;
 use reference::generate::{Generator, TableKind};
 use reference::net::Table;
@@ -96,21 +96,12 @@ fn every_buffer_around_its_need() {
         let length = same_settle(&net, ENOUGH)
             .expect("a good net sheet settles")
             .length;
-        let lengths = match n {
-            12 => |need| vec![need - 1, need + 37],
-            _ => around,
-        };
-        for cells in lengths(m.pow(n as u32)) {
-            for marks in lengths((1 << n) / 4) {
-                for output in lengths(length) {
-                    let lengths = Lengths(cells, marks, output);
-                    same_settle(&net, lengths).ok();
-                    for table in &tables {
-                        same_make(table, lengths).ok();
-                    }
-                }
+        around_each_need(m, n, length, |lengths| {
+            same_settle(&net, lengths).ok();
+            for table in &tables {
+                same_make(table, lengths).ok();
             }
-        }
+        });
     }
 }
 

@@ -1,7 +1,7 @@
 //! Settling, making, checking, table writing and the lister, held against the second implementation: every allowed size, every table of four inputs with
 //! two levels, tables with and without trees, nets that leave inputs out, damaged sheets, buffers of every length around each need and full of other bytes.
 
-use crate::common::{around, due, full, got, same_call, sizes, Lengths, ENOUGH};
+use crate::common::{around, around_each_need, due, full, got, same_call, sizes, Lengths, ENOUGH};
 use reference::damage::{byte_damages, Damage};
 use reference::generate::{Generator, TableKind};
 use reference::net::Table;
@@ -154,21 +154,12 @@ fn every_buffer_around_its_need() {
         let tables =
             [TableKind::OfNet, TableKind::Random].map(|kind| generator.table_sheet(m, n, kind));
         let length = same_settle(&net, ENOUGH).expect("a good net sheet settles");
-        let lengths = match n {
-            12 => |need| vec![need - 1, need, need + 37],
-            _ => around,
-        };
-        for cells in lengths(m.pow(n as u32)) {
-            for marks in lengths((1 << n) / 4) {
-                for output in lengths(length) {
-                    let lengths = Lengths(cells, marks, output);
-                    same_settle(&net, lengths).ok();
-                    for table in &tables {
-                        same_make(table, lengths).ok();
-                    }
-                }
+        around_each_need(m, n, length, |lengths| {
+            same_settle(&net, lengths).ok();
+            for table in &tables {
+                same_make(table, lengths).ok();
             }
-        }
+        });
     }
 }
 

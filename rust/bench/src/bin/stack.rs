@@ -87,6 +87,7 @@ impl Lent {
     fn sheet_call<A>(&mut self, call: ffi::SheetCall<A>, of_net: bool) {
         let sheet = if of_net { &self.net } else { &self.table };
         let (cells, marks, output) = (&mut self.cells, &mut self.marks, &mut self.output);
+        // SAFETY: each pointer is that of a vector of `lent`, with its length, and the vectors do not overlap.
         let answer = unsafe {
             call(
                 sheet.as_ptr(),
@@ -141,6 +142,7 @@ fn multiplicity(lent: &mut Lent) {
     let bare = &lent.bare;
     for members in [lent.n / 2, lent.n] {
         let group = (1 << members) - 1;
+        // SAFETY: each pointer is that of a vector of `lent`, with its length, and the vectors do not overlap.
         black_box(unsafe {
             ffi::sitgurp_multiplicity(lent.m, lent.n, bare.as_ptr(), bare.len(), group)
         });
@@ -149,6 +151,7 @@ fn multiplicity(lent: &mut Lent) {
 
 fn marking(lent: &mut Lent) {
     let (bare, marks) = (&lent.bare, &mut lent.marks);
+    // SAFETY: each pointer is that of a vector of `lent`, with its length, and the vectors do not overlap.
     black_box(unsafe {
         ffi::sitgurp_marking(
             lent.m,
@@ -163,11 +166,13 @@ fn marking(lent: &mut Lent) {
 
 fn shallower(lent: &mut Lent) {
     let net = &lent.net;
+    // SAFETY: each pointer is that of a vector of `lent`, with its length, and the vectors do not overlap.
     black_box(unsafe { ffi::sitgurp_shallower(net.as_ptr(), net.len(), net.as_ptr(), net.len()) });
 }
 
 fn family_count(lent: &mut Lent) {
     let (table, cells, marks) = (&lent.table, &mut lent.cells, &mut lent.marks);
+    // SAFETY: each pointer is that of a vector of `lent`, with its length, and the vectors do not overlap.
     black_box(unsafe {
         ffi::sitgurp_family_count(
             table.as_ptr(),
@@ -184,6 +189,7 @@ fn family_count(lent: &mut Lent) {
 fn family_tree(lent: &mut Lent) {
     let (table, cells, marks) = (&lent.table, &mut lent.cells, &mut lent.marks);
     for number in [0, 654_729_074] {
+        // SAFETY: each pointer is that of a vector of `lent`, with its length, and the vectors do not overlap.
         black_box(unsafe {
             ffi::sitgurp_family_tree(
                 table.as_ptr(),
@@ -202,6 +208,7 @@ fn family_tree(lent: &mut Lent) {
 
 fn check(lent: &mut Lent) {
     let (net, table, cells) = (&lent.net, &lent.table, &mut lent.cells);
+    // SAFETY: each pointer is that of a vector of `lent`, with its length, and the vectors do not overlap.
     black_box(unsafe {
         ffi::sitgurp_check(
             net.as_ptr(),
@@ -216,6 +223,7 @@ fn check(lent: &mut Lent) {
 
 fn arrivals(lent: &mut Lent) {
     let (net, sheet) = (&lent.net, &lent.arrivals);
+    // SAFETY: each pointer is that of a vector of `lent`, with its length, and the vectors do not overlap.
     black_box(unsafe {
         ffi::sitgurp_arrivals(
             net.as_ptr(),
@@ -229,6 +237,7 @@ fn arrivals(lent: &mut Lent) {
 
 fn write_table(lent: &mut Lent) {
     let (net, output) = (&lent.net, &mut lent.output);
+    // SAFETY: each pointer is that of a vector of `lent`, with its length, and the vectors do not overlap.
     black_box(unsafe {
         ffi::sitgurp_write_table(net.as_ptr(), net.len(), output.as_mut_ptr(), output.len())
     });
@@ -236,12 +245,14 @@ fn write_table(lent: &mut Lent) {
 
 fn gate_line(lent: &mut Lent) {
     let net = &lent.net;
+    // SAFETY: each pointer is that of a vector of `lent`, with its length, and the vectors do not overlap.
     black_box(unsafe { ffi::sitgurp_gate_line(net.as_ptr(), net.len(), lent.n - 2) });
 }
 
 /// A strict table sheet is a loose one too.
 fn tidy(lent: &mut Lent) {
     let (table, cells, output) = (&lent.table, &mut lent.cells, &mut lent.output);
+    // SAFETY: each pointer is that of a vector of `lent`, with its length, and the vectors do not overlap.
     black_box(unsafe {
         ffi::sitgurp_tidy(
             table.as_ptr(),
@@ -256,6 +267,7 @@ fn tidy(lent: &mut Lent) {
 
 fn keep(lent: &mut Lent) {
     let (net, table) = (&lent.net, &lent.table);
+    // SAFETY: each pointer is that of a vector of `lent`, with its length, and the vectors do not overlap.
     black_box(unsafe {
         ffi::sitgurp_keep(
             net.as_ptr(),
@@ -274,6 +286,7 @@ fn keep(lent: &mut Lent) {
 fn glyph(lent: &mut Lent) {
     let (net, picture) = (&lent.net, vec![0; 64 * 64]);
     let offsets = vec![0; 2 * lent.n];
+    // SAFETY: each pointer is that of a vector of `lent`, with its length, and the vectors do not overlap.
     black_box(unsafe {
         ffi::sitgurp_glyph(
             net.as_ptr(),
@@ -292,6 +305,7 @@ fn glyph(lent: &mut Lent) {
 
 fn job_open(lent: &mut Lent) {
     let (table, job) = (&lent.table, &mut lent.job);
+    // SAFETY: the parts of the job have the lengths that the call takes; each other pointer is that of a vector of `lent`, with its length.
     black_box(unsafe {
         ffi::sitgurp_job_open_parts(
             table.as_ptr(),
@@ -307,6 +321,7 @@ fn job_open(lent: &mut Lent) {
 /// Every step.
 fn job_step(lent: &mut Lent) {
     let job = &mut lent.job;
+    // SAFETY: the parts of the job have the lengths that the call takes; each other pointer is that of a vector of `lent`, with its length.
     let mut step = || unsafe {
         ffi::sitgurp_job_step_parts(
             job.lines.as_ptr(),
@@ -320,6 +335,7 @@ fn job_step(lent: &mut Lent) {
 
 fn job_mark(lent: &mut Lent) {
     let job = &lent.job;
+    // SAFETY: the parts of the job have the lengths that the call takes; each other pointer is that of a vector of `lent`, with its length.
     black_box(unsafe {
         ffi::sitgurp_job_mark_parts(job.lines.as_ptr(), job.marks.as_ptr(), job.passed, 1)
     });
@@ -328,6 +344,7 @@ fn job_mark(lent: &mut Lent) {
 /// As if all groups had been passed.
 fn job_finish(lent: &mut Lent) {
     let (job, cells, marks) = (&lent.job, &mut lent.cells, &mut lent.marks);
+    // SAFETY: the parts of the job have the lengths that the call takes; each other pointer is that of a vector of `lent`, with its length.
     black_box(unsafe {
         ffi::sitgurp_job_finish_parts(
             job.lines.as_ptr(),
@@ -347,6 +364,7 @@ fn job_finish(lent: &mut Lent) {
 #[inline(never)]
 fn paint(from: usize, words: usize) {
     for word in 0..words {
+        // SAFETY: the words lie on this thread's own stack, below every live frame but this one.
         unsafe { ((from + 8 * word) as *mut u64).write_volatile(PAINT) };
     }
 }
@@ -354,6 +372,7 @@ fn paint(from: usize, words: usize) {
 /// How many words of paint are left from an address on.
 #[inline(never)]
 fn left(from: usize, words: usize) -> usize {
+    // SAFETY: as in `paint`, which has written these words.
     let painted =
         |word: &usize| unsafe { ((from + 8 * word) as *const u64).read_volatile() } == PAINT;
     (0..words).take_while(painted).count()

@@ -14,12 +14,10 @@ pub static COMMAND: Command = Command {
     help: "\
 An arrival sheet has the line `name from to`, then a line for each input, in order: its name and between which two times it
 arrives, in whole quarters of a microsecond, 0 to 65535. An input that the net does not use has a line too, and does not count.
-
-  --delay Q     what every gate takes, 0 to 255 quarters of a microsecond
 ",
     sheets: 2,
     more: false,
-    options: &[Opt::value("--delay", "Q")],
+    options: &[Opt::value("--delay", "Q").says("the time that every gate takes, 0 to 255 quarters of a microsecond; it is needed")],
     ending: None,
     run,
 };

@@ -5,7 +5,7 @@ use crate::call::Call;
 use crate::input::sheets;
 use crate::json::Json;
 use crate::outcome::{Answer, Failure};
-use crate::refused::{self, Refused};
+use crate::refused;
 use crate::sheets::at;
 use crate::words::{assignment, count, thousands};
 use sitgurp::Verdict;
@@ -15,7 +15,7 @@ pub static COMMAND: Command = Command {
     usage: "NET [TABLE]",
     summary: "whether a net computes a table, and the first row that differs",
     help: "\
-Both sheets have the same levels, inputs and names, in the same order. Where they differ, the first such row is told by its inputs,
+Both sheets have the same levels, inputs and names, in the same order. Where they differ, the first such row is reported by its inputs,
 with the net's ink and the table's, and the status is 1. Rows that the table leaves open, with the ink `-`, are passed over.
 ",
     sheets: 2,
@@ -26,13 +26,11 @@ with the net's ink and the table's, and the status is 1. Rows that the table lea
 };
 
 fn run(call: &Call) -> Result<Answer, Failure> {
-    let [net_sheet, table_sheet] = sheets(call)?;
-    let net = refused::net(&net_sheet)?;
-    let table = refused::table(&table_sheet)?;
-    let verdict = net.check(&table).map_err(|refusal| {
-        let differ = refused::headers(&net.table(), &table);
-        Refused::of_headers(&net_sheet, &table_sheet, refusal, differ)
-    })?;
+    let sheets = sheets(call)?;
+    let (net, table) = refused::net_and_table(&sheets)?;
+    let verdict = net
+        .check(&table)
+        .map_err(|refusal| refused::headers_differ(&sheets, &net.table(), &table, refusal))?;
     let open = table.open().len();
     let Verdict::Differ(index) = verdict else {
         let json = Json::object([("agree", Json::Bool(true)), ("open", Json::number(open))]);
@@ -45,7 +43,7 @@ fn run(call: &Call) -> Result<Answer, Failure> {
         "no: at {} the net gives {value} and the table has {} ({} line {line})\n",
         assignment(table.names(), &row.levels),
         row.ink,
-        table_sheet.name
+        sheets[1].name
     );
     let json = Json::object([
         ("agree", Json::Bool(false)),

@@ -12,15 +12,13 @@ pub static COMMAND: Command = Command {
     usage: "[NET] [--dot]",
     summary: "a net as a picture (SVG)",
     help: "\
-Inputs stand at the left, the output at the right, each gate with its table, shaded by level. An input that is not used is dashed.
-
-  --dot         the net for Graphviz instead
+Inputs are at the left, the output at the right, each gate with its table, shaded by level. An input that is not used is dashed.
 ",
     sheets: 1,
     more: false,
     options: &[Opt {
         ending: Some("dot"),
-        ..Opt::flag("--dot")
+        ..Opt::flag("--dot").says("write the net for Graphviz instead")
     }],
     ending: Some("svg"),
     run,

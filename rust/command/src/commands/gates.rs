@@ -12,7 +12,7 @@ pub static COMMAND: Command = Command {
     name: "gates",
     usage: "[NET]",
     summary: "a net's gates, one by one, each with its number",
-    help: "The last gate is the output. With --json a gate's table is a list of digits, and the layers are told too.\n",
+    help: "The last gate is the output. With --json a gate's table is a list of digits, and the layers are reported too.\n",
     sheets: 1,
     more: false,
     options: &[],

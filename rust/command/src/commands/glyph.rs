@@ -19,21 +19,19 @@ pub static COMMAND: Command = Command {
 Each cell of the glyph is the net's shade, with each input read from the picture at an offset of its own from that cell; outside
 the picture the level is 0. A picture is text, a line for each row and a digit for each cell, `.` for 0; or a portable graymap in plain
 text (PGM, `P2`), level 0 white. The glyph is written as the picture is.
-
-  --at NAME=ACROSS,DOWN   where an input is read, from -2 to 2 each: `near=-1,0` is the cell to the left, and `light=0,-1`
-                          the one above; an input that is not named is read from the cell itself
-  --pgm         a graymap, whatever the picture is
-  --text        text, whatever the picture is
 ",
     sheets: 2,
     more: true,
     options: &[
         Opt {
             many: true,
-            ..Opt::value("--at", "NAME=ACROSS,DOWN")
+            ..Opt::value("--at", "NAME=ACROSS,DOWN").says(
+                "where an input is read, from -2 to 2 each: `near=-1,0` is the cell to the left, and `light=0,-1` the one above; \
+                 an input that is not named is read from the cell itself",
+            )
         },
-        Opt::flag("--pgm"),
-        Opt::flag("--text"),
+        Opt::flag("--pgm").says("write a graymap, whatever the picture is"),
+        Opt::flag("--text").says("write text, whatever the picture is"),
     ],
     ending: None,
     run,

@@ -16,12 +16,12 @@ pub static COMMAND: Command = Command {
     help: "\
 Of m levels, ink i becomes m - 1 - i; the first three lines and cells that are left open stay as they are. Both tables have a tree, or
 neither has. Their trees have the same wiring, and the same gate tables but for the last.
-
-  --map OLD=NEW,..   these inks, and all others as they are: `0=2,2=0` exchanges two; no two inks may become one
 ",
     sheets: 1,
     more: false,
-    options: &[Opt::value("--map", "list of OLD=NEW")],
+    options: &[Opt::value("--map", "OLD=NEW,..").says(
+        "change these inks, and leave all others: `0=2,2=0` exchanges two; no two inks may become one",
+    )],
     ending: Some("table"),
     run,
 };

@@ -16,8 +16,8 @@ pub static COMMAND: Command = Command {
     summary: "a net's wiring with its gates filled anew for a table",
     help: "\
 Writes the net sheet with the gate tables that give it the table; which gate joins what, on which side and in which line stays as it is.
-The gates whose tables are new are told on standard error. Where no gate tables give this wiring the table, it is refused, and the gate at
-fault is told, or the inputs that the net leaves out and the table needs.
+The gates with new tables are listed on standard error. Where no gate tables give this wiring the table, it is refused, with the gate at
+fault, or the inputs that the net leaves out and the table needs.
 ",
     sheets: 2,
     more: false,
@@ -27,17 +27,14 @@ fault is told, or the inputs that the net leaves out and the table needs.
 };
 
 fn run(call: &Call) -> Result<Answer, Failure> {
-    let [net_sheet, table_sheet] = sheets(call)?;
-    let net = refused::net(&net_sheet)?;
-    let table = refused::table(&table_sheet)?;
+    let sheets = sheets(call)?;
+    let (net, table) = refused::net_and_table(&sheets)?;
+    let [net_sheet, table_sheet] = &sheets;
     let (kept, changed) =
         sitgurp::kept(net.as_ref(), table.as_ref()).map_err(|refusal| match refusal.kind() {
-            Kind::HeadersDiffer => {
-                let differ = refused::headers(&net.table(), &table);
-                Refused::of_headers(&net_sheet, &table_sheet, refusal, differ)
-            }
-            Kind::OpenCell => Refused::of_table(&table_sheet, &table, refusal),
-            _ => of_wiring((&net_sheet, &net), (&table_sheet, &table), refusal),
+            Kind::HeadersDiffer => refused::headers_differ(&sheets, &net.table(), &table, refusal),
+            Kind::OpenCell => Refused::of_table(table_sheet, &table, refusal),
+            _ => of_wiring((net_sheet, &net), (table_sheet, &table), refusal),
         })?;
     let kept = Net::read(&kept).expect("a sheet that the library has written");
     let numbers = changed.iter().map(|&gate| Json::number(gate)).collect();
@@ -95,7 +92,7 @@ fn left_out(net: (&Sheet, &Net), table: (&Sheet, &Table), refusal: Refusal) -> R
         list(&names),
         table_sheet.name
     );
-    let hint = next(table, &words::operand(&table_sheet.name));
+    let hint = next(table, &table_sheet.operand());
     Refused::of_file(sheet, refusal, sentence).hinted(hint)
 }
 
@@ -117,7 +114,7 @@ fn of_wiring(net: (&Sheet, &Net), table: (&Sheet, &Table), refusal: Refusal) -> 
         table_sheet.name,
         count(net.levels(), "level")
     );
-    let (program, operand) = (words::program(), words::operand(&table_sheet.name));
+    let (program, operand) = (words::program(), table_sheet.operand());
     let hint = format!(
         "`{program} matrix{operand} --group {}` shows the classes; {}",
         names.join(","),

@@ -17,13 +17,12 @@ pub static COMMAND: Command = Command {
 Writes the settled net of the table: of all trees that compute it the one that fixed rules choose. It uses just the inputs that
 matter, two at least. A table that no tree computes is refused, and `sitgurp why TABLE` says what to change. Every cell has an ink:
 one that is left open, with the ink `-`, is refused.
-
-  --shallow     a tree of fewest layers instead
-  --number K    the tree of number K, from 0; `sitgurp count TABLE` says how many there are, and 0 is the settled one
 ",
     sheets: 1,
     more: false,
-    options: &[SHALLOW, Opt::value("--number", "K")],
+    options: &[SHALLOW, Opt::value("--number", "K").says(
+        "write the tree of number K, from 0; `sitgurp count TABLE` says how many there are, and 0 is the settled one",
+    )],
     ending: Some("net"),
     run,
 };

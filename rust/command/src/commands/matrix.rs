@@ -15,13 +15,11 @@ pub static COMMAND: Command = Command {
     summary: "a table over some of its inputs as a picture (SVG), columns gathered by class",
     help: "\
 A column for each combination of the group's levels, a row for each of the other inputs', shaded by ink. Equal columns make a class and
-stand together. A gate that joins the group has to tell its classes apart, so there may be as many as there are levels.
-
-  --group NAME,NAME   the inputs of the group
+are drawn together. A gate that joins the group has to tell its classes apart, so there may be as many as there are levels.
 ",
     sheets: 1,
     more: false,
-    options: &[Opt::value("--group", "NAME,NAME")],
+    options: &[Opt::value("--group", "NAME,NAME").says("the inputs of the group; it is needed")],
     ending: Some("svg"),
     run,
 };

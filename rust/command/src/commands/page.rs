@@ -1,7 +1,7 @@
 //! `page`: a table and its tree, or why there is none, as one page to keep or to send.
 
 use super::Command;
-use crate::call::Call;
+use crate::call::{Call, Opt};
 use crate::input::sheets;
 use crate::json::Json;
 use crate::outcome::{Answer, Failure};
@@ -10,24 +10,30 @@ use crate::refused;
 
 pub static COMMAND: Command = Command {
     name: "page",
-    usage: "[TABLE]",
-    summary: "a table and its tree, or why it has none, as one page (HTML)",
+    usage: "[TABLE] [--all]",
+    summary: "a table and its tree, or why it has none, as one page to draw on (HTML)",
     help: "\
-The page stands by itself: nothing is fetched, and no script runs. It shows the table, its tree with the shades, the layers and how many
-trees there are; of a table with no tree what `why` says, with the matrices of the inputs at fault. Of a table with open cells it shows the
-table alone, with these as such.
+The page is one file that fetches nothing. Opened in a browser it is the page of Sitgurp with the table inside: draw on the table and see its tree, or
+what to change. Without scripts it shows the table, its tree with the shades, the layers and how many trees there are; if there is no tree it shows what
+`why` says, with the matrices of the inputs at fault.
+
+The page itself is share/sitgurp/sitgurp.html beside the command's folder bin, where ./install puts it. SITGURP_PAGE names another file.
 ",
     sheets: 1,
     more: false,
-    options: &[],
+    options: &[Opt::flag("--all").says("without scripts, list every line and every row, and draw matrices of any size")],
     ending: Some("html"),
     run,
 };
 
+/// How many lines of a list the page has without `--all`.
+const LINES: usize = 40;
+
 fn run(call: &Call) -> Result<Answer, Failure> {
     let [sheet] = sheets(call)?;
     let table = refused::table(&sheet)?;
-    let html = page(&sheet.name, &table);
+    let most = if call.has("--all") { usize::MAX } else { LINES };
+    let html = page(&sheet.name, &table, most)?;
     let json = Json::object([("html", Json::text(&html))]);
     Ok(Answer::new(html, json))
 }

@@ -5,7 +5,7 @@ use crate::call::Call;
 use crate::input::sheets;
 use crate::json::Json;
 use crate::outcome::{Answer, Failure};
-use crate::refused::{self, Refused};
+use crate::refused;
 use crate::sheets::at;
 use crate::words::assignment;
 use sitgurp::Verdict;
@@ -16,7 +16,7 @@ pub static COMMAND: Command = Command {
     summary: "whether two nets compute the same table",
     help: "\
 Two nets of the same levels, inputs and names are the same where they settle to the same sheet, whatever their wiring and whichever
-inputs they use. Where they are not, the first row at which they differ is told, and the status is 1.
+inputs they use. Where they are not, the first row at which they differ is reported, and the status is 1.
 ",
     sheets: 2,
     more: false,
@@ -26,14 +26,12 @@ inputs they use. Where they are not, the first row at which they differ is told,
 };
 
 fn run(call: &Call) -> Result<Answer, Failure> {
-    let [first_sheet, second_sheet] = sheets(call)?;
-    let first = refused::net(&first_sheet)?;
-    let second = refused::net(&second_sheet)?;
+    let sheets = sheets(call)?;
+    let (first, second) = (refused::net(&sheets[0])?, refused::net(&sheets[1])?);
     let table = second.table();
-    let verdict = first.check(&table).map_err(|refusal| {
-        let differ = refused::headers(&first.table(), &table);
-        Refused::of_headers(&first_sheet, &second_sheet, refusal, differ)
-    })?;
+    let verdict = first
+        .check(&table)
+        .map_err(|refusal| refused::headers_differ(&sheets, &first.table(), &table, refusal))?;
     let same = first.settled() == second.settled();
     let Verdict::Differ(index) = verdict else {
         let json = Json::object([("same", Json::Bool(same))]);

@@ -13,8 +13,6 @@ pub static COMMAND: Command = Command {
     summary: "the settled net of a net sheet: equal tables give equal bytes",
     help: "\
 Writes the net that `make` writes for the net's own table.
-
-  --shallow     a net of fewest layers instead
 ",
     sheets: 1,
     more: false,

@@ -2,7 +2,7 @@
 
 use super::Command;
 use crate::call::Call;
-use crate::input::{sheets, Sheet};
+use crate::input::sheets;
 use crate::json::Json;
 use crate::outcome::{Answer, Failure};
 use crate::refused;
@@ -28,16 +28,17 @@ fn run(call: &Call) -> Result<Answer, Failure> {
     let refused: Vec<_> = [&first, &second]
         .into_iter()
         .filter_map(|sheet| refused::net(sheet).err())
+        .map(|refused| *refused)
         .collect();
     if refused.len() == 2 {
         return Err(Failure::Refused(refused));
     }
     let chosen = sitgurp::shallower(&first.bytes, &second.bytes);
     let is_first = std::ptr::eq(chosen.as_ptr(), first.bytes.as_ptr());
-    let Sheet { name, .. } = if is_first { &first } else { &second };
+    let sheet = if is_first { &first } else { &second };
     let net = Net::read(chosen).expect("an accepted sheet");
     let json = Json::object([
-        ("file", Json::text(name)),
+        ("file", Json::text(sheet.file())),
         ("which", Json::number(if is_first { 1 } else { 2 })),
         ("net", crate::sheets::net(&net)),
     ]);

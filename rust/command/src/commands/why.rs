@@ -2,28 +2,30 @@
 
 use super::Command;
 use crate::call::{Call, Opt};
+use crate::changes;
 use crate::fault::{Apart, Fault, Split};
 use crate::input::sheets;
 use crate::json::Json;
-use crate::mend::{mend, Change};
 use crate::outcome::{Answer, Failure};
 use crate::refused;
 use crate::words::{assignment, count, levels, list, wrapped};
+use search::{changed, larger, nearest, Nearest};
 use sitgurp::{Table, MOST_CELLS};
 
 pub static COMMAND: Command = Command {
     name: "why",
-    usage: "[TABLE] [--all]",
+    usage: "[TABLE] [--all | --apply K]",
     summary: "why a table has no tree, and what to change",
     help: "\
 Tells which inputs want too much together, how many levels each way of joining them would need, rows that no gate can keep apart,
-how many levels would do, and a change of a few inks with which there is a tree.
-
-  --all         every way and every pair of rows, where a long list is cut otherwise
+how many levels would do, how large a gate would do, and the fewest changed rows that were found with which there is a tree.
 ",
     sheets: 1,
     more: false,
-    options: &[Opt::flag("--all")],
+    options: &[
+        Opt::flag("--all").says("list every way and every pair of rows; long lists are cut otherwise"),
+        Opt::value("--apply", "K").says("write the table with change K of the list, from 1; it has a tree"),
+    ],
     ending: None,
     run,
 };
@@ -34,28 +36,74 @@ const WIDTH: usize = 96;
 const FEW: usize = 12;
 
 fn run(call: &Call) -> Result<Answer, Failure> {
+    let number = call.number("--apply", u64::MAX)?;
+    if number.is_some() && call.has("--all") {
+        return Err(call.wrong("--all and --apply do not go together".to_string()));
+    }
     let [sheet] = sheets(call)?;
     let table = refused::full_table(&sheet)?;
     let Some(fault) = Fault::of(&table) else {
-        let trees = table.family().expect("a full table").size();
-        let verb = if trees == 1 {
-            "is 1 tree".to_string()
-        } else {
-            format!("are {trees} trees")
+        return match number {
+            Some(_) => {
+                Err(call.wrong("the table has a tree, and nothing is to be changed".to_string()))
+            }
+            None => Ok(nothing_wrong(&table)),
         };
-        let words = format!("nothing is wrong: there {verb} with this table\n");
-        let json = Json::object([("trees", Json::Number(trees))]);
-        return Ok(Answer::new(words, json));
     };
-    let changes = mend(&table);
+    let nearest = nearest(&table);
+    if let Some(number) = number {
+        return applied(call, &table, nearest.as_ref(), number);
+    }
     let most = if call.has("--all") { usize::MAX } else { FEW };
     let mut text = String::new();
-    for paragraph in paragraphs(&fault, changes.as_deref(), most) {
+    for paragraph in paragraphs(&fault, nearest.as_ref(), most) {
         text += &paragraph.text();
         text.push('\n');
     }
     text.pop();
-    Ok(Answer::new(text, json(&fault, changes.as_deref())))
+    Ok(Answer::new(text, json(&fault, nearest.as_ref())))
+}
+
+/// The table with a change of the list.
+fn applied(
+    call: &Call,
+    table: &Table,
+    nearest: Option<&Nearest>,
+    number: u64,
+) -> Result<Answer, Failure> {
+    let ways = nearest.map_or(&[][..], |nearest| &nearest.ways);
+    let way = usize::try_from(number)
+        .ok()
+        .and_then(|number| ways.get(number.checked_sub(1)?));
+    let Some(way) = way else {
+        let numbers = match ways.len() {
+            1 => "there is change 1 only".to_string(),
+            several => format!("there are changes 1 to {several}"),
+        };
+        return Err(call.wrong(format!("--apply {number}: {numbers}")));
+    };
+    let table = changed(table, way);
+    let json = Json::object([("table", crate::sheets::table(&table))]);
+    Ok(Answer::new(table.as_str(), json))
+}
+
+/// Says how many trees a table has that has one. They are counted on the inputs that matter, and the others are named.
+fn nothing_wrong(table: &Table) -> Answer {
+    let size = table.family().expect("a full table").size();
+    let verb = if size == 1 { "is" } else { "are" };
+    let (used, unused) = refused::leaves(table).expect("a table with a tree");
+    let left_out = match &unused[..] {
+        [] => String::new(),
+        [one] => format!("; {one} never matters, and is left out"),
+        several => format!("; {} never matter, and are left out", list(several)),
+    };
+    let trees = refused::trees(table, size);
+    let words = format!("nothing is wrong: there {verb} {trees} with this table{left_out}\n");
+    let json = Json::object([
+        ("trees", Json::Number(size)),
+        ("inputs", Json::texts(&used)),
+    ]);
+    Answer::new(words, json)
 }
 
 /// A sentence or two, and lines that belong to it.
@@ -76,15 +124,17 @@ impl Paragraph {
 }
 
 /// What there is to say of a table without a tree, with lists of at most so many lines.
-pub fn paragraphs(fault: &Fault, changes: Option<&[Change]>, most: usize) -> Vec<Paragraph> {
-    let mut paragraphs = vec![group(fault, most), pairs(fault, most), more_levels(fault)];
-    paragraphs.push(match changes {
-        Some(changes) => mended(fault.table, changes, most),
-        None => Paragraph {
-            words: "What to change: make the rule want less of these inputs together, so that some way above needs no more levels than a wire has.".to_string(),
-            lines: Vec::new(),
-        },
-    });
+pub fn paragraphs(fault: &Fault, nearest: Option<&Nearest>, most: usize) -> Vec<Paragraph> {
+    let mut paragraphs = vec![
+        group(fault, most),
+        pairs(fault, most),
+        more_levels(fault),
+        larger_gates(fault),
+    ];
+    paragraphs.extend(nearest.map(|nearest| Paragraph {
+        words: changes::words(nearest),
+        lines: cut(changes::lines(fault.table, nearest), most, "line"),
+    }));
     paragraphs
 }
 
@@ -93,9 +143,10 @@ fn group(fault: &Fault, most: usize) -> Paragraph {
     let names = fault.names(fault.group());
     let m = fault.table.levels();
     let words = format!(
-        "No tree of two-input gates computes this table. At fault are {} together (refusal 16, group {}): they could leave on one wire, but the gate that \
+        "No tree of two-input gates computes this table. At fault are {} together (refusal {}, group {}): they could leave on one wire, but the gate that \
          joins them takes them in two parts, each on a wire of its own, and a wire carries {m} levels. Every way to part them needs more of one part:",
         list(&names),
+        fault.refusal.number,
         fault.group()
     );
     let lines = fault.splits.iter().map(|split| split_line(fault, split));
@@ -149,7 +200,7 @@ fn more_levels(fault: &Fault) -> Paragraph {
     let fits = fewest <= 9 && fewest.pow(inputs as u32) <= MOST_CELLS;
     let how = match fits {
         true => format!(
-            " Draw the same rule with {fewest} levels, where an input above {} acts as {}, and it is made.",
+            " Draw the same rule with {fewest} levels, where an input above {} acts as {}, and it is made; `widen` writes that table.",
             m - 1,
             m - 1
         ),
@@ -163,26 +214,16 @@ fn more_levels(fault: &Fault) -> Paragraph {
     }
 }
 
-/// A change of inks with which there is a tree.
-fn mended(table: &Table, changes: &[Change], most: usize) -> Paragraph {
-    let line = |change: &Change| {
-        let row = table.row(change.index).expect("a row of the table");
-        format!(
-            "line {}: {} has ink {} in place of {}",
-            change.index + 4,
-            assignment(table.names(), &row.levels),
-            change.to,
-            change.from
-        )
-    };
-    let words = format!(
-        "Or other inks: with {} changed there is a tree; other changes may do as well:",
-        count(changes.len(), "row")
-    );
-    let lines = changes.iter().map(line).collect();
+/// How large a gate would do.
+fn larger_gates(fault: &Fault) -> Paragraph {
+    let tree = larger(fault.table).expect("a full table");
+    let size = tree.largest();
     Paragraph {
-        words,
-        lines: cut(lines, most, "row"),
+        words: format!(
+            "Larger gates: there is a tree with {} of {size} inputs; `larger` shows it.",
+            count(tree.of_size(size), "gate")
+        ),
+        lines: Vec::new(),
     }
 }
 
@@ -198,7 +239,7 @@ fn cut(mut lines: Vec<String>, most: usize, one: &str) -> Vec<String> {
     lines
 }
 
-fn json(fault: &Fault, changes: Option<&[Change]>) -> Json {
+fn json(fault: &Fault, nearest: Option<&Nearest>) -> Json {
     let split = |split: &Split| {
         let parts = split.parts.map(|part| Json::texts(&fault.names(part)));
         Json::object([
@@ -217,14 +258,6 @@ fn json(fault: &Fault, changes: Option<&[Change]>) -> Json {
             ("inks", Json::numbers(&apart.inks)),
         ])
     };
-    let change = |change: &Change| {
-        Json::object([
-            ("line", Json::number(change.index + 4)),
-            ("from", Json::Number(change.from.into())),
-            ("to", Json::Number(change.to.into())),
-        ])
-    };
-    let changes = changes.map(|changes| Json::List(changes.iter().map(change).collect()));
     Json::object([
         ("trees", Json::Number(0)),
         ("group", Json::texts(&fault.names(fault.group()))),
@@ -238,6 +271,14 @@ fn json(fault: &Fault, changes: Option<&[Change]>) -> Json {
             Json::List(fault.apart().iter().map(apart).collect()),
         ),
         ("fewest_levels", Json::number(fault.fewest)),
-        ("changes", changes.unwrap_or(Json::Null)),
+        (
+            "largest_gate",
+            Json::number(larger(fault.table).expect("a full table").largest()),
+        ),
+        (
+            "changes",
+            nearest.map_or(Json::Null, |nearest| changes::json(&nearest.ways[0])),
+        ),
+        ("nearest", nearest.map_or(Json::Null, changes::json_of_all)),
     ])
 }

@@ -45,6 +45,7 @@ impl Folder {
     pub fn command(&self) -> Command {
         let mut command = Command::new(env!("CARGO_BIN_EXE_sitgurp"));
         command.current_dir(&self.0).env_remove("SITGURP_AS");
+        command.env("SITGURP_PAGE", page_template());
         command
     }
 
@@ -84,6 +85,16 @@ pub fn answers(ended: Ended, out: &str) {
     assert_eq!(ended, due);
 }
 
+/// Status 0, this on standard output, and this note on standard error.
+pub fn answers_with_note(ended: Ended, out: &str, note: &str) {
+    let due = Ended {
+        status: 0,
+        out: out.to_string(),
+        err: note.to_string(),
+    };
+    assert_eq!(ended, due);
+}
+
 /// Status 1, nothing on standard output, this on standard error.
 pub fn refuses(ended: Ended, err: &str) {
     let due = Ended {
@@ -102,6 +113,11 @@ pub fn is_wrong(ended: Ended, err: &str) {
 
 pub fn repository() -> PathBuf {
     Path::new(env!("CARGO_MANIFEST_DIR")).join("../..")
+}
+
+/// The page before anything is put in it: it has the elements that `page` fills.
+pub fn page_template() -> PathBuf {
+    repository().join("web/page/page.html")
 }
 
 pub fn example(name: &str) -> String {

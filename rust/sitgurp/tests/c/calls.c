@@ -470,6 +470,38 @@ static void gate_line(void) {
     HOLDS(turns(sitgurp_gate_line(TEXT(BAD_NET), 99), 2, 8, 43));
 }
 
+static int is_line(sitgurp_line line, size_t kind, size_t start, size_t length, size_t next) {
+    return line.kind == kind && line.start == start && line.length == length && line.next == next;
+}
+
+/* the lister that its caller keeps the position of: opened, followed to the end and past it, and at positions that no turn gave */
+static void lister(void) {
+    const size_t first = sizeof(HEADER "left right table\n") - 1;
+    const size_t end = sizeof(NET) - 1;
+    static const uint8_t none[1] = {'\n'};
+    HOLDS(is(sitgurp_lister_open(TEXT(BAD_NET)), 8, 43));
+    HOLDS(is(sitgurp_lister_open(TEXT("")), 1, 0));
+    HOLDS(is(sitgurp_lister_open(TEXT(UNUSED_GATE)), 26, sizeof(UNUSED_GATE) - 1));
+    HOLDS(is(sitgurp_lister_open(TEXT(NET)), 0, first));
+    HOLDS(is_line(sitgurp_lister_next(TEXT(NET), first), 1, first, 8, first + 9));
+    HOLDS(is_line(sitgurp_lister_next(TEXT(NET), first + 9), 1, first + 9, 8, end));
+    HOLDS(is_line(sitgurp_lister_next(TEXT(NET), end), 0, 0, 0, end));
+    HOLDS(is_line(sitgurp_lister_next(TEXT(NET), end + 1), 0, 0, 0, end));
+    HOLDS(is_line(sitgurp_lister_next(TEXT(NET), (size_t)-1), 0, 0, 0, end));
+    /* inside a line, at a line feed, in bytes that are no sheet, in none at all */
+    HOLDS(is_line(sitgurp_lister_next(TEXT(NET), first + 4), 1, first + 4, 4, first + 9));
+    HOLDS(is_line(sitgurp_lister_next(TEXT(NET), first + 8), 1, first + 8, 0, first + 9));
+    HOLDS(is_line(sitgurp_lister_next(TEXT("a\nb"), 2), 1, 2, 1, 3));
+    HOLDS(is_line(sitgurp_lister_next(none, 0, 0), 0, 0, 0, 0));
+}
+
+static void version(void) {
+    char text[32];
+    snprintf(text, sizeof text, "%d.%d.%d", SITGURP_VERSION_MAJOR, SITGURP_VERSION_MINOR, SITGURP_VERSION_PATCH);
+    HOLDS(strcmp(text, SITGURP_VERSION) == 0);
+    HOLDS(sitgurp_version() == SITGURP_VERSION_NUMBER);
+}
+
 /* the sizes that the header says always suffice, on sheets of the largest size: 2 levels with 12 inputs, all names 8 bytes long */
 static void largest(void) {
     static const char sheet[] = "levels inputs\n2 12\n"
@@ -529,6 +561,8 @@ int main(void) {
     write_table();
     tidy();
     gate_line();
+    lister();
+    version();
     idle_inputs();
     open();
     largest();

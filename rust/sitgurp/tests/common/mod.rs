@@ -78,3 +78,18 @@ pub fn sizes() -> Vec<(usize, usize)> {
         .map(|(m, n)| (m as usize, n as usize))
         .collect()
 }
+
+/// Calls with buffers of every length around each need of a sheet of m levels and n inputs; fewer at the largest size, which takes long.
+pub fn around_each_need(m: usize, n: usize, output: usize, mut call: impl FnMut(Lengths)) {
+    let lengths = match n {
+        12 => |need| vec![need - 1, need],
+        _ => around,
+    };
+    for cells in lengths(m.pow(n as u32)) {
+        for marks in lengths((1 << n) / 4) {
+            for output in lengths(output) {
+                call(Lengths(cells, marks, output));
+            }
+        }
+    }
+}

@@ -3,20 +3,14 @@
 use mathlib.Core.Path.{ap, ap₂}
 use borrow.Author.Needs.{needs}
 use borrow.Author.Tests.{eq-eqb, ne-eqb}
-use Rattle.rules.specs.ArrivalSheet.{arrivalOf}
+use Rattle.rules.specs.Sheets.ArrivalSheet.{arrivalOf}
 use Rattle.arrivals.specs.declared.arrival.Arrival.the-variants.{Fixed, Between}
 use Rattle.arrivals.proofs.arrival.arrival_of.Statement.{statement}
 use Rattle.arrivals.proofs.arrival.arrival_of.Tie as tie
 
-microseconds-requires : tie.Need-microseconds-requires
-microseconds-requires c κs = search needs
-
 returns : tie.Need-returns
 unfolding arrivalOf
 returns c = rw (eq-eqb _ _ (c .if1 .taken), arrivalOf) (ap Fixed (c .before .microseconds .ensures))
-
-microseconds-requires-2 : tie.Need-microseconds-requires-2
-microseconds-requires-2 c κs = search needs
 
 returns-2 : tie.Need-returns-2
 unfolding arrivalOf
@@ -24,4 +18,4 @@ returns-2 c = rw (ne-eqb _ _ (c .before .if1 .left), arrivalOf) (ap₂ Between (
 
 pub arrival-of-spec : {M : Type 1} → statement M
 arrival-of-spec =
-    tie.close (tie.spec microseconds-requires returns microseconds-requires-2 returns-2)
+    tie.close (tie.spec (λ c κs. search needs) returns (λ c κs. search needs) returns-2)

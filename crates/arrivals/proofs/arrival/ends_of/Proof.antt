@@ -6,12 +6,6 @@ use Rattle.arrivals.specs.Ends.{endsIn}
 use Rattle.arrivals.proofs.arrival.ends_of.Statement.{statement}
 use Rattle.arrivals.proofs.arrival.ends_of.Tie as tie
 
-enum-known-arrival : tie.Need-enum-known-arrival
-enum-known-arrival c = search needs
-
-enum-known-arrival-2 : tie.Need-enum-known-arrival-2
-enum-known-arrival-2 c = search needs
-
 returns : tie.Need-returns
 returns c = sym (ap endsIn (c .before .arrival .given .1))
 
@@ -19,4 +13,4 @@ returns-2 : tie.Need-returns-2
 returns-2 c = sym (ap endsIn (c .before .arrival2 .given .1))
 
 pub ends-of-spec : {M : Type 1} → statement M
-ends-of-spec = tie.close (tie.spec enum-known-arrival enum-known-arrival-2 returns returns-2)
+ends-of-spec = tie.close (tie.spec (λ c. search needs) (λ c. search needs) returns returns-2)

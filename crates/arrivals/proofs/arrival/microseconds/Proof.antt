@@ -2,15 +2,12 @@
 -- Assumes nothing.
 use native.Mathlib.Omega.{arith}
 use borrow.Author.Needs.{needs}
-use Rattle.laws.specs.Quarters.{quarter-of}
+use Rattle.laws.specs.Numbers.Quarters.{quarter-of}
 use Rattle.arrivals.proofs.arrival.microseconds.Statement.{statement}
 use Rattle.arrivals.proofs.arrival.microseconds.Tie as tie
-
-int-to-float-result : tie.Need-int-to-float-result
-int-to-float-result c = search needs
 
 returns : tie.Need-returns
 returns c = quarter-of (c .before .args .quarters) (omega (arith, c .before .fits .quarters .fits))
 
 pub microseconds-spec : {M : Type 1} → statement M
-microseconds-spec = tie.close (tie.spec int-to-float-result returns)
+microseconds-spec = tie.close (tie.spec (λ c. search needs) returns)

@@ -2,19 +2,10 @@
 -- Assumes nothing.
 use mathlib.Core.Path.{sym}
 use borrow.Author.Needs.{needs}
-use Rattle.laws.specs.Arrivals.{arrivals-net-refused}
+use Rattle.laws.specs.Calls.Arrivals.{arrivals-net-refused}
 use Rattle.accepted.specs.Taken.{net-refused, net-taken}
 use Rattle.arrivals.proofs.call.arrivals.Statement.{statement}
 use Rattle.arrivals.proofs.call.arrivals.Tie as tie
-
-read-net-requires : tie.Need-read-net-requires
-read-net-requires c κs = search needs
-
-enum-known-outcome : tie.Need-enum-known-outcome
-enum-known-outcome c = search needs
-
-enum-told : tie.Need-enum-told
-enum-told c = search needs
 
 settle-by-requires : tie.Need-settle-by-requires
 settle-by-requires c κs = net-taken _ _ (c .before .before .before .before .read-net .ensures) (c .enum-told .given .1)
@@ -24,10 +15,6 @@ returns c =
     let read = c .before .before .before .before .before in
     sym (arrivals-net-refused _ _ _ _ _ (net-refused _ _ (read .read-net .ensures) _ _ (c .before .outcome .given .1)))
 
-returns-2 : tie.Need-returns-2
-returns-2 c = search needs
-
 pub arrivals-spec : {M : Type 1} → statement M
 arrivals-spec =
-    tie.close
-    (tie.spec read-net-requires enum-known-outcome enum-told settle-by-requires returns returns-2)
+    tie.close (tie.spec (λ c κs. search needs) (λ c. search needs) (λ c. search needs) settle-by-requires returns (λ c. search needs))

@@ -2,7 +2,7 @@
 -- Assumes nothing.
 use borrow.Author.Needs.{needs}
 use Rattle.accepted.specs.Taken.{sound}
-use Rattle.arrivals.specs.Answers.{sheet-refused, sheet-held, sheet-settles}
+use Rattle.arrivals.specs.ArrivalAnswers.{sheet-refused, sheet-held, sheet-settles}
 use Rattle.arrivals.proofs.call.settle_by.Statement.{statement}
 use Rattle.arrivals.proofs.call.settle_by.Tie as tie
 
@@ -12,15 +12,6 @@ at-start c = c .before .before .before
 
 abbrev at-read : tie.After-enum-told → tie.After-read-arrivals
 at-read c = c .before .before .before
-
-read-arrivals-requires : tie.Need-read-arrivals-requires
-read-arrivals-requires c κs = c .before .before .pre .header
-
-enum-known-outcome : tie.Need-enum-known-outcome
-enum-known-outcome c = search needs
-
-enum-told : tie.Need-enum-told
-enum-told c = search needs
 
 settling-requires : tie.Need-settling-requires
 settling-requires c κs =
@@ -39,5 +30,4 @@ returns-2 c =
 
 pub settle-by-spec : {M : Type 1} → statement M
 settle-by-spec =
-    tie.close
-    (tie.spec read-arrivals-requires enum-known-outcome enum-told settling-requires returns returns-2)
+    tie.close (tie.spec (λ c κs. c .before .before .pre .header) (λ c. search needs) (λ c. search needs) settling-requires returns returns-2)

@@ -7,16 +7,10 @@ use Rattle.arrivals.specs.declared.arrival.Ends.{Ends}
 use Rattle.arrivals.proofs.joined.join.Statement.{statement}
 use Rattle.arrivals.proofs.joined.join.Tie as tie
 
-later-requires : tie.Need-later-requires
-later-requires c κs = search needs
-
-later-requires-2 : tie.Need-later-requires-2
-later-requires-2 c κs = search needs
-
 returns : tie.Need-returns
 returns c =
     let delay = c .before .before .args .delay in
     ap₂ {C = Ends} (λ (first last : Float). record { earliest = add binary64 first delay; latest = add binary64 last delay }) (c .before .later .ensures) (c .later2 .ensures)
 
 pub join-spec : {M : Type 1} → statement M
-join-spec = tie.close (tie.spec later-requires later-requires-2 returns)
+join-spec = tie.close (tie.spec (λ c κs. search needs) (λ c κs. search needs) returns)

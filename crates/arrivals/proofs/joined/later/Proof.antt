@@ -1,6 +1,6 @@
 -- `arrivals::joined::later` meets its contract.
 -- Assumes nothing.
-use Rattle.laws.specs.Quarters.{laterOf}
+use Rattle.laws.specs.Numbers.Quarters.{laterOf}
 use Rattle.arrivals.proofs.joined.later.Statement.{statement}
 use Rattle.arrivals.proofs.joined.later.Tie as tie
 

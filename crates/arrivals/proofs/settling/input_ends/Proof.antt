@@ -6,7 +6,7 @@ use native.Mathlib.Omega.{arith}
 use borrow.Author.Needs.{needs}
 use Rattle.rules.specs.Limits.{mostInputs}
 use Rattle.arrivals.specs.Ends.{endsIn}
-use Rattle.arrivals.specs.Wires.{WiresAt, firstTimes, inputs-none, inputs-more}
+use Rattle.arrivals.specs.Wires.{WiresAt, firstTimes, arrival-inputs-none, inputs-more}
 use Rattle.arrivals.proofs.settling.input_ends.Statement.{statement}
 use Rattle.arrivals.proofs.settling.input_ends.Tie as tie
 
@@ -19,7 +19,7 @@ abbrev μ-loop : tie.MeasureT-loop
 loop-holds : tie.Need-loop-holds Inv-loop μ-loop
 loop-holds c =
     let times = c .before .before .args .times in
-    (inputs-none (times .from) (times .to) _ refl, omega arith)
+    (arrival-inputs-none (times .from) (times .to) _ refl, omega arith)
 
 -- the start from the loop's head, and that head from a turn's end
 abbrev at-start : tie.At-loop Inv-loop μ-loop → tie.Start Inv-loop μ-loop
@@ -30,36 +30,6 @@ at-turn c = c .before .before
 
 few : (c : tie.In-loop Inv-loop μ-loop) → c .before .loop .i < mostInputs
 few c = omega (arith, c .loop-test .taken, at-start (c .before) .pre .0)
-
-mul-arrival-of : tie.Need-mul-arrival-of Inv-loop μ-loop
-mul-arrival-of c = omega (arith, few c)
-
-array-read-arrival-of : tie.Need-array-read-arrival-of Inv-loop μ-loop
-array-read-arrival-of c = omega (arith, few c)
-
-mul-arrival-of-2 : tie.Need-mul-arrival-of-2 Inv-loop μ-loop
-mul-arrival-of-2 c = omega (arith, few c)
-
-array-read-arrival-of-2 : tie.Need-array-read-arrival-of-2 Inv-loop μ-loop
-array-read-arrival-of-2 c = omega (arith, few c)
-
-arrival-of-requires : tie.Need-arrival-of-requires Inv-loop μ-loop
-arrival-of-requires c κs = search needs
-
-ends-of-requires : tie.Need-ends-of-requires Inv-loop μ-loop
-ends-of-requires c κs = search needs
-
-mul-ends : tie.Need-mul-ends Inv-loop μ-loop
-mul-ends c = omega (arith, few (at-turn c))
-
-array-set-from-ends : tie.Need-array-set-from-ends Inv-loop μ-loop
-array-set-from-ends c = omega (arith, few (at-turn c))
-
-add-i : tie.Need-add-i Inv-loop μ-loop
-add-i c = omega (arith, few (at-turn c))
-
-loop-less : tie.Need-loop-less Inv-loop μ-loop
-loop-less c = omega (arith, at-turn c .loop-test .taken)
 
 loop-again : tie.Need-loop-again Inv-loop μ-loop
 loop-again c =
@@ -77,20 +47,7 @@ returns c =
 
 pub input-ends-spec : {M : Type 1} → statement M
 input-ends-spec =
-    tie.close
-    (tie.spec
-    Inv-loop
-    μ-loop
-    loop-holds
-    mul-arrival-of
-    array-read-arrival-of
-    mul-arrival-of-2
-    array-read-arrival-of-2
-    arrival-of-requires
-    ends-of-requires
-    mul-ends
-    array-set-from-ends
-    add-i
-    loop-less
-    loop-again
+    tie.close (tie.spec Inv-loop μ-loop loop-holds (λ c. omega (arith, few c)) (λ c. omega (arith, few c)) (λ c. omega (arith, few c))
+    (λ c. omega (arith, few c)) (λ c κs. search needs) (λ c κs. search needs) (λ c. omega (arith, few (at-turn c)))
+    (λ c. omega (arith, few (at-turn c))) (λ c. omega (arith, few (at-turn c))) (λ c. omega (arith, at-turn c .loop-test .taken)) loop-again
     returns)

@@ -6,17 +6,17 @@ use native.Mathlib.Omega.{arith}
 use borrow.Author.Needs.{needs}
 use lib.ListN.{getD}
 use Rattle.rules.specs.Limits.{mostDelay}
-use Rattle.rules.specs.Arrivals.{quarter}
+use Rattle.rules.specs.Nets.Arrivals.{quarter}
 use Rattle.nets.specs.declared.forms.Net.{Net}
 use Rattle.nets.specs.Room.{mostGates, mostWires}
 use Rattle.nets.specs.References.{refers-back}
 use Rattle.nets.specs.Sound.{Sound, gates-count, gates-pos, sound-size, wires-room}
-use Rattle.arrivals.specs.Wires.{Turned, wired-none, wired-more, wired-all}
+use Rattle.arrivals.specs.Wires.{ArrivalTurned, wired-none, wired-more, wired-all}
 use Rattle.arrivals.proofs.settling.settling.Statement.{statement}
 use Rattle.arrivals.proofs.settling.settling.Tie as tie
 
 abbrev Inv-loop : tie.InvT-loop
-Inv-loop net delay left right step ends₀ k₀ ends k = Turned net delay ends₀ k ends × (step ≡ quarter delay)
+Inv-loop net delay left right step ends₀ k₀ ends k = ArrivalTurned net delay ends₀ k ends × (step ≡ quarter delay)
 
 abbrev μ-loop : tie.MeasureT-loop
 μ-loop net delay left right step ends₀ k₀ ends k = net .gates - k
@@ -33,9 +33,6 @@ at-turn c = c .before .before .before .before
 
 abbrev at-end : tie.After-struct-known3 Inv-loop μ-loop → tie.At-loop Inv-loop μ-loop
 at-end c = c .before .before .before
-
-microseconds-requires : tie.Need-microseconds-requires Inv-loop μ-loop
-microseconds-requires c κs = search needs
 
 input-ends-requires : tie.Need-input-ends-requires Inv-loop μ-loop
 input-ends-requires c κs =
@@ -64,48 +61,6 @@ module _ (c : tie.Then1 Inv-loop μ-loop) where
   few : (net .inputs + k < mostWires) × (k < mostGates)
   few = (omega (arith, wires-room net sound, c .if1 .taken), omega (arith, gates-count net sound, sound-size net sound .inputs-most, c .if1 .taken))
 
-array-read-a : tie.Need-array-read-a Inv-loop μ-loop
-array-read-a c = omega (arith, few c)
-
-cast-a : tie.Need-cast-a Inv-loop μ-loop
-cast-a c = omega (arith, back c, few c)
-
-mul-a : tie.Need-mul-a Inv-loop μ-loop
-mul-a c = omega (arith, back c, few c)
-
-array-copy-out-a : tie.Need-array-copy-out-a Inv-loop μ-loop
-array-copy-out-a c = omega (arith, back c, few c)
-
-array-read-b : tie.Need-array-read-b Inv-loop μ-loop
-array-read-b c = omega (arith, few (c .before))
-
-cast-b : tie.Need-cast-b Inv-loop μ-loop
-cast-b c = omega (arith, back (c .before), few (c .before))
-
-mul-b : tie.Need-mul-b Inv-loop μ-loop
-mul-b c = omega (arith, back (c .before), few (c .before))
-
-array-copy-out-b : tie.Need-array-copy-out-b Inv-loop μ-loop
-array-copy-out-b c = omega (arith, back (c .before), few (c .before))
-
-join-requires : tie.Need-join-requires Inv-loop μ-loop
-join-requires c κs = search needs
-
-add-ends : tie.Need-add-ends Inv-loop μ-loop
-add-ends c = omega (arith, few (at-turn c))
-
-mul-ends : tie.Need-mul-ends Inv-loop μ-loop
-mul-ends c = omega (arith, few (at-turn c))
-
-array-set-from-ends : tie.Need-array-set-from-ends Inv-loop μ-loop
-array-set-from-ends c = omega (arith, few (at-turn c))
-
-add-k : tie.Need-add-k Inv-loop μ-loop
-add-k c = omega (arith, few (at-turn c))
-
-loop-less : tie.Need-loop-less Inv-loop μ-loop
-loop-less c = omega (arith, at-turn c .if1 .taken)
-
 -- the delay is a byte
 byte : (start : tie.Start Inv-loop μ-loop) → start .args .delay ≤ mostDelay
 byte start = omega (arith, start .fits .delay .fits)
@@ -125,18 +80,6 @@ loop-again c =
 wires : (c : tie.At-loop Inv-loop μ-loop) → let net = at-start c .args .net in (net .inputs + net .gates ≤ mostWires) × (0 < net .gates)
 wires c = let s = at-start c in (wires-room (s .args .net) (s .pre .0), gates-pos (s .args .net) (s .pre .0))
 
-add-result : tie.Need-add-result Inv-loop μ-loop
-add-result c = omega (arith, wires (at-end c))
-
-sub-result : tie.Need-sub-result Inv-loop μ-loop
-sub-result c = omega (arith, wires (at-end c))
-
-mul-result : tie.Need-mul-result Inv-loop μ-loop
-mul-result c = omega (arith, wires (at-end c))
-
-array-copy-out-result : tie.Need-array-copy-out-result Inv-loop μ-loop
-array-copy-out-result c = omega (arith, wires (at-end c))
-
 returns : tie.Need-returns Inv-loop μ-loop
 returns c =
     let head = at-end (c .before) in
@@ -146,30 +89,10 @@ returns c =
 
 pub settling-spec : {M : Type 1} → statement M
 settling-spec =
-    tie.close
-    (tie.spec
-    Inv-loop
-    μ-loop
-    microseconds-requires
-    input-ends-requires
-    loop-holds
-    array-read-a
-    cast-a
-    mul-a
-    array-copy-out-a
-    array-read-b
-    cast-b
-    mul-b
-    array-copy-out-b
-    join-requires
-    add-ends
-    mul-ends
-    array-set-from-ends
-    add-k
-    loop-less
-    loop-again
-    add-result
-    sub-result
-    mul-result
-    array-copy-out-result
+    tie.close (tie.spec Inv-loop μ-loop (λ c κs. search needs) input-ends-requires loop-holds (λ c. omega (arith, few c)) (λ c. omega (arith, back c, few c))
+    (λ c. omega (arith, back c, few c)) (λ c. omega (arith, back c, few c)) (λ c. omega (arith, few (c .before)))
+    (λ c. omega (arith, back (c .before), few (c .before))) (λ c. omega (arith, back (c .before), few (c .before)))
+    (λ c. omega (arith, back (c .before), few (c .before))) (λ c κs. search needs) (λ c. omega (arith, few (at-turn c))) (λ c. omega (arith, few (at-turn c)))
+    (λ c. omega (arith, few (at-turn c))) (λ c. omega (arith, few (at-turn c))) (λ c. omega (arith, at-turn c .if1 .taken)) loop-again
+    (λ c. omega (arith, wires (at-end c))) (λ c. omega (arith, wires (at-end c))) (λ c. omega (arith, wires (at-end c))) (λ c. omega (arith, wires (at-end c)))
     returns)

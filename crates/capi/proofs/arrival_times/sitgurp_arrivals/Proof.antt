@@ -1,18 +1,12 @@
 -- `capi::arrival_times::sitgurp_arrivals` meets its contract: the call, its answer as three numbers and two doubles. Assumes nothing.
 use mathlib.Core.Path.{ap, _∙_}
 use borrow.Author.Needs.{needs}
-use Rattle.flat_calls.specs.Timing.{flatTiming}
+use Rattle.capi.specs.Numbers.Timing.{flatTiming}
 use Rattle.capi.proofs.arrival_times.sitgurp_arrivals.Statement.{statement}
 use Rattle.capi.proofs.arrival_times.sitgurp_arrivals.Tie as tie
-
-arrivals-requires : tie.Need-arrivals-requires
-arrivals-requires c κs = search needs
-
-flat-timing-requires : tie.Need-flat-timing-requires
-flat-timing-requires c κs = search needs
 
 returns : tie.Need-returns
 returns c = c .flat-timing .ensures ∙ ap flatTiming (c .before .arrivals .ensures)
 
 pub sitgurp-arrivals-spec : {M : Type 1} → statement M
-sitgurp-arrivals-spec = tie.close (tie.spec arrivals-requires flat-timing-requires returns)
+sitgurp-arrivals-spec = tie.close (tie.spec (λ c κs. search needs) (λ c κs. search needs) returns)

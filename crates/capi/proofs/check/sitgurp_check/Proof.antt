@@ -1,19 +1,10 @@
 -- `capi::check::sitgurp_check` meets its contract: it is the check, its verdict as four numbers. Assumes nothing.
 use mathlib.Core.Path.{ap, _∙_}
-use Rattle.rules.specs.Checking.{Checked}
-use Rattle.flat_calls.specs.Verdict.{flatVerdict}
+use Rattle.rules.specs.Calls.Checking.{Checked}
+use Rattle.capi.specs.Numbers.Verdict.{flatVerdict}
 use borrow.Author.Needs.{needs}
 use Rattle.capi.proofs.check.sitgurp_check.Statement.{statement}
 use Rattle.capi.proofs.check.sitgurp_check.Tie as tie
-
-check-requires : tie.Need-check-requires
-check-requires c κs = search needs
-
-flat-verdict-requires : tie.Need-flat-verdict-requires
-flat-verdict-requires c κs = search needs
-
-same-length : tie.Need-same-length
-same-length c = search needs
 
 returns : tie.Need-returns
 returns c =
@@ -24,4 +15,4 @@ returns c =
     }
 
 pub sitgurp-check-spec : {M : Type 1} → statement M
-sitgurp-check-spec = tie.close (tie.spec check-requires flat-verdict-requires same-length returns)
+sitgurp-check-spec = tie.close (tie.spec (λ c κs. search needs) (λ c κs. search needs) (λ c. search needs) returns)

@@ -1,18 +1,12 @@
 -- `capi::gate_line::sitgurp_gate_line` meets its contract: it is the lister's turn as a kind and two numbers. Assumes nothing.
 use mathlib.Core.Path.{ap, _∙_}
-use Rattle.flat_calls.specs.Turn.{flatTurn}
+use Rattle.capi.specs.Numbers.Turn.{flatTurn}
 use borrow.Author.Needs.{needs}
 use Rattle.capi.proofs.gate_line.sitgurp_gate_line.Statement.{statement}
 use Rattle.capi.proofs.gate_line.sitgurp_gate_line.Tie as tie
-
-line-requires : tie.Need-line-requires
-line-requires c κs = search needs
-
-flat-turn-requires : tie.Need-flat-turn-requires
-flat-turn-requires c κs = search needs
 
 returns : tie.Need-returns
 returns c = c .flat-turn .ensures ∙ ap flatTurn (c .before .line .ensures)
 
 pub sitgurp-gate-line-spec : {M : Type 1} → statement M
-sitgurp-gate-line-spec = tie.close (tie.spec line-requires flat-turn-requires returns)
+sitgurp-gate-line-spec = tie.close (tie.spec (λ c κs. search needs) (λ c κs. search needs) returns)

@@ -1,19 +1,10 @@
 -- `capi::glyph::sitgurp_glyph` meets its contract: it is the glyph call, its answer as two numbers. Assumes nothing.
 use mathlib.Core.Path.{ap, _∙_}
-use Rattle.rules.specs.TableWriting.{Written}
-use Rattle.flat_answers.specs.Flat.{flatOf}
+use Rattle.rules.specs.Calls.TableWriting.{Written}
+use Rattle.capi.specs.Numbers.Flat.{flatOf}
 use borrow.Author.Needs.{needs}
 use Rattle.capi.proofs.glyph.sitgurp_glyph.Statement.{statement}
 use Rattle.capi.proofs.glyph.sitgurp_glyph.Tie as tie
-
-glyph-requires : tie.Need-glyph-requires
-glyph-requires c κs = search needs
-
-flat-requires : tie.Need-flat-requires
-flat-requires c κs = search needs
-
-same-length : tie.Need-same-length
-same-length c = search needs
 
 returns : tie.Need-returns
 returns c =
@@ -25,4 +16,4 @@ returns c =
 
 pub sitgurp-glyph-spec : {M : Type 1} → statement M
 sitgurp-glyph-spec =
-    tie.close (tie.spec glyph-requires flat-requires same-length returns)
+    tie.close (tie.spec (λ c κs. search needs) (λ c κs. search needs) (λ c. search needs) returns)

@@ -4,14 +4,8 @@ use borrow.Author.Needs.{needs}
 use Rattle.capi.proofs.job_open.sitgurp_job_open_parts.Statement.{statement}
 use Rattle.capi.proofs.job_open.sitgurp_job_open_parts.Tie as tie
 
-open-requires : tie.Need-open-requires
-open-requires c κs = search needs
-
-flat-done-requires : tie.Need-flat-done-requires
-flat-done-requires c κs = search needs
-
 returns : tie.Need-returns
 returns c = flat-opened _ _ (c .before .before .before .before .before .«open» .ensures) _ (c .flat-done .ensures)
 
 pub sitgurp-job-open-parts-spec : {M : Type 1} → statement M
-sitgurp-job-open-parts-spec = tie.close (tie.spec open-requires flat-done-requires returns)
+sitgurp-job-open-parts-spec = tie.close (tie.spec (λ c κs. search needs) (λ c κs. search needs) returns)

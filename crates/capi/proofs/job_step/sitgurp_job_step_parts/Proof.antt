@@ -15,14 +15,8 @@ at-start c = c .before .before .before .before .before .before
 abbrev at-next : tie.After-known-told → tie.After-next-mark
 at-next c = c .before .before .before
 
-next-mark-requires : tie.Need-next-mark-requires
-next-mark-requires c κs = search needs
-
 enum-told : tie.Need-enum-told
 enum-told c = search needs
-
-enum-known-found : tie.Need-enum-known-found
-enum-known-found c = search needs
 
 add-g : tie.Need-add-g
 add-g c =
@@ -49,12 +43,4 @@ returns-2 c =
 
 pub sitgurp-job-step-parts-spec : {M : Type 1} → statement M
 sitgurp-job-step-parts-spec =
-    tie.close
-    (tie.spec
-    next-mark-requires
-    enum-told
-    enum-known-found
-    add-g
-    element-write-marks
-    returns
-    returns-2)
+    tie.close (tie.spec (λ c κs. search needs) enum-told (λ c. search needs) add-g element-write-marks returns returns-2)

@@ -8,24 +8,9 @@ use Rattle.capi.proofs.make_shallow.sitgurp_make_shallow.Tie as tie
 abbrev at-call : tie.After-slice-known6 → tie.After-make-shallow
 at-call c = c .before .before .before .before .before .before
 
-make-shallow-requires : tie.Need-make-shallow-requires
-make-shallow-requires c κs = search needs
-
-flat-layered-requires : tie.Need-flat-layered-requires
-flat-layered-requires c κs = search needs
-
-same-length : tie.Need-same-length
-same-length c = search needs
-
-same-length-2 : tie.Need-same-length-2
-same-length-2 c = search needs
-
-same-length-3 : tie.Need-same-length-3
-same-length-3 c = search needs
-
 returns : tie.Need-returns
 returns c = flat-layered (at-call (c .before) .make-shallow .ensures) (c .flat-layered .ensures)
 
 pub sitgurp-make-shallow-spec : {M : Type 1} → statement M
 sitgurp-make-shallow-spec =
-    tie.close (tie.spec make-shallow-requires flat-layered-requires same-length same-length-2 same-length-3 returns)
+    tie.close (tie.spec (λ c κs. search needs) (λ c κs. search needs) (λ c. search needs) (λ c. search needs) (λ c. search needs) returns)

@@ -1,19 +1,10 @@
 -- `capi::mark::sitgurp_marking` meets its contract: it is the marking call, its answer as two numbers. Assumes nothing.
 use mathlib.Core.Path.{ap, _∙_}
-use Rattle.rules.specs.Marking.{Marked}
-use Rattle.flat_answers.specs.Flat.{flatOf}
+use Rattle.rules.specs.Calls.Marking.{Marked}
+use Rattle.capi.specs.Numbers.Flat.{flatOf}
 use borrow.Author.Needs.{needs}
 use Rattle.capi.proofs.mark.sitgurp_marking.Statement.{statement}
 use Rattle.capi.proofs.mark.sitgurp_marking.Tie as tie
-
-marking-requires : tie.Need-marking-requires
-marking-requires c κs = search needs
-
-flat-requires : tie.Need-flat-requires
-flat-requires c κs = search needs
-
-same-length : tie.Need-same-length
-same-length c = search needs
 
 returns : tie.Need-returns
 returns c =
@@ -24,4 +15,4 @@ returns c =
     }
 
 pub sitgurp-marking-spec : {M : Type 1} → statement M
-sitgurp-marking-spec = tie.close (tie.spec marking-requires flat-requires same-length returns)
+sitgurp-marking-spec = tie.close (tie.spec (λ c κs. search needs) (λ c κs. search needs) (λ c. search needs) returns)

@@ -1,6 +1,6 @@
 -- `capi::shallower_sheet::sitgurp_shallower` meets its contract: which sheet, as two numbers. Assumes nothing.
 use mathlib.Core.Path.{_≡_, sym, ap, _∙_}
-use Rattle.rules.specs.Shallower as rules
+use Rattle.rules.specs.Calls.Shallower as rules
 use Rattle.shallower.specs.declared.which.Which.{Which}
 use Rattle.shallower.specs.Which.{whichAs}
 use Rattle.capi.specs.Shallower.{flatWhich}
@@ -19,17 +19,8 @@ due c w e =
     let a = at-start c .args in
     ap (λ (v : rules.Which). flatWhich v (a .first .now) (a .second .now)) (sym (ap whichAs e) ∙ c .which-of .ensures)
 
-which-of-requires : tie.Need-which-of-requires
-which-of-requires c κs = search needs
-
 enum-told : tie.Need-enum-told
 enum-told c = search needs
-
-enum-told-2 : tie.Need-enum-told-2
-enum-told-2 c = search needs
-
-enum-told-3 : tie.Need-enum-told-3
-enum-told-3 c = search needs
 
 returns : tie.Need-returns
 returns c = due (c .before .before) _ (c .enum-told .given .1)
@@ -43,4 +34,4 @@ returns-3 c = due (c .before .before) _ (c .enum-told3 .given .1)
 pub sitgurp-shallower-spec : {M : Type 1} → statement M
 sitgurp-shallower-spec =
     tie.close
-    (tie.spec which-of-requires enum-told enum-told-2 enum-told-3 returns returns-2 returns-3)
+    (tie.spec (λ c κs. search needs) enum-told (λ c. search needs) (λ c. search needs) returns returns-2 returns-3)

@@ -1,22 +1,10 @@
 -- `capi::tidy::sitgurp_tidy` meets its contract: it is tidying, its answer as two numbers. Assumes nothing.
 use mathlib.Core.Path.{ap, _∙_}
-use Rattle.rules.specs.Tidying.{Tidied}
-use Rattle.flat_answers.specs.Flat.{flatOf}
+use Rattle.rules.specs.Calls.Tidying.{Tidied}
+use Rattle.capi.specs.Numbers.Flat.{flatOf}
 use borrow.Author.Needs.{needs}
 use Rattle.capi.proofs.tidy.sitgurp_tidy.Statement.{statement}
 use Rattle.capi.proofs.tidy.sitgurp_tidy.Tie as tie
-
-tidy-requires : tie.Need-tidy-requires
-tidy-requires c κs = search needs
-
-flat-requires : tie.Need-flat-requires
-flat-requires c κs = search needs
-
-same-length : tie.Need-same-length
-same-length c = search needs
-
-same-length-2 : tie.Need-same-length-2
-same-length-2 c = search needs
 
 returns : tie.Need-returns
 returns c =
@@ -28,4 +16,4 @@ returns c =
     }
 
 pub sitgurp-tidy-spec : {M : Type 1} → statement M
-sitgurp-tidy-spec = tie.close (tie.spec tidy-requires flat-requires same-length same-length-2 returns)
+sitgurp-tidy-spec = tie.close (tie.spec (λ c κs. search needs) (λ c κs. search needs) (λ c. search needs) (λ c. search needs) returns)

@@ -2,8 +2,8 @@
 -- Assumes nothing.
 use mathlib.Core.Path.{sym}
 use native.Mathlib.Omega.{arith}
-use Rattle.laws.specs.Checking.{check-table-refused}
-use Rattle.accepted.specs.Taken.{table-refused, table-taken}
+use Rattle.laws.specs.Calls.Checking.{check-table-refused}
+use Rattle.accepted.specs.Taken.{read-table-refused, table-taken}
 use borrow.Author.Needs.{needs}
 use Rattle.checking.proofs.check.check_table.Statement.{statement}
 use Rattle.checking.proofs.check.check_table.Tie as tie
@@ -15,44 +15,14 @@ at-start c = c .before .before .before .before .before
 abbrev at-read : tie.After-inks3 → tie.After-read-table
 at-read c = c .before .before .before .before .before
 
-slice-aggregate-read-table : tie.Need-slice-aggregate-read-table
-slice-aggregate-read-table c = search needs
-
-read-table-requires : tie.Need-read-table-requires
-read-table-requires c κs = omega arith
-
-enum-known-outcome : tie.Need-enum-known-outcome
-enum-known-outcome c = search needs
-
-enum-told : tie.Need-enum-told
-enum-told c = search needs
-
-slice-aggregate-check-accepted : tie.Need-slice-aggregate-check-accepted
-slice-aggregate-check-accepted c = search needs
-
 check-accepted-requires : tie.Need-check-accepted-requires
 check-accepted-requires c κs = (at-start (at-read (c .before)) .pre, table-taken _ _ _ (at-read (c .before) .read-table .ensures) (c .before .before .enum-told .given .1))
 
 returns : tie.Need-returns
 returns c =
-    sym (check-table-refused _ _ _ _ (at-start (c .before .before .before .before .before) .pre .reads) _ _ (table-refused _ _ _ (c .before .before .before .before .before .read-table .ensures) _ _ (c .before .outcome .given .1)))
-
-same-length : tie.Need-same-length
-same-length c = search needs
-
-returns-2 : tie.Need-returns-2
-returns-2 c = search needs
+    sym (check-table-refused _ _ _ _ (at-start (c .before .before .before .before .before) .pre .reads) _ _ (read-table-refused _ _ _ (c .before .before .before .before .before .read-table .ensures) _ _ (c .before .outcome .given .1)))
 
 pub check-table-spec : {M : Type 1} → statement M
 check-table-spec =
-    tie.close
-    (tie.spec
-    slice-aggregate-read-table
-    read-table-requires
-    enum-known-outcome
-    enum-told
-    slice-aggregate-check-accepted
-    check-accepted-requires
-    returns
-    same-length
-    returns-2)
+    tie.close (tie.spec (λ c. search needs) (λ c κs. omega arith) (λ c. search needs) (λ c. search needs) (λ c. search needs) check-accepted-requires returns
+    (λ c. search needs) (λ c. search needs))

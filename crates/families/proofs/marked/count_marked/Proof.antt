@@ -6,11 +6,11 @@ use mathlib.Core.List.{List}
 use native.Mathlib.Omega.{arith}
 use borrow.Author.Needs.{needs}
 use lib.ListN.{take}
-use Rattle.rules.specs.Marks.{marksOf}
-use Rattle.rules.specs.Answers.{inkIn}
-use Rattle.laws.specs.Sizes.{sized}
-use Rattle.lines.specs.Put.{put-wrote}
-use Rattle.tree_counts.specs.Counts.{CountsKept, Countable}
+use Rattle.rules.specs.Groups.Marks.{marksOf}
+use Rattle.rules.specs.Calls.Answers.{inkIn}
+use Rattle.laws.specs.Numbers.Sizes.{sized}
+use Rattle.net_sheets.specs.Text.Put.{put-wrote}
+use Rattle.tree_counts.specs.Counts.{CountsKnown, Countable}
 use Rattle.families.specs.Marked.{marks-front, leaves-countable, leaves-counted}
 use Rattle.families.proofs.marked.count_marked.Statement.{statement}
 use Rattle.families.proofs.marked.count_marked.Tie as tie
@@ -53,28 +53,15 @@ module _ (c : tie.After-power) where
   is-own : own ≡ marksOf (start .args .m) (start .args .n) f
   is-own = marks-front (start .args .m) (start .args .n) (start .pre .0) f _ (at-marks c .mark-and-store .ensures .own .front) (c .power .result) (c .power .ensures)
 
-copy-requires : tie.Need-copy-requires
-copy-requires c κs = search needs
-
 mark-and-store-requires : tie.Need-mark-and-store-requires
-mark-and-store-requires c κs = search needs
+mark-and-store-requires c κs =
+    let pre = at-start (c .before .before .before .before) .pre in
+    (record { size = pre .0; count = omega (arith, pre .1); levels = pre .7 }, pre .3, pre .4)
 
 power-requires : tie.Need-power-requires
 power-requires c κs =
     let s = marks-start (c .before .before .before .before) in
     omega (arith, sized (s .args .m) (s .args .n) (s .pre .0) .inputs-most)
-
-leaves-requires : tie.Need-leaves-requires
-leaves-requires c κs = search needs
-
-sub-tree-count : tie.Need-sub-tree-count
-sub-tree-count c = search needs
-
-part-tree-count-start : tie.Need-part-tree-count-start
-part-tree-count-start c = search needs
-
-part-tree-count-end : tie.Need-part-tree-count-end
-part-tree-count-end c = search needs
 
 tree-count-requires : tie.Need-tree-count-requires
 tree-count-requires c κs =
@@ -82,18 +69,6 @@ tree-count-requires c κs =
     let s = start power in
     subst⁻¹ (Countable (own power) (s .args .counts .now)) (at-leaves c .leaves .ensures)
     (leaves-countable (s .args .m) (s .args .n) (s .pre .0) (f power) (own power) (s .args .counts .now) (is-own power) (s .pre .5) (λ g. inl (s .pre .6 g)))
-
-same-length : tie.Need-same-length
-same-length c = search needs
-
-same-length-2 : tie.Need-same-length-2
-same-length-2 c = search needs
-
-same-length-3 : tie.Need-same-length-3
-same-length-3 c = search needs
-
-same-length-4 : tie.Need-same-length-4
-same-length-4 c = search needs
 
 returns : tie.Need-returns
 returns c =
@@ -106,23 +81,11 @@ returns c =
       copied = put-wrote (s .pre .2) (at-copy (at-marks power) .copy .ensures) .text;
       front = did .ensures .own .front;
       marked = did .ensures .buffer;
-      kept = subst (λ (marks : List ℕ). CountsKept marks (found .tree-count .last .1 .0)) (is-own power) (found .tree-count .ensures .kept);
+      kept = subst (λ (marks : List ℕ). CountsKnown marks (found .tree-count .last .1 .0)) (is-own power) (found .tree-count .ensures .kept);
     }
 
 pub count-marked-spec : {M : Type 1} → statement M
 count-marked-spec =
     tie.close
-    (tie.spec
-    copy-requires
-    mark-and-store-requires
-    power-requires
-    leaves-requires
-    sub-tree-count
-    part-tree-count-start
-    part-tree-count-end
-    tree-count-requires
-    same-length
-    same-length-2
-    same-length-3
-    same-length-4
-    returns)
+    (tie.spec (λ c κs. search needs) mark-and-store-requires power-requires (λ c κs. search needs) (λ c. search needs) (λ c. search needs)
+    (λ c. search needs) tree-count-requires (λ c. search needs) (λ c. search needs) (λ c. search needs) (λ c. search needs) returns)

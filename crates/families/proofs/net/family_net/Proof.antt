@@ -2,11 +2,11 @@
 use Prim.Native.Nat.{ℕ}
 use mathlib.Core.Path.{subst, subst⁻¹}
 use borrow.Author.Needs.{needs}
-use Rattle.rules.specs.Leaves.{leavesOf}
-use Rattle.rules.specs.Answers.{inkIn}
-use Rattle.sampling.specs.Sized.{Sized, sized}
+use Rattle.rules.specs.Nets.Leaves.{leavesOf}
+use Rattle.rules.specs.Calls.Answers.{inkIn}
+use Rattle.gate_tables.specs.Sized.{Sized, sized}
 use Rattle.tree_counts.specs.Counts.{Countable}
-use Rattle.numbering.specs.Numbered.{InCount, WiringFound}
+use Rattle.tree_counts.specs.Numbered.{InCount, WiringFound}
 use Rattle.families.specs.FamilyNet.{leaves-in, number-count, number-fills, number-net}
 use Rattle.families.proofs.net.family_net.Statement.{statement}
 use Rattle.families.proofs.net.family_net.Tie as tie
@@ -23,9 +23,6 @@ wiring c = c .before .before
 
 in-bounds : (c : tie.Start) → Sized (c .args .m) (c .args .n) (c .args .cells .now)
 in-bounds c = sized (c .args .m) (c .args .n) (c .args .cells .now) (c .pre .0) (c .pre .1)
-
-leaves-requires : tie.Need-leaves-requires
-leaves-requires c κs = search needs
 
 wiring-of-requires : tie.Need-wiring-of-requires
 wiring-of-requires c κs =
@@ -56,9 +53,6 @@ fill-requires c κs =
       number-fills (a .m) (a .n) (s .pre .0) f (a .marks .now) (s .pre .3) (a .r) (s .pre .5) (w .wiring-of .result) (found w),
     )
 
-same-length : tie.Need-same-length
-same-length c = search needs
-
 returns : tie.Need-returns
 returns c =
     let w = wiring (c .before) in
@@ -69,4 +63,4 @@ returns c =
 
 pub family-net-spec : {M : Type 1} → statement M
 family-net-spec =
-    tie.close (tie.spec leaves-requires wiring-of-requires fill-requires same-length returns)
+    tie.close (tie.spec (λ c κs. search needs) wiring-of-requires fill-requires (λ c. search needs) returns)

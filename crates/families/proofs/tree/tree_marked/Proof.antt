@@ -7,10 +7,10 @@ use native.Mathlib.Omega.{arith}
 use borrow.Author.Needs.{needs}
 use lib.ListN.{length, take}
 use Rattle.rules.specs.Limits.{mostInputs}
-use Rattle.rules.specs.Marks.{marksOf}
-use Rattle.rules.specs.Answers.{inkIn}
-use Rattle.synthesis.specs.Outcomes.{given-size, given-count, given-below, made-inside, made-short}
-use Rattle.tree_counts.specs.Counts.{CountsKept}
+use Rattle.rules.specs.Groups.Marks.{marksOf}
+use Rattle.rules.specs.Calls.Answers.{inkIn}
+use Rattle.settling.specs.Outcomes.{given-size, given-count, given-below, made-inside, settling-made-short}
+use Rattle.tree_counts.specs.Counts.{CountsKnown}
 use Rattle.families.specs.Marked.{none-known, groups-room, marks-front, leaves-countable}
 use Rattle.families.specs.Outcomes.{order-past, order-tree}
 use Rattle.families.proofs.tree.tree_marked.Statement.{statement}
@@ -44,23 +44,11 @@ at-net c = c .before .before
 abbrev at-sheet : tie.After-slice-known6 → tie.After-write-sheet
 at-sheet c = c .before .before
 
-slice-aggregate-count-marked : tie.Need-slice-aggregate-count-marked
-slice-aggregate-count-marked c = search needs
-
-slice-aggregate-count-marked-2 : tie.Need-slice-aggregate-count-marked-2
-slice-aggregate-count-marked-2 c = search needs
-
 count-marked-requires : tie.Need-count-marked-requires
 count-marked-requires c κs =
     let start = at-args c in
     let size = given-size _ _ _ (start .pre .0) in
-    (size, given-count _ _ _ (start .pre .0), start .pre .1, groups-room _ _ size, start .pre .2, groups-room _ _ size, none-known (2 ^ mostInputs))
-
-same-length : tie.Need-same-length
-same-length c = search needs
-
-same-length-2 : tie.Need-same-length-2
-same-length-2 c = search needs
+    (size, given-count _ _ _ (start .pre .0), start .pre .1, groups-room _ _ size, start .pre .2, groups-room _ _ size, none-known (2 ^ mostInputs), given-below _ _ _ (start .pre .0))
 
 returns : tie.Need-returns
 returns c =
@@ -69,23 +57,11 @@ returns c =
     order-past (a .s .now) (a .header) (a .inks .now) (a .cells .now) (a .marks .now) (count .count-marked .result) _ _ _ _ (count .count-marked .ensures)
     (a .order) (a .out .now) (c .if1 .taken)
 
-power-requires : tie.Need-power-requires
-power-requires c κs = search needs
-
-sub-family-net : tie.Need-sub-family-net
-sub-family-net c = search needs
-
-part-family-net-start : tie.Need-part-family-net-start
-part-family-net-start c = search needs
-
 part-family-net-end : tie.Need-part-family-net-end
 part-family-net-end c =
     let power = c .before in
     let count = at-count (at-test power) in
     omega (arith, power .power .ensures, groups-room _ _ (given-size _ _ _ (at-start count .pre .0)), count .count-marked .kept .1 .1 .1 .1 .0)
-
-slice-aggregate-family-net : tie.Need-slice-aggregate-family-net
-slice-aggregate-family-net c = search needs
 
 family-net-requires : tie.Need-family-net-requires
 family-net-requires c κs =
@@ -100,7 +76,7 @@ family-net-requires c κs =
     let own : List ℕ = take (power .power .result - 0) (did .last .1 .1 .1 .1 .0) in
     let is-own : own ≡ marksOf (h .levels) (h .inputs) f = marks-front (h .levels) (h .inputs) size f _ (did .ensures .front) (power .power .result) (power .power .ensures) in
     let long : length (did .last .1 .1 .1 .1 .1 .1 .0) ≡ 2 ^ mostInputs = search needs in
-    let kept : CountsKept own (did .last .1 .1 .1 .1 .1 .1 .0) = subst⁻¹ (λ (marks : List ℕ). CountsKept marks (did .last .1 .1 .1 .1 .1 .1 .0)) is-own (did .ensures .kept) in (
+    let kept : CountsKnown own (did .last .1 .1 .1 .1 .1 .1 .0) = subst⁻¹ (λ (marks : List ℕ). CountsKnown marks (did .last .1 .1 .1 .1 .1 .1 .0)) is-own (did .ensures .kept) in (
       size,
       le-of-eq (sym (given-count _ _ _ (start .pre .0))),
       given-below _ _ _ (start .pre .0),
@@ -113,16 +89,7 @@ write-sheet-requires : tie.Need-write-sheet-requires
 write-sheet-requires c κs =
     let net = at-net c in
     let g = at-start (at-count (at-test (at-power (net .before)))) .pre .0 in
-    (g .names, made-inside _ _ _ g _ (net .family-net .ensures), made-short _ _ _ g _ (net .family-net .ensures))
-
-same-length-3 : tie.Need-same-length-3
-same-length-3 c = search needs
-
-same-length-4 : tie.Need-same-length-4
-same-length-4 c = search needs
-
-same-length-5 : tie.Need-same-length-5
-same-length-5 c = search needs
+    (g .names, made-inside _ _ _ g _ (net .family-net .ensures), settling-made-short _ _ _ g _ (net .family-net .ensures))
 
 returns-2 : tie.Need-returns-2
 returns-2 c =
@@ -136,22 +103,6 @@ returns-2 c =
 
 pub tree-marked-spec : {M : Type 1} → statement M
 tree-marked-spec =
-    tie.close
-    (tie.spec
-    slice-aggregate-count-marked
-    slice-aggregate-count-marked-2
-    count-marked-requires
-    same-length
-    same-length-2
-    returns
-    power-requires
-    sub-family-net
-    part-family-net-start
-    part-family-net-end
-    slice-aggregate-family-net
-    family-net-requires
-    write-sheet-requires
-    same-length-3
-    same-length-4
-    same-length-5
-    returns-2)
+    tie.close (tie.spec (λ c. search needs) (λ c. search needs) count-marked-requires (λ c. search needs) (λ c. search needs) returns (λ c κs. search needs)
+    (λ c. search needs) (λ c. search needs) part-family-net-end (λ c. search needs) family-net-requires write-sheet-requires (λ c. search needs)
+    (λ c. search needs) (λ c. search needs) returns-2)

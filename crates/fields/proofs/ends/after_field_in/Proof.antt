@@ -4,7 +4,7 @@ use borrow.Author.Needs.{needs}
 use mathlib.Core.Path.{ap}
 use native.Mathlib.Omega.{arith}
 use lib.ListN.{length, drop, length-drop}
-use Rattle.laws.specs.Runs.{run-most}
+use Rattle.laws.specs.Lists.Runs.{run-most}
 use Rattle.fields.specs.Judging.{after-empty, after-bad, after-good}
 use Rattle.fields.proofs.ends.after_field_in.Statement.{statement}
 use Rattle.fields.proofs.ends.after_field_in.Tie as tie
@@ -19,19 +19,10 @@ at-found c = c .before .before .before
 returns : tie.Need-returns
 returns c = after-empty _ _ _ _ _ _ (at-start (c .before) .pre) (c .if1 .taken)
 
-enum-known-verdict : tie.Need-enum-known-verdict
-enum-known-verdict c = search needs
-
-enum-known-verdict-2 : tie.Need-enum-known-verdict-2
-enum-known-verdict-2 c = search needs
-
 add-separated-in : tie.Need-add-separated-in
 add-separated-in c =
     let start = at-start (at-found c .before) in
     omega (arith, ap length (start .pre), run-most (drop (start .args .at) (start .args .s .now)), length-drop (start .args .at) (start .args .s .now), start)
-
-separated-in-requires : tie.Need-separated-in-requires
-separated-in-requires c κs = search needs
 
 returns-2 : tie.Need-returns-2
 returns-2 c = after-bad _ _ _ _ _ _ (at-start (c .before .before .before .before) .pre) (c .before .before .before .if1 .left) _ (c .before .verdict .given .1)
@@ -41,12 +32,4 @@ returns-3 c = after-good _ _ _ _ _ _ (at-start (at-found (c .before) .before) .p
 
 pub after-field-in-spec : {M : Type 1} → statement M
 after-field-in-spec =
-    tie.close
-    (tie.spec
-    returns
-    enum-known-verdict
-    enum-known-verdict-2
-    add-separated-in
-    separated-in-requires
-    returns-2
-    returns-3)
+    tie.close (tie.spec returns (λ c. search needs) (λ c. search needs) add-separated-in (λ c κs. search needs) returns-2 returns-3)

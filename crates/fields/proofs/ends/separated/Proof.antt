@@ -5,12 +5,6 @@ use Rattle.fields.specs.Judging.{separator-due, separator-other, separat
 use Rattle.fields.proofs.ends.separated.Statement.{statement}
 use Rattle.fields.proofs.ends.separated.Tie as tie
 
-shared-slice-read-if2 : tie.Need-shared-slice-read-if2
-shared-slice-read-if2 c = search needs
-
-add-t10 : tie.Need-add-t10
-add-t10 c = search needs
-
 returns : tie.Need-returns
 returns c = separator-due _ _ _ _ (c .before .before .if1 .taken) (c .if2 .taken)
 
@@ -21,4 +15,4 @@ returns-3 : tie.Need-returns-3
 returns-3 c = separator-missing _ _ _ _ (c .if1 .left)
 
 pub separated-spec : {M : Type 1} → statement M
-separated-spec = tie.close (tie.spec shared-slice-read-if2 add-t10 returns returns-2 returns-3)
+separated-spec = tie.close (tie.spec (λ c. search needs) (λ c. search needs) returns returns-2 returns-3)

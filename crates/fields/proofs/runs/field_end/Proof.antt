@@ -17,20 +17,11 @@ abbrev μ-loop : tie.MeasureT-loop
 loop-holds : tie.Need-loop-holds Inv-loop μ-loop
 loop-holds c = refl
 
-shared-slice-read-b : tie.Need-shared-slice-read-b Inv-loop μ-loop
-shared-slice-read-b c = omega arith
-
 returns : tie.Need-returns Inv-loop μ-loop
 returns c = sym (ends-at _ _ (c .before .before .loop-test .taken) (is-space _ (c .if1 .taken))) ∙ c .before .before .before .loop .inv
 
 returns-2 : tie.Need-returns-2 Inv-loop μ-loop
 returns-2 c = sym (ends-at _ _ (c .before .before .before .loop-test .taken) (is-newline _ (c .if2 .taken))) ∙ c .before .before .before .before .loop .inv
-
-add-end : tie.Need-add-end Inv-loop μ-loop
-add-end c = omega arith
-
-loop-less : tie.Need-loop-less Inv-loop μ-loop
-loop-less c = omega arith
 
 loop-again : tie.Need-loop-again Inv-loop μ-loop
 loop-again c = ends-later _ _ (c .before .before .before .loop-test .taken) (is-neither _ (c .before .if1 .left) (c .if2 .left)) ∙ c .before .before .before .before .loop .inv
@@ -40,15 +31,4 @@ returns-3 c = sym (ends-here _ _ (c .loop-test .left)) ∙ c .before .loop .inv
 
 pub field-end-spec : {M : Type 1} → statement M
 field-end-spec =
-    tie.close
-    (tie.spec
-    Inv-loop
-    μ-loop
-    loop-holds
-    shared-slice-read-b
-    returns
-    returns-2
-    add-end
-    loop-less
-    loop-again
-    returns-3)
+    tie.close (tie.spec Inv-loop μ-loop loop-holds (λ c. omega arith) returns returns-2 (λ c. omega arith) (λ c. omega arith) loop-again returns-3)

@@ -9,18 +9,6 @@ use Rattle.fields.proofs.words.two_words_in.Tie as tie
 abbrev at-start : tie.After-word-field-in → tie.Start
 at-start c = c .before .before .before .before
 
-word-field-in-requires : tie.Need-word-field-in-requires
-word-field-in-requires c κs = search needs
-
-enum-known-number : tie.Need-enum-known-number
-enum-known-number c = search needs
-
-enum-known-next : tie.Need-enum-known-next
-enum-known-next c = search needs
-
-word-field-in-requires-2 : tie.Need-word-field-in-requires-2
-word-field-in-requires-2 c κs = search needs
-
 returns : tie.Need-returns
 returns c = words-back _ _ (at-start (c .before .before .before) .args .at) _ _ _ (c .before .before .before .word-field-in .ensures) _ _ (c .before .number .given .1)
 
@@ -29,11 +17,4 @@ returns-2 c = words-on _ _ (at-start (c .before .before .before .before) .args .
 
 pub two-words-in-spec : {M : Type 1} → statement M
 two-words-in-spec =
-    tie.close
-    (tie.spec
-    word-field-in-requires
-    enum-known-number
-    enum-known-next
-    word-field-in-requires-2
-    returns
-    returns-2)
+    tie.close (tie.spec (λ c κs. search needs) (λ c. search needs) (λ c. search needs) (λ c κs. search needs) returns returns-2)

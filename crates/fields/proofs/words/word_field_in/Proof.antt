@@ -6,18 +6,6 @@ use Rattle.fields.specs.Steps.{nothing, spelled}
 use Rattle.fields.proofs.words.word_field_in.Statement.{statement}
 use Rattle.fields.proofs.words.word_field_in.Tie as tie
 
-field-at-requires : tie.Need-field-at-requires
-field-at-requires c κs = search needs
-
-same-bytes-requires : tie.Need-same-bytes-requires
-same-bytes-requires c κs = search needs
-
-judged-requires : tie.Need-judged-requires
-judged-requires c κs = search needs
-
-after-field-in-requires : tie.Need-after-field-in-requires
-after-field-in-requires c κs = search needs
-
 returns : tie.Need-returns
 unfolding spelled
 returns c =
@@ -26,5 +14,4 @@ returns c =
 
 pub word-field-in-spec : {M : Type 1} → statement M
 word-field-in-spec =
-    tie.close
-    (tie.spec field-at-requires same-bytes-requires judged-requires after-field-in-requires returns)
+    tie.close (tie.spec (λ c κs. search needs) (λ c κs. search needs) (λ c κs. search needs) (λ c κs. search needs) returns)

@@ -5,7 +5,7 @@ use mathlib.Core.Bool.{true}
 use native.Mathlib.Omega.{arith}
 use borrow.Author.Needs.{needs}
 use borrow.Author.Tests.{not-true, not-false}
-use Rattle.rules.specs.Glyphs.{pictureFits, offsetsFit}
+use Rattle.rules.specs.Calls.Glyphs.{pictureFits, offsetsFit}
 use Rattle.nets.specs.Sound.{sound-size}
 use Rattle.accepted.specs.Taken.{sound}
 use Rattle.glyphs.specs.Calls.{bad-picture, few-cells, bad-offsets, output-short, glyph-ready, output-written}
@@ -28,9 +28,6 @@ good c = sym (c .before .picture-fits .ensures) ∙ not-false _ (c .if1 .left)
 
 near : (c : tie.Else2) → let start = room-start c in offsetsFit (start .args .net .inputs) (start .args .offsets .now) ≡ true
 near c = sym (c .before .offsets-fit .ensures) ∙ not-false _ (c .if2 .left)
-
-picture-fits-requires : tie.Need-picture-fits-requires
-picture-fits-requires c κs = search needs
 
 returns : tie.Need-returns
 returns c = bad-picture _ _ _ (at-start (c .before) .pre) _ _ _ _ _ (sym (c .before .picture-fits .ensures) ∙ not-true _ (c .if1 .taken))
@@ -55,9 +52,6 @@ print-glyph-requires c κs =
     let room = c .before .before in
     glyph-ready _ _ _ (room-start room .pre) _ _ _ _ _ (good (room .before .before)) (near room) (c .before .if3 .left)
 
-same-length : tie.Need-same-length
-same-length c = search needs
-
 returns-4 : tie.Need-returns-4
 returns-4 c =
     let print = c .before .before in
@@ -68,13 +62,5 @@ returns-4 c =
 pub print-accepted-spec : {M : Type 1} → statement M
 print-accepted-spec =
     tie.close
-    (tie.spec
-    picture-fits-requires
-    returns
-    offsets-fit-requires
-    returns-2
-    mul-need
-    returns-3
-    print-glyph-requires
-    same-length
-    returns-4)
+    (tie.spec (λ c κs. sound-size _ (sound _ _ _ (c .before .before .before .pre)) .levels-most) returns offsets-fit-requires returns-2
+    mul-need returns-3 print-glyph-requires (λ c. search needs) returns-4)

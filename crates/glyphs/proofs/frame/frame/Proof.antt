@@ -7,12 +7,12 @@ use native.Mathlib.Numerals.{add-one}
 use native.Mathlib.Omega.{arith}
 use borrow.Author.Needs.{needs}
 use lib.ListN.{length, take, drop}
-use Rattle.glyphs.specs.Frames.{frameSize, Framed, framed-none, part-is, row-there, row-room, framed-put}
+use Rattle.glyphs.specs.Frames.{frameSize, GlyphFramed, framed-none, glyph-part-is, row-there, row-room, framed-put}
 use Rattle.glyphs.proofs.frame.frame.Statement.{statement}
 use Rattle.glyphs.proofs.frame.frame.Tie as tie
 
 abbrev Inv-loop : tie.InvT-loop
-Inv-loop picture width height wires₀ from₀ y₀ wires from y = (y ≤ height) × (from ≡ y * width) × Framed width y picture wires₀ wires
+Inv-loop picture width height wires₀ from₀ y₀ wires from y = (y ≤ height) × (from ≡ y * width) × GlyphFramed width y picture wires₀ wires
 
 abbrev μ-loop : tie.MeasureT-loop
 μ-loop picture width height wires₀ from₀ y₀ wires from y = height - y
@@ -56,31 +56,10 @@ module _ (c : tie.In-loop Inv-loop μ-loop) where
   row = take (from + width - from) (drop from picture)
 
   row-is : row ≡ take width (drop (c .before .loop .y * width) picture)
-  row-is = part-is from width picture ∙ ap (λ (k : ℕ). take width (drop k picture)) (c .before .loop .inv .1)
+  row-is = glyph-part-is from width picture ∙ ap (λ (k : ℕ). take width (drop k picture)) (c .before .loop .inv .1)
 
   room : frameSize ≤ length (c .before .loop .wires)
   room = omega (arith, start .pre .3 .room, c .before .loop .inv .2 .same)
-
-add-copy : tie.Need-add-copy Inv-loop μ-loop
-add-copy c = omega (arith, there c, start c .good)
-
-sub-copy : tie.Need-sub-copy Inv-loop μ-loop
-sub-copy c = omega arith
-
-part-copy-start : tie.Need-part-copy-start Inv-loop μ-loop
-part-copy-start c = search needs
-
-part-copy-end : tie.Need-part-copy-end Inv-loop μ-loop
-part-copy-end c = there c
-
-add-copy-2 : tie.Need-add-copy-2 Inv-loop μ-loop
-add-copy-2 c = omega (arith, few (c .before .before))
-
-mul-copy : tie.Need-mul-copy Inv-loop μ-loop
-mul-copy c = omega (arith, few (c .before .before))
-
-add-copy-3 : tie.Need-add-copy-3 Inv-loop μ-loop
-add-copy-3 c = omega (arith, few (c .before .before))
 
 copy-requires : tie.Need-copy-requires Inv-loop μ-loop
 copy-requires c κs =
@@ -90,12 +69,6 @@ copy-requires c κs =
 
 add-from : tie.Need-add-from Inv-loop μ-loop
 add-from c = omega (arith, there (at-turn (at-copy c)), start (at-turn (at-copy c)) .good)
-
-add-y : tie.Need-add-y Inv-loop μ-loop
-add-y c = omega (arith, few (at-turn (at-copy c)))
-
-loop-less : tie.Need-loop-less Inv-loop μ-loop
-loop-less c = omega (arith, at-turn (at-copy c) .loop-test .taken)
 
 loop-again : tie.Need-loop-again Inv-loop μ-loop
 loop-again c =
@@ -108,33 +81,16 @@ loop-again c =
           (row turn) (row-is turn) (start turn .args .wires .now) (turn .before .loop .wires) (room turn) (inv .2) _ (at-copy c .copy .ensures .text),
     )
 
-same-length : tie.Need-same-length Inv-loop μ-loop
-same-length c = c .before .loop .inv .2 .same
-
 returns : tie.Need-returns Inv-loop μ-loop
 returns c =
     let start = at-start (c .before) in
     let all : c .before .loop .y ≡ start .args .height = omega (arith, c .before .loop .inv .0, c .loop-test .left) in
-    subst (λ (k : ℕ). Framed (start .args .width) k (start .args .picture .now) (start .args .wires .now) (c .before .loop .wires)) all (c .before .loop .inv .2)
+    subst (λ (k : ℕ). GlyphFramed (start .args .width) k (start .args .picture .now) (start .args .wires .now) (c .before .loop .wires)) all (c .before .loop .inv .2)
 
 pub frame-spec : {M : Type 1} → statement M
 frame-spec =
     tie.close
-    (tie.spec
-    Inv-loop
-    μ-loop
-    loop-holds
-    add-copy
-    sub-copy
-    part-copy-start
-    part-copy-end
-    add-copy-2
-    mul-copy
-    add-copy-3
-    copy-requires
-    add-from
-    add-y
-    loop-less
-    loop-again
-    same-length
-    returns)
+    (tie.spec Inv-loop μ-loop loop-holds (λ c. omega (arith, there c, start c .good)) (λ c. omega arith) (λ c. search needs) (λ c. there c)
+    (λ c. omega (arith, few (c .before .before))) (λ c. omega (arith, few (c .before .before)))
+    (λ c. omega (arith, few (c .before .before))) copy-requires add-from (λ c. omega (arith, few (at-turn (at-copy c))))
+    (λ c. omega (arith, at-turn (at-copy c) .loop-test .taken)) loop-again (λ c. c .before .loop .inv .2 .same) returns)

@@ -5,7 +5,7 @@ use native.Mathlib.Omega.{arith}
 use borrow.Author.Needs.{needs}
 use lib.ListN.{length, getD, drop}
 use lib.IntN.{pos}
-use Rattle.glyphs.specs.Offsets.{element, allNear, reach, far-decides, near-passes, none-left}
+use Rattle.glyphs.specs.Offsets.{element, allNear, reach, far-decides, near-passes, glyph-none-left}
 use Rattle.glyphs.proofs.offsets.all_near.Statement.{statement}
 use Rattle.glyphs.proofs.offsets.all_near.Tie as tie
 
@@ -26,22 +26,10 @@ reached c = c .reach-of .ensures ∙ ap reach (element _ (c .before .offset .giv
 loop-holds : tie.Need-loop-holds Inv-loop μ-loop
 loop-holds c = (omega arith, refl)
 
-shared-slice-copy-out-offset : tie.Need-shared-slice-copy-out-offset Inv-loop μ-loop
-shared-slice-copy-out-offset c = omega arith
-
-reach-of-requires : tie.Need-reach-of-requires Inv-loop μ-loop
-reach-of-requires c κs = search needs
-
 returns : tie.Need-returns Inv-loop μ-loop
 returns c =
     let turn = at-turn (c .before) in
     sym (far-decides (turn .before .before .args .offsets .now) (turn .before .loop .k) (turn .loop-test .taken) (turn .before .loop .inv .1) (sym (reached (c .before)) ∙ c .if1 .taken))
-
-add-k : tie.Need-add-k Inv-loop μ-loop
-add-k c = omega arith
-
-loop-less : tie.Need-loop-less Inv-loop μ-loop
-loop-less c = omega arith
 
 loop-again : tie.Need-loop-again Inv-loop μ-loop
 loop-again c =
@@ -50,19 +38,10 @@ loop-again c =
     (omega arith, near-passes offsets (turn .before .loop .k) (turn .loop-test .taken) (turn .before .loop .inv .1) (λ far. c .if1 .left (reached (c .before) ∙ far)))
 
 returns-2 : tie.Need-returns-2 Inv-loop μ-loop
-returns-2 c = none-left (c .before .before .args .offsets .now) (c .before .loop .k) (c .loop-test .left) (c .before .loop .inv .1)
+returns-2 c = glyph-none-left (c .before .before .args .offsets .now) (c .before .loop .k) (c .loop-test .left) (c .before .loop .inv .1)
 
 pub all-near-spec : {M : Type 1} → statement M
 all-near-spec =
     tie.close
-    (tie.spec
-    Inv-loop
-    μ-loop
-    loop-holds
-    shared-slice-copy-out-offset
-    reach-of-requires
-    returns
-    add-k
-    loop-less
-    loop-again
+    (tie.spec Inv-loop μ-loop loop-holds (λ c. omega arith) (λ c κs. search needs) returns (λ c. omega arith) (λ c. omega arith) loop-again
     returns-2)

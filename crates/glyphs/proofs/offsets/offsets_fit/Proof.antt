@@ -2,23 +2,17 @@
 use mathlib.Core.Path.{_∙_}
 use borrow.Author.Needs.{needs}
 use borrow.Author.Tests.{eq-eqb, ne-eqb}
-use Rattle.rules.specs.Glyphs.{offsetsFit}
+use Rattle.rules.specs.Calls.Glyphs.{offsetsFit}
 use Rattle.glyphs.proofs.offsets.offsets_fit.Statement.{statement}
 use Rattle.glyphs.proofs.offsets.offsets_fit.Tie as tie
-
-mul-if1 : tie.Need-mul-if1
-mul-if1 c = search needs
 
 returns : tie.Need-returns
 unfolding offsetsFit
 returns c = rw (ne-eqb _ _ (c .if1 .taken))
-
-all-near-requires : tie.Need-all-near-requires
-all-near-requires c κs = search needs
 
 returns-2 : tie.Need-returns-2
 unfolding offsetsFit
 returns-2 c = c .all-near .ensures ∙ rw (eq-eqb _ _ (c .before .if1 .left))
 
 pub offsets-fit-spec : {M : Type 1} → statement M
-offsets-fit-spec = tie.close (tie.spec mul-if1 returns all-near-requires returns-2)
+offsets-fit-spec = tie.close (tie.spec (λ c. search needs) returns (λ c κs. search needs) returns-2)

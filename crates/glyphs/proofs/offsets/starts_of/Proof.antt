@@ -5,8 +5,8 @@ use native.Mathlib.Omega.{arith}
 use borrow.Author.Needs.{needs}
 use lib.ListN.{length}
 use Rattle.rules.specs.Limits.{mostInputs}
-use Rattle.rules.specs.Glyphs.{across, down}
-use Rattle.glyphs.specs.Offsets.{element, span, reach, startOf, across-there, down-there, across-near, down-near, StartsAt, starts-more}
+use Rattle.rules.specs.Calls.Glyphs.{across, down}
+use Rattle.glyphs.specs.Offsets.{element, span, reach, startOf, across-there, down-there, across-near, down-near, StartsAt, glyph-starts-more}
 use Rattle.glyphs.proofs.offsets.starts_of.Statement.{statement}
 use Rattle.glyphs.proofs.offsets.starts_of.Tie as tie
 
@@ -53,45 +53,6 @@ second : (c : tie.After-reach-of2 Inv-loop μ-loop) → c .reach-of2 .result ≡
 unfolding across
 second c = c .reach-of2 .ensures ∙ ap reach (element _ (c .before .before .before .across .given))
 
-mul-across : tie.Need-mul-across Inv-loop μ-loop
-mul-across c = omega (arith, few c)
-
-shared-slice-copy-out-across : tie.Need-shared-slice-copy-out-across Inv-loop μ-loop
-shared-slice-copy-out-across c = there c .0
-
-mul-down : tie.Need-mul-down Inv-loop μ-loop
-mul-down c = omega (arith, few (c .before))
-
-add-down : tie.Need-add-down Inv-loop μ-loop
-add-down c = omega (arith, few (c .before))
-
-shared-slice-copy-out-down : tie.Need-shared-slice-copy-out-down Inv-loop μ-loop
-shared-slice-copy-out-down c = there (c .before) .1
-
-reach-of-requires : tie.Need-reach-of-requires Inv-loop μ-loop
-reach-of-requires c κs = search needs
-
-mul-starts : tie.Need-mul-starts Inv-loop μ-loop
-mul-starts c = omega (arith, first c, near (at-turn (c .before)))
-
-reach-of-requires-2 : tie.Need-reach-of-requires-2 Inv-loop μ-loop
-reach-of-requires-2 c κs = search needs
-
-add-starts : tie.Need-add-starts Inv-loop μ-loop
-add-starts c = omega (arith, first (c .before), second c, near (calls-turn c))
-
-mul-starts-2 : tie.Need-mul-starts-2 Inv-loop μ-loop
-mul-starts-2 c = omega (arith, few (calls-turn c))
-
-array-write-starts : tie.Need-array-write-starts Inv-loop μ-loop
-array-write-starts c = omega (arith, few (calls-turn c))
-
-add-i : tie.Need-add-i Inv-loop μ-loop
-add-i c = omega (arith, few (calls-turn c))
-
-loop-less : tie.Need-loop-less Inv-loop μ-loop
-loop-less c = omega (arith, calls-turn c .loop-test .taken)
-
 loop-again : tie.Need-loop-again Inv-loop μ-loop
 loop-again c =
     let turn = calls-turn c in
@@ -99,7 +60,7 @@ loop-again c =
     let value : c .before .reach-of .result * span + c .reach-of2 .result ≡ startOf (start turn .args .offsets .now) (turn .before .loop .i) =
     omega (arith, first (c .before), second c) in (
       omega (arith, turn .loop-test .taken),
-      starts-more (start turn .args .offsets .now) (turn .before .loop .i) (turn .before .loop .starts) (inv .1) (omega (arith, few turn)) _ value,
+      glyph-starts-more (start turn .args .offsets .now) (turn .before .loop .i) (turn .before .loop .starts) (inv .1) (omega (arith, few turn)) _ value,
     )
 
 returns : tie.Need-returns Inv-loop μ-loop
@@ -107,23 +68,9 @@ returns c = λ i h. c .before .loop .inv .1 .each i (omega (arith, c .loop-test 
 
 pub starts-of-spec : {M : Type 1} → statement M
 starts-of-spec =
-    tie.close
-    (tie.spec
-    Inv-loop
-    μ-loop
-    loop-holds
-    mul-across
-    shared-slice-copy-out-across
-    mul-down
-    add-down
-    shared-slice-copy-out-down
-    reach-of-requires
-    mul-starts
-    reach-of-requires-2
-    add-starts
-    mul-starts-2
-    array-write-starts
-    add-i
-    loop-less
-    loop-again
-    returns)
+    tie.close (tie.spec Inv-loop μ-loop loop-holds (λ c. omega (arith, few c)) (λ c. there c .0) (λ c. omega (arith, few (c .before)))
+    (λ c. omega (arith, few (c .before))) (λ c. there (c .before) .1) (λ c κs. search needs)
+    (λ c. omega (arith, first c, near (at-turn (c .before)))) (λ c κs. search needs)
+    (λ c. omega (arith, first (c .before), second c, near (calls-turn c))) (λ c. omega (arith, few (calls-turn c)))
+    (λ c. omega (arith, few (calls-turn c))) (λ c. omega (arith, few (calls-turn c))) (λ c. omega (arith, calls-turn c .loop-test .taken))
+    loop-again returns)

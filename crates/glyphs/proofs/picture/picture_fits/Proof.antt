@@ -4,7 +4,7 @@ use mathlib.Core.Bool.{true}
 use native.Mathlib.Omega.{arith}
 use borrow.Author.Needs.{needs}
 use borrow.Author.Tests.{not-true, not-false}
-use Rattle.rules.specs.Glyphs.{sideFits}
+use Rattle.rules.specs.Calls.Glyphs.{sideFits}
 use Rattle.glyphs.specs.Pictures.{width-bad, height-bad, few-cells, count-bad, cells-decide}
 use Rattle.glyphs.proofs.picture.picture_fits.Statement.{statement}
 use Rattle.glyphs.proofs.picture.picture_fits.Tie as tie
@@ -23,14 +23,8 @@ wide c = sym (c .before .side-fits .ensures) ∙ not-false _ (c .if1 .left)
 high : (c : tie.Else2) → sideFits (second-start (c .before) .args .height) ≡ true
 high c = sym (c .before .side-fits2 .ensures) ∙ not-false _ (c .if2 .left)
 
-side-fits-requires : tie.Need-side-fits-requires
-side-fits-requires c κs = search needs
-
 returns : tie.Need-returns
 returns c = sym (width-bad _ (at-start (c .before) .args .width) _ _ (sym (c .before .side-fits .ensures) ∙ not-true _ (c .if1 .taken)))
-
-side-fits-requires-2 : tie.Need-side-fits-requires-2
-side-fits-requires-2 c κs = search needs
 
 returns-2 : tie.Need-returns-2
 returns-2 c = sym (height-bad _ _ (second-start (c .before) .args .height) _ (wide (c .before .before)) (sym (c .before .side-fits2 .ensures) ∙ not-true _ (c .if2 .taken)))
@@ -43,21 +37,9 @@ mul-if3 c =
 returns-3 : tie.Need-returns-3
 returns-3 c = sym (count-bad _ _ _ _ (wide (c .before .before .before)) (high (c .before)) (c .if3 .taken))
 
-all-below-requires : tie.Need-all-below-requires
-all-below-requires c κs = search needs
-
 returns-4 : tie.Need-returns-4
-returns-4 c = c .all-below .ensures ∙ sym (cells-decide _ _ _ _ (wide (c .before .before .before .before)) (high (c .before .before)) (c .before .if3 .left))
+returns-4 c = cells-decide _ _ _ _ (wide (c .before .before .before .before)) (high (c .before .before)) (c .before .if3 .left) _ (c .first-at-least .ensures)
 
 pub picture-fits-spec : {M : Type 1} → statement M
 picture-fits-spec =
-    tie.close
-    (tie.spec
-    side-fits-requires
-    returns
-    side-fits-requires-2
-    returns-2
-    mul-if3
-    returns-3
-    all-below-requires
-    returns-4)
+    tie.close (tie.spec (λ c κs. search needs) returns (λ c κs. search needs) returns-2 mul-if3 returns-3 (λ c κs. search needs) returns-4)

@@ -1,6 +1,6 @@
 -- `glyphs::picture::side_fits` meets its contract. Assumes nothing.
 use borrow.Author.Tests.{lt-leb, le-leb}
-use Rattle.rules.specs.Glyphs.{sideFits}
+use Rattle.rules.specs.Calls.Glyphs.{sideFits}
 use Rattle.glyphs.proofs.picture.side_fits.Statement.{statement}
 use Rattle.glyphs.proofs.picture.side_fits.Tie as tie
 

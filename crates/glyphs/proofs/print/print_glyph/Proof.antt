@@ -2,7 +2,7 @@
 use native.Mathlib.Omega.{arith}
 use borrow.Author.Needs.{needs}
 use Rattle.nets.specs.Sound.{sound-size}
-use Rattle.glyphs.specs.Glyph.{mostValues, blank, blank-long, values-ready, rows-ready, rows-are}
+use Rattle.glyphs.specs.Glyph.{mostValues, blank, blank-long, glyph-values-ready, rows-ready, rows-are}
 use Rattle.glyphs.proofs.print.print_glyph.Statement.{statement}
 use Rattle.glyphs.proofs.print.print_glyph.Tie as tie
 
@@ -24,34 +24,19 @@ starts-of-requires c κs =
     let start = c .before .before in
     (sound-size _ (start .pre .sound) .inputs-most, start .pre .offsets-are)
 
-sub-places : tie.Need-sub-places
-sub-places c = omega (arith, at-start c .pre .picture-is .along .some)
-
-mul-places : tie.Need-mul-places
-mul-places c = omega (arith, at-start c .pre .picture-is .along .most)
-
 add-places : tie.Need-add-places
 add-places c = omega (arith, at-start c .pre .picture-is .along .most, at-start c .pre .picture-is .across .most)
-
-slice-aggregate-frame : tie.Need-slice-aggregate-frame
-slice-aggregate-frame c = search needs
 
 frame-requires : tie.Need-frame-requires
 frame-requires c κs =
     let is = at-start (c .before) .pre .picture-is in
     (is .across, is .along, is .count, blank mostValues (omega arith))
 
-slice-aggregate-values : tie.Need-slice-aggregate-values
-slice-aggregate-values c = search needs
-
 values-requires : tie.Need-values-requires
 values-requires c κs =
     let frame = c .before .before in
     let starts = frame-starts frame in
-    values-ready _ _ _ _ _ _ (at-start starts .pre) _ (starts .starts-of .ensures) _ _ (frame .frame .ensures) (blank-long mostValues)
-
-slice-aggregate-print-rows : tie.Need-slice-aggregate-print-rows
-slice-aggregate-print-rows c = search needs
+    glyph-values-ready _ _ _ _ _ _ (at-start starts .pre) _ (starts .starts-of .ensures) _ _ (frame .frame .ensures) (blank-long mostValues)
 
 print-rows-requires : tie.Need-print-rows-requires
 print-rows-requires c κs =
@@ -59,9 +44,6 @@ print-rows-requires c κs =
     let frame = values-frame values in
     let starts = frame-starts frame in
     rows-ready _ _ _ _ _ _ (at-start starts .pre) _ (starts .starts-of .ensures) _ _ (frame .frame .ensures) (blank-long mostValues) _ _ (values .values .ensures)
-
-same-length : tie.Need-same-length
-same-length c = search needs
 
 returns : tie.Need-returns
 returns c =
@@ -73,17 +55,6 @@ returns c =
 
 pub print-glyph-spec : {M : Type 1} → statement M
 print-glyph-spec =
-    tie.close
-    (tie.spec
-    starts-of-requires
-    sub-places
-    mul-places
-    add-places
-    slice-aggregate-frame
-    frame-requires
-    slice-aggregate-values
-    values-requires
-    slice-aggregate-print-rows
-    print-rows-requires
-    same-length
-    returns)
+    tie.close (tie.spec starts-of-requires (λ c. omega (arith, at-start c .pre .picture-is .along .some))
+    (λ c. omega (arith, at-start c .pre .picture-is .along .most)) add-places (λ c. search needs) frame-requires (λ c. search needs)
+    values-requires (λ c. search needs) print-rows-requires (λ c. search needs) returns)

@@ -5,8 +5,8 @@ use mathlib.Core.List.{List, _++_}
 use native.Mathlib.Omega.{arith}
 use borrow.Author.Needs.{needs}
 use lib.ListN.{length, take, drop}
-use Rattle.glyphs.specs.Frames.{part-is}
-use Rattle.glyphs.specs.Rows.{RowsDone, rowsFrom, rows-none, rows-length, row-there, row-fits, row-length, rows-more}
+use Rattle.glyphs.specs.Frames.{glyph-part-is}
+use Rattle.glyphs.specs.Rows.{RowsDone, rowsFrom, rows-none, rows-length, glyph-row-there, row-fits, row-length, rows-more}
 use Rattle.glyphs.proofs.rows.print_rows.Statement.{statement}
 use Rattle.glyphs.proofs.rows.print_rows.Tie as tie
 
@@ -43,7 +43,7 @@ module _ (c : tie.In-loop Inv-loop μ-loop) where
   wires = start .args .wires .now
 
   there : from + width ≤ length wires
-  there = row-there wires (start .args .start) width (start .args .height) (start .args .out .now) (start .pre) (c .before .loop .y) from (c .before .loop .at) (c .before .loop .out) (c .before .loop .inv) (c .loop-test .taken)
+  there = glyph-row-there wires (start .args .start) width (start .args .height) (start .args .out .now) (start .pre) (c .before .loop .y) from (c .before .loop .at) (c .before .loop .out) (c .before .loop .inv) (c .loop-test .taken)
 
   fits : c .before .loop .at + width ≤ length (c .before .loop .out)
   fits = row-fits wires (start .args .start) width (start .args .height) (start .args .out .now) (start .pre) (c .before .loop .y) from (c .before .loop .at) (c .before .loop .out) (c .before .loop .inv) (c .loop-test .taken)
@@ -56,19 +56,7 @@ module _ (c : tie.In-loop Inv-loop μ-loop) where
   row = take (from + width - from) (drop from wires)
 
   row-long : length row ≡ width
-  row-long = row-length wires (start .args .start) width (start .args .height) (start .args .out .now) (start .pre) (c .before .loop .y) from (c .before .loop .at) (c .before .loop .out) (c .before .loop .inv) (c .loop-test .taken) row (part-is from width wires)
-
-add-copy : tie.Need-add-copy Inv-loop μ-loop
-add-copy c = omega (arith, there c, start c .good)
-
-sub-copy : tie.Need-sub-copy Inv-loop μ-loop
-sub-copy c = omega arith
-
-part-copy-start : tie.Need-part-copy-start Inv-loop μ-loop
-part-copy-start c = search needs
-
-part-copy-end : tie.Need-part-copy-end Inv-loop μ-loop
-part-copy-end c = there c
+  row-long = row-length wires (start .args .start) width (start .args .height) (start .args .out .now) (start .pre) (c .before .loop .y) from (c .before .loop .at) (c .before .loop .out) (c .before .loop .inv) (c .loop-test .taken) row (glyph-part-is from width wires)
 
 copy-requires : tie.Need-copy-requires Inv-loop μ-loop
 copy-requires c κs = let turn = c .before .before in omega (arith, fits turn, row-long turn)
@@ -82,14 +70,11 @@ add-at c = let turn = at-turn (at-copy c) in omega (arith, fits turn, kept turn,
 add-y : tie.Need-add-y Inv-loop μ-loop
 add-y c = let turn = at-turn (at-copy c) in omega (arith, turn .loop-test .taken, start turn .pre .high .most)
 
-loop-less : tie.Need-loop-less Inv-loop μ-loop
-loop-less c = omega (arith, at-turn (at-copy c) .loop-test .taken)
-
 loop-again : tie.Need-loop-again Inv-loop μ-loop
 loop-again c =
     let turn = at-turn (at-copy c) in
     rows-more (wires turn) (start turn .args .start) (width turn) (start turn .args .height) (start turn .args .out .now) (start turn .pre) (turn .before .loop .y) (from turn) (turn .before .loop .at)
-    (turn .before .loop .out) (turn .before .loop .inv) (turn .loop-test .taken) (row turn) (part-is (from turn) (width turn) (wires turn)) _ (at-copy c .copy .ensures .text)
+    (turn .before .loop .out) (turn .before .loop .inv) (turn .loop-test .taken) (row turn) (glyph-part-is (from turn) (width turn) (wires turn)) _ (at-copy c .copy .ensures .text)
 
 same-length : tie.Need-same-length Inv-loop μ-loop
 same-length c =
@@ -105,19 +90,5 @@ returns c =
 pub print-rows-spec : {M : Type 1} → statement M
 print-rows-spec =
     tie.close
-    (tie.spec
-    Inv-loop
-    μ-loop
-    loop-holds
-    add-copy
-    sub-copy
-    part-copy-start
-    part-copy-end
-    copy-requires
-    add-from
-    add-at
-    add-y
-    loop-less
-    loop-again
-    same-length
-    returns)
+    (tie.spec Inv-loop μ-loop loop-holds (λ c. omega (arith, there c, start c .good)) (λ c. omega arith) (λ c. search needs) (λ c. there c)
+    copy-requires add-from add-at add-y (λ c. omega (arith, at-turn (at-copy c) .loop-test .taken)) loop-again same-length returns)

@@ -28,44 +28,20 @@ front : (c : tie.After-enum-told2) → Fronted (at-start (at-read c) .args .line
 unfolding space
 front c = fronted _ _ (at-read c .header-lines .ensures) _ _ (c .enum-told2 .given .1)
 
-header-lines-requires : tie.Need-header-lines-requires
-header-lines-requires c κs = search needs
-
 enum-told : tie.Need-enum-told
 enum-told c = search needs
-
-enum-told-2 : tie.Need-enum-told-2
-enum-told-2 c = search needs
 
 power-requires : tie.Need-power-requires
 power-requires c κs = let size = front-size _ _ (front c) in (size .levels-most, omega (arith, size .inputs-most))
 
-sub-finish-under : tie.Need-sub-finish-under
-sub-finish-under c = search needs
-
-part-finish-under-start : tie.Need-part-finish-under-start
-part-finish-under-start c = search needs
-
 part-finish-under-end : tie.Need-part-finish-under-end
 part-finish-under-end c = omega (arith, c .power .ensures, front-size _ _ (front (c .before)) .cells-most, at-start (at-read (c .before)) .pre)
-
-finish-under-requires : tie.Need-finish-under-requires
-finish-under-requires c κs = front (at-power c .before)
 
 returns : tie.Need-returns
 unfolding space
 returns c =
     let read = c .before .before .before in
     λ own-marks. finish-none _ _ own-marks _ (not-fronted _ _ (read .header-lines .ensures) _ _ (c .enum-told .given .1) _) _ _ _
-
-same-length : tie.Need-same-length
-same-length c = search needs
-
-same-length-2 : tie.Need-same-length-2
-same-length-2 c = search needs
-
-same-length-3 : tie.Need-same-length-3
-same-length-3 c = search needs
 
 returns-2 : tie.Need-returns-2
 returns-2 c =
@@ -77,18 +53,6 @@ returns-2 c =
 
 pub finish-in-spec : {M : Type 1} → statement M
 finish-in-spec =
-    tie.close
-    (tie.spec
-    header-lines-requires
-    enum-told
-    enum-told-2
-    power-requires
-    sub-finish-under
-    part-finish-under-start
-    part-finish-under-end
-    finish-under-requires
-    returns
-    same-length
-    same-length-2
-    same-length-3
+    tie.close (tie.spec (λ c κs. search needs) enum-told (λ c. search needs) power-requires (λ c. search needs) (λ c. search needs)
+    part-finish-under-end (λ c κs. front (at-power c .before)) returns (λ c. search needs) (λ c. search needs) (λ c. search needs)
     returns-2)

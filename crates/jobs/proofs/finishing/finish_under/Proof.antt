@@ -2,9 +2,9 @@
 use mathlib.Core.Path.{_≡_, sym, ap, _∙_}
 use mathlib.Core.List.{List, []}
 use Prim.Native.Nat.{ℕ}
-use Rattle.rules.specs.Answers.{accepted}
-use Rattle.rules.specs.Jobs.{mayFinish}
-use Rattle.answers.specs.Answers.{outcomeAs}
+use Rattle.rules.specs.Calls.Answers.{accepted}
+use Rattle.rules.specs.Calls.Jobs.{mayFinish}
+use Rattle.answers.specs.AnswerMaps.{outcomeAs}
 use Rattle.jobs.specs.Finishing.{jobWith, may-given, finished-not, finished-made}
 use borrow.Author.Needs.{needs}
 use Rattle.jobs.proofs.finishing.finish_under.Statement.{statement}
@@ -29,12 +29,6 @@ may : (c : tie.After-enum-told) →
     (marks : List ℕ) → accepted tt ≡ mayFinish (jobWith (start .args .lines .now) (start .args .h) (start .pre) (start .args .inks .now) (start .args .passed) marks)
 may c marks = sym (ap (outcomeAs tt) (c .enum-told .given .1)) ∙ at-judged c .may-finish .ensures marks
 
-may-finish-requires : tie.Need-may-finish-requires
-may-finish-requires c κs = search needs
-
-enum-known-judged : tie.Need-enum-known-judged
-enum-known-judged c = search needs
-
 enum-told : tie.Need-enum-told
 enum-told c = search needs
 
@@ -49,15 +43,6 @@ returns c =
     let start = at-start judged in
     λ own. finished-not _ _ (start .pre) _ _ own _ _ _ _ _ (sym (ap (outcomeAs tt) (c .before .judged .given .1)) ∙ judged .may-finish .ensures own)
 
-same-length : tie.Need-same-length
-same-length c = search needs
-
-same-length-2 : tie.Need-same-length-2
-same-length-2 c = search needs
-
-same-length-3 : tie.Need-same-length-3
-same-length-3 c = search needs
-
 returns-2 : tie.Need-returns-2
 returns-2 c =
     let made = at-made c in
@@ -68,13 +53,5 @@ returns-2 c =
 pub finish-under-spec : {M : Type 1} → statement M
 finish-under-spec =
     tie.close
-    (tie.spec
-    may-finish-requires
-    enum-known-judged
-    enum-told
-    make-table-requires
-    returns
-    same-length
-    same-length-2
-    same-length-3
-    returns-2)
+    (tie.spec (λ c κs. search needs) (λ c. search needs) enum-told make-table-requires returns (λ c. search needs) (λ c. search needs)
+    (λ c. search needs) returns-2)

@@ -3,9 +3,9 @@ use Prim.Native.Nat.{ℕ, _-_}
 use mathlib.Core.Path.{_≡_, sym, ap, _∙_}
 use native.Mathlib.Omega.{arith}
 use lib.Pow.{pow-pos}
-use Rattle.rules.specs.Answers.{accepted}
-use Rattle.rules.specs.OpenCells.{fullCells}
-use Rattle.answers.specs.Answers.{outcomeAs}
+use Rattle.rules.specs.Calls.Answers.{accepted}
+use Rattle.rules.specs.Calls.OpenCells.{fullCells}
+use Rattle.answers.specs.AnswerMaps.{outcomeAs}
 use Rattle.jobs.specs.Forms.{front-size}
 use Rattle.jobs.specs.Finishing.{may-not, may-not-yet, may-now}
 use borrow.Author.Needs.{needs}
@@ -25,12 +25,6 @@ good : (c : tie.After-enum-told) →
     accepted tt ≡ fullCells (a .h .levels) (a .h .inputs) (a .inks .now)
 good c = sym (ap (outcomeAs tt) (c .enum-told .given .1)) ∙ at-bare c .full-cells .ensures
 
-full-cells-requires : tie.Need-full-cells-requires
-full-cells-requires c κs = search needs
-
-enum-known-judged : tie.Need-enum-known-judged
-enum-known-judged c = search needs
-
 enum-told : tie.Need-enum-told
 enum-told c = search needs
 
@@ -41,9 +35,6 @@ power-requires c κs =
 
 sub-groups : tie.Need-sub-groups
 sub-groups c = omega (arith, c .power .ensures, pow-pos (at-start (at-bare (c .before)) .args .h .inputs))
-
-sub-t12 : tie.Need-sub-t12
-sub-t12 c = search needs
 
 returns : tie.Need-returns
 returns c =
@@ -65,13 +56,5 @@ returns-3 c =
 pub may-finish-spec : {M : Type 1} → statement M
 may-finish-spec =
     tie.close
-    (tie.spec
-    full-cells-requires
-    enum-known-judged
-    enum-told
-    power-requires
-    sub-groups
-    sub-t12
-    returns
-    returns-2
+    (tie.spec (λ c κs. search needs) (λ c. search needs) enum-told power-requires sub-groups (λ c. search needs) returns returns-2
     returns-3)

@@ -1,8 +1,9 @@
 -- `jobs::next::next_under` meets its contract: all groups are passed, or the next one is marked from the front of the cells and of the marks.
 -- Assumes nothing.
+use mathlib.Core.Path.{_∙_}
 use native.Mathlib.Omega.{arith}
 use lib.Pow.{pow-mono}
-use Rattle.laws.specs.Sizes.{Size}
+use Rattle.laws.specs.Numbers.Sizes.{Size}
 use Rattle.jobs.specs.Forms.{front-size, front-groups}
 use Rattle.jobs.specs.Stepping.{next-done, next-marked, part-length}
 use borrow.Author.Needs.{needs}
@@ -41,25 +42,10 @@ power-requires-2 c κs =
     let fit = size (at-start (c .before)) in
     (fit .levels-most, omega (arith, fit .inputs-most))
 
-sub-mark-one : tie.Need-sub-mark-one
-sub-mark-one c = search needs
-
-part-mark-one-start : tie.Need-part-mark-one-start
-part-mark-one-start c = search needs
-
 part-mark-one-end : tie.Need-part-mark-one-end
 part-mark-one-end c =
     let start = at-start (at-power c) in
     omega (arith, c .power2 .ensures, size start .cells-most, start .pre .1)
-
-add-mark-one : tie.Need-add-mark-one
-add-mark-one c = search needs
-
-sub-mark-one-2 : tie.Need-sub-mark-one-2
-sub-mark-one-2 c = search needs
-
-part-mark-one-start-2 : tie.Need-part-mark-one-start-2
-part-mark-one-start-2 c = search needs
 
 part-mark-one-end-2 : tie.Need-part-mark-one-end-2
 part-mark-one-end-2 c =
@@ -74,7 +60,7 @@ mark-one-requires c κs =
     let room = front-groups (start .args .lines .now) (start .args .h) (start .pre .0) in
     let long = part-length (power .power .result) (start .args .marks .now) (omega (arith, power .power .ensures, room, start .pre .2)) in (
       start .pre .0 .held .fits,
-      omega (arith, cells .power2 .ensures, part-length (cells .power2 .result) (start .args .cells .now) (omega (arith, cells .power2 .ensures, size start .cells-most, start .pre .1))),
+      part-length (cells .power2 .result) (start .args .cells .now) (omega (arith, cells .power2 .ensures, size start .cells-most, start .pre .1)) ∙ cells .power2 .ensures,
       omega (arith, power .power .ensures, cells .before .if1 .left),
       omega (arith, long, power .power .ensures),
     )
@@ -89,17 +75,5 @@ returns-2 c =
 pub next-under-spec : {M : Type 1} → statement M
 next-under-spec =
     tie.close
-    (tie.spec
-    power-requires
-    sub-if1
-    returns
-    power-requires-2
-    sub-mark-one
-    part-mark-one-start
-    part-mark-one-end
-    add-mark-one
-    sub-mark-one-2
-    part-mark-one-start-2
-    part-mark-one-end-2
-    mark-one-requires
-    returns-2)
+    (tie.spec power-requires sub-if1 returns power-requires-2 (λ c. search needs) (λ c. search needs) part-mark-one-end (λ c. search needs)
+    (λ c. search needs) (λ c. search needs) part-mark-one-end-2 mark-one-requires returns-2)

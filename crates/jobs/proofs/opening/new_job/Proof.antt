@@ -3,14 +3,8 @@ use Rattle.jobs.specs.Opening.{own-lines, own-room, new-bytes}
 use Rattle.jobs.proofs.opening.new_job.Statement.{statement}
 use Rattle.jobs.proofs.opening.new_job.Tie as tie
 
-own-lines-requires : tie.Need-own-lines-requires
-own-lines-requires c κs = own-lines _ _ _ (c .before .before .pre)
-
-own-cells-requires : tie.Need-own-cells-requires
-own-cells-requires c κs = own-room _ _ _ (c .before .before .before .pre)
-
 returns : tie.Need-returns
 returns c = new-bytes _ _ _ _ _ (c .before .own-lines .ensures) (c .own-cells .ensures)
 
 pub new-job-spec : {M : Type 1} → statement M
-new-job-spec = tie.close (tie.spec own-lines-requires own-cells-requires returns)
+new-job-spec = tie.close (tie.spec (λ c κs. own-lines _ _ _ (c .before .before .pre)) (λ c κs. own-room _ _ _ (c .before .before .before .pre)) returns)

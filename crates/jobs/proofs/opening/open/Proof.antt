@@ -1,8 +1,8 @@
 -- `jobs::opening::open` meets its contract: the empty job beside a refusal, or a new one on the table. Assumes nothing.
 use mathlib.Core.Path.{sym, ap, _∙_}
 use native.Mathlib.Omega.{arith}
-use Rattle.rules.specs.Answers.{accepted}
-use Rattle.accepted.specs.Taken.{held-size, full-taken, full-refused, inks-given, inks-table}
+use Rattle.rules.specs.Calls.Answers.{accepted}
+use Rattle.accepted.specs.Taken.{held-size, full-taken, read-full-refused, inks-given, inks-table}
 use Rattle.jobs.specs.Calls.{opened-none, opened-new}
 use borrow.Author.Needs.{needs}
 use Rattle.jobs.proofs.opening.open.Statement.{statement}
@@ -15,18 +15,6 @@ at-read c = c .before .before .before .before
 abbrev at-told : tie.After-inks3 → tie.After-enum-told
 at-told c = c .before .before
 
-slice-aggregate-read-full : tie.Need-slice-aggregate-read-full
-slice-aggregate-read-full c = search needs
-
-read-full-requires : tie.Need-read-full-requires
-read-full-requires c κs = search needs
-
-enum-known-outcome : tie.Need-enum-known-outcome
-enum-known-outcome c = search needs
-
-no-job-requires : tie.Need-no-job-requires
-no-job-requires c κs = search needs
-
 enum-told : tie.Need-enum-told
 enum-told c = search needs
 
@@ -34,12 +22,6 @@ power-requires : tie.Need-power-requires
 power-requires c κs =
     let size = held-size _ _ (at-read c .read-full .ensures .held (c .enum-told .given .1) .header) in
     (omega (arith, size .levels-most), omega (arith, size .inputs-most))
-
-sub-new-job : tie.Need-sub-new-job
-sub-new-job c = search needs
-
-part-new-job-start : tie.Need-part-new-job-start
-part-new-job-start c = search needs
 
 part-new-job-end : tie.Need-part-new-job-end
 part-new-job-end c =
@@ -55,7 +37,7 @@ new-job-requires c κs =
 returns : tie.Need-returns
 returns c =
     let read = c .before .before .before .before .before .before in
-    opened-none _ _ (c .no-job .ensures) _ _ (full-refused _ _ _ (read .read-full .ensures) _ _ (c .before .before .outcome .given .1))
+    opened-none _ _ (c .no-job .ensures) _ _ (read-full-refused _ _ _ (read .read-full .ensures) _ _ (c .before .before .outcome .given .1))
 
 returns-2 : tie.Need-returns-2
 returns-2 c =
@@ -67,16 +49,5 @@ returns-2 c =
 pub open-spec : {M : Type 1} → statement M
 open-spec =
     tie.close
-    (tie.spec
-    slice-aggregate-read-full
-    read-full-requires
-    enum-known-outcome
-    no-job-requires
-    enum-told
-    power-requires
-    sub-new-job
-    part-new-job-start
-    part-new-job-end
-    new-job-requires
-    returns
-    returns-2)
+    (tie.spec (λ c. search needs) (λ c κs. search needs) (λ c. search needs) (λ c κs. search needs) enum-told power-requires
+    (λ c. search needs) (λ c. search needs) part-new-job-end new-job-requires returns returns-2)

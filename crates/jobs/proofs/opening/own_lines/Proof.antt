@@ -4,11 +4,11 @@ use mathlib.Core.List.{List, [], _∷_, _++_}
 use native.Mathlib.Omega.{arith}
 use lib.ListN.{replicate}
 use Rattle.rules.specs.Text.{space, newline, text, decimal}
-use Rattle.rules.specs.Printed.{line}
-use Rattle.readback.specs.Header.{headText}
+use Rattle.rules.specs.Sheets.Printed.{line}
+use Rattle.readback.specs.Sheets.Header.{headText}
 use Rattle.nets.specs.Forms.{nameIn, headerOf}
-use Rattle.lines.specs.Put.{Left, parts-left, put-left, room-for, last-put, put-wrote}
-use Rattle.lines.specs.Lines.{spacedFrom}
+use Rattle.net_sheets.specs.Text.Put.{NetLeft, parts-left, put-left, room-for, last-put, put-wrote}
+use Rattle.net_sheets.specs.Text.Lines.{spacedFrom}
 use Rattle.jobs.specs.Forms.{mostLines}
 use Rattle.jobs.specs.Opening.{linesOf, head-parts}
 use borrow.Author.Needs.{needs}
@@ -32,7 +32,7 @@ abbrev names : tie.Start → List ℕ
 names c = spacedFrom (nameIn (c .args .s .now) (c .args .h)) 0 (c .args .h .inputs)
 
 abbrev Rest : tie.Start → List ℕ → ℕ → List ℕ → Type 0
-Rest c out at t = Left out at t (replicate mostLines 0) 0 (headText space (headerOf (c .args .s .now) (c .args .h)))
+Rest c out at t = NetLeft out at t (replicate mostLines 0) 0 (headText space (headerOf (c .args .s .now) (c .args .h)))
 
 start : (c : tie.Start) → Rest c (replicate mostLines 0) 0 (firstTwo c ++ names c)
 start c = parts-left (head-parts (c .args .s .now) (c .args .h)) (omega (arith, c .pre .room))
@@ -41,18 +41,9 @@ after-pair : (c : tie.After-print-pair) → Rest (pair-start c) (c .print-pair .
 unfolding line text space newline
 after-pair c = put-left (start (pair-start c)) (c .print-pair .ensures)
 
-slice-aggregate-print-pair : tie.Need-slice-aggregate-print-pair
-slice-aggregate-print-pair c = search needs
-
-slice-aggregate-print-pair-2 : tie.Need-slice-aggregate-print-pair-2
-slice-aggregate-print-pair-2 c = search needs
-
 print-pair-requires : tie.Need-print-pair-requires
 unfolding line text space newline
 print-pair-requires c κs = room-for (firstTwo (at-start c)) (names (at-start c)) (start (at-start c))
-
-slice-aggregate-print-names : tie.Need-slice-aggregate-print-names
-slice-aggregate-print-names c = search needs
 
 print-names-requires : tie.Need-print-names-requires
 print-names-requires c κs = (pair-start (at-pair c) .pre .names, omega arith, after-pair (at-pair c) .room)
@@ -65,11 +56,4 @@ returns c =
 
 pub own-lines-spec : {M : Type 1} → statement M
 own-lines-spec =
-    tie.close
-    (tie.spec
-    slice-aggregate-print-pair
-    slice-aggregate-print-pair-2
-    print-pair-requires
-    slice-aggregate-print-names
-    print-names-requires
-    returns)
+    tie.close (tie.spec (λ c. search needs) (λ c. search needs) print-pair-requires (λ c. search needs) print-names-requires returns)

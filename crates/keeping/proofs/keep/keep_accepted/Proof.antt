@@ -4,11 +4,11 @@ use native.Mathlib.Omega.{arith}
 use Prim.Native.Nat.{_-_, _≤_}
 use borrow.Author.Needs.{needs}
 use lib.ListN.{length, take}
-use Rattle.rules.specs.Answers.{accepted}
-use Rattle.rules.specs.OpenCells as open-cells
-use Rattle.answers.specs.Answers.{outcomeAs}
+use Rattle.rules.specs.Calls.Answers.{accepted}
+use Rattle.rules.specs.Calls.OpenCells as open-cells
+use Rattle.answers.specs.AnswerMaps.{outcomeAs}
 use Rattle.accepted.specs.Taken.{held-size}
-use Rattle.keeping.specs.Judging.{headers-differ, inks-long, table-open, both-given, full-told}
+use Rattle.keeping.specs.Judging.{keeping-headers-differ, inks-long, inks-within, table-open, both-given, full-told}
 use Rattle.keeping.proofs.keep.keep_accepted.Statement.{statement}
 use Rattle.keeping.proofs.keep.keep_accepted.Tie as tie
 
@@ -45,40 +45,18 @@ power-requires c κs =
     let size = held-size _ _ (c .before .before .before .before .before .pre .0 .header) in
     (size .levels-most, omega (arith, size .inputs-most))
 
-same-header-requires : tie.Need-same-header-requires
-same-header-requires c κs = search needs
-
 returns : tie.Need-returns
 returns c =
     let start = at-start (c .before .before) in
-    headers-differ _ _ _ (start .pre .0) _ _ _ (start .pre .1) (start .args .cells .now) (start .args .out .now) _ (c .before .same-header .ensures) (c .if1 .taken)
-
-sub-judge-full : tie.Need-sub-judge-full
-sub-judge-full c = search needs
-
-part-judge-full-start : tie.Need-part-judge-full-start
-part-judge-full-start c = search needs
-
-part-judge-full-end : tie.Need-part-judge-full-end
-part-judge-full-end c = omega (arith, long c)
+    keeping-headers-differ _ _ _ (start .pre .0) _ _ _ (start .pre .1) (start .args .cells .now) (start .args .out .now) _ (c .before .same-header .ensures) (c .if1 .taken)
 
 judge-full-requires : tie.Need-judge-full-requires
-judge-full-requires c κs = held-size _ _ (test-start (c .before) .pre .1 .header) .levels-most
-
-enum-known-judged : tie.Need-enum-known-judged
-enum-known-judged c = search needs
-
-enum-told : tie.Need-enum-told
-enum-told c = search needs
-
-sub-keep-full : tie.Need-sub-keep-full
-sub-keep-full c = search needs
-
-part-keep-full-start : tie.Need-part-keep-full-start
-part-keep-full-start c = search needs
-
-part-keep-full-end : tie.Need-part-keep-full-end
-part-keep-full-end c = omega (arith, long (at-test (at-judge c)))
+judge-full-requires c κs =
+    let test = c .before in
+    let start = test-start test in (
+      held-size _ _ (start .pre .1 .header) .levels-most,
+      inks-within _ _ _ (start .pre .0) _ _ _ (start .pre .1) (start .args .cells .now) (start .args .out .now) _ (test .before .same-header .ensures) (test .if1 .left) _ (at-power test .power .ensures),
+    )
 
 keep-full-requires : tie.Need-keep-full-requires
 keep-full-requires c κs =
@@ -97,12 +75,6 @@ returns-2 c =
     table-open _ _ _ (start .pre .0) _ _ _ (start .pre .1) (start .args .cells .now) (start .args .out .now) _ (test .before .same-header .ensures) (test .if1 .left) _ (at-power test .power .ensures) _ _
     (sym (ap (outcomeAs tt) (c .before .judged .given .1)) ∙ judge .judge-full .ensures)
 
-same-length : tie.Need-same-length
-same-length c = search needs
-
-same-length-2 : tie.Need-same-length-2
-same-length-2 c = search needs
-
 returns-3 : tie.Need-returns-3
 returns-3 c =
     let did = c .before .before .before .before in
@@ -114,22 +86,6 @@ returns-3 c =
 
 pub keep-accepted-spec : {M : Type 1} → statement M
 keep-accepted-spec =
-    tie.close
-    (tie.spec
-    power-requires
-    same-header-requires
-    returns
-    sub-judge-full
-    part-judge-full-start
-    part-judge-full-end
-    judge-full-requires
-    enum-known-judged
-    enum-told
-    sub-keep-full
-    part-keep-full-start
-    part-keep-full-end
-    keep-full-requires
-    returns-2
-    same-length
-    same-length-2
-    returns-3)
+    tie.close (tie.spec power-requires (λ c κs. search needs) returns (λ c. search needs) (λ c. search needs) (λ c. omega (arith, long c))
+    judge-full-requires (λ c. search needs) (λ c. search needs) (λ c. search needs)
+    (λ c. search needs) (λ c. omega (arith, long (at-test (at-judge c)))) keep-full-requires returns-2 (λ c. search needs) (λ c. search needs) returns-3)

@@ -3,11 +3,8 @@ use mathlib.Core.Path.{refl}
 use Rattle.marks.proofs.own.mark_at.Statement.{statement}
 use Rattle.marks.proofs.own.mark_at.Tie as tie
 
-shared-slice-read-result : tie.Need-shared-slice-read-result
-shared-slice-read-result c = c .before .pre
-
 returns : tie.Need-returns
 returns c = refl
 
 pub mark-at-spec : {M : Type 1} → statement M
-mark-at-spec = tie.close (tie.spec shared-slice-read-result returns)
+mark-at-spec = tie.close (tie.spec (λ c. c .before .pre) returns)

@@ -4,14 +4,8 @@ use borrow.Author.Needs.{needs}
 use Rattle.marks.proofs.own.put_mark.Statement.{statement}
 use Rattle.marks.proofs.own.put_mark.Tie as tie
 
-slice-write-marks : tie.Need-slice-write-marks
-slice-write-marks c = c .pre
-
-same-length : tie.Need-same-length
-same-length c = search needs
-
 returns : tie.Need-returns
 returns c = refl
 
 pub put-mark-spec : {M : Type 1} → statement M
-put-mark-spec = tie.close (tie.spec slice-write-marks same-length returns)
+put-mark-spec = tie.close (tie.spec (λ c. c .pre) (λ c. search needs) returns)

@@ -5,21 +5,12 @@ use borrow.Author.Needs.{needs}
 use Rattle.marks.proofs.split.both_two.Statement.{statement}
 use Rattle.marks.proofs.split.both_two.Tie as tie
 
-mark-at-requires : tie.Need-mark-at-requires
-mark-at-requires c κs = search needs
-
 returns : tie.Need-returns
 returns c = rw (ne-eqb _ 2 (λ e. c .if1 .taken (c .before .mark-at .ensures ∙ e)))
-
-sub-mark-at : tie.Need-sub-mark-at
-sub-mark-at c = search needs
-
-mark-at-requires-2 : tie.Need-mark-at-requires-2
-mark-at-requires-2 c κs = search needs
 
 returns-2 : tie.Need-returns-2
 returns-2 c = rw (eq-eqb _ 2 (sym (c .before .before .mark-at .ensures) ∙ c .before .if1 .left), c .mark-at2 .ensures)
 
 pub both-two-spec : {M : Type 1} → statement M
 both-two-spec =
-    tie.close (tie.spec mark-at-requires returns sub-mark-at mark-at-requires-2 returns-2)
+    tie.close (tie.spec (λ c κs. search needs) returns (λ c. search needs) (λ c κs. search needs) returns-2)

@@ -1,9 +1,9 @@
 -- `marks::split::split_of` meets its contract. The loop's invariant: the search from the part that is looked at on is the search.
 -- Assumes nothing.
-use Prim.Native.Nat.{_-_}
+use Prim.Native.Nat.{_+_, _-_, _<_}
 use mathlib.Core.Path.{sym, _∙_}
 use native.Mathlib.Omega.{arith}
-use Rattle.rules.specs.Settled.{splitOf}
+use Rattle.rules.specs.Nets.Settled.{splitOf}
 use Rattle.radix.specs.Widths.{mostMembers}
 use Rattle.marks.specs.FirstParts.{settledTest, settled-looked}
 use Rattle.marks.specs.Searching.{Sought, sought-none, sought-all, here, sought-found, sought-next}
@@ -23,8 +23,18 @@ at-start c = c .before .before
 abbrev at-first : tie.At-loop Inv-loop μ-loop → tie.After-without-first Inv-loop μ-loop
 at-first c = c .before
 
-without-first-requires : tie.Need-without-first-requires Inv-loop μ-loop
-without-first-requires c κs = c .before .pre .0
+-- what a turn knows: the search so far, and the part that is looked at
+module _ (c : tie.In-loop Inv-loop μ-loop) where
+  abbrev start : tie.Start Inv-loop μ-loop
+  start = at-start (at-first (c .before))
+
+  abbrev rest : tie.After-without-first Inv-loop μ-loop
+  rest = at-first (c .before)
+
+  there : (0 < (start .args .g - rest .without-first .result) + c .before .loop .part) × ((start .args .g - rest .without-first .result) + c .before .loop .part < start .args .g)
+  there =
+      let a = here _ _ (start .args .g) (rest .without-first .result) (settled-looked (start .args .marks .now) (start .args .g)) (start .pre .0) (rest .without-first .ensures) (c .before .loop .part) (c .before .loop .inv) (c .loop-test .taken) mostMembers (start .pre .1) in
+      (a .0, a .1)
 
 sub-first : tie.Need-sub-first Inv-loop μ-loop
 sub-first c = omega (arith, c .without-first .ensures mostMembers (at-start c .pre .1))
@@ -32,79 +42,43 @@ sub-first c = omega (arith, c .without-first .ensures mostMembers (at-start c .p
 loop-holds : tie.Need-loop-holds Inv-loop μ-loop
 loop-holds c =
     let start = at-start c in
-    let w = c .without-first in
-    sought-none _ _ (start .args .g) (w .result) (settled-looked (start .args .marks .now) (start .args .g)) (start .pre .0) (w .ensures)
-
-add-both-two : tie.Need-add-both-two Inv-loop μ-loop
-add-both-two c =
-    let start = at-start (at-first (c .before)) in
-    let l = c .before .loop in
-    let w = at-first (c .before) .without-first in
-    omega (arith, here _ _ (start .args .g) (w .result) (settled-looked (start .args .marks .now) (start .args .g)) (start .pre .0) (w .ensures) (l .part) (l .inv) (c .loop-test .taken) mostMembers (start .pre .1))
-
-both-two-requires : tie.Need-both-two-requires Inv-loop μ-loop
-both-two-requires c κs =
-    let start = at-start (at-first (c .before)) in
-    let l = c .before .loop in
-    let w = at-first (c .before) .without-first in
-    let a = here _ _ (start .args .g) (w .result) (settled-looked (start .args .marks .now) (start .args .g)) (start .pre .0) (w .ensures) (l .part) (l .inv) (c .loop-test .taken) mostMembers (start .pre .1) in
-    (a .0, a .1, start .pre .2)
-
-add-result : tie.Need-add-result Inv-loop μ-loop
-add-result c =
-    let start = at-start (at-first (c .before .before .before)) in
-    let l = c .before .before .before .loop in
-    let w = at-first (c .before .before .before) .without-first in
-    omega (arith, here _ _ (start .args .g) (w .result) (settled-looked (start .args .marks .now) (start .args .g)) (start .pre .0) (w .ensures) (l .part) (l .inv) (c .before .before .loop-test .taken) mostMembers (start .pre .1))
+    sought-none _ _ (start .args .g) (c .without-first .result) (settled-looked (start .args .marks .now) (start .args .g)) (start .pre .0) (c .without-first .ensures)
 
 returns : tie.Need-returns Inv-loop μ-loop
 unfolding splitOf
 returns c =
-    let start = at-start (at-first (c .before .before .before)) in
-    let l = c .before .before .before .loop in
-    let w = at-first (c .before .before .before) .without-first in
-    sought-found _ _ (start .args .g) (w .result) (settled-looked (start .args .marks .now) (start .args .g)) (start .pre .0) (w .ensures) (l .part) (l .inv) (c .before .before .loop-test .taken) (sym (c .before .both-two .ensures) ∙ c .if1 .taken)
+    let turn = c .before .before in
+    let start = start turn in
+    let l = turn .before .loop in
+    sought-found _ _ (start .args .g) (rest turn .without-first .result) (settled-looked (start .args .marks .now) (start .args .g)) (start .pre .0) (rest turn .without-first .ensures) (l .part) (l .inv) (turn .loop-test .taken)
+    (sym (c .before .both-two .ensures) ∙ c .if1 .taken)
 
 next-part-requires : tie.Need-next-part-requires Inv-loop μ-loop
 next-part-requires c κs =
-    let start = at-start (at-first (c .before .before .before)) in
-    let l = c .before .before .before .loop in
-    let w = at-first (c .before .before .before) .without-first in
-    (omega (arith, w .ensures mostMembers (start .pre .1)), c .before .before .loop-test .taken, l .inv .is-part)
+    let turn = c .before .before in
+    (omega (arith, rest turn .without-first .ensures mostMembers (start turn .pre .1)), turn .loop-test .taken, turn .before .loop .inv .is-part)
 
 loop-less : tie.Need-loop-less Inv-loop μ-loop
 loop-less c = omega (arith, c .next-part .ensures .above, c .before .before .before .loop-test .taken)
 
 loop-again : tie.Need-loop-again Inv-loop μ-loop
 loop-again c =
-    let start = at-start (at-first (c .before .before .before .before)) in
-    let l = c .before .before .before .before .loop in
-    let w = at-first (c .before .before .before .before) .without-first in
-    sought-next _ _ (start .args .g) (w .result) (settled-looked (start .args .marks .now) (start .args .g)) (start .pre .0) (w .ensures) (l .part) (l .inv) (c .before .before .before .loop-test .taken) (sym (c .before .before .both-two .ensures) ∙ c .before .if1 .left)
-    (c .next-part .result) (c .next-part .ensures)
+    let turn = c .before .before .before in
+    let start = start turn in
+    let l = turn .before .loop in
+    sought-next _ _ (start .args .g) (rest turn .without-first .result) (settled-looked (start .args .marks .now) (start .args .g)) (start .pre .0) (rest turn .without-first .ensures) (l .part) (l .inv) (turn .loop-test .taken)
+    (sym (c .before .before .both-two .ensures) ∙ c .before .if1 .left) (c .next-part .result) (c .next-part .ensures)
 
 returns-2 : tie.Need-returns-2 Inv-loop μ-loop
 unfolding splitOf
 returns-2 c =
     let start = at-start (at-first (c .before)) in
-    let l = c .before .loop in
     let w = at-first (c .before) .without-first in
+    let l = c .before .loop in
     sought-all _ _ (start .args .g) (w .result) (settled-looked (start .args .marks .now) (start .args .g)) (start .pre .0) (w .ensures) (l .part) (l .inv) (c .loop-test .left)
 
 pub split-of-spec : {M : Type 1} → statement M
 split-of-spec =
-    tie.close
-    (tie.spec
-    Inv-loop
-    μ-loop
-    without-first-requires
-    sub-first
-    loop-holds
-    add-both-two
-    both-two-requires
-    add-result
-    returns
-    next-part-requires
-    loop-less
-    loop-again
-    returns-2)
+    tie.close (tie.spec Inv-loop μ-loop (λ c κs. c .before .pre .0) sub-first loop-holds (λ c. omega (arith, there c))
+    (λ c κs. (there c .0, there c .1, start c .pre .2)) (λ c. omega (arith, there (c .before .before))) returns next-part-requires loop-less
+    loop-again returns-2)

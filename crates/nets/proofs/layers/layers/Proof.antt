@@ -57,53 +57,11 @@ module _ (c : tie.Then1 Inv-loop μ-loop) where
   few : (net .inputs + k < mostWires) × (k < mostGates)
   few = (omega (arith, wires-room net sound, c .if1 .taken), omega (arith, gates-count net sound, sound-size net sound .inputs-most, c .if1 .taken))
 
-array-read-a : tie.Need-array-read-a Inv-loop μ-loop
-array-read-a c = omega (arith, few c)
-
-cast-a : tie.Need-cast-a Inv-loop μ-loop
-cast-a c = omega (arith, back c, few c)
-
-mul-a : tie.Need-mul-a Inv-loop μ-loop
-mul-a c = omega (arith, back c, few c)
-
-array-read-a-2 : tie.Need-array-read-a-2 Inv-loop μ-loop
-array-read-a-2 c = omega (arith, back c, few c)
-
-array-read-b : tie.Need-array-read-b Inv-loop μ-loop
-array-read-b c = omega (arith, few c)
-
-cast-b : tie.Need-cast-b Inv-loop μ-loop
-cast-b c = omega (arith, back c, few c)
-
-mul-b : tie.Need-mul-b Inv-loop μ-loop
-mul-b c = omega (arith, back c, few c)
-
-array-read-b-2 : tie.Need-array-read-b-2 Inv-loop μ-loop
-array-read-b-2 c = omega (arith, back c, few c)
-
-deeper-requires : tie.Need-deeper-requires Inv-loop μ-loop
-deeper-requires c κs = search needs
-
 add-depths : tie.Need-add-depths Inv-loop μ-loop
 add-depths c =
     let t = c .before in
     let small = at-loop t .loop .inv .small in
     omega (arith, c .deeper .ensures, small (getD (net t .left) (k t) 0), small (getD (net t .right) (k t) 0), few t)
-
-add-depths-2 : tie.Need-add-depths-2 Inv-loop μ-loop
-add-depths-2 c = omega (arith, few (at-turn c))
-
-mul-depths : tie.Need-mul-depths Inv-loop μ-loop
-mul-depths c = omega (arith, few (at-turn c))
-
-array-write-depths : tie.Need-array-write-depths Inv-loop μ-loop
-array-write-depths c = omega (arith, few (at-turn c))
-
-add-k : tie.Need-add-k Inv-loop μ-loop
-add-k c = omega (arith, few (at-turn c))
-
-loop-less : tie.Need-loop-less Inv-loop μ-loop
-loop-less c = omega (arith, at-turn c .if1 .taken)
 
 loop-again : tie.Need-loop-again Inv-loop μ-loop
 loop-again c =
@@ -115,18 +73,6 @@ loop-again c =
 wires : (c : tie.At-loop Inv-loop μ-loop) → let net = at-start c .args .net in (net .inputs + net .gates ≤ mostWires) × (0 < net .gates)
 wires c = let s = at-start c in (wires-room (s .args .net) (s .pre), gates-pos (s .args .net) (s .pre))
 
-add-result : tie.Need-add-result Inv-loop μ-loop
-add-result c = omega (arith, wires (at-end c))
-
-sub-result : tie.Need-sub-result Inv-loop μ-loop
-sub-result c = omega (arith, wires (at-end c))
-
-mul-result : tie.Need-mul-result Inv-loop μ-loop
-mul-result c = omega (arith, wires (at-end c))
-
-array-read-result : tie.Need-array-read-result Inv-loop μ-loop
-array-read-result c = omega (arith, wires (at-end c))
-
 returns : tie.Need-returns Inv-loop μ-loop
 returns c =
     let l = at-end c in
@@ -136,28 +82,9 @@ returns c =
 pub layers-spec : {M : Type 1} → statement M
 layers-spec =
     tie.close
-    (tie.spec
-    Inv-loop
-    μ-loop
-    loop-holds
-    array-read-a
-    cast-a
-    mul-a
-    array-read-a-2
-    array-read-b
-    cast-b
-    mul-b
-    array-read-b-2
-    deeper-requires
-    add-depths
-    add-depths-2
-    mul-depths
-    array-write-depths
-    add-k
-    loop-less
-    loop-again
-    add-result
-    sub-result
-    mul-result
-    array-read-result
-    returns)
+    (tie.spec Inv-loop μ-loop loop-holds (λ c. omega (arith, few c)) (λ c. omega (arith, back c, few c)) (λ c. omega (arith, back c, few c))
+    (λ c. omega (arith, back c, few c)) (λ c. omega (arith, few c)) (λ c. omega (arith, back c, few c)) (λ c. omega (arith, back c, few c))
+    (λ c. omega (arith, back c, few c)) (λ c κs. search needs) add-depths (λ c. omega (arith, few (at-turn c)))
+    (λ c. omega (arith, few (at-turn c))) (λ c. omega (arith, few (at-turn c))) (λ c. omega (arith, few (at-turn c)))
+    (λ c. omega (arith, at-turn c .if1 .taken)) loop-again (λ c. omega (arith, wires (at-end c))) (λ c. omega (arith, wires (at-end c)))
+    (λ c. omega (arith, wires (at-end c))) (λ c. omega (arith, wires (at-end c))) returns)

@@ -7,10 +7,10 @@ use native.Mathlib.Nat.{zero-add}
 use native.Mathlib.Omega.{arith}
 use lib.ListN.{getD, drop}
 use Rattle.rules.specs.Lists.{range, firstPlace}
-use Rattle.rules.specs.Groups.{member}
-use Rattle.rules.specs.Wirings.{firstInput}
-use Rattle.laws.specs.Ranges.{range-length, range-at}
-use Rattle.laws.specs.Walks.{place-next, place-stop, place-end}
+use Rattle.rules.specs.Groups.Groups.{member}
+use Rattle.rules.specs.Nets.Wirings.{firstInput}
+use Rattle.laws.specs.Lists.Ranges.{range-length, range-at}
+use Rattle.laws.specs.Lists.Walks.{place-next, place-stop, place-end}
 use Rattle.radix.proofs.members.first_input.Statement.{statement}
 use Rattle.radix.proofs.members.first_input.Tie as tie
 
@@ -28,9 +28,6 @@ loop-holds : tie.Need-loop-holds Inv-loop μ-loop
 unfolding firstInput
 loop-holds c = (omega arith, zero-add _)
 
-member-of-requires : tie.Need-member-of-requires Inv-loop μ-loop
-member-of-requires c κs = omega arith
-
 returns : tie.Need-returns Inv-loop μ-loop
 returns c =
     let a = c .before .before .before .before .args in
@@ -38,12 +35,6 @@ returns c =
     let i< = c .before .before .loop-test .taken in
     sym (place-stop (λ j. member j (a .g)) (range 0 (a .n)) (l .i) (rw range-length i<) (here (a .n) (a .g) (l .i) _ i< (c .before .member-of .ensures) ∙ c .if1 .taken))
     ∙ l .inv .1
-
-add-i : tie.Need-add-i Inv-loop μ-loop
-add-i c = omega arith
-
-loop-less : tie.Need-loop-less Inv-loop μ-loop
-loop-less c = omega arith
 
 loop-again : tie.Need-loop-again Inv-loop μ-loop
 loop-again c =
@@ -64,14 +55,4 @@ returns-2 c =
 
 pub first-input-spec : {M : Type 1} → statement M
 first-input-spec =
-    tie.close
-    (tie.spec
-    Inv-loop
-    μ-loop
-    loop-holds
-    member-of-requires
-    returns
-    add-i
-    loop-less
-    loop-again
-    returns-2)
+    tie.close (tie.spec Inv-loop μ-loop loop-holds (λ c κs. omega arith) returns (λ c. omega arith) (λ c. omega arith) loop-again returns-2)

@@ -5,11 +5,8 @@ use Rattle.radix.specs.Members.{trailing-first}
 use Rattle.radix.proofs.members.first_of.Statement.{statement}
 use Rattle.radix.proofs.members.first_of.Tie as tie
 
-cast-result : tie.Need-cast-result
-cast-result c = omega (arith, trailing-le 64 (c .args .g))
-
 returns : tie.Need-returns
 returns c = λ n g<. trailing-first 64 n (c .args .g) (c .pre) (omega arith) g<
 
 pub first-of-spec : {M : Type 1} → statement M
-first-of-spec = tie.close (tie.spec cast-result returns)
+first-of-spec = tie.close (tie.spec (λ c. omega (arith, trailing-le 64 (c .args .g))) returns)

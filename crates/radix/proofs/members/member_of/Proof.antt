@@ -1,16 +1,13 @@
 -- `radix::members::member_of` meets its contract: a shift is a division by a power of two. Assumes nothing.
 use mathlib.Core.Path.{refl}
 use borrow.Author.Needs.{needs}
-use Rattle.rules.specs.Groups.{member}
+use Rattle.rules.specs.Groups.Groups.{member}
 use Rattle.radix.proofs.members.member_of.Statement.{statement}
 use Rattle.radix.proofs.members.member_of.Tie as tie
-
-shr-result : tie.Need-shr-result
-shr-result c = search needs
 
 returns : tie.Need-returns
 unfolding member
 returns c = refl
 
 pub member-of-spec : {M : Type 1} → statement M
-member-of-spec = tie.close (tie.spec shr-result returns)
+member-of-spec = tie.close (tie.spec (λ c. search needs) returns)

@@ -4,8 +4,8 @@ use Prim.Native.Nat.{suc, _+_, _-_, _≤_}
 use mathlib.Core.Path.{_≡_, ap}
 use native.Mathlib.Nat.{sub-zero}
 use native.Mathlib.Omega.{arith}
-use Rattle.rules.specs.Groups.{size}
-use Rattle.trees.specs.Members.{size-suc, size-le}
+use Rattle.rules.specs.Groups.Groups.{size}
+use Rattle.trees.specs.Groups.Members.{size-suc, size-le}
 use Rattle.radix.proofs.members.members.Statement.{statement}
 use Rattle.radix.proofs.members.members.Tie as tie
 
@@ -17,15 +17,6 @@ abbrev μ-loop : tie.MeasureT-loop
 
 loop-holds : tie.Need-loop-holds Inv-loop μ-loop
 loop-holds c = (omega arith, omega arith, omega (arith, ap (λ k. size k (c .args .g)) (sub-zero (c .args .n))))
-
-add-count : tie.Need-add-count Inv-loop μ-loop
-add-count c = omega arith
-
-add-i : tie.Need-add-i Inv-loop μ-loop
-add-i c = omega arith
-
-loop-less : tie.Need-loop-less Inv-loop μ-loop
-loop-less c = omega arith
 
 loop-again : tie.Need-loop-again Inv-loop μ-loop
 loop-again c =
@@ -43,4 +34,4 @@ returns c =
 
 pub members-spec : {M : Type 1} → statement M
 members-spec =
-    tie.close (tie.spec Inv-loop μ-loop loop-holds add-count add-i loop-less loop-again returns)
+    tie.close (tie.spec Inv-loop μ-loop loop-holds (λ c. omega arith) (λ c. omega arith) (λ c. omega arith) loop-again returns)

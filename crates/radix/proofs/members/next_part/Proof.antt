@@ -5,14 +5,8 @@ use borrow.Author.Needs.{needs}
 use Rattle.radix.proofs.members.next_part.Statement.{statement}
 use Rattle.radix.proofs.members.next_part.Tie as tie
 
-add-result : tie.Need-add-result
-add-result c = search needs
-
-sub-result : tie.Need-sub-result
-sub-result c = search needs
-
 returns : tie.Need-returns
 returns c = next-part mostMembers (c .args .all) (c .args .part) (c .pre .0) (c .pre .1) (c .pre .2)
 
 pub next-part-spec : {M : Type 1} → statement M
-next-part-spec = tie.close (tie.spec add-result sub-result returns)
+next-part-spec = tie.close (tie.spec (λ c. search needs) (λ c. search needs) returns)

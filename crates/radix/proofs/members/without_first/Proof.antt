@@ -4,11 +4,8 @@ use borrow.Author.Needs.{needs}
 use Rattle.radix.proofs.members.without_first.Statement.{statement}
 use Rattle.radix.proofs.members.without_first.Tie as tie
 
-sub-result : tie.Need-sub-result
-sub-result c = search needs
-
 returns : tie.Need-returns
 returns c = λ n g<. without-first n (c .args .g) (c .pre) g< .1
 
 pub without-first-spec : {M : Type 1} → statement M
-without-first-spec = tie.close (tie.spec sub-result returns)
+without-first-spec = tie.close (tie.spec (λ c. search needs) returns)

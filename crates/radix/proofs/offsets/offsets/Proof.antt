@@ -35,12 +35,6 @@ loop-holds c =
     let a = c .before .args in
     (refl, built-none (a .m) (a .n) (a .g) (a .out .now) (omega (arith, one-le-pow (a .n) (a .m) (c .before .pre .0))))
 
-sub-member-of : tie.Need-sub-member-of Inv-loop μ-loop
-sub-member-of c = omega arith
-
-member-of-requires : tie.Need-member-of-requires Inv-loop μ-loop
-member-of-requires c κs = omega arith
-
 cast-widen : tie.Need-cast-widen Inv-loop μ-loop
 cast-widen c =
     let start = at-start (at-turn (c .before)) in
@@ -80,12 +74,6 @@ mul-w c =
       start .pre,
     )
 
-sub-i : tie.Need-sub-i Inv-loop μ-loop
-sub-i c = omega (arith, at-turn (at-taken (at-widen c)) .loop-test .taken)
-
-loop-less : tie.Need-loop-less Inv-loop μ-loop
-loop-less c = omega (arith, at-turn (at-taken (at-widen c)) .loop-test .taken)
-
 loop-again : tie.Need-loop-again Inv-loop μ-loop
 loop-again c =
     let start = at-start (at-turn (at-taken (at-widen c))) in
@@ -105,12 +93,6 @@ mul-w-2 c =
     let a = start .args in
     let l = c .before .before .before .loop in
     omega (arith, built-next (a .m) (a .n) (a .g) (start .pre .0) (l .out) (l .len) (l .w) (l .i) (l .inv .1) (c .before .before .loop-test .taken), start .pre)
-
-sub-i-2 : tie.Need-sub-i-2 Inv-loop μ-loop
-sub-i-2 c = omega arith
-
-loop-less-2 : tie.Need-loop-less-2 Inv-loop μ-loop
-loop-less-2 c = omega arith
 
 loop-again-2 : tie.Need-loop-again-2 Inv-loop μ-loop
 loop-again-2 c =
@@ -134,22 +116,7 @@ returns c =
 pub offsets-spec : {M : Type 1} → statement M
 offsets-spec =
     tie.close
-    (tie.spec
-    Inv-loop
-    μ-loop
-    slice-write-out
-    loop-holds
-    sub-member-of
-    member-of-requires
-    cast-widen
-    widen-requires
-    mul-w
-    sub-i
-    loop-less
-    loop-again
-    mul-w-2
-    sub-i-2
-    loop-less-2
-    loop-again-2
-    same-length
-    returns)
+    (tie.spec Inv-loop μ-loop slice-write-out loop-holds (λ c. omega arith) (λ c κs. omega arith) cast-widen widen-requires mul-w
+    (λ c. omega (arith, at-turn (at-taken (at-widen c)) .loop-test .taken))
+    (λ c. omega (arith, at-turn (at-taken (at-widen c)) .loop-test .taken)) loop-again mul-w-2 (λ c. omega arith) (λ c. omega arith)
+    loop-again-2 same-length returns)

@@ -2,7 +2,7 @@
 use Prim.Native.Nat.{ℕ}
 use mathlib.Core.Path.{subst}
 use borrow.Author.Needs.{needs}
-use Rattle.rules.specs.Groups.{points}
+use Rattle.rules.specs.Groups.Groups.{points}
 use Rattle.radix.specs.Fronts.{Front, rest-others}
 use Rattle.radix.proofs.offsets.other_offsets.Statement.{statement}
 use Rattle.radix.proofs.offsets.other_offsets.Tie as tie
@@ -10,21 +10,6 @@ use Rattle.radix.proofs.offsets.other_offsets.Tie as tie
 -- the start, from the call of `power`
 abbrev at-start : tie.After-power → tie.Start
 at-start c = c .before .before
-
-power-requires : tie.Need-power-requires
-power-requires c κs = search needs
-
-sub-offsets : tie.Need-sub-offsets
-sub-offsets c = search needs
-
-sub-offsets-2 : tie.Need-sub-offsets-2
-sub-offsets-2 c = search needs
-
-offsets-requires : tie.Need-offsets-requires
-offsets-requires c κs = search needs
-
-same-length : tie.Need-same-length
-same-length c = search needs
 
 returns : tie.Need-returns
 returns c =
@@ -36,4 +21,4 @@ returns c =
 pub other-offsets-spec : {M : Type 1} → statement M
 other-offsets-spec =
     tie.close
-    (tie.spec power-requires sub-offsets sub-offsets-2 offsets-requires same-length returns)
+    (tie.spec (λ c κs. search needs) (λ c. search needs) (λ c. search needs) (λ c κs. search needs) (λ c. search needs) returns)

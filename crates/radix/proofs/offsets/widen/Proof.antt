@@ -16,9 +16,6 @@ Inv-loop out₀ len w m end j₀ out j = (len ≤ j) × (j ≤ len * m) × (end 
 abbrev μ-loop : tie.MeasureT-loop
 μ-loop out₀ len w m end j₀ out j = end - j
 
-mul-end : tie.Need-mul-end Inv-loop μ-loop
-mul-end c = omega arith
-
 loop-holds : tie.Need-loop-holds Inv-loop μ-loop
 loop-holds c =
     let a = c .args in (
@@ -28,15 +25,6 @@ loop-holds c =
       refl,
       starts (a .out .now) (a .len) (a .w) (a .m) (c .pre .1) (c .pre .2),
     )
-
-sub-out : tie.Need-sub-out Inv-loop μ-loop
-sub-out c = omega arith
-
-mul-out : tie.Need-mul-out Inv-loop μ-loop
-mul-out c = omega arith
-
-slice-read-out : tie.Need-slice-read-out Inv-loop μ-loop
-slice-read-out c = omega arith
 
 add-out : tie.Need-add-out Inv-loop μ-loop
 add-out c =
@@ -48,18 +36,6 @@ add-out c =
           (entry (a .out .now) (a .len) (a .w) (a .m) (pre .1) (pre .2) (l .out) (l .j) (l .inv .0) (pre .0) (omega arith) (l .inv .4))
           (small (a .out .now) (a .len) (a .w) (a .m) (pre .1) (pre .2) (pre .3) (l .j) (omega arith));
     }
-
-mul-out-2 : tie.Need-mul-out-2 Inv-loop μ-loop
-mul-out-2 c = omega arith
-
-slice-write-out : tie.Need-slice-write-out Inv-loop μ-loop
-slice-write-out c = omega arith
-
-add-j : tie.Need-add-j Inv-loop μ-loop
-add-j c = omega arith
-
-loop-less : tie.Need-loop-less Inv-loop μ-loop
-loop-less c = omega arith
 
 loop-again : tie.Need-loop-again Inv-loop μ-loop
 loop-again c =
@@ -73,9 +49,6 @@ loop-again c =
       turn (a .out .now) (a .len) (a .w) (a .m) (pre .1) (pre .2) (l .out) (l .j) _ (omega arith) (omega arith) (l .inv .4)
           (entry (a .out .now) (a .len) (a .w) (a .m) (pre .1) (pre .2) (l .out) (l .j) (l .inv .0) (pre .0) (omega arith) (l .inv .4)),
     )
-
-same-length : tie.Need-same-length Inv-loop μ-loop
-same-length c = c .before .loop .inv .3
 
 returns : tie.Need-returns Inv-loop μ-loop
 returns c =
@@ -91,19 +64,5 @@ returns c =
 pub widen-spec : {M : Type 1} → statement M
 widen-spec =
     tie.close
-    (tie.spec
-    Inv-loop
-    μ-loop
-    mul-end
-    loop-holds
-    sub-out
-    mul-out
-    slice-read-out
-    add-out
-    mul-out-2
-    slice-write-out
-    add-j
-    loop-less
-    loop-again
-    same-length
-    returns)
+    (tie.spec Inv-loop μ-loop (λ c. omega arith) loop-holds (λ c. omega arith) (λ c. omega arith) (λ c. omega arith) add-out
+    (λ c. omega arith) (λ c. omega arith) (λ c. omega arith) (λ c. omega arith) loop-again (λ c. c .before .loop .inv .3) returns)

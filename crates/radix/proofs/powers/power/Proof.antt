@@ -33,12 +33,6 @@ mul-p c =
           (small _ (c .before .loop .i + 1) (omega arith) (omega arith));
     }
 
-add-i : tie.Need-add-i Inv-loop μ-loop
-add-i c = omega arith
-
-loop-less : tie.Need-loop-less Inv-loop μ-loop
-loop-less c = omega arith
-
 loop-again : tie.Need-loop-again Inv-loop μ-loop
 loop-again c = (omega arith, one-more _ (c .before .loop .i) _ (c .before .loop .inv .1))
 
@@ -47,4 +41,4 @@ returns c = c .before .loop .inv .1 ∙ ap (λ (k : ℕ). c .before .before .arg
 
 pub power-spec : {M : Type 1} → statement M
 power-spec =
-    tie.close (tie.spec Inv-loop μ-loop loop-holds mul-p add-i loop-less loop-again returns)
+    tie.close (tie.spec Inv-loop μ-loop loop-holds mul-p (λ c. omega arith) (λ c. omega arith) loop-again returns)

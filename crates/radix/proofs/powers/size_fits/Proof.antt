@@ -27,9 +27,6 @@ returns-4 c =
       lt-leb _ _ (c .if4 .taken),
     )
 
-power-requires : tie.Need-power-requires
-power-requires c κs = search needs
-
 returns-5 : tie.Need-returns-5
 unfolding sizeFits levelsFit inputsFit cellsFit
 returns-5 c =
@@ -43,4 +40,4 @@ returns-5 c =
 
 pub size-fits-spec : {M : Type 1} → statement M
 size-fits-spec =
-    tie.close (tie.spec returns returns-2 returns-3 returns-4 power-requires returns-5)
+    tie.close (tie.spec returns returns-2 returns-3 returns-4 (λ c κs. search needs) returns-5)

@@ -48,26 +48,11 @@ cast-out c =
     let l = c .before .loop in
     omega (arith, weight-below (a .m) (a .n) (l .i) (l .w) (c .before .before .pre .0) (l .inv .2))
 
-sub-out : tie.Need-sub-out Inv-loop μ-loop
-sub-out c = omega arith
-
-mul-out : tie.Need-mul-out Inv-loop μ-loop
-mul-out c = omega arith
-
-slice-write-out : tie.Need-slice-write-out Inv-loop μ-loop
-slice-write-out c = omega arith
-
 mul-w : tie.Need-mul-w Inv-loop μ-loop
 mul-w c =
     let a = c .before .before .args in
     let l = c .before .loop in
     omega (arith, weight-below (a .m) (a .n) (l .i - 1) (l .w * a .m) (c .before .before .pre .0) (one-more (a .m) (a .n) (l .i) (l .w) (omega arith) (l .inv .0) (l .inv .2)))
-
-sub-i : tie.Need-sub-i Inv-loop μ-loop
-sub-i c = omega arith
-
-loop-less : tie.Need-loop-less Inv-loop μ-loop
-loop-less c = omega arith
 
 loop-again : tie.Need-loop-again Inv-loop μ-loop
 loop-again c =
@@ -79,26 +64,11 @@ loop-again c =
       λ j low high. turn (a .m) (a .n) (l .i) (l .w) (l .out) (omega arith) (omega arith) (l .inv .2) (l .inv .3) j low high (ℕ-discrete j (l .i - 1)),
     )
 
-same-length : tie.Need-same-length Inv-loop μ-loop
-same-length c = c .before .loop .inv .1
-
 returns : tie.Need-returns Inv-loop μ-loop
 returns c = λ i i<. c .before .loop .inv .3 i (omega arith) i<
 
 pub weights-spec : {M : Type 1} → statement M
 weights-spec =
     tie.close
-    (tie.spec
-    Inv-loop
-    μ-loop
-    loop-holds
-    cast-out
-    sub-out
-    mul-out
-    slice-write-out
-    mul-w
-    sub-i
-    loop-less
-    loop-again
-    same-length
-    returns)
+    (tie.spec Inv-loop μ-loop loop-holds cast-out (λ c. omega arith) (λ c. omega arith) (λ c. omega arith) mul-w (λ c. omega arith)
+    (λ c. omega arith) loop-again (λ c. c .before .loop .inv .1) returns)

@@ -1,93 +1,44 @@
 -- `settling::chosen::make_by` meets its contract. Assumes nothing.
-use mathlib.Core.Path.{sym, _∙_}
+use mathlib.Core.Path.{_∙_}
 use native.Mathlib.Omega.{arith}
-use Rattle.accepted.specs.Taken.{held-size, full-taken, full-refused, inks-given}
-use Rattle.synthesis.specs.Outcomes.{netBy}
-use Rattle.settling.specs.Calls.{makes-refused, table-settled}
 use borrow.Author.Needs.{needs}
+use Rattle.settling.specs.Calls.{makes-turned, makes-marked}
 use Rattle.settling.proofs.chosen.make_by.Statement.{statement}
 use Rattle.settling.proofs.chosen.make_by.Tie as tie
 
--- the table's read and each call, from the next
-abbrev at-read : tie.After-enum-told → tie.After-read-full
+-- the start, the input's read, the match on it and the call, each from the next
+abbrev at-start : tie.After-read-input → tie.Start
+at-start c = c .before .before .before .before .before .before .before .before
+
+abbrev at-read : tie.After-enum-told → tie.After-read-input
 at-read c = c .before .before .before .before
 
-abbrev at-start : tie.After-read-full → tie.Start
-at-start c = c .before .before .before .before .before .before
+abbrev at-told : tie.After-settle-marked-arg4 → tie.After-enum-told
+at-told c = c .before .before .before .before .before
 
-abbrev at-power : tie.After-settle-into-arg4 → tie.After-power
-at-power c = c .before .before .before .before .before
+abbrev at-done : tie.After-slice-known6 → tie.After-settle-marked
+at-done c = c .before .before .before .before .before .before
 
-abbrev at-settled : tie.After-slice-known6 → tie.After-settle-into
-at-settled c = c .before .before .before .before .before .before
-
-slice-aggregate-read-full : tie.Need-slice-aggregate-read-full
-slice-aggregate-read-full c = search needs
-
-read-full-requires : tie.Need-read-full-requires
-read-full-requires c κs = omega arith
-
-enum-known-outcome : tie.Need-enum-known-outcome
-enum-known-outcome c = search needs
-
-enum-told : tie.Need-enum-told
-enum-told c = search needs
-
-power-requires : tie.Need-power-requires
-power-requires c κs =
-    let size = held-size _ _ (at-read c .read-full .ensures .held (c .enum-told .given .1) .header) in
-    (omega (arith, size .levels-most), omega (arith, size .inputs-most))
-
-sub-settle-into : tie.Need-sub-settle-into
-sub-settle-into c = search needs
-
-part-settle-into-start : tie.Need-part-settle-into-start
-part-settle-into-start c = search needs
-
-part-settle-into-end : tie.Need-part-settle-into-end
-part-settle-into-end c =
-    let read = at-read (c .before .before) .read-full in
-    omega (arith, c .before .power .ensures, held-size _ _ (read .ensures .held (c .before .before .enum-told .given .1) .header) .cells-most, read .kept)
-
-settle-into-requires : tie.Need-settle-into-requires
-settle-into-requires c κs = inks-given _ _ _ _ (at-power c .power .ensures) (full-taken _ _ _ (at-read (at-power c .before) .read-full .ensures) (at-power c .before .enum-told .given .1))
+settle-marked-requires : tie.Need-settle-marked-requires
+settle-marked-requires c κs =
+    let taken = at-read (at-told c) .read-input .ensures .taken (at-told c .enum-told .given .1) in
+    (taken .given, taken .cells-long, taken .marks-long)
 
 returns : tie.Need-returns
 returns c =
-    let a = at-start (c .before .before .before .before .before) .args in
-    sym (makes-refused (netBy (a .choice)) (a .s .now) (a .cells .now) (a .marks .now) (a .out .now) _ _ (full-refused _ _ _ (c .before .before .before .before .before .read-full .ensures) _ _ (c .before .outcome .given .1)))
-
-same-length : tie.Need-same-length
-same-length c = search needs
-
-same-length-2 : tie.Need-same-length-2
-same-length-2 c = search needs
-
-same-length-3 : tie.Need-same-length-3
-same-length-3 c = search needs
+    let read = c .before .before .before .before .before in
+    let a = at-start read .args in
+    makes-turned (a .choice) (a .s .now) (a .cells .now) (a .marks .now) (a .out .now) (read .read-input .ensures .refused _ _ (c .before .outcome .given .1))
 
 returns-2 : tie.Need-returns-2
 returns-2 c =
-    let power = at-power (at-settled c .before) in
-    let a = at-start (at-read (power .before)) .args in
-    at-settled c .settle-into .ensures
-    ∙ table-settled _ _ _ (full-taken _ _ _ (at-read (power .before) .read-full .ensures) (power .before .enum-told .given .1)) _ (power .power .ensures) (netBy (a .choice)) (a .cells .now) (a .marks .now) (a .out .now)
+    let told = at-told (at-done c .before) in
+    let a = at-start (at-read told) .args in
+    at-done c .settle-marked .ensures
+    ∙ makes-marked (a .choice) (a .s .now) (a .cells .now) (a .marks .now) (a .out .now) _ _ (at-read told .read-input .ensures .taken (told .enum-told .given .1))
 
 pub make-by-spec : {M : Type 1} → statement M
 make-by-spec =
-    tie.close
-    (tie.spec
-    slice-aggregate-read-full
-    read-full-requires
-    enum-known-outcome
-    enum-told
-    power-requires
-    sub-settle-into
-    part-settle-into-start
-    part-settle-into-end
-    settle-into-requires
-    returns
-    same-length
-    same-length-2
-    same-length-3
-    returns-2)
+    tie.close (tie.spec (λ c. search needs) (λ c κs. search needs) (λ c. search needs) (λ c. search needs) (λ c. search needs) (λ c. search needs)
+    (λ c. omega (arith, at-read (c .before) .read-input .ensures .inside (c .before .enum-told .given .1))) settle-marked-requires (λ c. search needs)
+    (λ c. search needs) returns (λ c. search needs) (λ c. search needs) (λ c. search needs) returns-2)

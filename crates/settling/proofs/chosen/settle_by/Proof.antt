@@ -1,7 +1,6 @@
 -- `settling::chosen::settle_by` meets its contract. Assumes nothing.
 use mathlib.Core.Path.{sym}
 use Rattle.accepted.specs.Taken.{net-refused, net-taken}
-use Rattle.synthesis.specs.Outcomes.{netBy}
 use Rattle.settling.specs.Calls.{settles-refused}
 use borrow.Author.Needs.{needs}
 use Rattle.settling.proofs.chosen.settle_by.Statement.{statement}
@@ -20,45 +19,18 @@ at-told c = c .before .before .before
 abbrev at-settled : tie.After-slice-known6 → tie.After-settle-net
 at-settled c = c .before .before .before .before .before .before
 
-read-net-requires : tie.Need-read-net-requires
-read-net-requires c κs = search needs
-
-enum-known-outcome : tie.Need-enum-known-outcome
-enum-known-outcome c = search needs
-
-enum-told : tie.Need-enum-told
-enum-told c = search needs
-
 settle-net-requires : tie.Need-settle-net-requires
 settle-net-requires c κs = net-taken _ _ (at-read (at-told c) .read-net .ensures) (at-told c .enum-told .given .1)
 
 returns : tie.Need-returns
 returns c =
     let a = at-start (c .before .before .before .before .before) .args in
-    sym (settles-refused (netBy (a .choice)) (a .s .now) (a .cells .now) (a .marks .now) (a .out .now) _ _ (net-refused _ _ (c .before .before .before .before .before .read-net .ensures) _ _ (c .before .outcome .given .1)))
-
-same-length : tie.Need-same-length
-same-length c = search needs
-
-same-length-2 : tie.Need-same-length-2
-same-length-2 c = search needs
-
-same-length-3 : tie.Need-same-length-3
-same-length-3 c = search needs
+    sym (settles-refused (a .choice) (a .s .now) (a .cells .now) (a .marks .now) (a .out .now) _ _ (net-refused _ _ (c .before .before .before .before .before .read-net .ensures) _ _ (c .before .outcome .given .1)))
 
 returns-2 : tie.Need-returns-2
 returns-2 c = at-settled c .settle-net .ensures
 
 pub settle-by-spec : {M : Type 1} → statement M
 settle-by-spec =
-    tie.close
-    (tie.spec
-    read-net-requires
-    enum-known-outcome
-    enum-told
-    settle-net-requires
-    returns
-    same-length
-    same-length-2
-    same-length-3
-    returns-2)
+    tie.close (tie.spec (λ c κs. search needs) (λ c. search needs) (λ c. search needs) settle-net-requires returns (λ c. search needs) (λ c. search needs)
+    (λ c. search needs) returns-2)

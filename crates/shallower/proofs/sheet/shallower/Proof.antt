@@ -2,7 +2,7 @@
 use mathlib.Core.Path.{_≡_, sym, ap, _∙_}
 use mathlib.Core.List.{[]}
 use native.Mathlib.Nat.{zero-add}
-use Rattle.rules.specs.Shallower as rules
+use Rattle.rules.specs.Calls.Shallower as rules
 use Rattle.shallower.specs.declared.which.Which.{Which}
 use Rattle.shallower.specs.Which.{handed, whichAs}
 use borrow.Author.Needs.{needs}
@@ -20,27 +20,6 @@ due c w e =
     let a = at-start c .args in
     ap (λ (v : rules.Which). handed v (a .first) (a .second)) (sym (ap whichAs e) ∙ c .which-of .ensures)
 
-which-of-requires : tie.Need-which-of-requires
-which-of-requires c κs = search needs
-
-enum-told : tie.Need-enum-told
-enum-told c = search needs
-
-enum-told-2 : tie.Need-enum-told-2
-enum-told-2 c = search needs
-
-enum-told-3 : tie.Need-enum-told-3
-enum-told-3 c = search needs
-
-sub-result : tie.Need-sub-result
-sub-result c = search needs
-
-part-result-start : tie.Need-part-result-start
-part-result-start c = search needs
-
-part-result-end : tie.Need-part-result-end
-part-result-end c = search needs
-
 returns : tie.Need-returns
 returns c = due (c .before .before) _ (c .enum-told .given .1)
 
@@ -56,14 +35,5 @@ returns-3 c =
 pub shallower-spec : {M : Type 1} → statement M
 shallower-spec =
     tie.close
-    (tie.spec
-    which-of-requires
-    enum-told
-    enum-told-2
-    enum-told-3
-    sub-result
-    part-result-start
-    part-result-end
-    returns
-    returns-2
-    returns-3)
+    (tie.spec (λ c κs. search needs) (λ c. search needs) (λ c. search needs) (λ c. search needs) (λ c. search needs) (λ c. search needs)
+    (λ c. search needs) returns returns-2 returns-3)

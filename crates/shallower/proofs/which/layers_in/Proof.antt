@@ -1,9 +1,9 @@
 -- `shallower::which::layers_in` meets its contract: the layers of the net that was read. Assumes nothing.
 use mathlib.Core.Path.{sym, ap, _∙_}
-use Rattle.rules.specs.Answers.{accepted}
-use Rattle.rules.specs.Layers.{layers}
-use Rattle.rules.specs.ShallowSettling.{netLayers}
-use Rattle.laws.specs.Shallower.{layers-refused, layers-accepted}
+use Rattle.rules.specs.Calls.Answers.{accepted}
+use Rattle.rules.specs.Nets.Layers.{layers}
+use Rattle.rules.specs.Calls.ShallowSettling.{netLayers}
+use Rattle.laws.specs.Calls.Shallower.{layers-refused, layers-accepted}
 use Rattle.nets.specs.Forms.{gatesOf, headerOf}
 use Rattle.accepted.specs.Taken.{NetTaken, net-taken, net-refused, sound}
 use borrow.Author.Needs.{needs}
@@ -14,22 +14,10 @@ use Rattle.shallower.proofs.which.layers_in.Tie as tie
 abbrev at-read : tie.After-enum-told → tie.After-read-net
 at-read c = c .before .before .before
 
-read-net-requires : tie.Need-read-net-requires
-read-net-requires c κs = search needs
-
-enum-known-outcome : tie.Need-enum-known-outcome
-enum-known-outcome c = search needs
-
-enum-told : tie.Need-enum-told
-enum-told c = search needs
-
 -- the net that was read
 taken : (c : tie.After-enum-told) → let read = at-read c in
     NetTaken (read .before .before .args .s .now) (read .read-net .result .header) (read .read-net .result .net)
 taken c = net-taken _ _ (at-read c .read-net .ensures) (c .enum-told .given .1)
-
-layers-requires : tie.Need-layers-requires
-layers-requires c κs = sound _ _ _ (taken c)
 
 returns : tie.Need-returns
 returns c = sym (layers-refused _ _ _ (net-refused _ _ (c .before .before .before .before .read-net .ensures) _ _ (c .before .outcome .given .1)))
@@ -44,5 +32,4 @@ returns-2 c =
 
 pub layers-in-spec : {M : Type 1} → statement M
 layers-in-spec =
-    tie.close
-    (tie.spec read-net-requires enum-known-outcome enum-told layers-requires returns returns-2)
+    tie.close (tie.spec (λ c κs. search needs) (λ c. search needs) (λ c. search needs) (λ c κs. sound _ _ _ (taken c)) returns returns-2)

@@ -1,5 +1,5 @@
--- `tree_counts::counts::group_count` and `split_count`, which call each other, meet their contracts. The measure is twice the group's number, and one less for a split
--- of it: both parts of a split are below the group. The loop's invariant: what is kept is right, and the sum is that of the splits passed. Assumes nothing.
+-- `tree_counts::counts::group_count` and `split_count`, which call each other, meet their contracts. The measure is twice the number of members, and one less for a
+-- split: "the number of members, with a split position, falls". The loop's invariant: what is kept is right, and the sum is that of the splits passed. Assumes nothing.
 use Prim.Native.Nat.{ℕ, _+_, _-_, _*_, _^_, _<_}
 use mathlib.Core.Path.{_≡_, refl, sym, ap₂, _∙_}
 use mathlib.Core.Logic.{_≢_, ⊎-elim}
@@ -8,15 +8,16 @@ use native.Mathlib.Omega.{arith}
 use borrow.Author.Tests.{eqb-true, eqb-false, not-true}
 use lib.ListN.{length, length-set}
 use Rattle.rules.specs.Limits.{mostInputs}
-use Rattle.rules.specs.Groups.{size}
-use Rattle.rules.specs.Marks.{markIn}
-use Rattle.rules.specs.Wirings.{firstInput}
-use Rattle.rules.specs.Family.{splitCount}
-use Rattle.trees.specs.FamilyCounts.{counted, splitCounted, count-none, count-single}
-use Rattle.trees.specs.FamilyBounds.{count-fits}
-use Rattle.radix.specs.Parts.{Part, Next}
+use Rattle.rules.specs.Groups.Groups.{size}
+use Rattle.rules.specs.Groups.Marks.{markIn}
+use Rattle.rules.specs.Nets.Wirings.{firstInput}
+use Rattle.rules.specs.Nets.Family.{splitCount}
+use Rattle.trees.specs.Groups.Members.{size-pos}
+use Rattle.trees.specs.Families.FamilyCounts.{counted, splitCounted, no-parts-count, count-single}
+use Rattle.trees.specs.Families.FamilyBounds.{count-fits}
+use Rattle.radix.specs.Parts.{PartOf, Next}
 use Rattle.radix.specs.Widths.{groupsEnd}
-use Rattle.tree_counts.specs.Counts.{CountsKept, Countable, Splittable, one-kept, smaller, split-none, split-fits, product-fits, product-split}
+use Rattle.tree_counts.specs.Counts.{CountsKnown, Countable, Splittable, splittable-sizes, one-kept, smaller, split-none, split-fits, product-fits, product-split}
 use Rattle.tree_counts.specs.Walking.{Passed, passed-none, passed-next, looked, Summed, summed-none, summed-next, summed-all, summed-most}
 use borrow.Fn.Kinds.{In}
 use borrow.Fn.PlainCycle.{Measures, is, falls, and}
@@ -36,10 +37,10 @@ use Rattle.tree_counts.proofs.counts.+group_count+split_count.{statemen
 use Rattle.tree_counts.proofs.counts.+group_count+split_count.Tie.{close}
 
 abbrev μ-group-count : Measures 2 group-count-kinds.ps ℕ
-μ-group-count κs a = a .1 .1 .0 + a .1 .1 .0
+μ-group-count κs a = size mostInputs (a .1 .1 .0) + size mostInputs (a .1 .1 .0)
 
 abbrev μ-split-count : Measures 2 split-count-kinds.ps ℕ
-μ-split-count κs a = a .1 .1 .0 + a .1 .1 .0 - 1
+μ-split-count κs a = size mostInputs (a .1 .1 .0) + size mostInputs (a .1 .1 .0) - 1
 
 abbrev group-count-at : ℕ → In 2 group-count-kinds.ps
 group-count-at t = and 2 group-count-kinds.ps (is 2 group-count-kinds.ps μ-group-count t) group-count.Pre
@@ -72,7 +73,7 @@ called t = (
 
 abbrev Inv-loop : group-count-lts.InvT-loop
 Inv-loop marks counts₀ g known rest first sum₀ part₀ counts sum part =
-    (length counts ≡ length counts₀) × CountsKept marks counts × Passed rest part × Summed marks g rest part sum
+    (length counts ≡ length counts₀) × CountsKnown marks counts × Passed rest part × Summed marks g rest part sum
 
 abbrev μ-loop : group-count-lts.MeasureT-loop
 μ-loop marks counts₀ g known rest first sum₀ part₀ counts sum part = rest - part
@@ -155,7 +156,7 @@ module _ (t : ℕ) where
   returns c =
       let s = start (c .before) in
       record {
-        count = λ n g<. sym (count-none n (marks s) (g s) g< (λ is. c .if1 .taken (c .before .mark-at .ensures ∙ is)));
+        count = λ n g<. sym (no-parts-count n (marks s) (g s) g< (λ is. c .if1 .taken (c .before .mark-at .ensures ∙ is)));
         kept = group s .kept;
       }
 
@@ -268,7 +269,7 @@ module _ (t : ℕ) where
         summed-next (marks s) (g s) (rest f) (group s .some) (is-rest f) part next sum count (c .loop-test .taken) (c .before .loop .inv .2) after
         (c .before .loop .inv .3) is
 
-    goes-on : (rest f < groupsEnd) × (part < rest f) × Part part (rest f)
+    goes-on : (rest f < groupsEnd) × (part < rest f) × PartOf part (rest f)
     goes-on = (omega (arith, is-rest f mostInputs (group s .below), group s .below), c .loop-test .taken, c .before .loop .inv .2 .is-part)
 
   -- what is kept of the two groups
@@ -285,7 +286,7 @@ module _ (t : ℕ) where
   split-count-requires : group-count-lts.Need-split-count-requires (called t) (group-count-at t) group-count.Post Inv-loop μ-loop
   split-count-requires c κs =
       let at = turn (c .before .before) in
-      let falls : g (s at) + g (s at) - 1 < t = omega (arith, s at .pre .0, group (s at) .some) in
+      let falls : size mostInputs (g (s at)) + size mostInputs (g (s at)) - 1 < t = omega (arith, s at .pre .0, size-pos mostInputs (g (s at)) (group (s at) .below) (group (s at) .some)) in
       (falls, here at)
 
   add-sum : group-count-lts.Need-add-sum (called t) (group-count-at t) group-count.Post Inv-loop μ-loop
@@ -423,7 +424,7 @@ module _ (t : ℕ) where
   group-count-requires c κs =
       let e = came (c .before .before) in
       let is : Splittable ((e .args .marks .now)) (e .args .counts .now) (e .args .g) (e .args .a) = e .pre .1 in
-      (omega (arith, e .pre .0, is .less), smaller _ _ _ _ _ (is .group) (is .some) (is .less) refl (is .group .kept))
+      (omega (arith, e .pre .0, splittable-sizes _ _ _ _ mostInputs (is .group .below) is), smaller _ _ _ _ _ (is .group) (is .some) (is .less) refl (is .group .kept))
 
   sub-group-count : split-count-lts.Need-sub-group-count asked (split-count-at t) split-count.Post
   sub-group-count c = omega (arith, entered (c .before .before .before) .pre .1 .less)
@@ -435,7 +436,7 @@ module _ (t : ℕ) where
       let is : Splittable (e .args .marks .now) (e .args .counts .now) (e .args .g) (e .args .a) = e .pre .1 in
       let some : 0 < e .args .g - e .args .a = omega (arith, is .less) in
       let less : e .args .g - e .args .a < e .args .g = omega (arith, is .some, is .less) in
-      (omega (arith, e .pre .0, is .some, is .less), smaller _ _ _ _ _ (is .group) some less (l .group-count .kept .1 .0) (l .group-count .ensures .kept))
+      (omega (arith, e .pre .0, splittable-sizes _ _ _ _ mostInputs (is .group .below) is), smaller _ _ _ _ _ (is .group) some less (l .group-count .kept .1 .0) (l .group-count .ensures .kept))
 
   -- the product of what was found is the split's count
   is-product : (c : After-right) →

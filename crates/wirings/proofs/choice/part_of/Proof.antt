@@ -13,12 +13,6 @@ at-shallow c = c .before .before .before .before
 enum-told : tie.Need-enum-told
 enum-told c = search needs
 
-split-of-requires : tie.Need-split-of-requires
-split-of-requires c κs = search needs
-
-enum-told-2 : tie.Need-enum-told-2
-enum-told-2 c = search needs
-
 shallow-split-requires : tie.Need-shallow-split-requires
 shallow-split-requires c κs =
     let s = at-shallow c in
@@ -34,4 +28,4 @@ returns-2 c n g< = rw (c .before .enum-told2 .given .1) (c .shallow-split .ensur
 pub part-of-spec : {M : Type 1} → statement M
 part-of-spec =
     tie.close
-    (tie.spec enum-told split-of-requires enum-told-2 shallow-split-requires returns returns-2)
+    (tie.spec enum-told (λ c κs. search needs) (λ c. search needs) shallow-split-requires returns returns-2)

@@ -8,9 +8,9 @@ use native.Mathlib.Nat.{lt-of-lt-of-le}
 use native.Mathlib.Omega.{arith}
 use borrow.Author.Tests.{eqb-true, eqb-false}
 use lib.Pow.{pow-mono}
-use Rattle.rules.specs.Groups.{size}
-use Rattle.rules.specs.Wirings.{firstInput}
-use Rattle.trees.specs.Members.{size-one}
+use Rattle.rules.specs.Groups.Groups.{size}
+use Rattle.rules.specs.Nets.Wirings.{firstInput}
+use Rattle.trees.specs.Groups.Members.{size-one}
 use Rattle.wirings.specs.Choice.{splitBy, LayersRoom, room-below}
 use Rattle.wirings.specs.Added.{Added, added-single}
 use Rattle.wirings.specs.Chosen.{Choosable, ready-some, part-less, part-sizes, left-choosable, right-choosable, parts-added}

@@ -2,7 +2,7 @@
 use mathlib.Core.Path.{_≡_, ap}
 use native.Mathlib.Omega.{arith}
 use borrow.Author.Needs.{needs}
-use Rattle.trees.specs.Members.{size-le}
+use Rattle.trees.specs.Groups.Members.{size-le}
 use Rattle.wirings.specs.Links.{noLinks}
 use Rattle.wirings.specs.Choice.{splitBy}
 use Rattle.wirings.specs.Chosen.{chosen}
@@ -21,9 +21,6 @@ empty : (c : tie.After-no-links) → c .no-links .result .gates ≡ 0
 unfolding noLinks
 empty c = ap (λ w. w .gates) (c .no-links .ensures)
 
-no-links-requires : tie.Need-no-links-requires
-no-links-requires c κs = search needs
-
 wire-group-requires : tie.Need-wire-group-requires
 wire-group-requires c κs =
     let s = start c in
@@ -37,4 +34,4 @@ returns c =
     (built .wire-group .result .reference) (empty (none built)) (built .wire-group .ensures)
 
 pub choose-spec : {M : Type 1} → statement M
-choose-spec = tie.close (tie.spec no-links-requires wire-group-requires returns)
+choose-spec = tie.close (tie.spec (λ c κs. search needs) wire-group-requires returns)

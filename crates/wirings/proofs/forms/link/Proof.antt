@@ -9,15 +9,6 @@ use Rattle.wirings.specs.Links.{linked}
 use Rattle.wirings.proofs.forms.link.Statement.{statement}
 use Rattle.wirings.proofs.forms.link.Tie as tie
 
-array-write-lefts : tie.Need-array-write-lefts
-array-write-lefts c = search needs
-
-array-write-rights : tie.Need-array-write-rights
-array-write-rights c = search needs
-
-add-t11 : tie.Need-add-t11
-add-t11 c = search needs
-
 returns : tie.Need-returns
 returns c =
     let start = c .before .before in
@@ -27,4 +18,4 @@ returns c =
     linked (a .wiring) (a .left) (a .right) (omega (arith, start .pre)) (omega (arith, start .pre))
 
 pub link-spec : {M : Type 1} → statement M
-link-spec = tie.close (tie.spec array-write-lefts array-write-rights add-t11 returns)
+link-spec = tie.close (tie.spec (λ c. search needs) (λ c. search needs) (λ c. search needs) returns)

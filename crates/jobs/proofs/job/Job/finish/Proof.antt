@@ -18,24 +18,6 @@ at-finished c = c .before .before .before .before .before .before
 cells-length : (c : tie.Start) → length (c .args .self .cells) ≡ mostCells
 cells-length c = sym (length-map (c .args .self .cells) (λ v. v)) ∙ c .good .0 .1 .1 .1 .0 .1 .0 .1
 
-slice-aggregate-finish-in : tie.Need-slice-aggregate-finish-in
-slice-aggregate-finish-in c = search needs
-
-slice-aggregate-finish-in-2 : tie.Need-slice-aggregate-finish-in-2
-slice-aggregate-finish-in-2 c = search needs
-
-finish-in-requires : tie.Need-finish-in-requires
-finish-in-requires c κs = omega (arith, cells-length (at-start c))
-
-same-length : tie.Need-same-length
-same-length c = search needs
-
-same-length-2 : tie.Need-same-length-2
-same-length-2 c = search needs
-
-same-length-3 : tie.Need-same-length-3
-same-length-3 c = search needs
-
 returns : tie.Need-returns
 returns c =
     let did = at-finished c in
@@ -43,12 +25,5 @@ returns c =
 
 pub finish-spec : {M : Type 1} → statement M
 finish-spec =
-    tie.close
-    (tie.spec
-    slice-aggregate-finish-in
-    slice-aggregate-finish-in-2
-    finish-in-requires
-    same-length
-    same-length-2
-    same-length-3
-    returns)
+    tie.close (tie.spec (λ c. search needs) (λ c. search needs) (λ c κs. omega (arith, cells-length (at-start c))) (λ c. search needs)
+    (λ c. search needs) (λ c. search needs) returns)

@@ -25,23 +25,11 @@ cells-length c = sym (length-map (c .args .self .cells) (λ v. v)) ∙ c .good .
 marks-length : (c : tie.Start) → length (c .args .self .marks) ≡ mostGroups
 marks-length c = sym (length-map (c .args .self .marks) (λ v. v)) ∙ c .good .0 .1 .1 .1 .1 .0 .1 .0 .1
 
-slice-aggregate-next-mark : tie.Need-slice-aggregate-next-mark
-slice-aggregate-next-mark c = search needs
-
-slice-aggregate-next-mark-2 : tie.Need-slice-aggregate-next-mark-2
-slice-aggregate-next-mark-2 c = search needs
-
-slice-aggregate-next-mark-3 : tie.Need-slice-aggregate-next-mark-3
-slice-aggregate-next-mark-3 c = search needs
-
 next-mark-requires : tie.Need-next-mark-requires
 next-mark-requires c κs = (omega (arith, cells-length (at-start c)), omega (arith, marks-length (at-start c)))
 
 enum-told : tie.Need-enum-told
 enum-told c = search needs
-
-enum-known-found : tie.Need-enum-known-found
-enum-known-found c = search needs
 
 marked-requires : tie.Need-marked-requires
 unfolding jobIn
@@ -62,13 +50,5 @@ returns-2 c =
 pub step-spec : {M : Type 1} → statement M
 step-spec =
     tie.close
-    (tie.spec
-    slice-aggregate-next-mark
-    slice-aggregate-next-mark-2
-    slice-aggregate-next-mark-3
-    next-mark-requires
-    enum-told
-    enum-known-found
-    marked-requires
-    returns
-    returns-2)
+    (tie.spec (λ c. search needs) (λ c. search needs) (λ c. search needs) next-mark-requires enum-told (λ c. search needs) marked-requires
+    returns returns-2)

@@ -1,2 +1,0 @@
-// An accepted net sheet against an accepted table sheet.
-pub mod both;

@@ -1,2 +1,0 @@
-// Reading the lines of an arrival sheet.
-pub mod lines;

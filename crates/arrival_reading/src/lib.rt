@@ -1,2 +1,0 @@
-// Reading an arrival sheet.
-pub mod sheet;

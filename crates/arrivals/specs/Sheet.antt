@@ -1,0 +1,4 @@
+pub mod ArrivalReading
+pub mod Line
+pub mod Lines
+pub mod Times

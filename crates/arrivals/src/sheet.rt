@@ -1,0 +1,4 @@
+// The reader of arrival sheets.
+pub mod lines;
+pub mod reader;
+pub mod times;

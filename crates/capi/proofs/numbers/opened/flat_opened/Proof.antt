@@ -1,0 +1,19 @@
+-- `capi::numbers::opened::flat_opened` meets its contract, in each arm. Assumes nothing.
+use mathlib.Core.Path.{sym, ap}
+use Rattle.net_sheets.specs.declared.lister.calls.Opened.{Opened}
+use Rattle.net_sheets.specs.Lister.Calls.{openedAs}
+use Rattle.capi.specs.Numbers.Flat.{flatOf}
+use borrow.Author.Needs.{needs}
+use Rattle.capi.proofs.numbers.opened.flat_opened.Statement.{statement}
+use Rattle.capi.proofs.numbers.opened.flat_opened.Tie as tie
+
+returns : tie.Need-returns
+unfolding openedAs
+returns c = sym (ap (λ (o : Opened). flatOf (openedAs o)) (c .before .opened .given .1))
+
+returns-2 : tie.Need-returns-2
+unfolding openedAs
+returns-2 c = sym (ap (λ (o : Opened). flatOf (openedAs o)) (c .before .opened2 .given .1))
+
+pub flat-opened-spec : {M : Type 1} → statement M
+flat-opened-spec = tie.close (tie.spec (λ c. search needs) (λ c. search needs) returns returns-2)

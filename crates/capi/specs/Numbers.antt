@@ -1,0 +1,9 @@
+pub mod Done
+pub mod Flat
+pub mod Kept
+pub mod Layered
+pub mod Named
+pub mod Reached
+pub mod Timing
+pub mod Turn
+pub mod Verdict

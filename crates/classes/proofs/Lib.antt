@@ -1,0 +1,3 @@
+pub mod KeyMaking
+pub mod KnownKeys
+pub mod Sames

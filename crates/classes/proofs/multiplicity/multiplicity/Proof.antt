@@ -1,0 +1,25 @@
+-- `classes::multiplicity::multiplicity` meets its contract: what bare cells are refused for, or what the group's answer is.
+-- Assumes nothing.
+use mathlib.Core.Path.{sym, ap, _∙_}
+use Rattle.answers.specs.AnswerMaps.{outcomeAs}
+use Rattle.laws.specs.Calls.OpenCells.{cells-sized}
+use Rattle.laws.specs.Calls.Multiplicity.{multiplicity-refused, multiplicity-judged}
+use borrow.Author.Needs.{needs}
+use Rattle.classes.proofs.multiplicity.multiplicity.Statement.{statement}
+use Rattle.classes.proofs.multiplicity.multiplicity.Tie as tie
+
+enum-told : tie.Need-enum-told
+enum-told c = search needs
+
+group-answer-requires : tie.Need-group-answer-requires
+group-answer-requires c κs = cells-sized _ _ _ (sym (ap (outcomeAs tt) (c .enum-told .given .1)) ∙ c .before .before .full-cells .ensures)
+
+returns : tie.Need-returns
+returns c = multiplicity-refused _ _ _ _ _ _ (sym (ap (outcomeAs tt) (c .before .judged .given .1)) ∙ c .before .before .before .full-cells .ensures)
+
+returns-2 : tie.Need-returns-2
+returns-2 c = c .group-answer .ensures ∙ multiplicity-judged _ _ _ _ (sym (ap (outcomeAs tt) (c .before .enum-told .given .1)) ∙ c .before .before .before .full-cells .ensures)
+
+pub multiplicity-spec : {M : Type 1} → statement M
+multiplicity-spec =
+    tie.close (tie.spec (λ c κs. search needs) (λ c. search needs) enum-told group-answer-requires returns returns-2)

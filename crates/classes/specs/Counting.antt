@@ -1,0 +1,98 @@
+-- A loop that keeps the first of each class until there are enough, over plain lists: what is kept, and the assignments that are left, give the
+-- classes of all.
+-- Assumes nothing.
+use Prim.Native.Nat.{ℕ, _+_, _≤_, _<_}
+use mathlib.Core.Path.{_≡_, refl, sym, ap, ap₂, _∙_, subst⁻¹}
+use mathlib.Core.List.{List, [], _∷_, _++_}
+use native.Mathlib.Numerals.{add-one}
+use native.Mathlib.Omega.{arith}
+use native.Mathlib.Decide.{ℕ-discrete}
+use lib.ListN.{length, getD, take, drop, set, length-set, length-take, drop-of-length-le}
+use lib.Seq.{take-suc-set, take-all, length-take-le, getD-set-same, getD-set-other}
+use Rattle.rules.specs.Lists.{firstPlace}
+use Rattle.rules.specs.Groups.Groups.{alikeOver, firsts}
+use Rattle.classes.specs.Firsts.{classesOver, firsts-known, firsts-new, firsts-front}
+use Rattle.laws.specs.Lists.Walks.{rest}
+use Rattle.radix.specs.Fronts.{Front}
+use Rattle.classes.specs.Within.{Within}
+
+module _ (f : ℕ → ℕ) (b : ℕ) (ys xs : List ℕ) (enough : ℕ) where
+  -- what is kept before assignment i is looked at
+  pub record FirstsFound (fs : List ℕ) (count i : ℕ) : Type 0 where
+    pub low : i ≤ length xs
+    pub few : count ≤ enough
+    pub room : enough ≤ length fs
+    pub left : firsts (alikeOver f ys) (take count fs) (drop i xs) ≡ classesOver f ys xs
+    pub inside : (j : ℕ) → j < count → Within b ys (getD fs j 0)
+
+  pub kept-none : (fs : List ℕ) → enough ≤ length fs → FirstsFound fs 0 0
+  unfolding classesOver
+  kept-none fs h = record { low = omega arith; few = omega arith; room = h; left = refl; inside = λ j k. absurd (omega arith) }
+
+module _ {f : ℕ → ℕ} {b : ℕ} {ys xs : List ℕ} {enough : ℕ} {fs : List ℕ} {count i : ℕ} (kept : FirstsFound f b ys xs enough fs count i) where
+  kept-length : length (take count fs) ≡ count
+  kept-length = length-take-le count fs (omega (arith, kept .few, kept .room))
+
+  -- all are looked at
+  pub kept-all : length xs ≤ i → Front (take enough (classesOver f ys xs)) count fs
+  unfolding firsts
+  kept-all h =
+      let all : take count fs ≡ classesOver f ys xs = ap (firsts (alikeOver f ys) (take count fs)) (sym (drop-of-length-le xs h)) ∙ kept .left in
+      let long : length (classesOver f ys xs) ≡ count = sym (ap length all) ∙ kept-length in
+      record {
+        count = omega (arith, length-take enough (classesOver f ys xs), kept .few);
+        is = all ∙ sym (take-all enough (classesOver f ys xs) (omega (arith, kept .few)));
+      }
+
+  -- or enough are kept
+  pub kept-enough : count ≡ enough → Front (take enough (classesOver f ys xs)) count fs
+  kept-enough e =
+      let front : take enough (classesOver f ys xs) ≡ take count fs =
+      ap₂ (λ (k : ℕ) (l : List ℕ). take k l) (sym (kept-length ∙ e)) (sym (kept .left)) ∙ firsts-front (alikeOver f ys) (take count fs) (drop i xs) in
+      record { count = sym (ap length front ∙ kept-length); is = sym front }
+
+  module _ (more : i < length xs) {k : ℕ} (place : k ≡ firstPlace (alikeOver f ys (getD xs i 0)) (take count fs)) where
+    -- one of a class that is kept
+    pub kept-known : k < count → FirstsFound f b ys xs enough fs count (i + 1)
+    kept-known h =
+        record {
+          low = omega arith;
+          few = kept .few;
+          room = kept .room;
+          left = sym (firsts-known (alikeOver f ys) (take count fs) (getD xs i 0) (drop (i + 1) xs) (omega (arith, kept-length)))
+              ∙ ap (firsts (alikeOver f ys) (take count fs)) (sym (rest xs i more))
+              ∙ kept .left;
+          inside = kept .inside;
+        }
+
+    module _ (new : count ≤ k) where
+      -- the first of its class joins those that are kept
+      joins : firsts (alikeOver f ys) (take count fs ++ (getD xs i 0 ∷ [])) (drop (i + 1) xs) ≡ classesOver f ys xs
+      joins =
+          sym (firsts-new (alikeOver f ys) (take count fs) (getD xs i 0) (drop (i + 1) xs) (omega (arith, kept-length)))
+          ∙ ap (firsts (alikeOver f ys) (take count fs)) (sym (rest xs i more))
+          ∙ kept .left
+
+      pub kept-new : count < enough → Within b ys (getD xs i 0) → FirstsFound f b ys xs enough (set fs count (getD xs i 0)) (count + 1) (i + 1)
+      kept-new h w =
+          record {
+            low = omega arith;
+            few = omega arith;
+            room = omega (arith, kept .room, length-set fs count (getD xs i 0));
+            left = ap (λ (l : List ℕ). firsts (alikeOver f ys) l (drop (i + 1) xs))
+                (ap (λ (j : ℕ). take j (set fs count (getD xs i 0))) (add-one count) ∙ take-suc-set fs count (getD xs i 0) (omega (arith, kept .room)))
+                ∙ joins;
+            inside = λ j l. at j l (ℕ-discrete j count);
+          }
+        where
+          at : (j : ℕ) → j < count + 1 → Dec (j ≡ count) → Within b ys (getD (set fs count (getD xs i 0)) j 0)
+          at j l (yes e) =
+              subst⁻¹ (Within b ys)
+              (ap (λ (j : ℕ). getD (set fs count (getD xs i 0)) j 0) e ∙ getD-set-same fs count (getD xs i 0) 0 (omega (arith, kept .room))) w
+          at j l (no ne) = subst⁻¹ (Within b ys) (getD-set-other fs count j (getD xs i 0) 0 ne) (kept .inside j (omega arith))
+
+-- the first assignment
+pub firsts-found-one : (f : ℕ → ℕ) (b : ℕ) (ys xs : List ℕ) (enough : ℕ) (fs : List ℕ) → 0 < enough → enough ≤ length fs → 0 < length xs → Within b ys (getD xs 0 0)
+    → FirstsFound f b ys xs enough (set fs 0 (getD xs 0 0)) 1 1
+unfolding firstPlace
+firsts-found-one f b ys xs enough fs some room more = kept-new (kept-none f b ys xs enough fs room) more refl (omega arith) some

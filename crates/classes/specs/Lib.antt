@@ -1,0 +1,5 @@
+pub mod Counting
+pub mod Differences
+pub mod Firsts
+pub mod Keys
+pub mod Within

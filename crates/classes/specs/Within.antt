@@ -1,0 +1,47 @@
+-- An assignment of a group plus one of the other inputs is inside the cells.
+-- Assumes nothing.
+use Prim.Native.Nat.{ℕ, _+_, _^_, _≤_, _<_}
+use mathlib.Core.Path.{_≡_, sym, subst₂}
+use mathlib.Core.List.{List}
+use native.Mathlib.Omega.{arith}
+use lib.ListN.{length, getD}
+use Rattle.rules.specs.Groups.Groups.{part, others, points}
+use Rattle.trees.specs.Trees.Trees.{mix}
+use Rattle.trees.specs.Groups.Levels.{mix-below}
+use Rattle.laws.specs.Lists.Places.{mem-getD}
+use Rattle.trees.specs.Groups.Points.{points-are-parts}
+use Rattle.radix.specs.Widths.{mostMembers, mostOffsets}
+
+-- p with each of ys added is below b
+abbrev pub Within : ℕ → List ℕ → ℕ → Type 0
+Within b ys p = (k : ℕ) → k < length ys → p + getD ys k 0 < b
+
+-- the other inputs' assignments, added to one of the group's
+pub part-within : (m n : ℕ) → 0 < m → (g : ℕ) → g < 2 ^ n → (b : ℕ) → m ^ n ≤ b
+    → (p : ℕ) → part m n g p ≡ p → Within b (points m n (others n g)) p
+unfolding mix
+part-within m n pos g g< b room p p-part k k< =
+    let y = getD (points m n (others n g)) k 0 in
+    let y-part = points-are-parts m n pos (others n g) y (mem-getD (points m n (others n g)) k 0 k<) .0 in
+    omega (arith, mix-below m n pos g p y g<, p-part, y-part)
+
+pub points-within : (m n : ℕ) → 0 < m → (g : ℕ) → g < 2 ^ n → (b : ℕ) → m ^ n ≤ b
+    → (i : ℕ) → i < length (points m n g) → Within b (points m n (others n g)) (getD (points m n g) i 0)
+points-within m n pos g g< b room i i< =
+    part-within m n pos g g< b room _ (points-are-parts m n pos g _ (mem-getD (points m n g) i 0 i<) .0)
+
+-- the same of two lists that are those
+pub lists-within : (m n : ℕ) → 0 < m → (g : ℕ) → g < 2 ^ n → (b : ℕ) → m ^ n ≤ b → (xs ys : List ℕ) → xs ≡ points m n g → ys ≡ points m n (others n g)
+    → (i : ℕ) → i < length xs → Within b ys (getD xs i 0)
+lists-within m n pos g g< b room xs ys e h =
+    subst₂ (λ (us vs : List ℕ). (i : ℕ) → i < length us → Within b vs (getD us i 0)) (sym e) (sym h) (points-within m n pos g g< b room)
+
+-- Room to count the classes of a group of m levels and n inputs: the cells, and work arrays for the group's assignments and those of
+-- the other inputs. Offsets are below 2 to the 16.
+pub record Room (m n : ℕ) (cells xs ys : List ℕ) : Type 0 where
+  pub some : 0 < m
+  pub inputs : n ≤ mostMembers
+  pub small : m ^ n ≤ mostOffsets
+  pub for-cells : m ^ n ≤ length cells
+  pub for-xs : m ^ n ≤ length xs
+  pub for-ys : m ^ n ≤ length ys

@@ -1,0 +1,99 @@
+// The first assignment of each class of a group.
+ghost use mathlib.Core.Path.{_≡_};
+ghost use Prim.Native.Nat.{ℕ, _^_, _≤_, _<_};
+ghost use lib.Dec.{ltb};
+ghost use lib.ListN.{length, take, getD};
+ghost use Rattle.rules.specs.Limits.{mostLevels};
+ghost use Rattle.rules.specs.Groups.Groups.{classes, multiplicity};
+ghost use Rattle.rules.specs.Calls.Answers.{inkIn};
+ghost use Rattle.radix.specs.Fronts.{Front};
+ghost use Rattle.classes.specs.Firsts.{classesOver};
+ghost use Rattle.classes.specs.Keys.{mostColumns};
+ghost use Rattle.classes.specs.Within.{Within, Room};
+use crate::keys;
+use radix::limits::MOST_LEVELS;
+use radix::offsets;
+
+// Puts the first of each class among the assignments xs to the front of `firsts`, until there are `enough`, and returns how many these are. `keys` takes
+// the key of each, over the first `width` columns.
+fn class_firsts(
+    cells: &[u8],
+    xs: &[u16],
+    ys: &[u16],
+    width: usize,
+    enough: usize,
+    firsts: &mut [u16],
+    keys: &mut [u32],
+) -> usize
+    requires { ⌜ (enough ≤ length (now firsts)) × (enough ≤ length (now keys)) × (width ≤ length (now ys)) × (width ≤ mostColumns)
+        × ((i : ℕ) → i < length (now xs) → Within (length (now cells)) (now ys) (getD (now xs) i 0)) ⌝ }
+    ensures { λ r. ⌜ Front (take enough (classesOver (inkIn (now (cells .entry))) (now (ys .entry)) (now (xs .entry)))) r (now (firsts .exit)) ⌝ }
+{
+    let mut count: usize = 0;
+    let mut i: usize = 0;
+    while i < xs.len() {
+        if count == enough {
+            return count;
+        }
+        let p = xs[i];
+        let key = keys::key(cells, ys, width, p as usize);
+        if keys::class_by_key(cells, ys, firsts, keys, count, key, p as usize) < count {
+            i += 1;
+        } else {
+            firsts[count] = p;
+            keys[count] = key;
+            count += 1;
+            i += 1;
+        }
+    }
+    count
+}
+
+// Puts the first of each class of group g to the front of `firsts`, until there are `enough`, and returns how many these are. `xs`, `ys` and `keys` are
+// work arrays. A key has at most `columns` columns: many where many classes are expected, 0 for no keys.
+pub fn group_firsts(
+    m: usize,
+    n: usize,
+    cells: &[u8],
+    g: usize,
+    columns: usize,
+    enough: usize,
+    xs: &mut [u16],
+    ys: &mut [u16],
+    firsts: &mut [u16],
+    keys: &mut [u32],
+) -> usize
+    requires { ⌜ (Room m n (now cells) (now xs) (now ys)) × (enough ≤ length (now firsts)) × (enough ≤ length (now keys)) × (columns ≤ mostColumns)
+        × (g < 2 ^ n) ⌝ }
+    ensures { λ r. ⌜ Front (take enough (classes m n (inkIn (now (cells .entry))) g)) r (now (firsts .exit)) ⌝ }
+{
+    let count = offsets::offsets(m, n, g, xs);
+    let other = offsets::other_offsets(m, n, g, ys);
+    let width = keys::key_width(columns, other);
+    class_firsts(
+        cells,
+        &xs[0..count],
+        &ys[0..other],
+        width,
+        enough,
+        firsts,
+        keys,
+    )
+}
+
+// Returns whether group g has more than m classes. Counts no further. `xs` and `ys` are work arrays.
+pub fn more_classes_than_levels(
+    m: usize,
+    n: usize,
+    cells: &[u8],
+    g: usize,
+    xs: &mut [u16],
+    ys: &mut [u16],
+) -> bool
+    requires { ⌜ (Room m n (now cells) (now xs) (now ys)) × (m ≤ mostLevels) × (g < 2 ^ n) ⌝ }
+    ensures { λ r. ⌜ r ≡ ltb m (multiplicity m n (inkIn (now (cells .entry))) g) ⌝ }
+{
+    let mut firsts = [0u16; MOST_LEVELS + 1];
+    let mut known = [0u32; MOST_LEVELS + 1];
+    m < group_firsts(m, n, cells, g, 0, m + 1, xs, ys, &mut firsts, &mut known)
+}

@@ -1,4 +1,0 @@
-pub mod Copies
-pub mod Spreads
-pub mod Known
-pub mod Covering

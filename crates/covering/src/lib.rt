@@ -1,2 +1,0 @@
-// Assignments that cover a group.
-pub mod cover;

@@ -1,0 +1,9 @@
+pub mod FamilyCounting
+pub mod FamilyLengths
+pub mod FamilyOrder
+pub mod FamilyOutcomes
+pub mod FamilyRules
+pub mod FamilySheets
+pub mod FamilyTables
+pub mod FamilyTreeClause
+pub mod FamilyTrees

@@ -1,0 +1,143 @@
+-- Document 02, K3: "The other takes a table sheet, an order number and all of making's buffers, and writes the tree of that number, from 0." 17: "order
+-- number not below the count, place the number, judged after 14 and before 15; it takes the place of 16 in the second call and leaves what 16
+-- leaves." For every other number the call comes to what making does, but for the sheet; and for number 0 to just what making does.
+-- Assumes nothing.
+use Prim.Native.Nat.{ℕ, _≤_}
+use mathlib.Core.Path.{_≡_, refl, sym, ap, _∙_}
+use mathlib.Core.Logic.{_↔_}
+use mathlib.Core.List.{List, [], _∷_}
+use native.Mathlib.Omega.{arith}
+use Rattle.rules.specs.Lists.{any}
+use Rattle.rules.specs.Sheets.Sheets.{Net, Table}
+use Rattle.rules.specs.Sheets.Printed.{printedNet}
+use Rattle.rules.specs.Groups.Marks.{storedMarks}
+use Rattle.rules.specs.Calls.Answers.{Answer, accepted, refused, written}
+use Rattle.rules.specs.Calls.Settling.{settledNet, writtenSheet, makeCall}
+use Rattle.rules.specs.Calls.FamilyCalls.{countOfTable, familyNet, familyCountCall, familyTreeCall}
+use Rattle.laws.specs.Calls.Answers.{accepted-inj, not-refused}
+use Rattle.laws.specs.Lists.Distinct.{NotIn}
+use Rattle.laws.specs.Calls.Settling.{marksOfTable, marked-16, marked-tree}
+use Rattle.laws.specs.Calls.ButSheet.{ButSheet, but-none, sheets-but}
+use Rattle.demands.specs.Numbers.Numbers.{not-given, refuses}
+use Rattle.demands.specs.Numbers.SettlingNumbers.{sheet-numbers}
+use Rattle.demands.specs.Settling.Makes.{HasTree, make-refuses, two-tree}
+use Rattle.demands.specs.Families.FamilyOutcomes.{made-answer, counted-answer, judgedNumbers, TurnedBack, GoesOn, marked-leaves, sheet-leaves, NumberJudged, refuses-all, no-number, has-tree, numbered}
+use Rattle.demands.specs.Families.FamilyTables.{none-counted, tree-counted, some-two, first-settled, family-as-long}
+use Rattle.demands.specs.Sheets.FullSheets.{FullTableRules, full-accepted}
+
+-- a refusal's place
+same-place : (number a b : ℕ) → _≡_ {A = Answer ℕ} (refused number a) (refused number b) → a ≡ b
+same-place number a b e = cc
+
+-- a refusal that all three calls give is none of the later ones
+not-judged : (s cells marks : List ℕ) (k at : ℕ) → TurnedBack s cells marks k at → (number place : ℕ) → NotIn number judgedNumbers
+    → _≡_ {A = Answer ℕ} (refused k at) (refused number place) → ⊥
+not-judged s cells marks k at is number place other = not-given judgedNumbers (refused k at) (refuses judgedNumbers k at (is .listed)) number place other
+
+-- what holds of any sheet and any buffers
+module _ (s cells marks output : List ℕ) where
+  kept-on : (t : Table) → GoesOn s cells marks t → FullTableRules t
+  kept-on t is = full-accepted s t (is .reads) .1
+
+  module _ (r : ℕ) where
+    -- the cells and the marks are left as making leaves them
+    pub tree-leaves : (familyTreeCall s r cells marks output .cells ≡ makeCall s cells marks output .cells)
+        × (familyTreeCall s r cells marks output .marks ≡ makeCall s cells marks output .marks)
+    tree-leaves = go (numbered s r cells marks output)
+      where
+        go : NumberJudged s r cells marks output
+            → (familyTreeCall s r cells marks output .cells ≡ makeCall s cells marks output .cells)
+            × (familyTreeCall s r cells marks output .marks ≡ makeCall s cells marks output .marks)
+        go (refuses-all number place is) = rw (is .numbers r output, is .makes output) (refl, refl)
+        go (no-number t is large e) =
+            let made = marked-leaves t cells marks output in
+            rw (e, is .makes output) (sym (made .cells), sym (made .marks))
+        go (has-tree t is small e) =
+            let made = marked-leaves t cells marks output in
+            let left = sheet-leaves (printedNet (familyNet r t)) (written cells (t .inks)) (written marks (storedMarks (marksOfTable t))) output in
+            rw (e, is .makes output) (left .cells ∙ sym (made .cells), left .marks ∙ sym (made .marks))
+
+    -- "17, order number not below the count, place the number": and it "leaves what 16 leaves", the cells and the marks that the count call and making leave
+    -- (`count-leaves`) and the output as it was
+    pub past-count : (count : ℕ) → familyCountCall s cells marks .answer ≡ accepted count → count ≤ r
+        → familyTreeCall s r cells marks output
+        ≡ record { answer = refused 17 r; cells = familyCountCall s cells marks .cells; marks = familyCountCall s cells marks .marks; output = output }
+    past-count count d h = go (numbered s r cells marks output)
+      where
+        go : NumberJudged s r cells marks output
+            → familyTreeCall s r cells marks output
+            ≡ record { answer = refused 17 r; cells = familyCountCall s cells marks .cells; marks = familyCountCall s cells marks .marks; output = output }
+        go (refuses-all k at is) = absurd (not-refused count k at (sym d ∙ counted-answer (is .counts)))
+        go (no-number t is large e) = rw (is .counts) e
+        go (has-tree t is small e) =
+            let same = accepted-inj (countOfTable t) count (sym (counted-answer (is .counts)) ∙ d) in
+            absurd (omega arith)
+
+    -- it refuses with 17 then alone: judged after 14, since the count call accepts, and before 15, since the output has no say
+    pub refuses-17 : (place : ℕ)
+        → (familyTreeCall s r cells marks output .answer ≡ refused 17 place)
+        ↔ ((count : ℕ) × (familyCountCall s cells marks .answer ≡ accepted count) × (count ≤ r) × (place ≡ r))
+    unfolding any
+    refuses-17 place = (
+      go (numbered s r cells marks output),
+      λ (count, d, h, at). made-answer (past-count count d h) ∙ ap (refused 17) (sym at),
+    )
+      where
+        go : NumberJudged s r cells marks output → familyTreeCall s r cells marks output .answer ≡ refused 17 place
+            → (count : ℕ) × (familyCountCall s cells marks .answer ≡ accepted count) × (count ≤ r) × (place ≡ r)
+        go (refuses-all k at is) d = absurd (not-judged s cells marks k at is 17 place refl (sym (made-answer (is .numbers r output)) ∙ d))
+        go (no-number t is large e) d = (countOfTable t, counted-answer (is .counts), large, same-place 17 place r (sym d ∙ made-answer e))
+        go (has-tree t is small e) d = absurd (not-given (15 ∷ []) _ (sheet-numbers (15 ∷ []) refl _ _ _ output) 17 place refl (sym (made-answer e) ∙ d))
+
+    -- "it takes the place of 16 in the second call": where making refuses with 16 each number is refused with 17, and all buffers are left as making leaves them
+    pub in-place-of-16 : (place : ℕ) → makeCall s cells marks output .answer ≡ refused 16 place
+        → familyTreeCall s r cells marks output
+        ≡ record {
+          answer = refused 17 r;
+          cells = makeCall s cells marks output .cells;
+          marks = makeCall s cells marks output .marks;
+          output = makeCall s cells marks output .output;
+        }
+    unfolding any
+    in-place-of-16 place d = go (numbered s r cells marks output)
+      where
+        no-tree : (t : Table) → GoesOn s cells marks t → HasTree t → ⊥
+        no-tree t is = make-refuses s t (is .reads) cells marks output (is .cells-fit) (is .marks-fit) .0 (place, d)
+
+        go : NumberJudged s r cells marks output
+            → familyTreeCall s r cells marks output
+            ≡ record {
+              answer = refused 17 r;
+              cells = makeCall s cells marks output .cells;
+              marks = makeCall s cells marks output .marks;
+              output = makeCall s cells marks output .output;
+            }
+        go (refuses-all k at is) = absurd (not-judged s cells marks k at is 16 place refl (sym (made-answer (is .makes output)) ∙ d))
+        go (no-number t is large e) =
+            rw (is .makes output, marked-16 settledNet t cells marks output (λ two. no-tree t is (two-tree t (kept-on t is) .1 two))) e
+        go (has-tree t is small e) = absurd (omega (arith, none-counted t (kept-on t is) .1 (no-tree t is)))
+
+    -- Where it does not refuse with 17 it comes to what making does, but for the sheet: 15 too, with the same place.
+    pub tree-but-sheet : ((place : ℕ) → familyTreeCall s r cells marks output .answer ≡ refused 17 place → ⊥)
+        → ButSheet (familyTreeCall s r cells marks output) (makeCall s cells marks output)
+    tree-but-sheet not-17 = go (numbered s r cells marks output)
+      where
+        go : NumberJudged s r cells marks output → ButSheet (familyTreeCall s r cells marks output) (makeCall s cells marks output)
+        go (refuses-all k at is) = rw (is .numbers r output, is .makes output) (but-none _)
+        go (no-number t is large e) = absurd (not-17 r (made-answer e))
+        go (has-tree t is small e) =
+            rw (e, is .makes output ∙ marked-tree settledNet t cells marks output (some-two t (kept-on t is) (omega arith)))
+            (sheets-but (printedNet (familyNet r t)) (printedNet (settledNet t)) _ _ output (family-as-long t (kept-on t is) r small))
+
+  -- "number 0 is the settled net": where making does not refuse with 16, the call of number 0 comes to just what making does
+  pub first-as-making : ((place : ℕ) → makeCall s cells marks output .answer ≡ refused 16 place → ⊥) → familyTreeCall s 0 cells marks output ≡ makeCall s cells marks output
+  first-as-making not-16 = go (numbered s 0 cells marks output)
+    where
+      go : NumberJudged s 0 cells marks output → familyTreeCall s 0 cells marks output ≡ makeCall s cells marks output
+      go (refuses-all k at is) = is .numbers 0 output ∙ sym (is .makes output)
+      go (no-number t is large e) =
+          absurd (not-16 _ (made-answer (is .makes output ∙ marked-16 settledNet t cells marks output (λ two. omega (arith, tree-counted t (kept-on t is) two)))))
+      go (has-tree t is small e) =
+          e
+          ∙ ap (λ (net : Net). writtenSheet (printedNet net) (written cells (t .inks)) (written marks (storedMarks (marksOfTable t))) output) (first-settled t (kept-on t is) small)
+          ∙ sym (is .makes output ∙ marked-tree settledNet t cells marks output (some-two t (kept-on t is) small))

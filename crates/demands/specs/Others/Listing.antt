@@ -1,0 +1,78 @@
+-- Document 01, listing: "one gate line at each turn, as the part of the sheet that holds it without its line feed", and "after the
+-- last line .. none is left". On an accepted sheet there are as many turns as gates, "from 1 to n − 1" (document 02, K12): the lines given at
+-- them, each with its line feed, are what stands after the first four lines, and every later turn gives none.
+-- Assumes nothing.
+use Prim.Native.Nat.{ℕ, zero, suc, _+_, _-_, _≤_, _<_}
+use mathlib.Core.Path.{_≡_, refl, sym, ap, ap₂, _∙_}
+use mathlib.Core.List.{List, [], _∷_, _++_}
+use native.Mathlib.Nat.{zero-add, add-zero, add-suc, suc-add}
+use native.Mathlib.Omega.{arith}
+use lib.ListN.{length, getD}
+use borrow.Author.Tests.{lt-ltb, le-ltb}
+use Rattle.rules.specs.Lists.{range, concatMap}
+use Rattle.rules.specs.Text.{text}
+use Rattle.rules.specs.Sheets.Sheets.{Gate, Net}
+use Rattle.rules.specs.Sheets.Printed.{line, firstLines, printedGate, printedNet}
+use Rattle.rules.specs.Sheets.SheetRules.{NetRules}
+use Rattle.rules.specs.Calls.Answers.{Answer, accepted, refused, onward}
+use Rattle.rules.specs.Sheets.Reading.{readNet}
+use Rattle.rules.specs.Calls.Lister.{Turn, gateAt, noneLeft, turnOf, listing}
+use Rattle.laws.specs.Lists.Concat.{concat-append}
+use Rattle.readback.specs.Sheets.ReadBack.{net-accepted}
+use Rattle.readback.specs.Sheets.Lines.{fed, linesOf, lines-first, headLines, fourLines, four-fed, four-unbroken, netLines}
+use Rattle.readback.specs.Nets.GateLines.{partOf, lineAt, sheet-lines, gate-count, gate-bytes}
+
+-- what a turn gives of the sheet, with its line feed
+unfoldable pub givenBy : List ℕ → Answer Turn → List ℕ
+givenBy s (accepted (gateAt p)) = fed (partOf s p)
+givenBy s (accepted noneLeft) = []
+givenBy s (refused number place) = []
+
+-- a list from an element for each of its places
+places : {A B : Type 0} (f : ℕ → List B) (h : A → List B) (d : A) (from : ℕ) (xs : List A)
+    → ((k : ℕ) → k < length xs → f (from + k) ≡ h (getD xs k d)) → concatMap f (range from (length xs)) ≡ concatMap h xs
+unfolding range concatMap
+places f h d from [] e = refl
+places f h d from (x ∷ xs) e =
+    ap₂ _++_ (ap f (sym (add-zero from)) ∙ e zero (omega arith))
+    (places f h d (suc from) xs (λ k l. ap f (suc-add from k ∙ sym (add-suc from k)) ∙ e (suc k) (omega arith)))
+
+module _ (s : List ℕ) (net : Net) (reads : readNet s ≡ accepted net) where
+  abbrev names : List (List ℕ)
+  names = net .header .names
+
+  kept : NetRules net
+  kept = net-accepted s net reads .1
+
+  -- the turns up to the last gate's give those parts, ..
+  pub turn-line : (k : ℕ) → k < length (net .gates) → listing s k ≡ accepted (gateAt (lineAt s (4 + k)))
+  unfolding listing onward turnOf lineAt
+  turn-line k h = rw (reads, listing, lt-ltb k (length (net .gates)) h, turnOf)
+
+  -- .. of which there is at least one, ..
+  pub first-given : listing s 0 ≡ accepted (gateAt (lineAt s 4))
+  first-given = turn-line 0 (gate-count s net reads .0)
+
+  -- .. and every later one gives none
+  pub turn-none : (k : ℕ) → length (net .gates) ≤ k → listing s k ≡ accepted noneLeft
+  unfolding listing onward turnOf
+  turn-none k h = rw (reads, listing, le-ltb k (length (net .gates)) h, turnOf)
+
+  given : (k : ℕ) (d : Gate) → k < length (net .gates) → givenBy s (listing s k) ≡ printedGate names (getD (net .gates) k d)
+  unfolding givenBy
+  given k d h = rw (turn-line k h) (gate-bytes s net reads k d h)
+
+  first-four : linesOf 4 s ≡ firstLines (net .header) names ++ line (text "left" ∷ text "right" ∷ text "table" ∷ [])
+  unfolding netLines fourLines headLines
+  first-four =
+      rw (four-fed (net .header), sheet-lines s net reads, concat-append fed (fourLines (net .header)))
+      (lines-first (fourLines (net .header)) _ (four-unbroken (net .header) (kept .header)))
+
+  -- the first four lines and all lines given, each with its line feed, are the sheet
+  pub listed-whole : linesOf 4 s ++ concatMap (λ k. givenBy s (listing s k)) (range 0 (length (net .gates))) ≡ s
+  unfolding printedNet
+  listed-whole =
+      ap₂ _++_ first-four
+      (places (λ k. givenBy s (listing s k)) (printedGate names) (record { left = 0; right = 0; digits = [] }) 0 (net .gates)
+      (λ k h. ap (λ (k : ℕ). givenBy s (listing s k)) (zero-add k) ∙ given k _ h))
+      ∙ sym (net-accepted s net reads .0)

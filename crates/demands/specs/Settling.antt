@@ -1,0 +1,6 @@
+pub mod AnyStore
+pub mod Assignments
+pub mod Makes
+pub mod Settles
+pub mod StoredMarks
+pub mod TreeClause

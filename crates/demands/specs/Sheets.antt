@@ -1,0 +1,5 @@
+pub mod FirstLines
+pub mod FullSheets
+pub mod Lengths
+pub mod LongSheets
+pub mod TableLines

@@ -1,2 +1,0 @@
-// A gate's digits, from lists of assignments.
-pub mod digit;

@@ -1,3 +1,0 @@
-pub mod GateDigits
-pub mod Ready
-pub mod Sums

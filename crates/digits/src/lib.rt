@@ -1,2 +1,0 @@
-// A gate's digits, from one assignment for each value that its wires carry.
-pub mod gate;

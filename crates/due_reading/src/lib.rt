@@ -1,2 +1,0 @@
-// Reading a row that stands as it is due.
-pub mod due;

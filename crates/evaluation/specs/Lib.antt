@@ -1,0 +1,4 @@
+pub mod Gates
+pub mod Inputs
+pub mod TableBlocks
+pub mod Values

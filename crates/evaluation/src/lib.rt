@@ -1,0 +1,5 @@
+// A net's value at many assignments at once, and its table.
+pub mod gate;
+pub mod inputs;
+pub mod table;
+pub mod values;

@@ -1,0 +1,37 @@
+// A net at many assignments.
+ghost use Rattle.evaluation.specs.Values.{ValuesReady, ValuesDone};
+use crate::gate::gate_values;
+use nets::forms::MOST_WIRES;
+use nets::forms::Net;
+
+// Computes the value of a net at `count` assignments. The levels of input i are at starts[i] and after it, one for each assignment, all before
+// `base`; the values of the gates are put from `base` on. Returns where the net's values begin.
+pub fn values(
+    net: Net,
+    starts: [usize; MOST_WIRES],
+    base: usize,
+    count: usize,
+    wires: &mut [u8],
+) -> usize
+    requires { ⌜ ValuesReady net starts base count (now wires) ⌝ }
+    ensures { λ r. ⌜ ValuesDone net starts base count (now (wires .entry)) (now (wires .exit)) r ⌝ }
+{
+    let left = net.left;
+    let right = net.right;
+    let digits = net.digits;
+    let size = net.levels * net.levels;
+    let mut at = starts;
+    let mut to: usize = base;
+    let mut from: usize = 0;
+    let mut k: usize = 0;
+    while k < net.gates {
+        let a = at[left[k] as usize];
+        let b = at[right[k] as usize];
+        gate_values(net.levels, &digits, from, a, b, to, count, wires);
+        at[net.inputs + k] = to;
+        to += count;
+        from += size;
+        k += 1;
+    }
+    at[net.inputs + net.gates - 1]
+}

@@ -1,2 +1,0 @@
-// The first of each class among rows of a group.
-pub mod rows;

@@ -1,9 +1,0 @@
--- What a call answers that has nothing to tell but a refusal, as two numbers.
--- Assumes nothing.
-use Rattle.rules.specs.Answers.{Answer, accepted, refused}
-use Rattle.flat_answers.specs.declared.flat.SitgurpAnswer.{SitgurpAnswer}
-
--- 0 and 0; or the refusal's number and place
-abbrev pub flatDone : Answer (Unit {0}) → SitgurpAnswer
-flatDone (accepted _) = record { number = 0; value = 0 }
-flatDone (refused number place) = record { number = number; value = place }

@@ -1,4 +1,0 @@
-pub mod Flat
-pub mod Layered
-pub mod Done
-pub mod Named

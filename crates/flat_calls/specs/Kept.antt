@@ -1,9 +1,0 @@
--- What keeping a wiring answers, as four numbers.
--- Assumes nothing.
-use Rattle.rules.specs.Keeping.{Keeping, rewritten, turnedAway}
-use Rattle.flat_answers.specs.Named.{flatNamed}
-use Rattle.flat_calls.specs.declared.kept.SitgurpKept.{SitgurpKept}
-
-abbrev pub flatKept : Keeping → SitgurpKept
-flatKept (rewritten length changed) = record { named = 0; number = 0; value = length; changed = changed }
-flatKept (turnedAway named number place) = record { named = flatNamed named; number = number; value = place; changed = 0 }

@@ -1,5 +1,0 @@
-pub mod Turn
-pub mod Verdict
-pub mod Kept
-pub mod Timing
-pub mod Reached

@@ -1,4 +1,0 @@
-pub mod Frame
-pub mod Laying
-pub mod Standing
-pub mod Weighing

@@ -1,2 +1,0 @@
-// One gate at many assignments at once.
-pub mod gate;

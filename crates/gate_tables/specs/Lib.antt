@@ -1,0 +1,10 @@
+pub mod DigitsReady
+pub mod Filled
+pub mod GateDigits
+pub mod GateReady
+pub mod Growth
+pub mod MadeNet
+pub mod SampledDigits
+pub mod Samples
+pub mod Sized
+pub mod Sums

@@ -1,0 +1,227 @@
+-- The net that a choice of parts makes of a table, by value: its gates are the definitions', and they keep the rules of a net sheet.
+-- Assumes nothing.
+use Prim.Native.Nat.{ℕ, _^_, _≤_, _<_}
+use mathlib.Core.Path.{_≡_, refl, sym, ap, _∙_, subst, subst⁻¹}
+use mathlib.Core.Logic.{_≢_}
+use mathlib.Core.Bool.{true}
+use mathlib.Core.List.{List}
+use native.Mathlib.Omega.{arith}
+use lib.ListN.{length, take}
+use lib.Seq.{getD-take}
+use Rattle.rules.specs.Limits.{mostInputs, sizeFits}
+use Rattle.rules.specs.Sheets.Sheets.{Gate}
+use Rattle.rules.specs.Groups.Groups.{size, wholeGroup}
+use Rattle.rules.specs.Groups.Marks.{markIn, marksOf}
+use Rattle.rules.specs.Nets.Wirings as rules
+use Rattle.rules.specs.Nets.Wirings.{wiringBy, linksOf}
+use Rattle.rules.specs.Nets.Filling.{inputGroups, filled}
+use Rattle.rules.specs.Nets.Leaves.{leavesOf}
+use Rattle.rules.specs.Nets.Settled.{splitOf, settledWiring, settledGates}
+use Rattle.rules.specs.Nets.Shallow.{shallowWiring, shallowGates}
+use Rattle.rules.specs.Sheets.SheetRules.{IsNet}
+use Rattle.nets.specs.declared.forms.Net.{Net}
+use Rattle.nets.specs.Forms.{gatesOf}
+use Rattle.laws.specs.Numbers.Sizes.{sized}
+use Rattle.marks.specs.Splits.{split-agree}
+use Rattle.wirings.specs.FewestLayers.{WiringKnown, shallow-agree}
+use Rattle.trees.specs.Trees.Trees.{WiringOf, EachGate}
+use Rattle.trees.specs.Groups.Classes.{Few}
+use Rattle.trees.specs.Groups.Members.{member-inside, size-le}
+use Rattle.trees.specs.Groups.MarkRule.{marked}
+use Rattle.trees.specs.Trees.MarkTwo.{Split, Splits, settled-splits, wiring-of, wiring-agree, each-gate, two-says}
+use Rattle.trees.specs.Filling.Fillings.{Fillable, wiring-fillable}
+use Rattle.trees.specs.Trees.Existence.{filled-computes}
+use Rattle.trees.specs.Leaves.LeafGroup.{leaves-below, leaves-hold, leaves-several}
+use Rattle.trees.specs.Leaves.CutWirings.{leaves-marked}
+use Rattle.trees.specs.Shallow.Shallow.{shallowPart, shallow-splits}
+use Rattle.wirings.specs.declared.choice.Choice.{Choice}
+use Rattle.wirings.specs.declared.choice.Choice.the-variants.{Settled, Shallow}
+use Rattle.wirings.specs.declared.forms.Wiring.{Wiring}
+use Rattle.wirings.specs.Links.{linksIn}
+use Rattle.wirings.specs.Choice.{splitBy, LayersRoom}
+use Rattle.wirings.specs.Chosen.{Choosable, Chosen}
+use Rattle.gate_tables.specs.Filled.{Filled}
+
+-- the gates of the net that a choice makes of a table
+abbrev pub gatesBy : Choice → ℕ → ℕ → (ℕ → ℕ) → List Gate
+gatesBy Settled m n f = settledGates m n f (marksOf m n f)
+gatesBy Shallow m n f = shallowGates m n f (marksOf m n f)
+
+-- the net of these gates
+pub record NetOf (m n : ℕ) (gates-are : List Gate) (net : Net) : Type 0 where
+  pub levels : net .levels ≡ m
+  pub inputs : net .inputs ≡ n
+  pub gates : gatesOf net ≡ gates-are
+  -- references back, none twice, m·m digits below m
+  pub kept : IsNet m n (gatesOf net)
+
+abbrev pub MadeNet : Choice → ℕ → ℕ → (ℕ → ℕ) → Net → Type 0
+MadeNet choice m n f net = NetOf m n (gatesBy choice m n f) net
+
+-- what a size within the bounds has: a level, and two inputs
+pub some-level : (m n : ℕ) → sizeFits m n ≡ true → 0 < m
+some-level m n fit = omega (arith, sized m n fit .levels-least)
+
+pub two-inputs : (m n : ℕ) → sizeFits m n ≡ true → 1 < n
+two-inputs m n fit = omega (arith, sized m n fit .inputs-least)
+
+-- ---- a wiring of the leaves with few classes at each gate
+
+module _ (m n : ℕ) (f : ℕ → ℕ) (fit : sizeFits m n ≡ true) (tree : rules.Wiring) (of : WiringOf n (leavesOf m n f) tree) (few : EachGate (Few m n f) tree)
+    (w : Wiring) (links : linksIn w ≡ linksOf n 0 tree) where
+  -- can be filled, ..
+  pub wiring-fills : Fillable m n f (inputGroups n) (linksIn w)
+  wiring-fills = subst⁻¹ (Fillable m n f (inputGroups n)) links (wiring-fillable m n (some-level m n fit) f tree (of .0) few)
+
+  -- .. and filled it is the net of its gates
+  pub wiring-net : ((p : ℕ) → p < m ^ n → f p < m) → (net : Net) → Filled m n f w net → NetOf m n (filled m n f (linksOf n 0 tree)) net
+  wiring-net inks net done =
+      let pos = some-level m n fit in
+      let is : gatesOf net ≡ filled m n f (linksOf n 0 tree) = done .gates ∙ ap (filled m n f) links in
+      record {
+        levels = done .levels;
+        inputs = done .inputs;
+        gates = is;
+        kept = subst⁻¹ (IsNet m n) is
+            (filled-computes m n pos f (leavesOf m n f) (leaves-several m n pos f (two-inputs m n fit)) tree of (leaves-hold m n pos f) few inks .0);
+      }
+
+-- ---- the marks in an array, and the fewest layers
+
+-- an array that has every group's mark at its number
+pub record MarksIn (m n : ℕ) (f : ℕ → ℕ) (marks : List ℕ) : Type 0 where
+  pub room : 2 ^ n ≤ length marks
+  pub same : (g : ℕ) → g < 2 ^ n → markIn marks g ≡ markIn (marksOf m n f) g
+
+-- as after marking
+pub marks-in : (m n : ℕ) (f : ℕ → ℕ) (marks : List ℕ) → take (2 ^ n) marks ≡ marksOf m n f → 2 ^ n ≤ length marks → MarksIn m n f marks
+marks-in m n f marks front room =
+    record { room = room; same = λ g g<. sym (getD-take (2 ^ n) marks g 0 g<) ∙ ap (λ (l : List ℕ). markIn l g) front }
+
+-- what the shallow choice needs besides: the fewest layers of every group of mark 2
+abbrev pub LayersKnown : Choice → ℕ → List ℕ → List ℕ → Type 0
+LayersKnown Settled n marks fewest = Unit {0}
+LayersKnown Shallow n marks fewest = (2 ^ n ≤ length fewest) × WiringKnown n marks (2 ^ n) fewest
+
+pub layers-room : (choice : Choice) (n : ℕ) (marks fewest : List ℕ) → LayersKnown choice n marks fewest → (leaves : ℕ) → leaves < 2 ^ n
+    → LayersRoom choice leaves fewest
+layers-room Settled n marks fewest known leaves leaves< = tt
+layers-room Shallow n marks fewest known leaves leaves< = omega (arith, known .0)
+
+-- ---- a choice on the marks themselves
+
+-- A's number in each group
+abbrev ownSplit : Choice → ℕ → List ℕ → ℕ → ℕ
+ownSplit Settled n marks = splitOf n marks
+ownSplit Shallow n marks = shallowPart n marks
+
+-- the wiring of some leaves
+abbrev ownWiring : Choice → ℕ → List ℕ → ℕ → rules.Wiring
+ownWiring choice n marks leaves = wiringBy n (ownSplit choice n marks) n leaves
+
+own-gates : (choice : Choice) (m n : ℕ) (f : ℕ → ℕ)
+    → filled m n f (linksOf n 0 (ownWiring choice n (marksOf m n f) (leavesOf m n f))) ≡ gatesBy choice m n f
+unfolding settledGates settledWiring shallowGates shallowWiring
+own-gates Settled m n f = refl
+own-gates Shallow m n f = refl
+
+module _ (choice : Choice) (m n : ℕ) (pos : 0 < m) (f : ℕ → ℕ) where
+  -- it parts a group of mark 2 into two of mark 2
+  own-splits : (leaves : ℕ) → Splits n (marked m n pos f) leaves (ownSplit choice n (marksOf m n f))
+  own-splits = elim choice as (λ c. (leaves : ℕ) → Splits n (marked m n pos f) leaves (ownSplit c n (marksOf m n f))) [
+    | Settled ↦ settled-splits m n pos f
+    | Shallow ↦ shallow-splits m n pos f
+  ]
+
+  -- so the wiring of leaves of mark 2 has few classes at each gate
+  own-wiring-of : (leaves : ℕ) → leaves < 2 ^ n → marked m n pos f leaves ≡ 2
+      → WiringOf n leaves (ownWiring choice n (marksOf m n f) leaves) × EachGate (Few m n f) (ownWiring choice n (marksOf m n f) leaves)
+  own-wiring-of leaves leaves< two =
+      let w = wiring-of n (marked m n pos f) leaves (ownSplit choice n (marksOf m n f)) (own-splits leaves) n leaves leaves<
+      (member-inside n leaves leaves (λ i i< is. is)) (size-le n leaves) two in
+      (w .0, each-gate n (ownWiring choice n (marksOf m n f) leaves) (λ g g< two-g. two-says m n pos f g g< two-g .few) (w .0 .0) (w .1))
+
+-- ---- the same choice on the marks in an array
+
+module _ (choice : Choice) (m n : ℕ) (pos : 0 < m) (f : ℕ → ℕ) (marks fewest : List ℕ) (holds : MarksIn m n f marks)
+    (known : LayersKnown choice n marks fewest) where
+  abbrev own : ℕ → ℕ
+  own = ownSplit choice n (marksOf m n f)
+
+  abbrev found : ℕ → ℕ
+  found = splitBy choice n marks fewest
+
+  -- the part that is found in it is the one on the marks themselves
+  found-own : (g : ℕ) → g < 2 ^ n → markIn marks g ≡ 2 → found g ≡ own g
+  found-own = elim choice as (λ c. LayersKnown c n marks fewest
+      → (g : ℕ) → g < 2 ^ n → markIn marks g ≡ 2 → splitBy c n marks fewest g ≡ ownSplit c n (marksOf m n f) g) [
+        | Settled ↦ λ _ g g< two. split-agree n marks (marksOf m n f) g (λ a a<. holds .same a (omega arith))
+        | Shallow ↦ λ layers g g< two. shallow-agree n marks (marksOf m n f) (holds .same) fewest (layers .1) g g< two
+      ] known
+
+  -- it parts a group of mark 2 into two of mark 2
+  split-found : (g : ℕ) → g < 2 ^ n → markIn marks g ≡ 2 → size n g ≢ 1 → Split n (markIn marks) g (found g)
+  split-found g g< two several =
+      let half = own-splits choice m n pos f g g g< (member-inside n g g (λ i i< is. is)) (sym (holds .same g g<) ∙ two) several in
+      subst⁻¹ (Split n (markIn marks) g) (found-own g g< two)
+      (record {
+        part = half .part;
+        some = half .some;
+        less = half .less;
+        two-a = holds .same _ (omega (arith, half .less)) ∙ half .two-a;
+        two-b = holds .same _ (omega arith) ∙ half .two-b;
+      })
+
+  -- so a group of mark 2 can be wired from it, ..
+  pub choosable : (inputs : n ≤ mostInputs) (leaves : ℕ) → leaves < 2 ^ n → marked m n pos f leaves ≡ 2 → Choosable n marks found leaves
+  choosable inputs leaves leaves< two =
+      record {
+        inputs = inputs;
+        room = holds .room;
+        below = leaves<;
+        two = holds .same leaves leaves< ∙ two;
+        splits = λ g g< g-in two-g several. split-found g g< two-g several;
+      }
+
+  -- .. and its wiring is the one from the marks themselves
+  wiring-found : (leaves : ℕ) → leaves < 2 ^ n → marked m n pos f leaves ≡ 2 → wiringBy n found n leaves ≡ ownWiring choice n (marksOf m n f) leaves
+  wiring-found leaves leaves< two =
+      sym (wiring-agree n (marked m n pos f) leaves own (own-splits choice m n pos f leaves) found
+      (λ g g< two-g. sym (found-own g g< (holds .same g g< ∙ two-g))) n leaves leaves<
+      (member-inside n leaves leaves (λ i i< is. is)) two)
+
+-- ---- the net
+
+-- the leaves have mark 2 where the whole group has
+pub leaves-two : (m n : ℕ) (fit : sizeFits m n ≡ true) (f : ℕ → ℕ) → markIn (marksOf m n f) (wholeGroup n) ≡ 2
+    → marked m n (some-level m n fit) f (leavesOf m n f) ≡ 2
+leaves-two m n fit f two = leaves-marked m n (some-level m n fit) f (two-inputs m n fit) .1 two
+
+-- the wiring that is chosen for a table that has a tree
+module _ (choice : Choice) (m n : ℕ) (f : ℕ → ℕ) (fit : sizeFits m n ≡ true) (two : markIn (marksOf m n f) (wholeGroup n) ≡ 2) (marks fewest : List ℕ)
+    (holds : MarksIn m n f marks) (known : LayersKnown choice n marks fewest) (w : Wiring)
+    (chosen : Chosen n (splitBy choice n marks fewest) (leavesOf m n f) w) where
+  pos : 0 < m
+  pos = some-level m n fit
+
+  links-are : linksIn w ≡ linksOf n 0 (ownWiring choice n (marksOf m n f) (leavesOf m n f))
+  links-are =
+      chosen .links
+      ∙ ap (linksOf n 0) (wiring-found choice m n pos f marks fewest holds known (leavesOf m n f) (leaves-below m n pos f) (leaves-two m n fit f two))
+
+  tree-of : WiringOf n (leavesOf m n f) (ownWiring choice n (marksOf m n f) (leavesOf m n f))
+      × EachGate (Few m n f) (ownWiring choice n (marksOf m n f) (leavesOf m n f))
+  tree-of = own-wiring-of choice m n pos f (leavesOf m n f) (leaves-below m n pos f) (leaves-two m n fit f two)
+
+  -- has fewer gates than there are inputs, ..
+  pub chosen-count : w .gates < n
+  chosen-count = omega (arith, chosen .count, size-le n (leavesOf m n f))
+
+  -- .. can be filled, ..
+  pub chosen-fillable : Fillable m n f (inputGroups n) (linksIn w)
+  chosen-fillable = wiring-fills m n f fit _ (tree-of .0) (tree-of .1) w links-are
+
+  -- .. and filled it is the net that the choice makes
+  pub chosen-made : ((p : ℕ) → p < m ^ n → f p < m) → (net : Net) → Filled m n f w net → MadeNet choice m n f net
+  chosen-made inks net done =
+      subst (λ (gates : List Gate). NetOf m n gates net) (own-gates choice m n f) (wiring-net m n f fit _ (tree-of .0) (tree-of .1) w links-are inks net done)

@@ -1,0 +1,31 @@
+-- The cells of a table within a sheet's bounds: how large they are.
+-- Assumes nothing.
+use Prim.Native.Nat.{ℕ, _^_, _≤_, _<_}
+use mathlib.Core.Path.{_≡_}
+use mathlib.Core.Bool.{true}
+use mathlib.Core.List.{List}
+use native.Mathlib.Omega.{arith}
+use lib.ListN.{length}
+use Rattle.rules.specs.Limits.{mostLevels, mostInputs, mostCells, sizeFits}
+use Rattle.laws.specs.Numbers.Sizes.{sized as sizes}
+
+-- the cells of a table within a sheet's bounds
+pub record Sized (m n : ℕ) (cells : List ℕ) : Type 0 where
+  pub fits : sizeFits m n ≡ true
+  pub some : 0 < m
+  pub levels : m ≤ mostLevels
+  pub inputs : n ≤ mostInputs
+  pub small : m ^ n ≤ mostCells
+  pub count : m ^ n ≤ length cells
+
+pub sized : (m n : ℕ) (cells : List ℕ) → sizeFits m n ≡ true → m ^ n ≤ length cells → Sized m n cells
+sized m n cells fits count =
+    let s = sizes m n fits in
+    record {
+      fits = fits;
+      some = omega (arith, s .levels-least);
+      levels = s .levels-most;
+      inputs = s .inputs-most;
+      small = s .cells-most;
+      count = count;
+    }

@@ -1,0 +1,33 @@
+// The net that a choice of parts makes of a table: its wiring of the table's leaves, filled.
+ghost use mathlib.Core.Path.{_≡_};
+ghost use mathlib.Core.Bool.{true};
+ghost use Prim.Native.Nat.{ℕ, _^_, _≤_, _<_};
+ghost use lib.ListN.{length};
+ghost use Rattle.rules.specs.Limits.{sizeFits};
+ghost use Rattle.rules.specs.Groups.Groups.{wholeGroup};
+ghost use Rattle.rules.specs.Groups.Marks.{markIn, marksOf};
+ghost use Rattle.rules.specs.Calls.Answers.{inkIn};
+ghost use Rattle.gate_tables.specs.MadeNet.{LayersKnown, MarksIn, MadeNet};
+use crate::fill;
+use nets::forms;
+use wirings::choice::Choice;
+use wirings::choose;
+use wirings::leaves::group;
+
+// Returns the net of a table that has a tree: the whole group has mark 2.
+pub fn chosen_net(
+    choice: Choice,
+    m: usize,
+    n: usize,
+    cells: &[u8],
+    marks: &[u8],
+    fewest: &[u8],
+) -> forms::Net
+    requires { ⌜ (sizeFits m n ≡ true) × (m ^ n ≤ length (now cells)) × ((p : ℕ) → p < m ^ n → inkIn (now cells) p < m)
+        × (MarksIn m n (inkIn (now cells)) (now marks)) × (markIn (marksOf m n (inkIn (now cells))) (wholeGroup n) ≡ 2)
+        × (LayersKnown choice n (now marks) (now fewest)) ⌝ }
+    ensures { λ r. ⌜ MadeNet choice m n (inkIn (now (cells .entry))) r ⌝ }
+{
+    let wiring = choose::choose(choice, n, marks, fewest, group::leaves(m, n, cells));
+    fill::fill(m, n, cells, wiring)
+}

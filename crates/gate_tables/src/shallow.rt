@@ -1,0 +1,27 @@
+// Returns the shallow net of a table.
+ghost use mathlib.Core.Path.{_≡_};
+ghost use mathlib.Core.Bool.{true};
+ghost use Prim.Native.Nat.{ℕ, _^_, _≤_, _<_};
+ghost use lib.ListN.{length};
+ghost use Rattle.rules.specs.Limits.{sizeFits};
+ghost use Rattle.rules.specs.Groups.Groups.{wholeGroup};
+ghost use Rattle.rules.specs.Groups.Marks.{markIn, marksOf};
+ghost use Rattle.rules.specs.Calls.Answers.{inkIn};
+ghost use Rattle.wirings.specs.declared.choice.Choice.the-variants.{Shallow};
+ghost use Rattle.gate_tables.specs.MadeNet.{MarksIn, MadeNet};
+use crate::chosen;
+use marks::own;
+use nets::forms;
+use wirings::choice::Choice;
+use wirings::fewest_layers;
+
+// The shallow net of a table that has a tree: the whole group has mark 2.
+pub fn shallow_net(m: usize, n: usize, cells: &[u8], marks: &[u8]) -> forms::Net
+    requires { ⌜ (sizeFits m n ≡ true) × (m ^ n ≤ length (now cells)) × ((p : ℕ) → p < m ^ n → inkIn (now cells) p < m)
+        × (MarksIn m n (inkIn (now cells)) (now marks)) × (markIn (marksOf m n (inkIn (now cells))) (wholeGroup n) ≡ 2) ⌝ }
+    ensures { λ r. ⌜ MadeNet Shallow m n (inkIn (now (cells .entry))) r ⌝ }
+{
+    let mut fewest = [0u8; own::MOST_GROUPS];
+    fewest_layers::fewest_layers(n, marks, &mut fewest);
+    chosen::chosen_net(Choice::Shallow, m, n, cells, marks, &fewest)
+}

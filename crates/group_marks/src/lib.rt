@@ -1,2 +1,0 @@
-// The mark of one group by itself.
-pub mod group;

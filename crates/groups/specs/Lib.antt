@@ -1,4 +1,0 @@
-pub mod Counting
-pub mod Differences
-pub mod Firsts
-pub mod Within

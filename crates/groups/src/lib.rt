@@ -1,3 +1,0 @@
-// Two assignments of a group compared, and which of them are alike.
-pub mod alike;
-pub mod differences;

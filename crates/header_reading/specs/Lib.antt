@@ -1,4 +1,0 @@
-pub mod Header
-pub mod Lines
-pub mod Names
-pub mod Values

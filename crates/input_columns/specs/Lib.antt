@@ -1,4 +1,0 @@
-pub mod Runs
-pub mod Places
-pub mod Laying
-pub mod Starts

@@ -1,4 +1,0 @@
-pub mod Steps
-pub mod Counting
-pub mod LastInputs
-pub mod Working

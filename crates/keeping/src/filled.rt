@@ -1,0 +1,69 @@
+// A net's wiring for a full table: 13, 23, or the sheet.
+ghost use mathlib.Core.Path.{_≡_};
+ghost use Rattle.nets.specs.Forms.{netIn, tableIn};
+ghost use Rattle.accepted.specs.Taken.{NetTaken, Given};
+ghost use Rattle.keeping.specs.KeepAnswers.{keptOf, filledInto, fullInto};
+ghost use Rattle.keeping.specs.Rewriting.{KeepingReady};
+use crate::answer::Kept;
+use crate::left_out::leaves_out;
+use crate::rewrite::rewrite;
+use crate::too_many::roomy_gates;
+use answers::named::Named;
+use net_sheets::text::put::copy;
+use nets::forms::Header;
+use nets::forms::Net;
+
+// The inks in the cells buffer, and then refusal 23 at 0 or at a gate, refusal 15 or the sheet.
+fn keep_filled(
+    s: &[u8],
+    header: Header,
+    net: Net,
+    inks: &[u8],
+    cells: &mut [u8],
+    out: &mut [u8],
+) -> Kept
+    requires { ⌜ KeepingReady (now s) header net (now inks) (now cells) ⌝ }
+    ensures { λ r. ⌜ keptOf r (now (cells .exit)) (now (out .exit))
+        ≡ filledInto (netIn (now (s .entry)) header net) (tableIn (now (s .entry)) header (now (inks .entry))) (now (cells .entry)) (now (out .entry)) ⌝ }
+{
+    copy(inks, cells, 0);
+    if leaves_out(net, inks) {
+        return Kept::Refused {
+            named: Named::Neither,
+            number: 23,
+            place: 0,
+        };
+    }
+    let roomy = roomy_gates(net, inks);
+    if roomy < net.gates {
+        return Kept::Refused {
+            named: Named::Neither,
+            number: 23,
+            place: roomy + 1,
+        };
+    }
+    rewrite(s, header, net, inks, out)
+}
+
+// Keeps a wiring for a full table, or refuses with 13.
+pub fn keep_full(
+    s: &[u8],
+    header: Header,
+    net: Net,
+    inks: &[u8],
+    cells: &mut [u8],
+    out: &mut [u8],
+) -> Kept
+    requires { ⌜ NetTaken (now s) header net × Given (now s) header (now inks) ⌝ }
+    ensures { λ r. ⌜ keptOf r (now (cells .exit)) (now (out .exit))
+        ≡ fullInto (netIn (now (s .entry)) header net) (tableIn (now (s .entry)) header (now (inks .entry))) (now (cells .entry)) (now (out .entry)) ⌝ }
+{
+    if cells.len() < inks.len() {
+        return Kept::Refused {
+            named: Named::Neither,
+            number: 13,
+            place: inks.len(),
+        };
+    }
+    keep_filled(s, header, net, inks, cells, out)
+}

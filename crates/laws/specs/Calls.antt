@@ -1,0 +1,16 @@
+pub mod Answers
+pub mod Arrivals
+pub mod BareCells
+pub mod ButSheet
+pub mod Checking
+pub mod FamilyCalls
+pub mod Glyphs
+pub mod Jobs
+pub mod Keeping
+pub mod Multiplicity
+pub mod OpenCells
+pub mod Settling
+pub mod ShallowSettling
+pub mod Shallower
+pub mod TableWriting
+pub mod Tidying

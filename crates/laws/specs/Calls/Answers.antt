@@ -1,0 +1,20 @@
+-- Laws of answers, and of a buffer that was written to.
+-- Assumes nothing.
+use Prim.Native.Nat.{ℕ}
+use mathlib.Core.Path.{_≡_, refl}
+use mathlib.Core.List.{List}
+use native.Mathlib.Omega.{arith}
+use lib.ListN.{length, take, drop}
+use lib.Seq.{take-at}
+use Rattle.rules.specs.Calls.Answers.{accepted, refused, written}
+
+pub accepted-inj : {A : Type 0} (a b : A) → accepted a ≡ accepted b → a ≡ b
+accepted-inj a b e = cc
+
+pub not-refused : {A : Type 0} (a : A) (number place : ℕ) → accepted a ≡ refused number place → ⊥
+not-refused a number place e = let z : _≡_ {A = ℕ} 0 1 = cc in omega arith
+
+-- what is written stands at the front
+pub written-front : (buffer bytes : List ℕ) → take (length bytes) (written buffer bytes) ≡ bytes
+unfolding written
+written-front buffer bytes = take-at bytes (drop (length bytes) buffer) (length bytes) refl

@@ -1,0 +1,66 @@
+-- Two nets made of one table, with sheets that are equally long: the calls that make them come to the same but for the sheet in the output.
+-- Assumes nothing.
+use Prim.Native.Nat.{ℕ, _^_, _<_}
+use mathlib.Core.Path.{_≡_, refl, ap}
+use mathlib.Core.List.{List}
+use native.Mathlib.Omega.{arith}
+use native.Mathlib.Decide.{decLt, ℕ-discrete}
+use lib.ListN.{length}
+use Rattle.rules.specs.Sheets.Sheets.{Net, Table}
+use Rattle.rules.specs.Sheets.Printed.{printedNet}
+use Rattle.rules.specs.Groups.Marks.{marksLength, storedMarks}
+use Rattle.rules.specs.Calls.Answers.{accepted, refused, written}
+use Rattle.rules.specs.Calls.Settling.{Made, writtenSheet, madeInto}
+use Rattle.laws.specs.Calls.Answers.{not-refused}
+use Rattle.laws.specs.Calls.Settling.{WholeTwo, marksOfTable, into-13, into-14, into-marked, marked-16, marked-tree, sheet-15, sheet-written}
+
+-- the same answer, cells and marks; and the same output where they refuse
+pub record ButSheet (first second : Made) : Type 0 where
+  pub answer : first .answer ≡ second .answer
+  pub cells : first .cells ≡ second .cells
+  pub marks : first .marks ≡ second .marks
+  pub output : (number place : ℕ) → second .answer ≡ refused number place → first .output ≡ second .output
+
+-- two that come to the same
+pub but-none : (made : Made) → ButSheet made made
+but-none made = record { answer = refl; cells = refl; marks = refl; output = λ _ _ _. refl }
+
+-- two sheets of one length
+pub sheets-but : (sheet other cells marks output : List ℕ) → length sheet ≡ length other
+    → ButSheet (writtenSheet sheet cells marks output) (writtenSheet other cells marks output)
+sheets-but sheet other cells marks output long = go (decLt (length output) (length sheet))
+  where
+    go : Dec (length output < length sheet) → ButSheet (writtenSheet sheet cells marks output) (writtenSheet other cells marks output)
+    go (yes short) = rw (sheet-15 sheet cells marks output short, sheet-15 other cells marks output (omega arith), long) (but-none _)
+    go (no room) =
+        rw (sheet-written sheet cells marks output (omega arith), sheet-written other cells marks output (omega arith))
+        (record { answer = ap accepted long; cells = refl; marks = refl; output = λ number place e. absurd (not-refused _ number place e) })
+
+module _ (netFor other : Table → Net) (t : Table) (cells marks output : List ℕ) where
+  -- where there is a tree the two sheets have one length
+  pub into-but : (WholeTwo t → length (printedNet (netFor t)) ≡ length (printedNet (other t)))
+      → ButSheet (madeInto netFor t cells marks output) (madeInto other t cells marks output)
+  into-but long =
+      go (decLt (length cells) (t .header .levels ^ t .header .inputs)) (decLt (length marks) (marksLength (t .header .inputs))) (ℕ-discrete _ 2)
+    where
+      go : Dec (length cells < t .header .levels ^ t .header .inputs) → Dec (length marks < marksLength (t .header .inputs)) → Dec (WholeTwo t)
+          → ButSheet (madeInto netFor t cells marks output) (madeInto other t cells marks output)
+      go (yes short) _ _ = rw (into-13 netFor t cells marks output short, into-13 other t cells marks output short) (but-none _)
+      go (no room) (yes short) _ =
+          rw (into-14 netFor t cells marks output (omega arith) short, into-14 other t cells marks output (omega arith) short) (but-none _)
+      go (no room) (no marks-room) (no none) =
+          rw (
+            into-marked netFor t cells marks output (omega arith) (omega arith),
+            into-marked other t cells marks output (omega arith) (omega arith),
+            marked-16 netFor t cells marks output none,
+            marked-16 other t cells marks output none,
+          )
+          (but-none _)
+      go (no room) (no marks-room) (yes two) =
+          rw (
+            into-marked netFor t cells marks output (omega arith) (omega arith),
+            into-marked other t cells marks output (omega arith) (omega arith),
+            marked-tree netFor t cells marks output two,
+            marked-tree other t cells marks output two,
+          )
+          (sheets-but (printedNet (netFor t)) (printedNet (other t)) (written cells (t .inks)) (written marks (storedMarks (marksOfTable t))) output (long two))

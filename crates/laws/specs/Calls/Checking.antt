@@ -1,0 +1,104 @@
+-- What checking comes to, one law for each outcome, and how a comparison of two lists of inks ends.
+-- Assumes nothing.
+use Prim.Native.Nat.{ℕ, _≤_, _<_}
+use mathlib.Core.Path.{_≡_, _∙_, subst, subst⁻¹}
+use mathlib.Core.List.{List}
+use mathlib.Core.Bool.{true, false, Bool, not, _&&_, and-eq-true-iff}
+use lib.ListN.{length, getD}
+use borrow.Author.Tests.{lt-ltb, le-ltb, eqb-true, eqb-false, not-false, not-true}
+use Rattle.rules.specs.Sheets.Sheets.{Net, Table}
+use Rattle.rules.specs.Calls.Answers.{accepted, refused, written, netNamed, tableNamed, neither}
+use Rattle.rules.specs.Sheets.Reading.{readNet, readTable, tableOfNet}
+use Rattle.rules.specs.Calls.OpenCells.{isOpen}
+use Rattle.rules.specs.Calls.Checking.{turnedDown, checkCall, sameHeader, compared, checkedInto, agree, differ}
+use native.Mathlib.Nat.{zero-add}
+use native.Mathlib.Decide.{decLt}
+use native.Mathlib.Omega.{arith}
+use lib.Dec.{eqb}
+use Rattle.rules.specs.Lists.{range, firstPlace}
+use Rattle.laws.specs.Calls.OpenCells.{not-open, shut-ink}
+use Rattle.laws.specs.Lists.FirstPlaces.{before-first, at-first}
+use Rattle.laws.specs.Lists.Ranges.{range-length, range-at}
+
+module _ (s r cells : List ℕ) where
+  pub check-net-refused : (number place : ℕ) → readNet s ≡ refused number place
+      → checkCall s r cells ≡ record { answer = turnedDown netNamed number place; cells = cells }
+  unfolding checkCall
+  check-net-refused number place e = rw (e, checkCall)
+
+  pub check-table-refused : (net : Net) → readNet s ≡ accepted net → (number place : ℕ) → readTable r ≡ refused number place
+      → checkCall s r cells ≡ record { answer = turnedDown tableNamed number place; cells = cells }
+  unfolding checkCall
+  check-table-refused net d number place e = rw (d, e, checkCall)
+
+  pub check-accepted : (net : Net) → readNet s ≡ accepted net → (t : Table) → readTable r ≡ accepted t → checkCall s r cells ≡ checkedInto net t cells
+  unfolding checkCall
+  check-accepted net d t e = rw (d, e, checkCall)
+
+module _ (net : Net) (t : Table) (cells : List ℕ) where
+  pub check-12 : sameHeader (net .header) (t .header) ≡ false → checkedInto net t cells ≡ record { answer = turnedDown neither 12 0; cells = cells }
+  unfolding checkedInto
+  check-12 e = rw (e, checkedInto)
+
+  pub check-13 : sameHeader (net .header) (t .header) ≡ true → length cells < length (t .inks)
+      → checkedInto net t cells ≡ record { answer = turnedDown neither 13 (length (t .inks)); cells = cells }
+  unfolding checkedInto
+  check-13 e h = rw (e, lt-ltb _ _ h, checkedInto)
+
+  pub check-compared : sameHeader (net .header) (t .header) ≡ true → length (t .inks) ≤ length cells
+      → checkedInto net t cells ≡ record { answer = compared (t .header .levels) (tableOfNet net .inks) (t .inks); cells = written cells (t .inks) }
+  unfolding checkedInto
+  check-compared e h = rw (e, le-ltb _ _ h, checkedInto)
+
+-- at a place before the end, the table's cell is not open and the two differ
+differs : ℕ → List ℕ → List ℕ → ℕ → Bool
+differs m xs ys p = not (isOpen m (getD ys p 0)) && not (eqb (getD xs p 0) (getD ys p 0))
+
+-- the first place at which they differ, or the length
+firstDifference : ℕ → List ℕ → List ℕ → ℕ
+firstDifference m xs ys = firstPlace (differs m xs ys) (range 0 (length xs))
+
+-- they agree at a place, or the table's cell there is open
+abbrev pub AgreeAt : ℕ → List ℕ → List ℕ → ℕ → Type 0
+AgreeAt m xs ys p = (getD ys p 0 ≡ m → ⊥) → getD xs p 0 ≡ getD ys p 0
+
+-- a comparison ends in one of two ways
+pub data Compared (m : ℕ) (xs ys : List ℕ) : Type 0 where
+  all-agree : compared m xs ys ≡ agree → ((p : ℕ) → p < length xs → AgreeAt m xs ys p) → Compared m xs ys
+  first-differs : (k : ℕ) → compared m xs ys ≡ differ k → k < length xs → (getD ys k 0 ≡ m → ⊥) → (getD xs k 0 ≡ getD ys k 0 → ⊥)
+      → ((p : ℕ) → p < k → AgreeAt m xs ys p) → Compared m xs ys
+
+same-at : (m : ℕ) (xs ys : List ℕ) (p : ℕ) → differs m xs ys p ≡ false → AgreeAt m xs ys p
+unfolding differs
+same-at m xs ys p e shut = eqb-true _ _ (not-false _ (rw (not-open m (getD ys p 0) shut) at e))
+
+apart-at : (m : ℕ) (xs ys : List ℕ) (p : ℕ) → differs m xs ys p ≡ true → (getD ys p 0 ≡ m → ⊥) × (getD xs p 0 ≡ getD ys p 0 → ⊥)
+unfolding differs
+apart-at m xs ys p e =
+    let (shut, ne) = and-eq-true-iff _ _ .0 e in
+    (shut-ink m (getD ys p 0) (not-true _ shut), eqb-false _ _ (not-true _ ne))
+
+module _ (m : ℕ) (xs ys : List ℕ) where
+  place : ℕ
+  place = firstDifference m xs ys
+
+  before : (p : ℕ) → p < place → p < length xs → AgreeAt m xs ys p
+  unfolding place firstDifference
+  before p h l =
+      same-at m xs ys p
+      (subst (λ (q : ℕ). differs m xs ys q ≡ false) (range-at 0 (length xs) p 0 l ∙ zero-add p) (before-first (differs m xs ys) 0 (range 0 (length xs)) p h))
+
+  there : place < length xs → (getD ys place 0 ≡ m → ⊥) × (getD xs place 0 ≡ getD ys place 0 → ⊥)
+  unfolding place firstDifference
+  there h =
+      apart-at m xs ys place
+      (subst (λ (q : ℕ). differs m xs ys q ≡ true) (range-at 0 (length xs) place 0 h ∙ zero-add place)
+      (at-first (differs m xs ys) 0 (range 0 (length xs)) (subst⁻¹ (λ (l : ℕ). place < l) (range-length 0 (length xs)) h)))
+
+  pub comparison : Compared m xs ys
+  unfolding compared place firstDifference differs
+  comparison = go (decLt place (length xs))
+    where
+      go : Dec (place < length xs) → Compared m xs ys
+      go (yes h) = let (shut, ne) = there h in first-differs place (rw (lt-ltb place (length xs) h, compared)) h shut ne (λ p l. before p l (omega arith))
+      go (no h) = all-agree (rw (le-ltb place (length xs) (omega arith), compared)) (λ p l. before p (omega arith) l)

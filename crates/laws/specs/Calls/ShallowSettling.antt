@@ -1,0 +1,41 @@
+-- What the two calls that write a shallow net come to, one law for each outcome; with the count of layers and without it.
+-- Assumes nothing.
+use Prim.Native.Nat.{ℕ}
+use mathlib.Core.Path.{_≡_, refl}
+use mathlib.Core.List.{List}
+use Rattle.rules.specs.Sheets.Sheets.{Net, Table}
+use Rattle.rules.specs.Calls.Answers.{Answer, accepted, refused, onward}
+use Rattle.rules.specs.Sheets.Reading.{readNet, tableOfNet}
+use Rattle.rules.specs.Calls.OpenCells.{readFull}
+use Rattle.rules.specs.Calls.ShallowSettling.{Layered, layered, layeredInto, settleShallowCall, makeShallowCall, shallowNet}
+
+-- an answer without its count of layers
+unfoldable pub plainAnswer : Answer Layered → Answer ℕ
+plainAnswer answer = onward answer (λ a. accepted (a .length))
+
+-- is what it was before it had one
+pub plain-layered : (count : ℕ) (answer : Answer ℕ) → plainAnswer (layered count answer) ≡ answer
+unfolding plainAnswer layered onward
+plain-layered count (accepted length) = refl
+plain-layered count (refused number place) = refl
+
+-- a sheet that is turned back, and one that is accepted
+module _ (s cells marks output : List ℕ) where
+  pub settle-shallow-refused : (number place : ℕ) → readNet s ≡ refused number place
+      → settleShallowCall s cells marks output ≡ record { answer = refused number place; cells = cells; marks = marks; output = output }
+  unfolding settleShallowCall
+  settle-shallow-refused number place e = rw (e, settleShallowCall)
+
+  pub settle-shallow-accepted : (net : Net) → readNet s ≡ accepted net
+      → settleShallowCall s cells marks output ≡ layeredInto shallowNet (tableOfNet net) cells marks output
+  unfolding settleShallowCall
+  settle-shallow-accepted net e = rw (e, settleShallowCall)
+
+  pub make-shallow-refused : (number place : ℕ) → readFull s ≡ refused number place
+      → makeShallowCall s cells marks output ≡ record { answer = refused number place; cells = cells; marks = marks; output = output }
+  unfolding makeShallowCall
+  make-shallow-refused number place e = rw (e, makeShallowCall)
+
+  pub make-shallow-accepted : (t : Table) → readFull s ≡ accepted t → makeShallowCall s cells marks output ≡ layeredInto shallowNet t cells marks output
+  unfolding makeShallowCall
+  make-shallow-accepted t e = rw (e, makeShallowCall)

@@ -1,0 +1,114 @@
+-- Lists of which no element stands twice.
+-- Assumes nothing.
+use Prim.Native.Nat.{ℕ, zero, suc, _≤_, _<_}
+use mathlib.Core.Path.{_≡_, refl, sym, _∙_, ap, subst⁻¹}
+use mathlib.Core.Logic.{_↔_, by-cases}
+use mathlib.Core.Bool.{Bool, true, false, true≢false, _||_}
+use mathlib.Core.List.{List, [], _∷_, _++_}
+use native.Mathlib.Omega.{arith}
+use native.Mathlib.Decide.{decLt}
+use lib.ListN.{length, getD}
+use lib.Dec.{eqb}
+use borrow.Author.Tests.{eqb-false, eq-eqb, ne-eqb, eqb-true}
+use Rattle.rules.specs.Lists.{any, all}
+use Rattle.rules.specs.Sheets.SheetRules.{Distinct}
+use Rattle.laws.specs.Lists.Tests.{not-false-true, none-iff, none-append, none-mem, all-iff, any-cons}
+use Rattle.laws.specs.Lists.Places.{mem-getD}
+use Rattle.laws.specs.Lists.Counts.{count-cons, count-none, times}
+use Rattle.laws.specs.Lists.Pigeonhole.{AllDiffer, pigeonhole}
+
+-- no element is like a later one
+abbrev pub Unlike : {A : Type 0} → (A → A → Bool) → List A → Type 0
+Unlike alike [] = Unit {0}
+Unlike alike (x ∷ xs) = (any (alike x) xs ≡ false) × Unlike alike xs
+
+-- such elements at different places are different
+module _ {A : Type 0} (alike : A → A → Bool) (own : (x : A) → alike x x ≡ true) (d : A) where
+  not-later : (x : A) (xs : List A) → any (alike x) xs ≡ false → (k : ℕ) → k < length xs → x ≡ getD xs k d → ⊥
+  not-later x xs e k h q = true≢false (sym (own x) ∙ ap (alike x) q ∙ none-mem (alike x) (mem-getD xs k d h) e)
+
+  pub unlike-differ : (xs : List A) → Unlike alike xs → (j k : ℕ) → j < length xs → k < length xs → getD xs j d ≡ getD xs k d → j ≡ k
+  unlike-differ [] u j k h i e = absurd (omega arith)
+  unlike-differ (x ∷ xs) u zero zero h i e = refl
+  unlike-differ (x ∷ xs) u zero (suc k) h i e = absurd (not-later x xs (u .0) k (omega arith) e)
+  unlike-differ (x ∷ xs) u (suc j) zero h i e = absurd (not-later x xs (u .0) j (omega arith) (sym e))
+  unlike-differ (x ∷ xs) u (suc j) (suc k) h i e = ap suc (unlike-differ xs (u .1) j k (omega arith) (omega arith) e)
+
+-- ---- numbers
+
+-- x stands in the list
+abbrev pub In : ℕ → List ℕ → Type 0
+In x xs = any (eqb x) xs ≡ true
+
+-- x does not stand in the list
+abbrev pub NotIn : ℕ → List ℕ → Type 0
+NotIn x xs = any (eqb x) xs ≡ false
+
+-- what does not stand in a list is not its first element, and does not stand in the rest
+pub not-in-cons : (x y : ℕ) (ys : List ℕ) → NotIn x (y ∷ ys) ↔ ((x ≡ y → ⊥) × NotIn x ys)
+not-in-cons x y ys = (
+  λ h.
+      let (first, rest) = none-iff (eqb x) y ys .0 h in
+      (eqb-false x y first, rest),
+  λ (first, rest). none-iff (eqb x) y ys .1 (ne-eqb x y first, rest),
+)
+
+-- the same of a list with two numbers more at its end
+pub not-in-two : (x : ℕ) (xs : List ℕ) (a b : ℕ) → NotIn x (xs ++ (a ∷ b ∷ [])) ↔ (NotIn x xs × (x ≡ a → ⊥) × (x ≡ b → ⊥))
+unfolding any
+not-in-two x xs a b = (
+  λ h.
+      let (i, j) = none-append (eqb x) xs (a ∷ b ∷ []) .0 h in
+      let (k, l) = not-in-cons x a (b ∷ []) .0 j in
+      (i, k, not-in-cons x b [] .0 l .0),
+  λ (i, k, l). none-append (eqb x) xs (a ∷ b ∷ []) .1 (i, not-in-cons x a (b ∷ []) .1 (k, not-in-cons x b [] .1 (l, refl))),
+)
+
+-- in a list without repetition an element does not stand before itself
+pub distinct-before : (xs : List ℕ) (y : ℕ) (ys : List ℕ) → Distinct (xs ++ (y ∷ ys)) → NotIn y xs
+unfolding any
+distinct-before [] y ys d = refl
+distinct-before (x ∷ xs) y ys d =
+    let apart = not-in-cons x y ys .0 (none-append (eqb x) xs (y ∷ ys) .0 (d .0) .1) in
+    not-in-cons y x xs .1 (λ e. apart .0 (sym e), distinct-before xs y ys (d .1))
+
+-- a list where each number stands at most once is without repetition
+pub times-distinct : (xs : List ℕ) → ((r : ℕ) → times r xs ≤ 1) → Distinct xs
+times-distinct [] h = tt
+times-distinct (x ∷ xs) h = (count-none (eqb x) xs (once x (h x)), times-distinct xs (λ r. omega (arith, h r, count-cons (eqb r) x xs)))
+  where
+    once : (r : ℕ) → times r (r ∷ xs) ≤ 1 → times r xs ≡ 0
+    once r l = let c = count-cons (eqb r) r xs in omega (arith, rw (eq-eqb r r refl) at c)
+
+-- the numbers at different places are different
+distinct-differ : (xs : List ℕ) → Distinct xs → AllDiffer (length xs) (λ i. getD xs i 0)
+distinct-differ xs d = unlike-differ eqb (λ x. eq-eqb x x refl) 0 xs (unlike xs d)
+  where
+    unlike : (xs : List ℕ) → Distinct xs → Unlike eqb xs
+    unlike [] d = tt
+    unlike (x ∷ xs) d = (d .0, unlike xs (d .1))
+
+-- k numbers below k of which none stands twice are all the numbers below k
+pub all-stand : (k : ℕ) (xs : List ℕ) → Distinct xs → ((z : ℕ) → k ≤ z → NotIn z xs) → k ≤ length xs → (x : ℕ) → x < k → In x xs
+all-stand k xs d small enough x x< =
+    not-false-true (any (eqb x) xs) λ e.
+    omega (arith, pigeonhole k (suc (length xs)) (λ i. getD (x ∷ xs) i 0) below (distinct-differ (x ∷ xs) (e, d)))
+  where
+    below : (i : ℕ) → i < suc (length xs) → getD (x ∷ xs) i 0 < k
+    below zero h = x<
+    below (suc i) h =
+        by-cases (decLt (getD xs i 0) k) (λ l. l) λ l.
+        let not-there = small (getD xs i 0) (omega arith) in
+        absurd (eqb-false (getD xs i 0) (getD xs i 0) (none-mem (eqb (getD xs i 0)) (mem-getD xs i 0 (omega arith)) not-there) refl)
+
+-- a number of a list is one of every list that has all of it
+pub wider : (fewer more : List ℕ) → all (λ k. any (eqb k) more) fewer ≡ true → (number : ℕ) → In number fewer → In number more
+unfolding any
+wider [] more h number i = absurd (true≢false (sym i))
+wider (k ∷ fewer) more h number i =
+    let (first, others) = all-iff (λ j. any (eqb j) more) k fewer .0 h in
+    go (eqb number k) refl (sym (any-cons (eqb number) k fewer) ∙ i) first (wider fewer more others number)
+  where
+    go : (t : Bool) → eqb number k ≡ t → (t || any (eqb number) fewer) ≡ true → In k more → (In number fewer → In number more) → In number more
+    go true e i first later = subst⁻¹ (λ (k : ℕ). In k more) (eqb-true number k e) first
+    go false e i first later = later i

@@ -1,0 +1,35 @@
+-- Things that come one after another, each unlike those before it.
+-- Assumes nothing.
+use mathlib.Core.Path.{_≡_, refl, _∙_}
+use mathlib.Core.Bool.{Bool, false}
+use mathlib.Core.Logic.{_↔_}
+use mathlib.Core.List.{List, [], _∷_, _++_}
+use Rattle.rules.specs.Lists.{any}
+use Rattle.laws.specs.Lists.Tests.{none-iff, none-snoc}
+
+module _ {A : Type 0} (alike : A → A → Bool) where
+  -- none of the later is like one of the earlier
+  abbrev pub Fresh : List A → List A → Type 0
+  Fresh earlier [] = Unit {0}
+  Fresh earlier (x ∷ xs) = (any (alike x) earlier ≡ false) × Fresh earlier xs
+
+  -- the first are fresh
+  pub fresh-first : (xs : List A) → Fresh [] xs
+  unfolding any
+  fresh-first [] = tt
+  fresh-first (x ∷ xs) = (refl, fresh-first xs)
+
+  module _ (turned : (x y : A) → alike x y ≡ alike y x) where
+    -- fresh after one more: none of the later is like that one either
+    pub fresh-last : (earlier : List A) (x : A) (xs : List A) → Fresh (earlier ++ (x ∷ [])) xs ↔ ((any (alike x) xs ≡ false) × Fresh earlier xs)
+    unfolding any
+    fresh-last earlier x [] = (λ h. (refl, tt), λ h. tt)
+    fresh-last earlier x (y ∷ ys) = (
+      λ h.
+          let (i, j) = none-snoc (alike y) earlier x .0 (h .0) in
+          let (k, l) = fresh-last earlier x ys .0 (h .1) in
+          (none-iff (alike x) y ys .1 (turned x y ∙ j, k), (i, l)),
+      λ h.
+          let (i, j) = none-iff (alike x) y ys .0 (h .0) in
+          (none-snoc (alike y) earlier x .1 (h .1 .0, turned y x ∙ i), fresh-last earlier x ys .1 (j, h .1 .1)),
+    )

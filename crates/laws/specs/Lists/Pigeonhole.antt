@@ -1,0 +1,58 @@
+-- Pigeonhole: there are at most k different numbers below k.
+-- Assumes nothing.
+use Prim.Native.Nat.{ℕ, zero, suc, _≤_, _<_, zero-le, suc-le-suc}
+use mathlib.Core.Path.{_≡_, refl, sym, _∙_}
+use mathlib.Core.Bool.{Bool, true, false, cond}
+use native.Mathlib.Nat.{not-suc-le-zero, le-of-suc-le-suc, le-refl, le-step}
+use native.Mathlib.Decide.{decLt}
+use native.Mathlib.Omega.{arith}
+use lib.Dec.{eqb}
+use lib.Arith.{lt-of-le-ne}
+use borrow.Author.Tests.{eqb-true, eqb-false}
+
+-- the first c values are pairwise different
+abbrev pub AllDiffer : ℕ → (ℕ → ℕ) → Type 0
+AllDiffer c w = (i j : ℕ) → i < c → j < c → w i ≡ w j → i ≡ j
+
+-- it is enough that no value is equal to a later one
+pub later-differ : (c : ℕ) (w : ℕ → ℕ) → ((i j : ℕ) → i < j → j < c → w i ≡ w j → ⊥) → AllDiffer c w
+later-differ c w later i j i< j< e = go (decLt i j) (decLt j i)
+  where
+    go : Dec (i < j) → Dec (j < i) → i ≡ j
+    go (yes h) _ = absurd (later i j h j< e)
+    go (no h) (yes k) = absurd (later j i k i< (sym e))
+    go (no h) (no k) = omega arith
+
+-- where the value is k, the last value in its place
+spare : ℕ → ℕ → (ℕ → ℕ) → ℕ → ℕ
+spare k c w i = cond (eqb (w i) k) (w c) (w i)
+
+-- so put, the values are below k, ..
+spare-below : (k c : ℕ) (w : ℕ → ℕ) → ((i : ℕ) → i < suc c → w i < suc k) → AllDiffer (suc c) w → (i : ℕ) → i < c → spare k c w i < k
+unfolding spare
+spare-below k c w small differ i h = go (eqb (w i) k) refl
+  where
+    other : w i ≡ w c → ⊥
+    other e = let d = differ i c (le-step h) (le-refl (suc c)) e in omega arith
+
+    go : (b : Bool) → eqb (w i) k ≡ b → cond b (w c) (w i) < k
+    go true e = lt-of-le-ne (le-of-suc-le-suc (small c (le-refl (suc c)))) (λ d. other (eqb-true (w i) k e ∙ sym d))
+    go false e = lt-of-le-ne (le-of-suc-le-suc (small i (le-step h))) (eqb-false (w i) k e)
+
+-- .. and still pairwise different
+spare-differ : (k c : ℕ) (w : ℕ → ℕ) → AllDiffer (suc c) w → AllDiffer c (spare k c w)
+unfolding spare
+spare-differ k c w differ i j i< j< = go (eqb (w i) k) (eqb (w j) k) refl refl
+  where
+    go : (b d : Bool) → eqb (w i) k ≡ b → eqb (w j) k ≡ d → cond b (w c) (w i) ≡ cond d (w c) (w j) → i ≡ j
+    go true true p q e = differ i j (le-step i<) (le-step j<) (eqb-true (w i) k p ∙ sym (eqb-true (w j) k q))
+    go true false p q e = let d = differ c j (le-refl (suc c)) (le-step j<) e in omega arith
+    go false true p q e = let d = differ i c (le-step i<) (le-refl (suc c)) e in omega arith
+    go false false p q e = differ i j (le-step i<) (le-step j<) e
+
+-- c different values below k are at most k
+pub pigeonhole : (k c : ℕ) (w : ℕ → ℕ) → ((i : ℕ) → i < c → w i < k) → AllDiffer c w → c ≤ k
+pigeonhole k zero w small differ = zero-le
+pigeonhole zero (suc c) w small differ = absurd (not-suc-le-zero (small c (le-refl (suc c))))
+pigeonhole (suc k) (suc c) w small differ =
+    suc-le-suc (pigeonhole k c (spare k c w) (spare-below k c w small differ) (spare-differ k c w differ))

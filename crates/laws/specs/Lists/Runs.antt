@@ -1,0 +1,103 @@
+-- Laws of `run` and `past`, and of the spaces at the front.
+-- Assumes nothing.
+use Prim.Native.Nat.{ℕ, suc, _≤_}
+use mathlib.Core.Path.{_≡_, refl, sym, ap, _∙_}
+use mathlib.Core.Bool.{Bool, true, false}
+use mathlib.Core.List.{List, [], _∷_, _++_}
+use native.Mathlib.Omega.{arith}
+use lib.ListN.{length, take, drop, length-append}
+use lib.Seq.{take-append-seam, drop-append-seam}
+use lib.Dec.{eqb}
+use Rattle.rules.specs.Text.{space}
+use Rattle.rules.specs.Sheets.Fields.{isSeparator, run, past, pastSpaces, spacesIn}
+
+-- a separator in front: no field
+pub at-separator : (b : ℕ) (s : List ℕ) → isSeparator b ≡ true → (run (b ∷ s) ≡ []) × (past (b ∷ s) ≡ b ∷ s)
+unfolding run past
+at-separator b s e = rw (e, run, past) (refl, refl)
+
+-- any other byte belongs to the field
+pub at-plain : (b : ℕ) (s : List ℕ) → isSeparator b ≡ false → (run (b ∷ s) ≡ b ∷ run s) × (past (b ∷ s) ≡ past s)
+unfolding run past
+at-plain b s e = rw (e, run, past) (refl, refl)
+
+-- a text is its first run and what stands past it
+pub run-past : (s : List ℕ) → s ≡ run s ++ past s
+unfolding run past
+run-past [] = refl
+run-past (b ∷ s) = go (isSeparator b) refl (run-past s)
+  where
+    go : (t : Bool) → isSeparator b ≡ t → s ≡ run s ++ past s → b ∷ s ≡ run (b ∷ s) ++ past (b ∷ s)
+    go true e r = rw (e, run, past) refl
+    go false e r = rw (e, run, past) (ap (λ u. b ∷ u) r)
+
+-- the same by place
+module _ (s : List ℕ) where
+  pub run-front : take (length (run s)) s ≡ run s
+  run-front = ap (take (length (run s))) (run-past s) ∙ take-append-seam (run s) (past s)
+
+  pub run-rest : drop (length (run s)) s ≡ past s
+  run-rest = ap (drop (length (run s))) (run-past s) ∙ drop-append-seam (run s) (past s)
+
+  pub run-most : length (run s) ≤ length s
+  run-most = omega (arith, simp length-append at (ap length (run-past s)))
+
+-- with more bytes behind a separator past the run, the run is the same, ..
+pub run-more : (s t : List ℕ) (b : ℕ) (rest : List ℕ) → past s ≡ b ∷ rest → (run (s ++ t) ≡ run s) × (past (s ++ t) ≡ b ∷ (rest ++ t))
+unfolding run past
+run-more [] t b rest e = absurd (let z : _≡_ {A = ℕ} 0 1 = cc in omega arith)
+run-more (c ∷ s) t b rest e = go (isSeparator c) refl e (run-more s t b rest)
+  where
+    go : (u : Bool) → isSeparator c ≡ u → past (c ∷ s) ≡ b ∷ rest → (past s ≡ b ∷ rest → (run (s ++ t) ≡ run s) × (past (s ++ t) ≡ b ∷ (rest ++ t)))
+        → (run (c ∷ (s ++ t)) ≡ run (c ∷ s)) × (past (c ∷ (s ++ t)) ≡ b ∷ (rest ++ t))
+    go true d e r =
+        let (i, j) = at-separator c (s ++ t) d in
+        let (k, l) = at-separator c s d in
+        let whole : c ∷ s ≡ b ∷ rest = sym l ∙ e in
+        (i ∙ sym k, j ∙ ap (λ u. u ++ t) whole)
+    go false d e r =
+        let (i, j) = at-plain c (s ++ t) d in
+        let (k, l) = at-plain c s d in
+        let (x, y) = r (sym l ∙ e) in
+        (i ∙ ap (λ w. c ∷ w) x ∙ sym k, j ∙ y)
+
+-- .. and where no separator stands there, the run goes on into them
+pub run-through : (s t : List ℕ) → past s ≡ [] → run (s ++ t) ≡ s ++ run t
+unfolding run past
+run-through [] t e = refl
+run-through (c ∷ s) t e = go (isSeparator c) refl e (run-through s t)
+  where
+    go : (u : Bool) → isSeparator c ≡ u → past (c ∷ s) ≡ [] → (past s ≡ [] → run (s ++ t) ≡ s ++ run t) → run (c ∷ (s ++ t)) ≡ c ∷ (s ++ run t)
+    go true d e r = absurd (let whole : c ∷ s ≡ [] = sym (at-separator c s d .1) ∙ e in let z : _≡_ {A = ℕ} 0 1 = cc in omega arith)
+    go false d e r = at-plain c (s ++ t) d .0 ∙ ap (λ w. c ∷ w) (r (sym (at-plain c s d .1) ∙ e))
+
+-- ---- spaces at the front
+
+-- a space in front is passed
+pub at-space : (b : ℕ) (s : List ℕ) → eqb b space ≡ true → (spacesIn (b ∷ s) ≡ suc (spacesIn s)) × (pastSpaces (b ∷ s) ≡ pastSpaces s)
+unfolding spacesIn pastSpaces
+at-space b s e = rw (e, spacesIn, pastSpaces) (refl, refl)
+
+-- any other byte stays
+pub at-other : (b : ℕ) (s : List ℕ) → eqb b space ≡ false → (spacesIn (b ∷ s) ≡ 0) × (pastSpaces (b ∷ s) ≡ b ∷ s)
+unfolding spacesIn pastSpaces
+at-other b s e = rw (e, spacesIn, pastSpaces) (refl, refl)
+
+-- by place
+pub spaces-rest : (s : List ℕ) → drop (spacesIn s) s ≡ pastSpaces s
+unfolding spacesIn pastSpaces
+spaces-rest [] = refl
+spaces-rest (b ∷ s) = go (eqb b space) refl (spaces-rest s)
+  where
+    go : (t : Bool) → eqb b space ≡ t → drop (spacesIn s) s ≡ pastSpaces s → drop (spacesIn (b ∷ s)) (b ∷ s) ≡ pastSpaces (b ∷ s)
+    go true e r = rw (at-space b s e .0, at-space b s e .1) r
+    go false e r = rw (at-other b s e .0, at-other b s e .1) refl
+
+pub spaces-most : (s : List ℕ) → spacesIn s ≤ length s
+unfolding spacesIn
+spaces-most [] = omega arith
+spaces-most (b ∷ s) = go (eqb b space) refl (spaces-most s)
+  where
+    go : (t : Bool) → eqb b space ≡ t → spacesIn s ≤ length s → spacesIn (b ∷ s) ≤ length (b ∷ s)
+    go true e r = rw (at-space b s e .0) (omega arith)
+    go false e r = rw (at-other b s e .0) (omega arith)

@@ -1,0 +1,6 @@
+pub mod Assignments
+pub mod Decimals
+pub mod Digits
+pub mod Levels
+pub mod Quarters
+pub mod Sizes

@@ -1,0 +1,26 @@
+-- `loose_sheets::tidy::tidy_either` meets its contract: the sheet read strictly, or else loosely.
+-- Assumes nothing.
+use Prim.Native.Nat.{ℕ}
+use native.Mathlib.Omega.{arith}
+use lib.ListN.{length-replicate}
+use Rattle.rules.specs.Limits.{mostCells}
+use Rattle.loose_sheets.specs.Tidying.{strict-taken, strict-itself}
+use borrow.Author.Needs.{needs}
+use Rattle.loose_sheets.proofs.tidy.tidy_either.Statement.{statement}
+use Rattle.loose_sheets.proofs.tidy.tidy_either.Tie as tie
+
+-- the sheet's read, from where its outcome is told
+abbrev at-read : tie.After-enum-told2 → tie.After-read-table
+at-read c = c .before .before .before .before
+
+tidy-accepted-requires : tie.Need-tidy-accepted-requires
+tidy-accepted-requires c κs =
+    let told = c .before .before .before in
+    let did = at-read told .read-table in
+    let is = told .enum-told2 .given .1 in
+    (strict-taken _ _ _ (did .ensures) is (omega (arith, did .kept .1 .0, length-replicate {A = ℕ} mostCells 0)), strict-itself _ _ _ (did .ensures) is)
+
+pub tidy-either-spec : {M : Type 1} → statement M
+tidy-either-spec =
+    tie.close (tie.spec (λ c. search needs) (λ c κs. search needs) (λ c. search needs) (λ c κs. search needs) (λ c. search needs) (λ c. search needs)
+    tidy-accepted-requires (λ c. search needs) (λ c. search needs) (λ c. search needs) (λ c. search needs) (λ c. search needs) (λ c. search needs))

@@ -1,0 +1,6 @@
+pub mod Frame
+pub mod Framed
+pub mod Laying
+pub mod Matching
+pub mod Plain
+pub mod Weighing

@@ -1,0 +1,168 @@
+-- A row that stands in a frame is read at once: its levels' weights come to its index.
+-- Assumes nothing.
+use Prim.Native.Nat.{ℕ, suc, _+_, _-_, _*_, _%_, _^_, _≤_, _<_}
+use mathlib.Core.Path.{_≡_, refl, sym, ap, _∙_}
+use mathlib.Core.List.{List}
+use native.Mathlib.Nat.{mul-assoc, add-mul, mul-one, mul-zero, zero-mul, pow-zero, pow-succ'}
+use native.Mathlib.Omega.{arith}
+use lib.ListN.{length, drop, getD}
+use Rattle.rules.specs.Text.{zeroByte, spaceByte}
+use Rattle.rules.specs.Limits.{mostLevels}
+use Rattle.rules.specs.Sheets.Fields.{fieldIn, loose}
+use Rattle.rules.specs.Sheets.LooseSheet.{anyLevel}
+use Rattle.fields.specs.Runs.{spacesEnd, spaces-here, spaces-later}
+use Rattle.fields.specs.Steps.{stepAs, itself}
+use Rattle.fields.specs.declared.steps.Step.the-variants.{On}
+use Rattle.loose_sheets.specs.Fast.Frame.{SpaceAt, LevelAt, LooseLaid, laid-none, laid-space, laid-level, Framed}
+use Rattle.loose_sheets.specs.Fast.Matching.{InBounds, Stand, InFrame, lookedAt, looked-bounds}
+use Rattle.loose_sheets.specs.Fast.Weighing.{counted, counted-next, counted-on}
+use Rattle.table_reader.specs.Fast.Plain.{Plain}
+use Rattle.loose_sheets.specs.Reader.Index.{IndexRead, InIndex, index-start, index-done, index-next}
+use Rattle.loose_sheets.specs.Fast.Plain.{plain-level}
+
+one-level : (index m d p : ℕ) → index * (m * p) + d * p ≡ (index * m + d) * p
+one-level index m d p = rw (add-mul, mul-assoc) refl
+
+module _ (s : List ℕ) (at m n : ℕ) (few : m ≤ mostLevels) (least more weights : List ℕ) where
+  -- i levels are read, and the spaces after them are passed; they count what the index so far comes to
+  record InLaid (j i : ℕ) : Type 0 where
+    most : i ≤ n
+    place : ℕ
+    index : ℕ
+    here : at + j < length s → (getD s (at + j) 0 ≡ spaceByte → ⊥) → place ≡ at + j
+    past : 0 < i → place ≡ spacesEnd s (at + j)
+    reads : InIndex s at m n place index i
+    counts : counted s at weights j ≡ index * m ^ (n - i)
+
+  space-byte : (j : ℕ) → SpaceAt least more weights j → InBounds s at least more j → getD s (at + j) 0 ≡ spaceByte
+  space-byte j space here = omega (arith, space .byte, space .alone, here .most, here .is)
+
+  level-byte : (j after : ℕ) → LevelAt least more weights m j after → (here : InBounds s at least more j)
+      → (here .above < m) × (getD s (at + j) 0 ≡ zeroByte + here .above)
+  level-byte j after level here = (omega (arith, level .below, here .most), omega (arith, level .byte, level .below, here .most, here .is, few))
+
+  -- a space more
+  module _ (j i : ℕ) (before : InLaid j i) (some : 0 < i) (room : at + (j + 1) < length s) (space : getD s (at + j) 0 ≡ spaceByte) (none : getD weights j 0 ≡ 0) where
+    passed : before .place ≡ spacesEnd s (at + (j + 1))
+    passed =
+        let one : at + j + 1 ≡ at + (j + 1) = omega arith in
+        before .past some ∙ (sym (spaces-later s (at + j) (omega (arith, room)) space) ∙ ap (spacesEnd s) one)
+
+    one-space : InLaid (j + 1) i
+    one-space =
+        let nothing : (getD s (at + j) 0 % 16) * getD weights j 0 ≡ 0 = rw none (mul-zero _) in
+        record {
+          most = before .most;
+          place = before .place;
+          index = before .index;
+          here = λ within other. passed ∙ spaces-here s (at + (j + 1)) within other;
+          past = λ _. passed;
+          reads = before .reads;
+          counts = omega (arith, counted-next s at weights j, nothing, before .counts);
+        }
+
+  -- a level more, and the space after it
+  module _ (j i d : ℕ) (before : InLaid j i) (fewer : i < n) (below : d < m) (room : at + (j + 2) < length s)
+      (byte : getD s (at + j) 0 ≡ zeroByte + d) (space : getD s (at + (j + 1)) 0 ≡ spaceByte)
+      (weight : getD weights j 0 ≡ m ^ (n - (i + 1))) (none : getD weights (j + 1) 0 ≡ 0) where
+    stands : Plain s (at + j) d spaceByte
+    stands =
+        let one : at + (j + 1) ≡ at + j + 1 = omega arith in
+        record { within = omega (arith, room); byte = byte; after = rw one at space }
+
+    next : ℕ
+    next = spacesEnd s (at + j + 2)
+
+    level : stepAs itself s (On d (spacesEnd s (at + j + 2))) ≡ fieldIn loose (anyLevel m) spaceByte (drop (before .place) s) (before .place)
+    level =
+        let here : before .place ≡ at + j = before .here (omega (arith, room)) (λ e. omega (arith, e, byte)) in
+        rw here (plain-level s (at + j) m d below stands)
+
+    counts-more : counted s at weights (j + 2) ≡ (before .index * m + d) * m ^ (n - (i + 1))
+    counts-more =
+        let nothing : (getD s (at + (j + 1)) 0 % 16) * getD weights (j + 1) 0 ≡ 0 = rw none (mul-zero _) in
+        let digit : getD s (at + j) 0 % 16 ≡ d = omega (arith, byte, below, few) in
+        let this : (getD s (at + j) 0 % 16) * getD weights j 0 ≡ d * m ^ (n - (i + 1)) = rw (digit, weight) refl in
+        let suc-left : n - i ≡ suc (n - (i + 1)) = omega arith in
+        let so-far : counted s at weights j ≡ before .index * (m * m ^ (n - (i + 1))) = before .counts ∙ rw (suc-left, pow-succ') refl in
+        let two : j + 2 ≡ j + 1 + 1 = omega arith in
+        rw (two, ← (one-level (before .index) m d (m ^ (n - (i + 1)))))
+        (omega (arith, counted-next s at weights (j + 1), counted-next s at weights j, nothing, this, so-far))
+
+    one-more : InLaid (j + 2) (i + 1)
+    one-more =
+        let two : at + j + 2 ≡ at + (j + 2) = omega arith in
+        record {
+          most = omega arith;
+          place = spacesEnd s (at + j + 2);
+          index = before .index * m + d;
+          here = λ within other. ap (spacesEnd s) two ∙ spaces-here s (at + (j + 2)) within other;
+          past = λ _. ap (spacesEnd s) two;
+          reads = index-next s at m n (before .place) (before .index) i (before .reads) fewer (On d (spacesEnd s (at + j + 2))) level d (spacesEnd s (at + j + 2)) refl;
+          counts = counts-more;
+        }
+
+  -- what the places before come to, where they stand
+  abbrev Before : ℕ → ℕ → Type 0
+  Before j i = Stand s at least more 0 j → at + j < length s → InLaid j i
+
+  of-none : (k h : ℕ) → k ≡ 0 → h ≡ 0 → Before k h
+  unfolding counted
+  of-none k h none-laid none-read stand room =
+      rw (none-laid, none-read) (record {
+        most = omega arith;
+        place = at;
+        index = 0;
+        here = λ _ _. omega arith;
+        past = λ some. absurd (omega arith);
+        reads = index-start s at m n;
+        counts = sym (zero-mul _);
+      })
+
+  of-space : (j i k : ℕ) → Before j i → 0 < i → SpaceAt least more weights j → k ≡ j + 1 → Before k i
+  of-space j i k before some space one stand room =
+      rw one
+      (one-space j i (before (λ q a b. stand q a (omega (arith, one, b))) (omega (arith, one, room))) some (omega (arith, one, room))
+      (space-byte j space (stand j (omega arith) (omega (arith, one)))) (space .weight))
+
+  of-level : (j i k h : ℕ) → Before j i → i < n → LevelAt least more weights m j (n - (i + 1)) → SpaceAt least more weights (j + 1) → k ≡ j + 2 → h ≡ i + 1 → Before k h
+  of-level j i k h before fewer at-level space two one stand room =
+      let here = stand j (omega arith) (omega (arith, two)) in
+      let (below, byte) = level-byte j (n - (i + 1)) at-level here in
+      rw (two, one)
+      (one-more j i (here .above) (before (λ q a b. stand q a (omega (arith, two, b))) (omega (arith, two, room))) fewer below (omega (arith, two, room)) byte
+      (space-byte (j + 1) space (stand (j + 1) (omega arith) (omega (arith, two)))) (at-level .weight) (space .weight))
+
+  reads-laid : (k h : ℕ) → LooseLaid least more weights m n k h → Before k h
+  reads-laid k h (laid-none _ _ none-laid none-read) = of-none k h none-laid none-read
+  reads-laid k h (laid-space j i _ before some space one) = of-space j h k (reads-laid j h before) some space one
+  reads-laid k h (laid-level j i _ _ before fewer at-level space two one) = of-level j i k h (reads-laid j i before) fewer at-level space two one
+
+-- ---- the whole row
+
+module _ (s : List ℕ) (at m n : ℕ) (few : m ≤ mostLevels) (least more weights : List ℕ) (width : ℕ) (framed : Framed m n least more weights width) (row : InFrame s at least more width) where
+  width-looked : width ≤ lookedAt width
+  width-looked = looked-bounds width (framed .most) .1
+
+  within : at + width < length s
+  within = omega (arith, width-looked, row .room)
+
+  before-ink : InLaid s at m n few least more weights width n
+  before-ink =
+      reads-laid s at m n few least more weights width n (framed .laid (row .some)) (λ k a b. row .stand k a (omega (arith, b, width-looked))) within
+
+  count-is : counted s at weights (lookedAt width) ≡ before-ink .index
+  count-is =
+      let after : width + (lookedAt width - width) ≡ lookedAt width = omega (arith, width-looked) in
+      let none-left : n - n ≡ 0 = omega arith in
+      ap (counted s at weights) (sym after)
+      ∙ (counted-on s at weights width (framed .rest (row .some)) (lookedAt width - width)
+      ∙ (before-ink .counts ∙ rw (none-left, pow-zero, mul-one) refl))
+
+  pub framed-reads : IndexRead s at m n (On (counted s at weights (lookedAt width)) (at + width))
+  framed-reads =
+      rw (count-is, ← (before-ink .here within (row .other)))
+      (index-done s at m n (before-ink .place) (before-ink .index) n (before-ink .reads) (omega arith))
+
+  pub framed-fits : counted s at weights (lookedAt width) < m ^ n
+  framed-fits = framed-reads .below _ _ refl

@@ -1,0 +1,4 @@
+pub mod Fast
+pub mod Program
+pub mod Reader
+pub mod Tidying

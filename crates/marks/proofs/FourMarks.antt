@@ -1,0 +1,18 @@
+-- Four marks more in the buffer, by the number of the first of them.
+-- Assumes nothing.
+use Prim.Native.Nat.{ℕ, _+_, _*_, _/_, _<_}
+use mathlib.Core.Path.{_≡_, sym, ap, _∙_}
+use mathlib.Core.List.{List}
+use native.Mathlib.Omega.{arith}
+use lib.ListN.{length, take, set}
+use Rattle.rules.specs.Groups.Marks.{storedMarks}
+use Rattle.rules.specs.Calls.Answers.{written}
+use Rattle.laws.specs.Nets.StoredMarks.{fourAt, stored-set}
+
+pub packed-next : (before marks : List ℕ) (g : ℕ) → 4 * (g / 4) ≡ g → g + 3 < length marks → g / 4 < length before
+    → set (written before (storedMarks (take g marks))) (g / 4) (fourAt marks g) ≡ written before (storedMarks (take (g + 4) marks))
+packed-next before marks g fours h room =
+    let more : 4 * (g / 4 + 1) ≡ g + 4 = omega (arith, fours) in
+    ap (λ (k : ℕ). set (written before (storedMarks (take k marks))) (g / 4) (fourAt marks k)) (sym fours)
+    ∙ stored-set before marks (g / 4) (omega (arith, fours)) room
+    ∙ ap (λ (k : ℕ). written before (storedMarks (take k marks))) more

@@ -1,0 +1,2 @@
+pub mod FourMarks
+pub mod Passing

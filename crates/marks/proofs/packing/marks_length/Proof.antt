@@ -1,0 +1,14 @@
+-- `marks::packing::marks_length` meets its contract: a byte for every four groups. Assumes nothing.
+use Prim.Native.Nat.{ℕ, _/_}
+use mathlib.Core.Path.{ap}
+use Rattle.rules.specs.Groups.Marks.{marksLength}
+use borrow.Author.Needs.{needs}
+use Rattle.marks.proofs.packing.marks_length.Statement.{statement}
+use Rattle.marks.proofs.packing.marks_length.Tie as tie
+
+returns : tie.Need-returns
+unfolding marksLength
+returns c = ap (λ (k : ℕ). k / 4) (c .power .ensures)
+
+pub marks-length-spec : {M : Type 1} → statement M
+marks-length-spec = tie.close (tie.spec (λ c κs. search needs) returns)

@@ -1,0 +1,76 @@
+-- The mark of a group from what is kept of it, and what is known afterwards.
+-- Assumes nothing.
+use Prim.Native.Nat.{ℕ, _+_, _-_, _*_, _^_, _≤_, _<_}
+use mathlib.Core.Path.{_≡_, ap, _∙_, subst⁻¹}
+use mathlib.Core.List.{List}
+use native.Mathlib.Decide.{decLt}
+use native.Mathlib.Nat.{mul-le-mul}
+use native.Mathlib.Omega.{arith}
+use lib.Pow.{pow-pos, pow-mono}
+use Rattle.rules.specs.Limits.{mostLevels, mostInputs, mostCells}
+use Rattle.rules.specs.Groups.Groups.{wholeGroup, multiplicity}
+use Rattle.rules.specs.Groups.Marks.{markOf}
+use Rattle.laws.specs.Numbers.Sizes.{Size}
+use Rattle.trees.specs.Groups.Covers.{whole-few}
+use Rattle.representatives.specs.Known.{Known, Found, found-few, found-many}
+use Rattle.representatives.specs.Steps.{places-fit}
+use Rattle.marks.specs.GroupRule.{fewMark, mark-empty, many-mark, few-mark}
+
+-- the mark of a group of which `count` assignments are kept
+pub record MarkBy (marks : List ℕ) (g count mark : ℕ) : Type 0 where
+  pub empty : g ≡ 0 → mark ≡ 0
+  pub many : count ≡ 0 → mark ≡ 0
+  pub few : 0 < g → 0 < count → (n : ℕ) → g < 2 ^ n → mark ≡ fewMark n marks g
+
+-- the mark of group g, with it known
+pub record GroupMarked (m n : ℕ) (f : ℕ → ℕ) (marks : List ℕ) (g mark : ℕ) (counts kept : List ℕ) : Type 0 where
+  pub is : mark ≡ markOf m n f marks g
+  pub known : (h : ℕ) → h < g + 1 → Known m n f counts kept h
+
+-- what is found of a group gives its mark
+pub found-mark : {m n : ℕ} {f : ℕ → ℕ} {counts kept marks : List ℕ} {g count mark : ℕ} → 0 < m → g < 2 ^ n → Found m n f counts kept g count → MarkBy marks g count mark
+    → mark ≡ markOf m n f marks g
+found-mark {m} {n} {f} {marks} {g} {count} {mark} pos g< found by = go (decLt 0 g) (decLt 0 count)
+  where
+    go : Dec (0 < g) → Dec (0 < count) → mark ≡ markOf m n f marks g
+    go (no none) _ = by .empty (omega arith) ∙ mark-empty m n f marks g (omega arith)
+    go (yes some) (no none) = by .many (omega arith) ∙ many-mark m n f marks g (found-many found pos g< (omega arith))
+    go (yes some) (yes h) = by .few some h n g< ∙ few-mark m n f marks g (λ e. omega arith) (found-few found pos g< h)
+
+-- the inputs and the cells of a table for which small work arrays will do
+abbrev pub fewInputs : ℕ
+fewInputs = 6
+
+abbrev pub fewCells : ℕ
+fewCells = 1024
+
+-- work arrays that are long enough
+pub record Lent (m n counts kept xs ys : ℕ) : Type 0 where
+  pub for-counts : 2 ^ n ≤ counts
+  pub for-kept : 2 ^ n * m ≤ kept
+  pub for-xs : m ^ n ≤ xs
+  pub for-ys : m ^ n ≤ ys
+
+module _ {m n : ℕ} (fit : Size m n) where
+  pub lent-small : n ≤ fewInputs → m ^ n ≤ fewCells → Lent m n (2 ^ fewInputs) (2 ^ fewInputs * mostLevels) fewCells fewCells
+  lent-small low few = record { for-counts = pow-mono low; for-kept = mul-le-mul (pow-mono low) (fit .levels-most); for-xs = few; for-ys = few }
+
+  pub lent-large : Lent m n (2 ^ mostInputs) (2 * mostCells) mostCells mostCells
+  lent-large =
+      record {
+        for-counts = pow-mono (fit .inputs-most);
+        for-kept = omega (arith, places-fit m n (omega (arith, fit .levels-least)) (omega (arith, fit .inputs-least)), fit .cells-most);
+        for-xs = fit .cells-most;
+        for-ys = fit .cells-most;
+      }
+
+-- ---- the whole group
+
+-- its number, from the number past it
+pub whole-number : (n past : ℕ) → 0 < n → past ≡ 2 ^ n → (past - 1 ≡ wholeGroup n) × (0 < past - 1) × (past - 1 < 2 ^ n)
+unfolding wholeGroup
+whole-number n past some e = (ap (λ (k : ℕ). k - 1) e, omega (arith, pow-mono some), omega (arith, pow-pos n))
+
+-- with every ink below m it has few classes
+pub stored-whole-mark : (m n : ℕ) (f : ℕ → ℕ) (marks : List ℕ) (g : ℕ) → 0 < m → 0 < g → g ≡ wholeGroup n → ((p : ℕ) → p < m ^ n → f p < m) → fewMark n marks g ≡ markOf m n f marks g
+stored-whole-mark m n f marks g pos some e small = few-mark m n f marks g (λ none. omega arith) (subst⁻¹ (λ (k : ℕ). multiplicity m n f k ≤ m) e (whole-few m n pos f m small))

@@ -1,2 +1,0 @@
-// A net sheet in the output, or refusal 15.
-pub mod output;

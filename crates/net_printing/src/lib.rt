@@ -1,2 +1,0 @@
-// A net sheet as bytes.
-pub mod net;

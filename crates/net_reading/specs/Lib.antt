@@ -1,5 +1,0 @@
-pub mod Answers
-pub mod Digits
-pub mod GateLines
-pub mod Gates
-pub mod References

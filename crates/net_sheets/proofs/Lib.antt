@@ -1,0 +1,5 @@
+pub mod Apart
+pub mod Openings
+pub mod Thin
+pub mod TurnAnswers
+pub mod TurnSteps

@@ -1,0 +1,15 @@
+-- `line_after` meets its contract.
+-- Assumes nothing.
+use native.Mathlib.Omega.{arith}
+use Rattle.net_sheets.specs.Lister.Places.{lineAfter}
+use Rattle.net_sheets.proofs.TurnSteps.{onward}
+use borrow.Author.Needs.{needs}
+use Rattle.net_sheets.proofs.lister.places.line_after.Statement.{statement}
+use Rattle.net_sheets.proofs.lister.places.line_after.Tie as tie
+
+returns : tie.Need-returns
+unfolding lineAfter
+returns c = onward _ _ _ (omega arith)
+
+pub line-after-spec : {M : Type 1} → statement M
+line-after-spec = tie.close (tie.spec (λ c κs. search needs) (λ c κs. search needs) returns)

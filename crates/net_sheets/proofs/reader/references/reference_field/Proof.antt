@@ -1,0 +1,14 @@
+-- `net_sheets::reader::references::reference_field` meets its contract: a judged field.
+-- Assumes nothing.
+use borrow.Author.Needs.{needs}
+use Rattle.fields.specs.Judging.{field-judged}
+use Rattle.fields.specs.Steps.{itself}
+use Rattle.net_sheets.proofs.reader.references.reference_field.Statement.{statement}
+use Rattle.net_sheets.proofs.reader.references.reference_field.Tie as tie
+
+returns : tie.Need-returns
+returns c = field-judged itself _ _ _ _ _ _ (c .after-field .result) (c .before .before .field-at .ensures) (c .before .judge-reference .ensures) (c .after-field .ensures)
+
+pub reference-field-spec : {M : Type 1} → statement M
+reference-field-spec =
+    tie.close (tie.spec (λ c κs. search needs) (λ c κs. search needs) (λ c κs. search needs) returns)

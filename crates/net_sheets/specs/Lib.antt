@@ -1,0 +1,4 @@
+pub mod Lister
+pub mod Printer
+pub mod Reader
+pub mod Text

@@ -1,0 +1,5 @@
+pub mod Calls
+pub mod Places
+pub mod Reached
+pub mod Standing
+pub mod Turns

@@ -1,0 +1,30 @@
+-- What the answers of `open` and `line` stand for in the definitions.
+-- Assumes nothing.
+use Prim.Native.Nat.{ℕ}
+use mathlib.Core.List.{List}
+use Rattle.rules.specs.Calls.Answers.{Answer, accepted, refused, onward}
+use Rattle.rules.specs.Sheets.Reading.{readNet}
+use Rattle.rules.specs.Calls.Lister.{Turn, gateAt, noneLeft}
+use Rattle.net_sheets.specs.declared.lister.turns.Turn as code
+use Rattle.net_sheets.specs.declared.lister.turns.Turn.the-variants.{Line, NoneLeft}
+use Rattle.net_sheets.specs.declared.lister.calls.Opened.{Opened}
+use Rattle.net_sheets.specs.declared.lister.calls.Opened.the-variants.{At, Refused as NotOpened}
+use Rattle.net_sheets.specs.declared.lister.calls.Listed.{Listed}
+use Rattle.net_sheets.specs.declared.lister.calls.Listed.the-variants.{Given, Refused as NotListed}
+use Rattle.net_sheets.specs.Lister.Places.{standsAt}
+
+unfoldable pub openedAs : Opened → Answer ℕ
+openedAs (At place) = accepted place
+openedAs (NotOpened number place) = refused number place
+
+-- "it starts only on an accepted sheet, gives the refusal of any other"
+unfoldable pub opening : List ℕ → Answer ℕ
+opening s = onward (readNet s) (λ net. accepted (standsAt s 0))
+
+unfoldable pub turnAs : code.Turn → Turn
+turnAs (Line start count) = gateAt (record { start = start; count = count })
+turnAs NoneLeft = noneLeft
+
+unfoldable pub listedAs : Listed → Answer Turn
+listedAs (Given turn) = accepted (turnAs turn)
+listedAs (NotListed number place) = refused number place

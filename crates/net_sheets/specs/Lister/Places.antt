@@ -1,0 +1,27 @@
+-- Where a lister stands. "it starts only on an accepted sheet": after k turns on one it stands where line 4 + k begins, from 0, and once
+-- there is no such line, at the sheet's end. On any other sheet it stands at the end from its start, where none is left.
+-- Assumes nothing.
+use Prim.Native.Nat.{ℕ, _+_, min}
+use mathlib.Core.Path.{_≡_}
+use mathlib.Core.List.{List}
+use lib.ListN.{length, drop}
+use Rattle.rules.specs.Calls.Answers.{accepted, refused}
+use Rattle.rules.specs.Sheets.Reading.{readNet}
+use Rattle.rules.specs.Calls.Lister.{lineLength, afterLines}
+
+-- where line j begins, or the sheet's end
+unfoldable pub lineStart : List ℕ → ℕ → ℕ
+lineStart s j = min (afterLines s j) (length s)
+
+-- where a lister stands after k turns
+unfoldable pub standsAt : List ℕ → ℕ → ℕ
+standsAt s k = elim (readNet s) [ accepted net ↦ lineStart s (4 + k) | refused number place ↦ length s ]
+
+-- the place after the line at `at` and its line feed, or the sheet's end
+unfoldable pub lineAfter : List ℕ → ℕ → ℕ
+lineAfter s at = min (at + lineLength (drop at s) + 1) (length s)
+
+-- A lister is a turn on: from `at` to the place after the line there, and from where k turns bring it to where k + 1 do.
+pub record Onward (s : List ℕ) (at next : ℕ) : Type 0 where
+  pub here : next ≡ lineAfter s at
+  pub turn : (k : ℕ) → at ≡ standsAt s k → next ≡ standsAt s (k + 1)

@@ -1,0 +1,88 @@
+-- A net's gates: what printing them asks, and the lines that they make.
+-- Assumes nothing.
+use Prim.Native.Nat.{ℕ, _+_, _-_, _*_, _≤_, _<_}
+use mathlib.Core.Path.{_≡_, ap, _∙_}
+use mathlib.Core.List.{List, [], _∷_, _++_, map, append-assoc}
+use native.Mathlib.Nat.{zero-add, mul-le-mul-right, sub-zero}
+use native.Mathlib.Omega.{arith}
+use borrow.Author.Tests.{lt-ltb, le-ltb}
+use lib.ListN.{length, getD, drop, length-take}
+use lib.Seq.{getD-take, getD-drop}
+use Rattle.rules.specs.Lists.{range, concatMap}
+use Rattle.rules.specs.Limits.{mostInputs}
+use Rattle.rules.specs.Text.{text, decimal}
+use Rattle.rules.specs.Sheets.Printed.{line, firstLines, printedGate, printedNet}
+use Rattle.rules.specs.Sheets.Sheets.{referenceText}
+use Rattle.nets.specs.declared.forms.Header.{Header}
+use Rattle.nets.specs.declared.forms.Net.{Net}
+use Rattle.nets.specs.Room.{mostDigits}
+use Rattle.nets.specs.Forms.{nameIn, headerOf, gateOf, gatesOf, namesIn, netIn, names-count}
+use Rattle.laws.specs.Lists.Ranges.{range-next, range-none, map-range-at}
+
+-- what a reference is printed as
+abbrev pub referenceIn : List ℕ → Header → ℕ → List ℕ
+referenceIn s h r = referenceText (namesIn s h) r
+
+-- the line of the gate with k gates before it, and all gate lines
+abbrev pub gateLine : List ℕ → Header → Net → ℕ → List ℕ
+gateLine s h net k = printedGate (namesIn s h) (gateOf net k)
+
+abbrev pub gateLines : List ℕ → Header → Net → List ℕ
+gateLines s h net = concatMap (printedGate (namesIn s h)) (gatesOf net)
+
+-- no more gates than the form has room for, and each digit is one digit
+pub record GatesInside (net : Net) : Type 0 where
+  pub count : net .gates < mostInputs
+  pub room : net .gates * (net .levels * net .levels) ≤ mostDigits
+  pub digits : (k : ℕ) → k < net .gates * (net .levels * net .levels) → getD (net .digits) k 0 < 10
+
+-- the lines of the gates from the one with k gates before it on
+unfoldable pub linesFrom : List ℕ → Header → Net → ℕ → List ℕ
+linesFrom s h net k = concatMap (printedGate (namesIn s h)) (map (gateOf net) (range k (net .gates - k)))
+
+module _ (s : List ℕ) (h : Header) (net : Net) where
+  pub lines-all : linesFrom s h net 0 ≡ gateLines s h net
+  unfolding linesFrom gatesOf
+  lines-all = rw sub-zero
+
+  pub lines-next : (k : ℕ) → k < net .gates → linesFrom s h net k ≡ gateLine s h net k ++ linesFrom s h net (k + 1)
+  unfolding linesFrom concatMap
+  lines-next k l = ap (λ (r : List ℕ). concatMap (printedGate (namesIn s h)) (map (gateOf net) r)) (range-next k (net .gates) l)
+
+  pub lines-none : (k : ℕ) → net .gates ≤ k → linesFrom s h net k ≡ []
+  unfolding linesFrom concatMap
+  lines-none k l = rw (range-none k (net .gates) l)
+
+module _ (net : Net) (inside : GatesInside net) (k : ℕ) (h : k < net .gates) where
+  -- where the gate's digits end
+  pub table-end : k * (net .levels * net .levels) + net .levels * net .levels ≤ net .gates * (net .levels * net .levels)
+  table-end = omega (arith, mul-le-mul-right (net .levels * net .levels) h)
+
+  pub table-digit : (i : ℕ) → i < length (gateOf net k .digits) → getD (gateOf net k .digits) i 0 < 10
+  unfolding gateOf
+  table-digit i l =
+      let size : ℕ = net .levels * net .levels in
+      let below : i < size = omega (arith, length-take size (drop (k * size) (net .digits))) in
+      rw (getD-take size (drop (k * size) (net .digits)) i 0 below, getD-drop) (inside .digits (k * size + i) (omega (arith, table-end)))
+
+-- the sheet of a net in the parts in which it is written
+pub net-parts : (s : List ℕ) (h : Header) (net : Net) → printedNet (netIn s h net)
+    ≡ (line (text "levels" ∷ text "inputs" ∷ []) ++ line (decimal (h .levels) ∷ decimal (h .inputs) ∷ []))
+    ++ (line (headerOf s h .names)
+    ++ (line (text "left" ∷ text "right" ∷ text "table" ∷ []) ++ concatMap (printedGate (headerOf s h .names)) (gatesOf net)))
+unfolding printedNet firstLines headerOf
+net-parts s h net = simp append-assoc
+
+module _ (s : List ℕ) (h : Header) where
+  -- a reference is printed as a name, or as a gate's number
+  pub reference-name : (r : ℕ) → r < h .inputs → referenceIn s h r ≡ nameIn s h r
+  unfolding referenceText headerOf
+  reference-name r l =
+      rw (names-count s h, lt-ltb r (h .inputs) l, referenceText)
+      (map-range-at (nameIn s h) 0 (h .inputs) r [] l ∙ ap (nameIn s h) (zero-add r))
+
+  pub reference-gate : (r : ℕ) → h .inputs ≤ r → referenceIn s h r ≡ decimal (r - h .inputs + 1)
+  unfolding referenceText
+  reference-gate r l =
+      let e : r + 1 - h .inputs ≡ r - h .inputs + 1 = omega arith in
+      rw (names-count s h, le-ltb r (h .inputs) l, referenceText, names-count s h) (ap decimal e)

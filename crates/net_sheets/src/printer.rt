@@ -1,0 +1,3 @@
+// The printer of net sheets.
+pub mod net;
+pub mod output;

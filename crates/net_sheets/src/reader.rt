@@ -1,0 +1,5 @@
+// The reader of net sheets.
+pub mod digits;
+pub mod gates;
+pub mod net;
+pub mod references;

@@ -1,0 +1,112 @@
+// A whole net sheet.
+ghost use mathlib.Core.Path.{_≡_};
+ghost use lib.ListN.{drop};
+ghost use Rattle.nets.specs.Forms.{headerOf};
+ghost use Rattle.fields.specs.Header.FirstLines.{HeaderHeld};
+ghost use Rattle.fields.specs.Steps.{stepAs, nothing};
+ghost use Rattle.net_sheets.specs.Reader.NetReading.{NetReads, NetRest, headingLine, fromHeading, fromGates};
+use crate::reader::gates::gate_lines;
+use crate::reader::references::earlier_used;
+use answers::outcome::Outcome;
+use fields::header::first_lines::header_lines;
+use fields::runs::NEWLINE;
+use fields::runs::SPACE;
+use fields::steps::Step;
+use fields::words::two_words;
+use fields::words::word_field;
+use nets::forms::Header;
+use nets::forms::Net;
+use nets::forms::no_gates;
+
+// What reading a net sheet comes to: the header and the net are the sheet's where it is accepted.
+pub struct NetRead {
+    pub outcome: Outcome,
+    pub header: Header,
+    pub net: Net,
+}
+
+// Reads line 4.
+pub fn heading_line(s: &[u8], at: usize) -> Step
+    ensures { λ r. ⌜ stepAs nothing (now (s .entry)) r ≡ headingLine (drop at (now (s .entry))) at ⌝ }
+{
+    match word_field(s, at, b"left", SPACE) {
+        Step::Back { number, place } => Step::Back { number, place },
+        Step::On { value: _, next } => two_words(s, next, b"right", b"table"),
+    }
+}
+
+// Reads a net sheet from its first gate line on.
+pub fn from_gates(s: &[u8], at: usize, header: Header) -> NetRead
+    requires { ⌜ HeaderHeld (now s) header ⌝ }
+    ensures { λ r. ⌜ NetRest (now (s .entry)) at (fromGates (headerOf (now (s .entry)) header)) r ⌝ }
+{
+    let read = gate_lines(s, at, header);
+    let step = read.step;
+    let net = read.net;
+    match step {
+        Step::Back { number, place } => NetRead {
+            outcome: Outcome::Refused { number, place },
+            header,
+            net,
+        },
+        Step::On { value: _, next } => {
+            if next < s.len() {
+                return NetRead {
+                    outcome: Outcome::Refused {
+                        number: 1,
+                        place: next,
+                    },
+                    header,
+                    net,
+                };
+            }
+            if !earlier_used(net) {
+                return NetRead {
+                    outcome: Outcome::Refused {
+                        number: 26,
+                        place: next,
+                    },
+                    header,
+                    net,
+                };
+            }
+            NetRead {
+                outcome: Outcome::Accepted,
+                header,
+                net,
+            }
+        }
+    }
+}
+
+// Reads a net sheet from line 4 on.
+pub fn from_heading(s: &[u8], at: usize, header: Header) -> NetRead
+    requires { ⌜ HeaderHeld (now s) header ⌝ }
+    ensures { λ r. ⌜ NetRest (now (s .entry)) at (fromHeading (headerOf (now (s .entry)) header)) r ⌝ }
+{
+    match heading_line(s, at) {
+        Step::Back { number, place } => NetRead {
+            outcome: Outcome::Refused { number, place },
+            header,
+            net: no_gates(0, 0),
+        },
+        Step::On { value: _, next } => from_gates(s, next, header),
+    }
+}
+
+// Reads a net sheet: any bytes, of any length.
+pub fn read_net(s: &[u8]) -> NetRead
+    ensures { λ r. ⌜ NetReads (now (s .entry)) r ⌝ }
+{
+    let read = header_lines(s, NEWLINE);
+    let step = read.step;
+    let header = read.header;
+    match step {
+        Step::Back { number, place } => NetRead {
+            outcome: Outcome::Refused { number, place },
+            header,
+            net: no_gates(0, 0),
+        },
+        Step::On { value: _, next } => from_heading(s, next, header),
+    }
+}

@@ -1,2 +1,0 @@
-// The trees of a group numbered: the wiring of each number.
-pub mod numbered;

@@ -1,0 +1,35 @@
+-- One turn of `next_levels`: the first i levels are still to be stepped. Assumes nothing.
+use Prim.Native.Nat.{ℕ, zero, suc, _+_, _-_, _≤_, _<_}
+use mathlib.Core.Path.{_≡_, refl, sym, ap₂, _∙_}
+use mathlib.Core.List.{List, _∷_, _++_}
+use native.Mathlib.Nat.{le-refl}
+use native.Mathlib.Omega.{arith}
+use lib.ListN.{length, getD, take, drop, set}
+use lib.Seq.{take-suc, append-snoc, set-split, take-set-le, drop-cons, getD-set-same, drop-set-lt, lt-length-set}
+use Rattle.laws.specs.Numbers.Levels.{nextLevels, next-turn, next-up}
+
+-- the first i levels stepped, and the rest as they are
+abbrev pub stepped : ℕ → ℕ → List ℕ → List ℕ
+stepped m i xs = nextLevels m (take i xs) ++ drop i xs
+
+-- no level is left to be stepped
+pub step-none : (m i : ℕ) (xs : List ℕ) → i ≤ 0 → stepped m i xs ≡ xs
+unfolding nextLevels
+step-none m zero xs h = refl
+step-none m (suc i) xs h = absurd (omega arith)
+
+-- the level before place i moves up, and the count's step is done
+pub step-up : (m i : ℕ) (xs : List ℕ) → 0 < i → i ≤ length xs → getD xs (i - 1) 0 + 1 < m → set xs (i - 1) (getD xs (i - 1) 0 + 1) ≡ stepped m i xs
+step-up m zero xs pos h up = absurd (omega arith)
+step-up m (suc i) xs pos h up =
+    let e : suc i - 1 ≡ i = omega arith in
+    rw e (rw (set-split xs i (getD xs i 0 + 1) h, take-suc xs i 0 h, next-up m (take i xs) (getD xs i 0) (rw e at up)) (sym (append-snoc (take i xs) (getD xs i 0 + 1) (drop (suc i) xs))))
+
+-- it turns to 0, and the levels before it are still to be stepped
+pub step-turn : (m i : ℕ) (xs : List ℕ) → 0 < i → i ≤ length xs → m ≤ getD xs (i - 1) 0 + 1 → stepped m (i - 1) (set xs (i - 1) 0) ≡ stepped m i xs
+step-turn m zero xs pos h top = absurd (omega arith)
+step-turn m (suc i) xs pos h top =
+    let e : suc i - 1 ≡ i = omega arith in
+    let zeroed : drop i (set xs i 0) ≡ 0 ∷ drop (suc i) xs =
+    drop-cons (set xs i 0) i 0 (lt-length-set xs i 0 h) ∙ ap₂ (λ (l : ℕ) (ls : List ℕ). l ∷ ls) (getD-set-same xs i 0 0 h) (drop-set-lt (suc i) xs i 0 (omega arith)) in
+    rw e (rw (take-set-le i xs i 0 (le-refl i), take-suc xs i 0 h, next-turn m (take i xs) (getD xs i 0) (rw e at top), zeroed) (sym (append-snoc (nextLevels m (take i xs)) 0 (drop (suc i) xs))))

@@ -1,0 +1,2 @@
+pub mod ArrivalRefusals
+pub mod ArrivalSheets

@@ -1,0 +1,60 @@
+-- With which numbers, where and by which bytes an arrival sheet is refused.
+-- Assumes nothing.
+use Prim.Native.Nat.{ℕ}
+use mathlib.Core.Path.{refl}
+use mathlib.Core.Bool.{_&&_}
+use mathlib.Core.List.{List, [], _∷_}
+use lib.Dec.{leb}
+use Rattle.rules.specs.Lists.{any, same}
+use Rattle.rules.specs.Text.{valueOf, isDecimal}
+use Rattle.rules.specs.Limits.{mostTime}
+use Rattle.rules.specs.Sheets.Fields.{strict}
+use Rattle.rules.specs.Sheets.ArrivalSheet.{nextName, timeField, arrivalSheet, readArrivals}
+use Rattle.laws.specs.Lists.Distinct.{In}
+use Rattle.readback.specs.Readers.Among.{Among, AmongJudge, Refuses, test-bad, among-word, among-closed, among-answer}
+use Rattle.readback.specs.Readers.Fronts.{FromFront, front-closed}
+use Rattle.readback.specs.Readers.Walks.{among-composes, front-composes, arrivals-walk}
+use Rattle.readback.specs.Readers.Refused.{PlacesWithin, JudgesFront, JudgesField, places-within, judges-front, judges-field}
+
+-- ---- the numbers: 1, 18 and 19
+
+abbrev pub arrivalNumbers : List ℕ
+arrivalNumbers = 1 ∷ 18 ∷ 19 ∷ []
+
+module _ (one : In 1 arrivalNumbers) (eighteen : In 18 arrivalNumbers) (nineteen : In 19 arrivalNumbers) where
+  among-next : (name : List ℕ) → AmongJudge arrivalNumbers (nextName name)
+  unfolding nextName
+  among-next name w k e = test-bad arrivalNumbers one (same w name) tt 18 k eighteen e
+
+  among-time : (least : ℕ) → AmongJudge arrivalNumbers (timeField least)
+  unfolding timeField
+  among-time least w k e =
+      let time = valueOf 0 w in
+      test-bad arrivalNumbers one (isDecimal w && leb time mostTime && leb least time) time 19 k nineteen e
+
+  among-arrivals : (names : List (List ℕ)) → Among arrivalNumbers (arrivalSheet names)
+  among-arrivals = arrivals-walk (among-composes arrivalNumbers one strict) (among-word arrivalNumbers one) among-next among-time (among-closed arrivalNumbers one)
+
+pub arrivals-refusal : (names : List (List ℕ)) → Refuses arrivalNumbers (readArrivals names)
+unfolding readArrivals any
+arrivals-refusal names = among-answer arrivalNumbers (arrivalSheet names) (among-arrivals refl refl refl names)
+
+-- ---- judged from the front, field by field
+
+front-arrivals : (names : List (List ℕ)) → FromFront (arrivalSheet names)
+front-arrivals = arrivals-walk front-composes (λ _. tt) (λ _. tt) (λ _. tt) front-closed
+
+module _ (names : List (List ℕ)) where
+  -- the place is at most the sheet's length, ..
+  pub arrivals-place : PlacesWithin (readArrivals names)
+  unfolding readArrivals
+  arrivals-place = places-within (front-arrivals names)
+
+  -- .. and what stands behind the field refused and the byte after it has no say; nor has that byte, where the field is bad
+  pub arrivals-front : JudgesFront (readArrivals names)
+  unfolding readArrivals
+  arrivals-front = judges-front (front-arrivals names)
+
+  pub arrivals-field : JudgesField (readArrivals names)
+  unfolding readArrivals
+  arrivals-field = judges-field (front-arrivals names)

@@ -1,0 +1,5 @@
+pub mod GateLines
+pub mod Gates
+pub mod NetSheets
+pub mod References
+pub mod Unused

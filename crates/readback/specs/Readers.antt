@@ -1,0 +1,13 @@
+pub mod Among
+pub mod Collects
+pub mod Cuts
+pub mod Decimals
+pub mod Ends
+pub mod Fields
+pub mod Fronts
+pub mod Judges
+pub mod Names
+pub mod Numbers
+pub mod Refused
+pub mod Spells
+pub mod Walks

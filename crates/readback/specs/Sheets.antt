@@ -1,0 +1,5 @@
+pub mod CutSheets
+pub mod Header
+pub mod Length
+pub mod Lines
+pub mod ReadBack

@@ -1,0 +1,102 @@
+-- "the settled sheet's length, which is never over 512": nor is any accepted net sheet's.
+-- Assumes nothing.
+use Prim.Native.Nat.{ℕ, suc, _+_, _-_, _*_, _≤_, _<_}
+use mathlib.Core.Path.{_≡_, refl}
+use mathlib.Core.Bool.{Bool, true, not, _||_}
+use mathlib.Core.List.{List, [], _∷_}
+use native.Mathlib.Nat.{le-trans, mul-le-mul-right}
+use native.Mathlib.Omega.{arith}
+use lib.ListN.{length, length-append, length-map, getD}
+use lib.Dec.{leb}
+use borrow.Author.Tests.{leb-true}
+use Rattle.rules.specs.Lists.{range, all, concatMap}
+use Rattle.rules.specs.Text.{text}
+use Rattle.rules.specs.Limits.{cellsFit, mostSettled}
+use Rattle.rules.specs.Sheets.Sheets.{Gate, Net, referenceText}
+use Rattle.rules.specs.Sheets.Printed.{line, firstLines, printedGate, printedNet}
+use Rattle.rules.specs.Sheets.SheetRules.{GoodNames, GateTable, RefersBack, Tables, NetRules}
+use Rattle.laws.specs.Numbers.Decimals.{decimal-length}
+use Rattle.readback.specs.Readers.Judges.{name-parts}
+use Rattle.readback.specs.Readers.Names.{good-name}
+use Rattle.readback.specs.Nets.References.{Refers, toInput, toGate, refers}
+use Rattle.laws.specs.Numbers.Sizes.{Size, kept-size, everySize, at-size}
+
+-- ---- the parts of a sheet
+
+-- a line of names: at most 8 bytes and a separator each
+names-length : (ws : List (List ℕ)) → GoodNames ws → 0 < length ws → length (line ws) ≤ 9 * length ws
+unfolding line
+names-length [] g h = absurd (omega arith)
+names-length (w ∷ []) g h =
+    let (l, _, _) = name-parts w (g .0) in
+    rw length-append (omega arith)
+names-length (w ∷ v ∷ ws) g h =
+    let (l, _, _) = name-parts w (g .0) in
+    let i = names-length (v ∷ ws) (g .2) (omega arith) in
+    rw length-append (omega arith)
+
+-- a reference to an input or to one of the first 99 gates is no longer than a name
+pub reference-length : (names : List (List ℕ)) → GoodNames names → (r : ℕ) → r < length names + 99 → length (referenceText names r) ≤ 8
+reference-length names g r h = go (refers names r)
+  where
+    go : Refers names r → length (referenceText names r) ≤ 8
+    go (toInput l e) = rw e (name-parts (getD names r []) (good-name names g r l) .0)
+    go (toGate l e) = rw e (le-trans (decimal-length 1 (r + 1 - length names) (omega arith)) (omega arith))
+
+-- a gate line: two references, the digits and three separators
+gate-length : (names : List (List ℕ)) → GoodNames names → (m : ℕ) (g : Gate) → g .left < length names + 99 → g .right < length names + 99
+    → GateTable m (g .digits) → length (printedGate names g) ≤ 19 + m * m
+unfolding printedGate line
+gate-length names n m g h k t =
+    let i = reference-length names n (g .left) h in
+    let j = reference-length names n (g .right) k in
+    simp (length-append, length-map) (omega (arith, t .count))
+
+-- all gate lines; `k` references stand before them
+gates-length : (names : List (List ℕ)) → GoodNames names → (m k : ℕ) (gates : List Gate) → RefersBack k gates → k + length gates ≤ length names + 99
+    → Tables m gates → length (concatMap (printedGate names) gates) ≤ length gates * (19 + m * m)
+unfolding concatMap
+gates-length names n m k [] b h t = omega arith
+gates-length names n m k (g ∷ gates) b h t =
+    let i = gate-length names n m g (omega (arith, b .0)) (omega (arith, b .1)) (t .0) in
+    let j = gates-length names n m (suc k) gates (b .2) (omega arith) (t .1) in
+    rw length-append (omega arith)
+
+-- ---- the bound
+
+-- no net sheet of m levels and n inputs is longer: two fixed lines (31), two values (6), the names, the gate lines
+bound : ℕ → ℕ → ℕ
+bound m n = 37 + 9 * n + (n - 1) * (19 + m * m)
+
+-- it is the sum of the parts
+sheet-length : (net : Net) → NetRules net → length (printedNet net) ≤ bound (net .header .levels) (net .header .inputs)
+unfolding printedNet firstLines line bound text
+sheet-length net k =
+    let h = net .header in
+    let z = kept-size h (k .header) in
+    let a = decimal-length 1 (h .levels) (omega arith) in
+    let b = decimal-length 1 (h .inputs) (omega arith) in
+    let c = names-length (h .names) (k .header .names) (omega arith) in
+    let d = gates-length (h .names) (k .header .names) (h .levels) (h .inputs) (net .gates)
+    (k .gates .rules .back) (omega arith) (k .gates .rules .tables) in
+    let e : length (net .gates) * (19 + h .levels * h .levels) ≤ (h .inputs - 1) * (19 + h .levels * h .levels) = mul-le-mul-right (19 + h .levels * h .levels) (omega (arith, k .gates .count)) in
+    simp length-append (omega arith)
+
+-- there are too many cells, or the bound is small
+boundTest : ℕ → ℕ → Bool
+boundTest m n = not (cellsFit m n) || leb (bound m n) mostSettled
+
+bound-tested : everySize boundTest ≡ true
+unfolding everySize all range boundTest bound cellsFit
+bound-tested = refl
+
+-- so the bound is small for all sizes that a sheet may have
+size-bound : (m n : ℕ) → Size m n → cellsFit m n ≡ true → bound m n ≤ mostSettled
+unfolding boundTest
+size-bound m n size fits = leb-true (bound m n) mostSettled (rw fits at (at-size boundTest bound-tested m n size))
+
+-- no net sheet is longer than 512 bytes
+pub net-length : (net : Net) → NetRules net → length (printedNet net) ≤ mostSettled
+net-length net kept =
+    let h = net .header in
+    le-trans (sheet-length net kept) (size-bound (h .levels) (h .inputs) (kept-size h (kept .header)) (kept .header .cells))

@@ -1,0 +1,84 @@
+-- The two laws of sheets, for net sheets and for table sheets: reading what was printed gives it back, and what was accepted is
+-- exactly what would be printed and keeps every rule.
+-- Assumes nothing.
+use Prim.Native.Nat.{ℕ}
+use mathlib.Core.Path.{_≡_, refl, _∙_, ap}
+use mathlib.Core.Logic.{_↔_}
+use mathlib.Core.List.{List, [], _++_, append-nil}
+use native.Mathlib.Omega.{arith}
+use Rattle.rules.specs.Sheets.Fields.{Read, read, turnedBack, Reader}
+use Rattle.rules.specs.Sheets.Sheets.{Net, Table}
+use Rattle.rules.specs.Sheets.Printed.{printedNet, printedTable}
+use Rattle.rules.specs.Sheets.SheetRules.{NetRules, TableRules}
+use Rattle.rules.specs.Calls.Answers.{Answer, accepted, refused}
+use Rattle.rules.specs.Sheets.Reading.{answered, readNet, readTable}
+use Rattle.readback.specs.Readers.Spells.{SpellsTo}
+use Rattle.readback.specs.Readers.Fields.{Ended}
+use Rattle.readback.specs.Nets.NetSheets.{spells-net}
+use Rattle.readback.specs.Tables.TableSheets.{spells-table}
+
+-- what is refused is not accepted
+not-accepted : {A : Type 0} (number place : ℕ) (a : A) → _≡_ {A = Answer A} (refused number place) (accepted a) → ⊥
+not-accepted number place a e =
+    let z : _≡_ {A = ℕ} 0 1 = cc in
+    omega arith
+
+-- a whole sheet that a reader spells
+module _ {A : Type 0} {r : Reader A} {X : Type 0} {f : X → A} {p : X → List ℕ} (spells : SpellsTo Ended r X f p) where
+  -- each of the texts is accepted as its value
+  pub whole-back : (x : X) → answered (r (p x) 0) ≡ accepted (f x)
+  unfolding answered
+  whole-back x = rw (← append-nil (p x), spells .back x [] 0 refl .1) refl
+
+  -- what is accepted is one of the texts
+  pub whole-only : (s : List ℕ) (a : A) → answered (r s 0) ≡ accepted a → (x : X) × (a ≡ f x) × (s ≡ p x)
+  unfolding answered
+  whole-only s a e = go (r s 0) refl e
+    where
+      go : (u : Read A) → r s 0 ≡ u → answered u ≡ accepted a → (x : X) × (a ≡ f x) × (s ≡ p x)
+      go (turnedBack number place) d e = absurd (not-accepted number place a e)
+      go (read b rest place) d e =
+          let (x, i, j, h) = spells .only s 0 b rest place d in
+          (x, (cc), j ∙ ap (λ t. p x ++ t) h ∙ append-nil (p x))
+
+-- a printed net is read back
+pub net-read-back : (net : Net) → NetRules net → readNet (printedNet net) ≡ accepted net
+unfolding readNet
+net-read-back net kept = whole-back spells-net (net, kept)
+
+-- an accepted net sheet is the print of its net, which keeps the rules
+pub net-accepted : (s : List ℕ) (net : Net) → readNet s ≡ accepted net → (s ≡ printedNet net) × NetRules net
+unfolding readNet
+net-accepted s net e =
+    let ((n, k), q, d) = whole-only spells-net s net e in
+    rw q (d, k)
+
+-- a printed table is read back
+pub table-read-back : (t : Table) → TableRules t → readTable (printedTable t) ≡ accepted t
+unfolding readTable
+table-read-back t kept = whole-back spells-table (t, kept)
+
+-- an accepted table sheet is the print of its table, which keeps the rules
+pub table-accepted : (s : List ℕ) (t : Table) → readTable s ≡ accepted t → (s ≡ printedTable t) × TableRules t
+unfolding readTable
+table-accepted s t e =
+    let ((u, k), q, d) = whole-only spells-table s t e in
+    rw q (d, k)
+
+-- "A sheet that keeps every rule of this section, with nothing after its last line, is accepted.", said without the reader
+pub net-sheets : (s : List ℕ) → ((net : Net) × (readNet s ≡ accepted net)) ↔ ((net : Net) × NetRules net × (s ≡ printedNet net))
+net-sheets s = (
+  λ (net, e).
+      let (d, k) = net-accepted s net e in
+      (net, k, d),
+  λ (net, k, d). (net, rw d (net-read-back net k)),
+)
+
+-- the same for table sheets
+pub table-sheets : (s : List ℕ) → ((t : Table) × (readTable s ≡ accepted t)) ↔ ((t : Table) × TableRules t × (s ≡ printedTable t))
+table-sheets s = (
+  λ (t, e).
+      let (d, k) = table-accepted s t e in
+      (t, k, d),
+  λ (t, k, d). (t, rw d (table-read-back t k)),
+)

@@ -1,0 +1,4 @@
+pub mod Agreeing
+pub mod GroupSteps
+pub mod Spreading
+pub mod Taking

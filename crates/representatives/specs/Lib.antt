@@ -1,0 +1,15 @@
+pub mod Apart
+pub mod Columns
+pub mod Copies
+pub mod Counting
+pub mod Extension
+pub mod FirstRows
+pub mod Known
+pub mod LastInputs
+pub mod Runs
+pub mod Shifts
+pub mod Sources
+pub mod Spreads
+pub mod Steps
+pub mod Witnesses
+pub mod Working

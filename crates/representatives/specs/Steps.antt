@@ -1,0 +1,132 @@
+-- One group after the other: what a step asks and what it leaves.
+-- Assumes nothing.
+use Prim.Native.Nat.{ℕ, zero, suc, _+_, _*_, _^_, _≤_, _<_}
+use mathlib.Core.Path.{_≡_, refl, sym, ap, _∙_}
+use mathlib.Core.List.{List}
+use native.Mathlib.Nat.{mul-assoc, mul-comm, mul-le-mul-right, pow-suc, pow-le-pow-left}
+use native.Mathlib.Numerals.{add-one}
+use native.Mathlib.Decide.{decLt}
+use native.Mathlib.Omega.{arith}
+use lib.ListN.{length, getD}
+use lib.Pow.{pow-pos, pow-mono}
+use Rattle.rules.specs.Groups.Groups.{others}
+use Rattle.rules.specs.Calls.Answers.{inkIn}
+use Rattle.trees.specs.Groups.Reps.{Listed}
+use Rattle.trees.specs.Groups.Told.{Told}
+use Rattle.radix.specs.Weights.{Weights}
+use Rattle.radix.specs.Widths.{mostMembers, mostOffsets}
+use Rattle.representatives.specs.Known.{RepFew, Known, Found}
+
+-- the numbers, and arrays that are long enough
+pub record Work (m n : ℕ) (cells weights counts kept xs ys firsts : List ℕ) : Type 0 where
+  pub levels : 1 < m
+  pub inputs : n ≤ mostMembers
+  pub small : m ^ n ≤ mostOffsets
+  pub for-cells : m ^ n ≤ length cells
+  pub weighed : Weights m n weights
+  pub all-weighed : n ≤ length weights
+  pub for-counts : 2 ^ n ≤ length counts
+  pub for-kept : 2 ^ n * m ≤ length kept
+  pub for-xs : m ^ n ≤ length xs
+  pub for-ys : m ^ n ≤ length ys
+  pub for-firsts : m < length firsts
+
+-- m places for each group are at most twice the cells
+pub places-fit : (m n : ℕ) → 1 < m → 0 < n → 2 ^ n * m ≤ 2 * m ^ n
+places-fit m zero levels some = absurd (omega arith)
+places-fit m (suc n) levels some =
+    omega (
+      arith,
+      mul-le-mul-right m (pow-le-pow-left levels n),
+      pow-suc m n,
+      ap (λ (k : ℕ). k * m) (pow-suc 2 n) ∙ mul-assoc (2 ^ n) 2 m ∙ ap (λ (k : ℕ). 2 ^ n * k) (mul-comm 2 m) ∙ sym (mul-assoc (2 ^ n) m 2),
+    )
+
+-- only their lengths matter
+pub work-same : {m n : ℕ} {cells weights counts kept xs ys firsts counts′ kept′ xs′ ys′ firsts′ : List ℕ} → Work m n cells weights counts kept xs ys firsts
+    → length counts′ ≡ length counts → length kept′ ≡ length kept → length xs′ ≡ length xs → length ys′ ≡ length ys → length firsts′ ≡ length firsts
+    → Work m n cells weights counts′ kept′ xs′ ys′ firsts′
+work-same work counts-long kept-long xs-long ys-long firsts-long =
+    record {
+      levels = work .levels;
+      inputs = work .inputs;
+      small = work .small;
+      for-cells = work .for-cells;
+      weighed = work .weighed;
+      all-weighed = work .all-weighed;
+      for-counts = omega (arith, work .for-counts);
+      for-kept = omega (arith, work .for-kept);
+      for-xs = omega (arith, work .for-xs);
+      for-ys = omega (arith, work .for-ys);
+      for-firsts = omega (arith, work .for-firsts);
+    }
+
+-- a power of two that g has not passed yet, and that it is at least the half of
+pub record Near (n g past : ℕ) : Type 0 where
+  pub end : ℕ
+  pub is : past ≡ 2 ^ end
+  pub low : end ≤ n
+  pub reached : g ≤ past
+  pub half : 0 < g → past ≤ g + g
+  pub first : g ≡ 0 → past ≡ 1
+
+-- so it is of the first group, ..
+pub near-none : (n : ℕ) → Near n 0 1
+near-none n = record { end = 0; is = refl; low = omega arith; reached = omega arith; half = λ h. absurd (omega arith); first = λ _. refl }
+
+-- .. of the next one, ..
+pub near-next : {n g past : ℕ} → Near n g past → g < past → Near n (g + 1) past
+near-next {n} {g} {past} near h =
+    record { end = near .end; is = near .is; low = near .low; reached = omega arith; half = λ _. at (decLt 0 g); first = λ e. absurd (omega arith) }
+  where
+    at : Dec (0 < g) → past ≤ g + 1 + (g + 1)
+    at (yes some) = omega (arith, near .half some)
+    at (no none) = omega (arith, near .first (omega arith))
+
+-- .. and of twice that power where it is reached
+pub near-twice : {n g past : ℕ} → Near n g past → g ≡ past → g < 2 ^ n → Near n g (past + past)
+near-twice {n} {g} {past} near e g< =
+    record {
+      end = near .end + 1;
+      is = omega (arith, near .is, pow-suc 2 (near .end), ap (λ (k : ℕ). 2 ^ k) (add-one (near .end)));
+      low = below (decLt (near .end) n);
+      reached = omega arith;
+      half = λ _. omega arith;
+      first = λ none. absurd (omega (arith, near .is, pow-pos (near .end)));
+    }
+  where
+    below : Dec (near .end < n) → near .end + 1 ≤ n
+    below (yes h) = omega arith
+    below (no h) = absurd (omega (arith, near .is, pow-mono {i = n} {j = near .end} (omega arith)))
+
+-- g is the next group, all below it are known, and `past` is the group of the input after its last member
+pub record NextStep (m n : ℕ) (f : ℕ → ℕ) (counts kept : List ℕ) (g past : ℕ) : Type 0 where
+  pub group : g < 2 ^ n
+  pub known : (h : ℕ) → h < g → Known m n f counts kept h
+  pub near : Near n g past
+  pub above : g < past
+
+-- rows that cover g and columns that cover the other inputs
+pub record Judging (m n : ℕ) (cells xs ys : List ℕ) (g from : ℕ) (kept : List ℕ) (length-firsts : ℕ) : Type 0 where
+  pub levels : 1 < m
+  pub inputs : n ≤ mostMembers
+  pub group : g < 2 ^ n
+  pub some : 0 < g
+  pub lower : from < g
+  pub for-cells : m ^ n ≤ length cells
+  pub for-kept : g * m + m ≤ length kept
+  pub for-firsts : m < length-firsts
+  pub rows : Listed m n (inkIn cells) g xs
+  pub columns : Listed m n (inkIn cells) (others n g) ys
+
+-- g has few classes, or too many, and then `from` is kept beside it
+pub record RepJudged (m n : ℕ) (f : ℕ → ℕ) (g from : ℕ) (before : List ℕ) (count : ℕ) (after : List ℕ) : Type 0 where
+  pub below : (j : ℕ) → j < g * m → getD after j 0 ≡ getD before j 0
+  pub few : 0 < count → RepFew m n f after g count
+  pub many : count ≡ 0 → Told m n f g (getD after (g * m) 0) (m + 1)
+  pub base : count ≡ 0 → getD after (g * m + 1) 0 ≡ from
+
+-- what is kept of the groups below is as it was, and g is found
+pub record RepStepped (m n : ℕ) (f : ℕ → ℕ) (counts before : List ℕ) (g count : ℕ) (after : List ℕ) : Type 0 where
+  pub below : (j : ℕ) → j < g * m → getD after j 0 ≡ getD before j 0
+  pub found : Found m n f counts after g count

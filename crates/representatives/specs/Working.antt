@@ -1,0 +1,131 @@
+-- A step from group to group over plain lists: what the calls ask that count the classes of a group, and what is found of it.
+-- Assumes nothing.
+use Prim.Native.Nat.{ℕ, _+_, _-_, _*_, _^_, _≤_, _<_}
+use mathlib.Core.Path.{_≡_, ap, _∙_, subst, subst⁻¹}
+use mathlib.Core.Bool.{true}
+use mathlib.Core.List.{List}
+use native.Mathlib.Decide.{decLt}
+use native.Mathlib.Omega.{arith}
+use lib.Bits.{and-le-r}
+use lib.ListN.{length, getD, take}
+use lib.Pow.{pow-lt}
+use Rattle.rules.specs.Groups.Groups.{others}
+use Rattle.rules.specs.Groups.Marks.{inside}
+use Rattle.trees.specs.Filling.Carried.{first-single}
+use Rattle.rules.specs.Nets.Wirings.{firstInput}
+use Rattle.representatives.specs.Columns.{columnsOf}
+use Rattle.trees.specs.Groups.Covers.{Covers}
+use Rattle.trees.specs.Groups.Reps.{Listed}
+use Rattle.radix.specs.Parts.{PartOf, part-inside}
+use Rattle.representatives.specs.Known.{RepFew, Base, places-before}
+use Rattle.representatives.specs.Extension.{Covering, Covered}
+use Rattle.representatives.specs.Steps.{Work, NextStep, RepJudged, RepStepped}
+use Rattle.representatives.specs.LastInputs.{run-listed}
+use Rattle.representatives.specs.Counting.{front-listed}
+
+module _ {m n : ℕ} {f : ℕ → ℕ} {cells weights counts kept xs ys firsts : List ℕ} {g past : ℕ}
+    (work : Work m n cells weights counts kept xs ys firsts) (next : NextStep m n f counts kept g past) where
+  -- there is a level
+  pub step-level : 0 < m
+  step-level = omega (arith, work .levels)
+
+  -- the places of a group below g, and those of g, are there
+  pub step-places : (h : ℕ) → h < g → h * m + m ≤ length kept
+  step-places h h< = omega (arith, places-before m h g h<, places-before m g (2 ^ n) (next .group), work .for-kept)
+
+  pub step-own-places : g * m + m ≤ length kept
+  step-own-places = omega (arith, places-before m g (2 ^ n) (next .group), work .for-kept)
+
+  -- a group of few classes below g can be spread to one that has it inside
+  module _ {from to : ℕ} (from< : from < g) (some : 0 < getD counts from 0) (part : inside n from to ≡ true) (low : from ≤ to) (to< : to < 2 ^ n) where
+    few : RepFew m n f kept from (getD counts from 0)
+    few = next .known from from< .few some
+
+    pub step-covering : {out : List ℕ} → m ^ n ≤ length out → Covering m n weights counts kept from to out
+    step-covering room =
+        record {
+          levels = step-level;
+          inputs = work .inputs;
+          small = work .small;
+          weighed = work .weighed;
+          all-weighed = work .all-weighed;
+          part-of = part;
+          part-le = low;
+          group = to<;
+          counted = omega (arith, next .group, work .for-counts);
+          stored = omega (arith, step-places from from<, few .most);
+          some = some;
+          fits = few .fits;
+          own = few .cover .own;
+          room = room;
+        }
+
+    pub step-cover : Covers m n f from (getD counts from 0) (λ k. getD kept (from * m + k) 0)
+    step-cover = few .cover
+
+  -- what is kept of a group below g may be asked for
+  pub step-counted : {h : ℕ} → h < g → (h < length counts) × (h * m + 1 < length kept) × (getD counts h 0 ≡ 0 → Base m counts kept h)
+  step-counted {h} h< = (omega (arith, next .group, work .for-counts), omega (arith, step-places h h<, work .levels), next .known h h< .base)
+
+  module _ (some : 0 < g) where
+    -- the other inputs before the last member are a group below g, ..
+    pub step-others-lower : past - 1 - g < g
+    step-others-lower = omega (arith, next .above, next .near .half some)
+
+    -- .. which is what those of a power of two leave
+    step-before : past - 1 - g ≡ 2 ^ next .near .end - 1 - g
+    step-before = ap (λ (k : ℕ). k - 1 - g) (next .near .is)
+
+    -- the last member comes right before that power, and the run is its weight
+    pub step-run : {end : ℕ} → ((k : ℕ) → past < 2 ^ k → end ≡ firstInput k past) → (0 < end) × (end - 1 < n) × (getD weights (end - 1) 0 ≡ m ^ (n - next .near .end))
+    step-run {end} first =
+        let is : end ≡ next .near .end =
+        first (n + 1) (omega (arith, next .near .is, pow-lt {i = next .near .end} {j = n + 1} (omega (arith, next .near .low))))
+        ∙ ap (firstInput (n + 1)) (next .near .is)
+        ∙ first-single (n + 1) (next .near .end) (omega (arith, next .near .low)) in
+        let some-end : 0 < end = has-end (decLt 0 end) is in
+        let place : n - 1 - (end - 1) ≡ n - next .near .end = omega arith in
+        (some-end, omega (arith, next .near .low), work .weighed (end - 1) (omega (arith, next .near .low)) ∙ ap (λ (k : ℕ). m ^ k) place)
+      where
+        has-end : {end : ℕ} → Dec (0 < end) → end ≡ next .near .end → 0 < end
+        has-end (yes h) is = h
+        has-end (no h) is =
+            let none : next .near .end ≡ 0 = omega arith in
+            absurd (omega (arith, next .above, next .near .is, ap (λ (k : ℕ). 2 ^ k) none))
+
+    -- a group of few classes inside it can be spread to it
+    module _ {below : ℕ} (part : PartOf below (past - 1 - g)) (counted : 0 < getD counts below 0) where
+      below< : below < g
+      below< = omega (arith, and-le-r below (past - 1 - g), part, step-others-lower)
+
+      low : below ≤ past - 1 - g
+      low = omega (arith, and-le-r below (past - 1 - g), part)
+
+      to< : past - 1 - g < 2 ^ n
+      to< = omega (arith, step-others-lower, next .group)
+
+      pub step-columns : {out : List ℕ} → m ^ n ≤ length out → Covering m n weights counts kept below (past - 1 - g) out
+      step-columns room = step-covering below< counted (part-inside n below (past - 1 - g) part) low to< room
+
+      -- and then, with a run, covers all other inputs
+      pub step-columns-listed : {out : List ℕ} {count run : ℕ} → run ≡ m ^ (n - next .near .end) → Covered m n counts kept below (past - 1 - g) out count
+          → Listed m n f (others n g) (columnsOf run (take (count - 0) out))
+      step-columns-listed {out} {count} {run} is-run covered =
+          subst⁻¹ (λ (r : ℕ). Listed m n f (others n g) (columnsOf r (take (count - 0) out))) is-run
+          (run-listed m n step-level f (next .near .end) (next .near .low) g (omega (arith, next .above, next .near .is)) (take (count - 0) out)
+          (subst (λ (to : ℕ). Listed m n f to (take (count - 0) out)) step-before
+          (front-listed m n step-level f (past - 1 - g) out count (covered .inside-out)
+          (covered .cover f (step-cover below< counted (part-inside n below (past - 1 - g) part) low to<)))))
+
+  -- what is judged
+  pub step-judged : {from count : ℕ} {after : List ℕ} → from < g → PartOf from g → 0 < getD counts from 0 → RepJudged m n f g from kept count after → RepStepped m n f counts kept g count after
+  step-judged {from} {count} {after} from< part some judged =
+      record {
+        below = judged .below;
+        found = record {
+          few = judged .few;
+          many = judged .many;
+          base = λ none. record { inside = subst⁻¹ (λ (b : ℕ). PartOf b g) (judged .base none) part; few = subst⁻¹ (λ (b : ℕ). 0 < getD counts b 0) (judged .base none) some };
+          lower = λ none. omega (arith, judged .base none);
+        };
+      }

@@ -1,2 +1,0 @@
-// Two rows of a group compared over columns.
-pub mod runs;

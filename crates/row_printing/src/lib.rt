@@ -1,2 +1,0 @@
-// Printing a row of a table sheet, four levels at a time.
-pub mod words;

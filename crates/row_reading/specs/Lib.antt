@@ -1,3 +1,0 @@
-pub mod Inks
-pub mod Levels
-pub mod Row

@@ -1,0 +1,17 @@
+pub mod Answers
+pub mod BareCells
+pub mod Checking
+pub mod FamilyCalls
+pub mod Glyphs
+pub mod Jobs
+pub mod Keeping
+pub mod Lister
+pub mod Marking
+pub mod Multiplicity
+pub mod OpenCells
+pub mod Programs
+pub mod Settling
+pub mod ShallowSettling
+pub mod Shallower
+pub mod TableWriting
+pub mod Tidying

@@ -1,0 +1,11 @@
+pub mod Arrivals
+pub mod Family
+pub mod Filling
+pub mod Layers
+pub mod Leaves
+pub mod Settled
+pub mod SettledLaws
+pub mod Shallow
+pub mod Trees
+pub mod Value
+pub mod Wirings

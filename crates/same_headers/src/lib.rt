@@ -1,2 +1,0 @@
-// Two sheets' headers compared.
-pub mod headers;

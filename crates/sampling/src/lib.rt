@@ -1,2 +1,0 @@
-// One assignment for each value that a wire carries.
-pub mod samples;

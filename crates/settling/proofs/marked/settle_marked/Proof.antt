@@ -1,0 +1,102 @@
+-- `settling::marked::settle_marked` meets its contract. Assumes nothing.
+use Prim.Native.Nat.{_^_, _≤_}
+use mathlib.Core.Path.{sym}
+use native.Mathlib.Nat.{le-of-eq}
+use native.Mathlib.Omega.{arith}
+use lib.ListN.{length}
+use lib.Pow.{pow-mono}
+use Rattle.rules.specs.Limits.{mostInputs}
+use Rattle.laws.specs.Numbers.Sizes.{sized}
+use Rattle.net_sheets.specs.Text.Put.{put-wrote}
+use Rattle.settling.specs.Outcomes.{given-size, given-count, given-below, made-inside, settling-made-short, made-sound, given-two, own-marks, given-16, given-tree}
+use borrow.Author.Needs.{needs}
+use Rattle.settling.proofs.marked.settle_marked.Statement.{statement}
+use Rattle.settling.proofs.marked.settle_marked.Tie as tie
+
+-- the start, each call and the test of the whole group's mark, each from the next
+abbrev at-start : tie.After-copy-arg → tie.Start
+at-start c = c .before .before .before .before .before .before
+
+abbrev at-copy : tie.After-mark-and-store-arg → tie.After-copy
+at-copy c = c .before .before .before .before
+
+abbrev at-marks : tie.Else1 → tie.After-mark-and-store
+at-marks c = c .before .before .before .before
+
+abbrev no-tree : tie.Then1 → tie.After-mark-and-store
+no-tree c = c .before .before .before .before
+
+abbrev at-tree : tie.After-made-net → tie.Else1
+at-tree c = c .before .before
+
+abbrev at-sheet : tie.After-slice-known6 → tie.After-write-sheet
+at-sheet c = c .before .before
+
+abbrev marks-start : tie.After-mark-and-store → tie.Start
+marks-start c = at-start (at-copy (c .before) .before)
+
+abbrev net-start : tie.After-made-net → tie.Start
+net-start c = marks-start (at-marks (at-tree c))
+
+-- the call's own marks have room for every group's
+room : (c : tie.Start) → 2 ^ c .args .header .inputs ≤ 2 ^ mostInputs
+room c =
+    let h = c .args .header in
+    pow-mono {i = h .inputs} {j = mostInputs} (sized (h .levels) (h .inputs) (given-size _ _ _ (c .pre .0)) .inputs-most)
+
+own-room : (c : tie.After-mark-and-store) → 2 ^ marks-start c .args .header .inputs ≤ length (c .mark-and-store .last .1 .1 .1 .0)
+own-room c = omega (arith, room (marks-start c), c .mark-and-store .kept .1 .1 .1 .0)
+
+mark-and-store-requires : tie.Need-mark-and-store-requires
+mark-and-store-requires c κs =
+    let start = at-start (at-copy c .before) in
+    let g = start .pre .0 in
+    (record { size = given-size _ _ _ g; count = le-of-eq (sym (given-count _ _ _ g)); levels = given-below _ _ _ g }, room start, start .pre .2)
+
+no-tree-place-requires : tie.Need-no-tree-place-requires
+no-tree-place-requires c κs =
+    let marks = no-tree (c .before) in
+    let h = marks-start marks .args .header in
+    (omega (arith, sized (h .levels) (h .inputs) (given-size _ _ _ (marks-start marks .pre .0)) .inputs-most), own-room marks)
+
+returns : tie.Need-returns
+returns c =
+    let marks = no-tree (c .before .before) in
+    let start = marks-start marks in
+    given-16 _ _ _ (start .pre .0) _ _ _ _ (marks .mark-and-store .ensures) (own-room marks) (start .args .choice) _ _ (start .args .out .now)
+    (put-wrote (start .pre .1) (at-copy (marks .before) .copy .ensures) .text) (c .before .before .if1 .taken) _ (c .no-tree-place .ensures)
+
+made-net-requires : tie.Need-made-net-requires
+made-net-requires c κs =
+    let marks = at-marks (c .before) in
+    let did = marks .mark-and-store in
+    let g = marks-start marks .pre .0 in (
+      given-size _ _ _ g,
+      le-of-eq (sym (given-count _ _ _ g)),
+      given-below _ _ _ g,
+      own-marks _ _ _ g _ _ _ _ (did .ensures) (own-room marks),
+      given-two _ _ _ g _ _ _ _ (did .ensures) (c .before .if1 .left),
+    )
+
+write-sheet-requires : tie.Need-write-sheet-requires
+write-sheet-requires c κs =
+    let made = c .before .before in
+    let g = net-start made .pre .0 in
+    (g .names, made-inside _ _ _ g _ (made .made-net .ensures), settling-made-short _ _ _ g _ (made .made-net .ensures))
+
+returns-2 : tie.Need-returns-2
+returns-2 c =
+    let wrote = at-sheet (c .before) in
+    let counts = wrote .before .before in
+    let made = counts .before in
+    let tree = at-tree made in
+    let marks = at-marks tree in
+    let start = marks-start marks in
+    given-tree _ _ _ (start .pre .0) _ _ _ _ (marks .mark-and-store .ensures) (start .args .choice) _ _ _ (put-wrote (start .pre .1) (at-copy (marks .before) .copy .ensures) .text) (tree .if1 .left) _ (made .made-net .ensures)
+    (wrote .write-sheet .result) _ (wrote .write-sheet .ensures) (counts .layers .result) (counts .layers .ensures) (c .with-layers .result) (c .with-layers .ensures)
+
+pub settle-marked-spec : {M : Type 1} → statement M
+settle-marked-spec =
+    tie.close (tie.spec (λ c κs. search needs) (λ c. search needs) mark-and-store-requires (λ c. search needs) no-tree-place-requires (λ c. search needs)
+    (λ c. search needs) returns (λ c. search needs) made-net-requires (λ c κs. made-sound _ _ _ (net-start c .pre .0) _ (c .made-net .ensures))
+    write-sheet-requires (λ c κs. search needs) (λ c. search needs) (λ c. search needs) (λ c. search needs) returns-2)

@@ -1,0 +1,63 @@
+// From a table to its marks and to the sheet of the net that is made of it, where its cells and its marks have room.
+ghost use mathlib.Core.Path.{_≡_};
+ghost use Prim.Native.Nat.{_≤_};
+ghost use lib.ListN.{length};
+ghost use Rattle.rules.specs.Groups.Marks.{marksLength};
+ghost use Rattle.rules.specs.Calls.Settling.{afterMarks};
+ghost use Rattle.rules.specs.Calls.ShallowSettling.{layered, netLayers, withLayers};
+ghost use Rattle.nets.specs.Forms.{tableIn};
+ghost use Rattle.answers.specs.AnswerMaps.{answerOf};
+ghost use Rattle.answers.specs.Layered.{layeredMadeOf, layeredOf};
+ghost use Rattle.accepted.specs.Taken.{Given};
+ghost use Rattle.settling.specs.Outcomes.{netBy};
+use answers::answer::Answer;
+use answers::layered::Layered;
+use gate_tables::made;
+use marks::all_groups;
+use marks::no_tree;
+use marks::own;
+use net_sheets::printer::output;
+use net_sheets::text::put::copy;
+use nets::forms::Header;
+use nets::layers;
+use wirings::choice::Choice;
+
+// The answer with the count of layers.
+fn with_layers(answer: Answer, layers: usize) -> Layered
+    ensures { λ r. ⌜ layeredOf r ≡ layered layers (answerOf answer) ⌝ }
+{
+    match answer {
+        Answer::Accepted(length) => Layered::Accepted { length, layers },
+        Answer::Refused { number, place } => Layered::Refused { number, place },
+    }
+}
+
+// Writes the cells and the marks, then the sheet of the net; or refuses with 16 or 15.
+pub fn settle_marked(
+    choice: Choice,
+    s: &[u8],
+    header: Header,
+    inks: &[u8],
+    cells: &mut [u8],
+    marks: &mut [u8],
+    out: &mut [u8],
+) -> Layered
+    requires { ⌜ Given (now s) header (now inks) × (length (now inks) ≤ length (now cells)) × (marksLength (header .inputs) ≤ length (now marks)) ⌝ }
+    ensures { λ r. ⌜ layeredMadeOf r (now (cells .exit)) (now (marks .exit)) (now (out .exit))
+        ≡ withLayers (netLayers (netBy choice (tableIn (now (s .entry)) header (now (inks .entry)))))
+        (afterMarks (netBy choice) (tableIn (now (s .entry)) header (now (inks .entry))) (now (cells .entry)) (now (marks .entry)) (now (out .entry))) ⌝ }
+{
+    let levels = header.levels;
+    let inputs = header.inputs;
+    copy(inks, cells, 0);
+    let mut own = [0u8; own::MOST_GROUPS];
+    if all_groups::mark_and_store(levels, inputs, inks, &mut own, marks) != 2 {
+        return Layered::Refused {
+            number: 16,
+            place: no_tree::no_tree_place(inputs, &own),
+        };
+    }
+    let net = made::made_net(choice, levels, inputs, inks, &own);
+    let count = layers::layers(net);
+    with_layers(output::write_sheet(s, header, net, out), count)
+}

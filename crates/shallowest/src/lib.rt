@@ -1,2 +1,0 @@
-// The split that keeps a group shallowest.
-pub mod part;

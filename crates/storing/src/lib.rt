@@ -1,2 +1,0 @@
-// How marks are stored.
-pub mod stored;

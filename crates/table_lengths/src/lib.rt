@@ -1,2 +1,0 @@
-// The length of a table sheet, known before it is written.
-pub mod lengths;

@@ -1,0 +1,4 @@
+pub mod Lengths
+pub mod Rows
+pub mod Tables
+pub mod Writing

@@ -1,0 +1,4 @@
+pub mod Next
+pub mod Parts
+pub mod Rows
+pub mod Words

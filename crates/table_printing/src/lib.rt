@@ -1,2 +1,0 @@
-// Printing a table sheet.
-pub mod table;

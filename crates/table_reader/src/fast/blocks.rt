@@ -1,0 +1,82 @@
+// The rows that stand as they are due, m at a time: in a block the last level counts from 0, and the levels before it stay.
+ghost use Rattle.table_reader.specs.Fast.Block.{BlockStarts, BlockTried};
+ghost use Rattle.table_reader.specs.Fast.Blocks.{RowsStart};
+ghost use Rattle.table_reader.specs.Fast.Rows.{InRows};
+use crate::fast::due_row::due_ink;
+use crate::fast::words::words_of;
+use fields::steps::Found;
+use radix::levels::next_levels;
+use radix::powers::power;
+
+// How many rows were taken, and where the next one begins.
+pub struct Taken {
+    pub rows: usize,
+    pub place: usize,
+}
+
+// Are the m rows of block q, of which the first begins at `at`, all as they are due? Then their inks go to `cells`.
+fn due_block(
+    s: &[u8],
+    at: usize,
+    levels: &[u8],
+    front: usize,
+    m: usize,
+    q: usize,
+    cells: &mut [u8],
+) -> bool
+    requires { ⌜ BlockStarts m front q (now levels) (now cells) ⌝ }
+    ensures { λ r. ⌜ BlockTried (now (s .entry)) at m front q (now (cells .entry)) (now (cells .exit)) r ⌝ }
+{
+    let row = 2 * front + 4;
+    if s.len() < at {
+        return false;
+    }
+    if s.len() - at < m * row {
+        return false;
+    }
+    let words = words_of(levels, front);
+    let mut place = at;
+    let mut l: usize = 0;
+    while l < m {
+        match due_ink(s, place, levels, words, front, l, m) {
+            Found::Nowhere => return false,
+            Found::At(ink) => {
+                cells[q * m + l] = ink as u8;
+                place += row;
+                l += 1;
+            }
+        }
+    }
+    true
+}
+
+// Takes as many blocks as stand as they are due, from the row of index 0 at `at` on. Their inks go to the front of `cells`, and `levels` is
+// taken from the levels of index 0 to those of the next row.
+pub fn due_rows(
+    s: &[u8],
+    at: usize,
+    m: usize,
+    n: usize,
+    levels: &mut [u8],
+    cells: &mut [u8],
+) -> Taken
+    requires { ⌜ RowsStart m n (now levels) (now cells) ⌝ }
+    ensures { λ r. ⌜ InRows (now (s .entry)) at m n (now (cells .exit)) (now (levels .exit)) (r .place) (r .rows) ⌝ }
+{
+    let front = n - 1;
+    let blocks = power(m, front);
+    let bytes = m * (2 * front + 4);
+    let mut place = at;
+    let mut q: usize = 0;
+    while q < blocks {
+        if !due_block(s, place, levels, front, m, q, cells) {
+            let rows = q * m;
+            return Taken { rows, place };
+        }
+        next_levels(m, front, levels);
+        place += bytes;
+        q += 1;
+    }
+    let rows = q * m;
+    Taken { rows, place }
+}

@@ -1,3 +1,0 @@
--- `Writing`: the call's outcomes.
--- Assumes nothing.
-pub mod Writing

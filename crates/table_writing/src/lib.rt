@@ -1,2 +1,0 @@
-// A net sheet's table sheet.
-pub mod write;

@@ -1,2 +1,0 @@
-// The table of a net, block by block.
-pub mod table;

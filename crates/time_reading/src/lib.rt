@@ -1,2 +1,0 @@
-// Reading a time of an arrival sheet.
-pub mod times;

@@ -1,0 +1,68 @@
+// The counts of full groups: where every part of a group has mark 2, its number of members alone says how many trees it has.
+ghost use mathlib.Core.Path.{_≡_};
+ghost use Prim.Native.Nat.{ℕ, _^_, _≤_, _<_};
+ghost use Rattle.rules.specs.Limits.{mostInputs};
+ghost use Rattle.rules.specs.Groups.Groups.{size};
+ghost use Rattle.trees.specs.Families.FamilyBounds.{treesOn};
+ghost use Rattle.tree_counts.specs.Counts.{Countable, CountsKnown, CountKnown};
+use crate::counts;
+use marks::own;
+use radix::members;
+
+// By the number of members: 2k - 3 times as many as one member less has.
+const TREES: [u64; 13] = [
+    0,
+    1,
+    1,
+    3,
+    15,
+    105,
+    945,
+    10_395,
+    135_135,
+    2_027_025,
+    34_459_425,
+    654_729_075,
+    13_749_310_575,
+];
+
+// Returns how many trees k inputs have.
+fn trees_on(k: usize) -> u64
+    requires { ⌜ k ≤ mostInputs ⌝ }
+    ensures { λ r. ⌜ r ≡ treesOn k ⌝ }
+{
+    TREES[k]
+}
+
+// Returns how many members group g has.
+fn members_of(g: usize) -> usize
+    ensures { λ r. ⌜ ((n : ℕ) → g < 2 ^ n → r ≡ size n g) ⌝ }
+{
+    usize::count_ones(g) as usize
+}
+
+// Records the counts of the parts of group g, by rising number, up to the first that does not have mark 2: every part of one that is passed was passed
+// before it.
+fn keep_full(marks: &[u8], counts: &mut [u64], g: usize)
+    requires { ⌜ Countable (now marks) (now counts) g ⌝ }
+    ensures { λ _. ⌜ CountsKnown (now (marks .entry)) (now (counts .exit)) ⌝ }
+{
+    let mut part: usize = 0;
+    while part < g {
+        part = members::next_part(g, part);
+        if own::mark_at(marks, part) != 2 {
+            return;
+        }
+        let count = trees_on(members_of(part));
+        counts[part] = count;
+    }
+}
+
+// Returns the number of trees of group g. Records the counts of its full parts first.
+pub fn tree_count(marks: &[u8], counts: &mut [u64], g: usize) -> u64
+    requires { ⌜ Countable (now marks) (now counts) g ⌝ }
+    ensures { λ r. ⌜ CountKnown (now (marks .entry)) g r (now (counts .exit)) ⌝ }
+{
+    keep_full(marks, counts, g);
+    counts::group_count(marks, counts, g)
+}

@@ -1,9 +1,0 @@
--- The depth of a wiring.
--- Assumes nothing.
-use Prim.Native.Nat.{ℕ, _+_, max}
-use Rattle.rules.specs.Wirings.{Wiring, input, gate}
-
--- the most gates on a way from a leaf to the root
-unfoldable pub depth : Wiring → ℕ
-depth (input i) = 0
-depth (gate a b) = 1 + max (depth a) (depth b)

@@ -1,0 +1,68 @@
+-- The digits of a gate by the class rule, over any two groups: how many, and what each is.
+-- Assumes nothing.
+use Prim.Native.Nat.{ℕ, _+_, _*_, _/_, _%_, _<_}
+use mathlib.Core.Path.{_≡_, refl, sym, _∙_, ap, subst}
+use mathlib.Core.Logic.{_⊎_, inl, inr}
+use mathlib.Core.Bool.{Bool, true, false, _&&_, false≢true}
+use mathlib.Core.List.{List, [], _∷_, map, List·Memᴰ, List·Memᴰ·not-nil, List·Memᴰ·cases-cons}
+use native.Mathlib.Nat.{mod-lt, div-add-mod', div-lt-iff-lt-mul}
+use lib.Dec.{eqb}
+use lib.ListN.{length, getD}
+use Rattle.rules.specs.Lists.{find}
+use Rattle.rules.specs.Groups.Groups.{points}
+use Rattle.rules.specs.Nets.Filling.{carried, given, FillingReached, digitAt, gateDigits}
+use Rattle.laws.specs.Lists.Tests.{both-eqb}
+use Rattle.laws.specs.Lists.Rows.{grid-length, grid-at}
+
+-- what an assignment has the two wires carry and the gate give
+abbrev reach : (ℕ → ℕ) → (ℕ → ℕ) → (ℕ → ℕ) → ℕ → FillingReached
+reach left right own p = record { left = left p; right = right p; gives = own p }
+
+-- q is one of ps and reaches the digit of row u and column v
+abbrev pub Reaches : (ℕ → ℕ) → (ℕ → ℕ) → ℕ → ℕ → List ℕ → ℕ → Type 0
+Reaches left right u v ps q = List·Memᴰ q ps × (left q ≡ u) × (right q ≡ v)
+
+module _ (left right : ℕ → ℕ) (u v : ℕ) where
+  -- where the first does not reach a digit, only the others can
+  reached-later : (x q : ℕ) (ps : List ℕ) → (eqb (left x) u && eqb (right x) v) ≡ false → Reaches left right u v (x ∷ ps) q
+      → Reaches left right u v ps q
+  reached-later x q ps e (m, l, r) = step (List·Memᴰ·cases-cons m)
+    where
+      step : (q ≡ x) ⊎ List·Memᴰ q ps → Reaches left right u v ps q
+      step (inl s) = absurd (false≢true (sym e ∙ both-eqb (left x) u (right x) v .1 (sym (ap left s) ∙ l, sym (ap right s) ∙ r)))
+      step (inr k) = (k, l, r)
+
+  module _ (own : ℕ → ℕ) (P : ℕ → Type 0) (gives : (q : ℕ) → left q ≡ u → right q ≡ v → P (own q)) where
+    -- what holds of all that is given at (u, v), and of 0 where nothing is, holds of the digit there
+    digit-has : (ps : List ℕ) → (((q : ℕ) → Reaches left right u v ps q → ⊥) → P 0) → P (digitAt (map (reach left right own) ps) u v)
+    unfolding digitAt find
+    digit-has [] unreached = unreached (λ q r. List·Memᴰ·not-nil (r .0))
+    digit-has (x ∷ ps) unreached = step (eqb (left x) u && eqb (right x) v) refl (digit-has ps)
+      where
+        step : (t : Bool) → (eqb (left x) u && eqb (right x) v) ≡ t
+            → ((((q : ℕ) → Reaches left right u v ps q → ⊥) → P 0) → P (digitAt (map (reach left right own) ps) u v))
+            → P (digitAt (map (reach left right own) (x ∷ ps)) u v)
+        step true e rest = let b = both-eqb (left x) u (right x) v .0 e in rw (e, digitAt, find) (gives x (b .0) (b .1))
+        step false e rest = rw (e, digitAt, find) (rest (λ none. unreached (λ q r. none q (reached-later x q ps e r))))
+
+module _ (m n : ℕ) (f : ℕ → ℕ) (last : Bool) (a b : ℕ) where
+  -- there are m·m
+  pub digits-count : length (gateDigits m n f last a b) ≡ m * m
+  unfolding gateDigits
+  digits-count = grid-length _ m
+
+  -- what holds of all that the gate has to give at (u, v), and of 0 where that is nothing, holds of its digit there
+  pub digits-have : (P : ℕ → Type 0) (u v : ℕ) → u < m → v < m
+      → ((q : ℕ) → carried m n f a q ≡ u → carried m n f b q ≡ v → P (given m n f last (a + b) q))
+      → (((q : ℕ) → Reaches (carried m n f a) (carried m n f b) u v (points m n (a + b)) q → ⊥) → P 0)
+      → P (getD (gateDigits m n f last a b) (u * m + v) 0)
+  unfolding gateDigits
+  digits-have P u v u< v< gives unreached =
+      subst P (sym (grid-at _ m u v u< v<)) (digit-has _ _ u v _ P gives (points m n (a + b)) unreached)
+
+-- the digits are below m where all that the gate has to give is
+pub digits-below : (m n : ℕ) → 0 < m → (f : ℕ → ℕ) (last : Bool) (a b : ℕ) → ((p : ℕ) → given m n f last (a + b) p < m)
+    → (k : ℕ) → k < m * m → getD (gateDigits m n f last a b) k 0 < m
+digits-below m n pos f last a b small k h =
+    subst (λ i. getD (gateDigits m n f last a b) i 0 < m) (div-add-mod' k m)
+    (digits-have m n f last a b (λ x. x < m) (k / m) (k % m) (div-lt-iff-lt-mul pos .1 h) (mod-lt k pos) (λ q d e. small q) (λ none. pos))

@@ -1,0 +1,16 @@
+pub mod Alike
+pub mod Classes
+pub mod Covers
+pub mod Differences
+pub mod DistinctInks
+pub mod Firsts
+pub mod GroupSum
+pub mod Joins
+pub mod Levels
+pub mod MarkRule
+pub mod Members
+pub mod Points
+pub mod Reps
+pub mod SameTests
+pub mod TakenOff
+pub mod Told

@@ -1,0 +1,3 @@
+pub mod ChangedGates
+pub mod KeptLinks
+pub mod KeptWirings

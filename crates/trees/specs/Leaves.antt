@@ -1,0 +1,5 @@
+pub mod CutWirings
+pub mod FewestGates
+pub mod LeafGroup
+pub mod Mattering
+pub mod Neighbours

@@ -1,0 +1,118 @@
+-- The fewest layers that the number of its members leaves a group: r layers have room for 2 ^ r inputs, since two parts that have room for their
+-- members have room for all of them in one layer more. Marks that no table has may leave a group without room; the search then goes by no floor
+-- but that of any split.
+-- Assumes nothing.
+use Prim.Native.Nat.{ℕ, zero, suc, _+_, _-_, _*_, _/_, _%_, _^_, _≤_, _<_, max}
+use mathlib.Core.Path.{_≡_, sym, ap, _∙_, subst}
+use mathlib.Core.Logic.{_⊎_, inl, inr, ⊎-elim}
+use mathlib.Core.Bool.{Bool, true, false, true≢false}
+use mathlib.Core.List.{List}
+use native.Mathlib.Nat.{le-trans}
+use native.Mathlib.Decide.{ℕ-discrete, decLt}
+use native.Mathlib.Omega.{arith}
+use lib.ListN.{length, getD, set}
+use lib.Seq.{getD-set-same, getD-set-other}
+use lib.Count.{ones, ones-step, leadingZeros, leading-length}
+use lib.Pow.{pow-mono}
+use Rattle.rules.specs.Groups.Groups.{size}
+use Rattle.rules.specs.Groups.Marks.{markIn, partsAt}
+use Rattle.rules.specs.Nets.Shallow.{splitLayers}
+use Rattle.trees.specs.Groups.Members.{size-zero, size-suc, size-join, size-pos}
+use Rattle.trees.specs.Groups.MarkRule.{parts-of}
+
+-- ---- a number of members
+
+-- r layers have room for so many members, and fewer layers do not
+pub record Floor (members r : ℕ) : Type 0 where
+  pub room : members ≤ 2 ^ r
+  pub least : (d : ℕ) → members ≤ 2 ^ d → r ≤ d
+
+-- more members than one ask for a layer
+some-layer : (r : ℕ) → 1 < 2 ^ r → 0 < r
+some-layer zero more = absurd (omega arith)
+some-layer (suc r) more = omega arith
+
+-- one layer more has room for twice as many
+twice : (r : ℕ) → 2 ^ (1 + r) ≡ 2 ^ r + 2 ^ r
+twice r = let next : 1 + r ≡ suc r = omega arith in ap (λ (k : ℕ). 2 ^ k) next ∙ double
+  where
+    double : 2 ^ suc r ≡ 2 ^ r + 2 ^ r
+    double = omega arith
+
+-- the floor is the length in bits of the number of the other members
+floor-length : (members r : ℕ) → 0 < members → members - 1 < 2 ^ r → 2 ^ r ≤ 2 * (members - 1) + 1 → Floor members r
+floor-length members r some room tight = record { room = omega arith; least = λ d enough. go d enough (decLt d r) }
+  where
+    go : (d : ℕ) → members ≤ 2 ^ d → Dec (d < r) → r ≤ d
+    go d enough (yes less) = absurd (omega (arith, pow-mono {i = suc d} {j = r} less))
+    go d enough (no more) = omega arith
+
+-- .. which the zeros above its highest bit leave of 64
+pub floor-zeros : (members : ℕ) → 0 < members → members < 2 ^ 64 → Floor members (64 - leadingZeros 64 (members - 1))
+floor-zeros members some fits =
+    let bits = leading-length 64 (members - 1) (omega arith) in
+    let is : bits .0 ≡ 64 - leadingZeros 64 (members - 1) = omega (arith, bits .1) in
+    subst (λ (r : ℕ). Floor members r) is (floor-length members (bits .0) some (bits .2) (bits .3))
+
+-- the set bits of a group's number are its members
+pub ones-size : (n g : ℕ) → g < 2 ^ n → ones g ≡ size n g
+unfolding ones
+ones-size zero g g< = let none : g ≡ 0 = omega arith in rw none (sym (size-zero 0))
+ones-size (suc n) g g< = ones-step g ∙ ap (λ (k : ℕ). g % 2 + k) (ones-size n (g / 2) (omega arith)) ∙ sym (size-suc n g)
+
+-- ---- the groups below g
+
+-- those of mark 2 have room for their members in the layers that stand at their numbers
+abbrev pub Sized : List ℕ → List ℕ → ℕ → Type 0
+Sized marks layers g = (n h : ℕ) → h < 2 ^ n → h < g → markIn marks h ≡ 2 → size n h ≤ 2 ^ getD layers h 0
+
+-- no split of g has fewer layers than `floor`, which is not 0 where g has a split
+abbrev pub Under : List ℕ → List ℕ → ℕ → ℕ → Type 0
+Under marks layers g floor = (n a : ℕ) → g < 2 ^ n → 0 < a → a < g → partsAt n marks g a ≡ true → (0 < floor) × (floor ≤ splitLayers layers g a)
+
+-- the floor of a group of mark 2 by its members, or that of any split where nothing is known of the groups below it
+abbrev pub FloorAt : List ℕ → ℕ → Bool → ℕ → Type 0
+FloorAt marks g sized r = markIn marks g ≡ 2 → ((sized ≡ false) × (r ≡ 1)) ⊎ ((sized ≡ true) × ((n : ℕ) → g < 2 ^ n → Floor (size n g) r))
+
+module _ (marks layers : List ℕ) (g : ℕ) where
+  -- two parts have room for their members in the layers of the gate that joins them
+  split-room : Sized marks layers g → (n a : ℕ) → g < 2 ^ n → 0 < a → a < g → partsAt n marks g a ≡ true
+      → (1 < size n g) × (size n g ≤ 2 ^ splitLayers layers g a)
+  unfolding parts-of splitLayers
+  split-room sized n a g< some less h =
+      let two = parts-of n marks g a g< some less h in
+      let deeper : ℕ = max (getD layers a 0) (getD layers (g - a) 0) in
+      let of-a = le-trans (sized n a (omega arith) less (two .two-a)) (pow-mono {j = deeper} (omega arith)) in
+      let of-b = le-trans (sized n (g - a) (omega arith) (omega arith) (two .two-b)) (pow-mono {j = deeper} (omega arith)) in
+      let sizes : size n g ≡ size n a + size n (g - a) =
+      ap (size n) (sym (two .joined)) ∙ size-join n a (g - a) (omega arith) (omega arith) (two .apart) in
+      let some-a = size-pos n a (omega arith) some in
+      let some-b = size-pos n (g - a) (omega arith) (omega arith) in
+      (omega arith, omega (arith, twice deeper))
+
+  -- so the search of g may go by its floor
+  pub floor-under : (sized : Bool) → (sized ≡ true → Sized marks layers g) → (r : ℕ) → FloorAt marks g sized r → markIn marks g ≡ 2
+      → Under marks layers g r
+  unfolding splitLayers
+  floor-under sized is r floor two n a g< some less h =
+      ⊎-elim (λ any. (omega (arith, any .1), omega (arith, any .1)))
+      (λ by.
+      let room = split-room (is (by .0)) n a g< some less h in
+      let f = by .1 n g< in
+      (some-layer r (le-trans (room .0) (f .room)), f .least (splitLayers layers g a) (room .1)))
+      (floor two)
+
+  -- g has room too, once layers from its floor on stand at its number
+  pub sized-next : (sized : Bool) → (sized ≡ true → Sized marks layers g) → (floor : ℕ) → FloorAt marks g sized floor → g < length layers
+      → (r : ℕ) → floor ≤ r → sized ≡ true → Sized marks (set layers g r) (g + 1)
+  sized-next sized is floor at room r enough yes-sized n h h< h<g two = go (ℕ-discrete h g)
+    where
+      go : Dec (h ≡ g) → size n h ≤ 2 ^ getD (set layers g r) h 0
+      go (yes e) =
+          let is-g : getD (set layers g r) h 0 ≡ r = ap (λ (k : ℕ). getD (set layers g r) k 0) e ∙ getD-set-same layers g r 0 room in
+          rw is-g (le-trans (in-floor (at (ap (markIn marks) (sym e) ∙ two))) (pow-mono {i = floor} {j = r} enough))
+        where
+          in-floor : ((sized ≡ false) × (floor ≡ 1)) ⊎ ((sized ≡ true) × ((n : ℕ) → g < 2 ^ n → Floor (size n g) floor)) → size n h ≤ 2 ^ floor
+          in-floor (inl unknown) = absurd (true≢false (sym yes-sized ∙ unknown .0))
+          in-floor (inr by) = rw e (by .1 n (omega arith) .room)
+      go (no other) = rw (getD-set-other layers g h r 0 other) (is yes-sized n h h< (omega arith) two)

@@ -1,0 +1,34 @@
+-- Two runs of a table's inks, compared.
+-- Assumes nothing.
+use Prim.Native.Nat.{ℕ, _+_, _<_}
+use mathlib.Core.Path.{_≡_}
+use mathlib.Core.Logic.{_⊎_, inl, inr}
+use mathlib.Core.Bool.{Bool, true, false, true≢false, false≢true}
+use native.Mathlib.Nat.{eq-or-lt-of-le}
+use native.Mathlib.Omega.{arith}
+
+-- the `count` inks from a on are those from b on
+abbrev pub WiringSameRuns : (ℕ → ℕ) → ℕ → ℕ → ℕ → Type 0
+WiringSameRuns f a b count = (j : ℕ) → j < count → f (a + j) ≡ f (b + j)
+
+-- `same` says whether they are
+pub record WiringCompared (f : ℕ → ℕ) (a b count : ℕ) (same : Bool) : Type 0 where
+  pub all : same ≡ true → WiringSameRuns f a b count
+  pub one : same ≡ false → (j : ℕ) × (j < count) × (f (a + j) ≡ f (b + j) → ⊥)
+
+-- what holds below k, and at k
+pub each-next : (P : ℕ → Type 0) (k : ℕ) → ((j : ℕ) → j < k → P j) → P k → (j : ℕ) → j < k + 1 → P j
+each-next P k before here j h = go (eq-or-lt-of-le (omega arith))
+  where
+    go : (j ≡ k) ⊎ (j < k) → P j
+    go (inl e) = rw e here
+    go (inr l) = before j l
+
+module _ (f : ℕ → ℕ) (a b count : ℕ) where
+  -- one place that differs, ..
+  pub runs-differ : (j : ℕ) → j < count → (f (a + j) ≡ f (b + j) → ⊥) → WiringCompared f a b count false
+  runs-differ j h differ = record { all = λ e. absurd (false≢true e); one = λ e. (j, h, differ) }
+
+  -- .. or none
+  pub runs-same : WiringSameRuns f a b count → WiringCompared f a b count true
+  runs-same same = record { all = λ e. same; one = λ e. absurd (true≢false e) }

@@ -1,0 +1,98 @@
+// The fewest layers of every group of mark 2, by rising number.
+ghost use mathlib.Core.Path.{_≡_};
+ghost use Prim.Native.Nat.{ℕ, _^_, _≤_, _<_};
+ghost use lib.ListN.{length};
+ghost use Rattle.rules.specs.Nets.Shallow.{splitLayers, fewestOf};
+ghost use Rattle.rules.specs.Groups.Marks.{markIn};
+ghost use Rattle.wirings.specs.FewestLayers.{WiringFewer, layersOf, WiringKnown};
+ghost use Rattle.wirings.specs.Fast.Floors.{Under};
+ghost use Rattle.radix.specs.Widths.{groupsEnd, mostMembers};
+use crate::fast::floors;
+use marks::own;
+use marks::split;
+use radix::members;
+use radix::powers;
+
+// Returns the layers of a gate that joins a and the rest of g, each with its fewest layers.
+pub fn split_layers(fewest: &[u8], g: usize, a: usize) -> usize
+    requires { ⌜ (0 < a) × (a < g) × (g ≤ length (now fewest)) ⌝ }
+    ensures { λ r. ⌜ r ≡ splitLayers (now (fewest .entry)) g a ⌝ }
+{
+    let left = fewest[a] as usize;
+    let right = fewest[g - a] as usize;
+    if left < right {
+        return 1 + right;
+    }
+    1 + left
+}
+
+// Returns the lower of `least` and the layers by part a, if a and the rest of g have mark 2. A least of 0 means none yet.
+fn fewer_by(marks: &[u8], fewest: &[u8], g: usize, a: usize, least: usize) -> usize
+    requires { ⌜ (0 < a) × (a < g) × (g ≤ length (now marks)) × (g ≤ length (now fewest)) ⌝ }
+    ensures { λ r. ⌜ WiringFewer (now (marks .entry)) (now (fewest .entry)) g a least r ⌝ }
+{
+    if split::both_two(marks, g, a) {
+        let layers = split_layers(fewest, g, a);
+        if least == 0 {
+            return layers;
+        }
+        if layers < least {
+            return layers;
+        }
+    }
+    least
+}
+
+// Returns the fewest layers of group g, from those of the groups below it. Goes through the parts that hold its first-listed input, up to one that has
+// no more layers than the floor: no other has fewer.
+fn fewest_of(marks: &[u8], fewest: &[u8], g: usize, floor: usize) -> usize
+    requires { ⌜ (0 < g) × (g < groupsEnd) × (g ≤ length (now marks)) × (g ≤ length (now fewest)) × Under (now marks) (now fewest) g floor ⌝ }
+    ensures { λ r. ⌜ ((n : ℕ) → g < 2 ^ n → r ≡ fewestOf n (now (marks .entry)) (now (fewest .entry)) g) ⌝ }
+{
+    let rest = members::without_first(g);
+    let first = g - rest;
+    let mut least: usize = 0;
+    let mut part: usize = 0;
+    while part < rest {
+        least = fewer_by(marks, fewest, g, first + part, least);
+        if least == floor {
+            return least;
+        }
+        part = members::next_part(rest, part);
+    }
+    least
+}
+
+// Returns the same if g has mark 2, else 0: no other group is a part.
+fn layers_of(marks: &[u8], fewest: &[u8], g: usize, floor: usize) -> usize
+    requires { ⌜ (g < groupsEnd) × (g < length (now marks)) × (g ≤ length (now fewest)) × (markIn (now marks) g ≡ 2 → Under (now marks) (now fewest) g floor) ⌝ }
+    ensures { λ r. ⌜ ((n : ℕ) → g < 2 ^ n → r ≡ layersOf n (now (marks .entry)) (now (fewest .entry)) g) ⌝ }
+{
+    if g == 0 {
+        return 0;
+    }
+    if own::mark_at(marks, g) != 2 {
+        return 0;
+    }
+    fewest_of(marks, fewest, g, floor)
+}
+
+// Writes the fewest layers of every group of mark 2 to its number.
+pub fn fewest_layers(n: usize, marks: &[u8], fewest: &mut [u8])
+    requires { ⌜ (n ≤ mostMembers) × (2 ^ n ≤ length (now marks)) × (2 ^ n ≤ length (now fewest)) ⌝ }
+    ensures { λ _. ⌜ WiringKnown n (now (marks .entry)) (2 ^ n) (now (fewest .exit)) ⌝ }
+{
+    let end = powers::power(2, n);
+    // Have all groups of mark 2 so far layers enough for their members? Then the next has a floor by its members.
+    let mut sized = true;
+    let mut g: usize = 0;
+    while g < end {
+        let floor = floors::floor_at(marks, g, sized);
+        let layers = layers_of(marks, fewest, g, floor);
+        fewest[g] = layers as u8;
+        if layers < floor {
+            sized = false;
+        }
+        g += 1;
+    }
+}

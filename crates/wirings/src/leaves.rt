@@ -1,0 +1,3 @@
+// Which inputs matter, and the leaves of a table.
+pub mod group;
+pub mod matters;

@@ -1,0 +1,156 @@
+//! The lines and cells of CSV. Quotes are as in RFC 4180.
+
+use super::Separator;
+
+/// What is wrong with a cell, whatever is due there.
+#[derive(Clone, Copy, Debug, PartialEq, Eq)]
+pub enum Flaw {
+    Blank,
+    /// Its opening quote has no closing one.
+    Unclosed,
+    /// Something follows its closing quote.
+    AfterQuote,
+    /// A quote in a cell that does not begin with one.
+    QuoteInside,
+}
+
+/// A cell of the file.
+pub struct Cell {
+    /// Where it begins, at its quote where it has one.
+    pub from: usize,
+    /// The place behind it, or behind its closing quote.
+    pub to: usize,
+    quoted: bool,
+    pub flaw: Option<Flaw>,
+}
+
+impl Cell {
+    /// Lists its bytes, each with its place in the file. Quotes around them are left out, and two quotes inside are one.
+    pub fn bytes<'a>(&self, file: &'a [u8]) -> impl Iterator<Item = (u8, usize)> + 'a {
+        let (from, to) = match self.quoted && self.flaw.is_none() {
+            true => (self.from + 1, self.to - 1),
+            false => (self.from, self.to),
+        };
+        let quoted = from > self.from;
+        let mut at = from;
+        std::iter::from_fn(move || {
+            let place = at;
+            let byte = *file[..to].get(at)?;
+            at += 1 + usize::from(quoted && byte == b'"');
+            Some((byte, place))
+        })
+    }
+}
+
+/// A line of the file: its cells and where it ends.
+pub struct Record {
+    pub cells: Vec<Cell>,
+    /// The place of its line end, or the file's length.
+    pub end: usize,
+    /// The place behind its line end.
+    pub next: usize,
+}
+
+impl Record {
+    /// Counts the cells up to the last one that is not blank.
+    pub fn used(&self) -> usize {
+        let is_used = |cell: &Cell| cell.flaw != Some(Flaw::Blank);
+        let last = self.cells.iter().rposition(is_used);
+        last.map_or(0, |last| last + 1)
+    }
+}
+
+/// Reads the line at a place.
+pub fn record(file: &[u8], start: usize, separator: Separator) -> Record {
+    let mut cells = Vec::new();
+    let mut at = start;
+    loop {
+        let (cell, end) = cell(file, at, separator);
+        // any number of spaces separates two fields
+        if separator != Separator::Space || cell.to > cell.from {
+            cells.push(cell);
+        }
+        at = end;
+        if file.get(at) != Some(&separator.byte()) {
+            break;
+        }
+        at += 1;
+    }
+    let length = match file[at..] {
+        [b'\r', b'\n', ..] => 2,
+        [] => 0,
+        _ => 1,
+    };
+    Record {
+        cells,
+        end: at,
+        next: at + length,
+    }
+}
+
+/// Reads the cell at a place, and returns the place behind it: a separator, a line end or the file's end.
+pub fn cell(file: &[u8], start: usize, separator: Separator) -> (Cell, usize) {
+    let is_end = |at: usize| match file.get(at) {
+        Some(&byte) => byte == separator.byte() || matches!(byte, b'\r' | b'\n'),
+        None => true,
+    };
+    let end_from = |at: usize| (at..).find(|&at| is_end(at)).unwrap_or(at);
+    let is_space = |at: usize| file.get(at) == Some(&b' ') && !is_end(at);
+    let after_spaces = |at: usize| (at..).find(|&at| !is_space(at)).unwrap_or(at);
+    let from = after_spaces(start);
+    if file.get(from) == Some(&b'"') {
+        let (to, end, flaw) = match quote_end(file, from) {
+            None => (file.len(), file.len(), Some(Flaw::Unclosed)),
+            Some(close) if !is_end(after_spaces(close)) => {
+                let end = end_from(close);
+                (end, end, Some(Flaw::AfterQuote))
+            }
+            Some(close) if close == from + 2 => (close, after_spaces(close), Some(Flaw::Blank)),
+            Some(close) => (close, after_spaces(close), None),
+        };
+        let quoted = true;
+        return (
+            Cell {
+                from,
+                to,
+                quoted,
+                flaw,
+            },
+            end,
+        );
+    }
+    let end = end_from(from);
+    let spaces = file[from..end]
+        .iter()
+        .rev()
+        .take_while(|&&byte| byte == b' ');
+    let to = end - spaces.count();
+    let flaw = match &file[from..to] {
+        [] => Some(Flaw::Blank),
+        bytes if bytes.contains(&b'"') => Some(Flaw::QuoteInside),
+        _ => None,
+    };
+    let quoted = false;
+    (
+        Cell {
+            from,
+            to,
+            quoted,
+            flaw,
+        },
+        end,
+    )
+}
+
+/// Returns the place behind the quote that closes the one at a place; two quotes inside stand for one.
+fn quote_end(file: &[u8], open: usize) -> Option<usize> {
+    let mut at = open + 1;
+    loop {
+        match file[at..] {
+            [] => return None,
+            [b'"', b'"', ..] => at += 2,
+            [b'"', ..] => return Some(at + 1),
+            _ => at += 1,
+        }
+    }
+}

@@ -1,0 +1,5 @@
+//! All tests in one program.
+
+mod fill;
+mod larger;
+mod nearest;
