@@ -5,6 +5,7 @@ use mathlib.Core.Path.{_≡_, sym, subst₂}
 use mathlib.Core.List.{List}
 use native.Mathlib.Omega.{arith}
 use lib.ListN.{length, getD}
+use Rattle.rules.specs.Limits.{mostCells, mostInputs, mostLevels}
 use Rattle.rules.specs.Groups.Groups.{part, others, points}
 use Rattle.trees.specs.Trees.Trees.{mix}
 use Rattle.trees.specs.Groups.Levels.{mix-below}
@@ -45,3 +46,28 @@ pub record Room (m n : ℕ) (cells xs ys : List ℕ) : Type 0 where
   pub for-cells : m ^ n ≤ length cells
   pub for-xs : m ^ n ≤ length xs
   pub for-ys : m ^ n ≤ length ys
+
+-- the cells of a small table
+abbrev pub fewCells : ℕ
+fewCells = 256
+
+-- room to list a few classes, with work arrays of its own: the cells of a table within a sheet's bounds, and a place for each class
+pub record ListRoom (m n : ℕ) (cells : List ℕ) (enough : ℕ) (out : List ℕ) : Type 0 where
+  pub some : 0 < m
+  pub levels : m ≤ mostLevels
+  pub inputs : n ≤ mostInputs
+  pub small : m ^ n ≤ mostCells
+  pub for-cells : m ^ n ≤ length cells
+  pub few : enough ≤ mostLevels + 1
+  pub for-out : enough ≤ length out
+
+pub few-room : {m n enough : ℕ} {cells out : List ℕ} → ListRoom m n cells enough out → (xs ys : List ℕ) → m ^ n ≤ length xs → m ^ n ≤ length ys → Room m n cells xs ys
+few-room few xs ys for-xs for-ys =
+    record {
+      some = few .some;
+      inputs = omega (arith, few .inputs);
+      small = omega (arith, few .small);
+      for-cells = few .for-cells;
+      for-xs = for-xs;
+      for-ys = for-ys;
+    }
