@@ -3,4 +3,3 @@ pub mod fast;
 pub mod program;
 pub mod reader;
 pub mod tidy;
-pub mod top;

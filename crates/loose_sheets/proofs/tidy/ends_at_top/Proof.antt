@@ -1,11 +1,11 @@
--- `loose_sheets::top::ends_at_top` ends, and reads no byte outside the sheet. The loop's invariant: the level that is looked at stands before the ink.
+-- `loose_sheets::tidy::ends_at_top` ends, and reads no byte outside the sheet. The loop's invariant: the level that is looked at stands before the ink.
 -- Assumes nothing.
 use Prim.Native.Nat.{_+_, _≤_}
 use native.Mathlib.Omega.{arith}
 use lib.ListN.{length}
 use borrow.Author.Needs.{needs}
-use Rattle.loose_sheets.proofs.top.ends_at_top.Statement.{statement}
-use Rattle.loose_sheets.proofs.top.ends_at_top.Tie as tie
+use Rattle.loose_sheets.proofs.tidy.ends_at_top.Statement.{statement}
+use Rattle.loose_sheets.proofs.tidy.ends_at_top.Tie as tie
 
 abbrev Inv-loop : tie.InvT-loop
 Inv-loop s top p₀ p = p + 4 ≤ length s
