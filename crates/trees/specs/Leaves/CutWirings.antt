@@ -48,7 +48,7 @@ module _ (m n : ℕ) (pos : 0 < m) (f : ℕ → ℕ) where
 
   module _ (g h : ℕ) (g< : g < 2 ^ n) (h< : h < 2 ^ n) (rest : Idle g h) where
     -- the levels that h has and g has not do not show
-    idle-mix : (p y : ℕ) → f (mix m n g p y) ≡ f (mix m n h p y)
+    pub idle-mix : (p y : ℕ) → f (mix m n g p y) ≡ f (mix m n h p y)
     idle-mix p y =
         idle-ink m n pos f _ _ (mix-below m n pos g p y g<) (mix-below m n pos h p y h<) (λ j j< is. go j j< is (member j g) refl (member j h) refl)
       where
