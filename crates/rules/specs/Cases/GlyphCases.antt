@@ -1,4 +1,4 @@
--- Document 02, K11, by small glyphCases: a picture before and after, and what the call leaves in its output. Sheets are written as in `Cases`, with `/`
+-- Document 02, K11, by small cases: a picture before and after, and what the call leaves in its output. Sheets are written as in `Cases`, with `/`
 -- for the line feed.
 -- Assumes nothing.
 use Prim.Native.Nat.{ℕ, _-_}

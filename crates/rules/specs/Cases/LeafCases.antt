@@ -1,4 +1,4 @@
--- Document 02, K12, by small leafCases: inputs that never matter. Which inputs are leaves, net sheets with fewer gate lines, and what is made, settled, kept and timed of them. Sheets are written as in
+-- Document 02, K12, by small cases: inputs that never matter. Which inputs are leaves, net sheets with fewer gate lines, and what is made, settled, kept and timed of them. Sheets are written as in
 -- `Cases`, with `/` for the line feed.
 -- Assumes nothing.
 use Prim.Native.Nat.{ℕ, _+_, _/_, _%_}

@@ -1,4 +1,4 @@
--- Document 02, K8, by small looseCases: what tidying makes of a loose sheet, and what turns one back. Sheets are written as in `Cases`, with `/` for the line
+-- Document 02, K8, by small cases: what tidying makes of a loose sheet, and what turns one back. Sheets are written as in `Cases`, with `/` for the line
 -- feed.
 -- Assumes nothing.
 use Prim.Native.Nat.{ℕ}
