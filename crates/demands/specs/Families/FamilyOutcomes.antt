@@ -18,7 +18,7 @@ use Rattle.rules.specs.Calls.FamilyCalls.{countOfTable, familyNet, Counted, fam
 use Rattle.laws.specs.Lists.Tests.{by-test}
 use Rattle.laws.specs.Lists.Distinct.{In, NotIn, not-in-cons, wider}
 use Rattle.laws.specs.Calls.Settling.{WholeTwo, marksOfTable, room-fits, into-refused, into-marked, marked-16, marked-tree, make-refused, make-accepted}
-use Rattle.laws.specs.Calls.FamilyCalls.{counted-refused, counted-marked, numbered-refused, numbered-marked, count-17, count-tree, family-count-refused, family-count-accepted, family-tree-refused, family-tree-accepted}
+use Rattle.laws.specs.Calls.FamilyCalls.{counted-refused, counted-marked, count-17, count-tree, family-count-refused, family-count-accepted, family-tree-refused, family-tree-accepted}
 use Rattle.demands.specs.Sheets.FullSheets.{fullNumbers, full-refusal}
 use Rattle.demands.specs.Numbers.Numbers.{not-given, refuses}
 use Rattle.demands.specs.Numbers.SettlingNumbers.{sheet-numbers, room-numbers}
@@ -68,8 +68,8 @@ module _ (s cells marks : List ℕ) where
     cells-fit = cells-fit;
     marks-fit = marks-fit;
     counts = family-count-accepted s cells marks t reads ∙ counted-marked t cells marks cells-fit marks-fit;
-    numbers = λ r output. family-tree-accepted s r cells marks output t reads ∙ numbered-marked r t cells marks output cells-fit marks-fit;
-    makes = λ output. make-accepted s cells marks output t reads ∙ into-marked settledNet t cells marks output cells-fit marks-fit;
+    numbers = λ r output. family-tree-accepted s r cells marks output t reads ∙ into-marked t cells marks output _ cells-fit marks-fit;
+    makes = λ output. make-accepted s cells marks output t reads ∙ into-marked t cells marks output _ cells-fit marks-fit;
   }
 
   -- any sheet and any buffers
@@ -81,8 +81,8 @@ module _ (s cells marks : List ℕ) where
       room t e (refused number need) d = turned-back number need (record {
         listed = room-numbers t cells marks judgedNumbers refl refl number need d;
         counts = family-count-accepted s cells marks t e ∙ counted-refused t cells marks number need d;
-        numbers = λ r output. family-tree-accepted s r cells marks output t e ∙ numbered-refused r t cells marks output number need d;
-        makes = λ output. make-accepted s cells marks output t e ∙ into-refused settledNet t cells marks output number need d;
+        numbers = λ r output. family-tree-accepted s r cells marks output t e ∙ into-refused t cells marks output _ number need d;
+        makes = λ output. make-accepted s cells marks output t e ∙ into-refused t cells marks output _ number need d;
       })
       room t e (accepted _) d = let fits = room-fits t cells marks d in goes-on t (on-with t e (fits .0) (fits .1))
 

@@ -20,7 +20,7 @@ use Rattle.rules.specs.Calls.BareCells.{bareCells}
 use Rattle.rules.specs.Calls.OpenCells.{full, fullCells, fullTable, readFull}
 use Rattle.rules.specs.Calls.Multiplicity.{multiplicityCall}
 use Rattle.rules.specs.Calls.Marking.{Marked, markingCall}
-use Rattle.rules.specs.Calls.Settling.{Made, settledNet, roomFor, makeCall}
+use Rattle.rules.specs.Calls.Settling.{Made, settledNet, makeCall}
 use Rattle.rules.specs.Calls.ShallowSettling.{makeShallowCall}
 use Rattle.rules.specs.Calls.FamilyCalls.{countOfTable, familyCountCall, numberedInto, afterCount, familyTreeCall}
 use Rattle.rules.specs.Calls.Checking.{sameHeader}
@@ -38,8 +38,8 @@ use Rattle.laws.specs.Calls.Jobs.{open-refused, open-accepted, may-refused}
 use Rattle.laws.specs.Calls.Multiplicity.{groupAnswer, multiplicity-refused, multiplicity-judged}
 use Rattle.laws.specs.Calls.Keeping.{keep-net-refused, keep-table-refused, keep-accepted, keep-12, keep-27, keep-13, keep-23-0, keep-23, keep-15, keep-written}
 use Rattle.readback.specs.Readers.Numbers.{netNumbers, tableNumbers, net-refusal, table-refusal}
-use Rattle.demands.specs.Numbers.Numbers.{Gives, accepts, by-answer, bare-numbers, not-given, refuses}
-use Rattle.demands.specs.Numbers.SettlingNumbers.{sheet-numbers, room-numbers, into-numbers}
+use Rattle.demands.specs.Numbers.Numbers.{Gives, accepts, bare-numbers, not-given, refuses}
+use Rattle.demands.specs.Numbers.SettlingNumbers.{sheet-numbers, in-room-numbers, into-numbers}
 use Rattle.demands.specs.Shallow.ShallowRefusals.{make-shallow-refuses}
 use Rattle.demands.specs.Families.FamilyCounting.{count-refuses}
 use Rattle.demands.specs.Others.Checks.{same-header, header-same}
@@ -125,12 +125,11 @@ module _ (s : List ℕ) (k : ℕ) where
     -- .. the tree of a number, ..
     module _ (order : ℕ) where
       after-numbers : (t : Table) → Gives (13 ∷ 14 ∷ 17 ∷ 15 ∷ []) (numberedInto order t cells marks output .answer)
-      unfolding numberedInto afterCount any
+      unfolding afterCount any
       after-numbers t =
           let ns : List ℕ = 13 ∷ 14 ∷ 17 ∷ 15 ∷ [] in
-          by-answer (λ (made : Made). Gives ns (made .answer)) (roomFor t cells marks) _ _
-          (λ _ _. by-test (λ (made : Made). Gives ns (made .answer)) (ltb order (countOfTable t)) _ _ (sheet-numbers ns refl _ _ _ output) (refuses ns 17 order refl))
-          (λ number place e. refuses ns number place (room-numbers t cells marks ns refl refl number place e))
+          in-room-numbers ns refl refl t cells marks output _
+          (by-test (λ (made : Made). Gives ns (made .answer)) (ltb order (countOfTable t)) _ _ (sheet-numbers ns refl _ _ _ output) (refuses ns 17 order refl))
 
       pub family-tree-27 : (familyTreeCall s order cells marks output .answer ≡ refused 27 k) ↔ OpenSheet s k
       unfolding any

@@ -13,8 +13,8 @@ use Rattle.rules.specs.Groups.Marks.{marksLength, storedMarks}
 use Rattle.rules.specs.Calls.Answers.{accepted, inkIn}
 use Rattle.rules.specs.Calls.Settling.{settledNet}
 use Rattle.rules.specs.Calls.FamilyCalls.{Counted, countOfTable, familyNet, familyCountCall, familyTreeCall, afterCount}
-use Rattle.laws.specs.Calls.Settling.{marksOfTable}
-use Rattle.laws.specs.Calls.FamilyCalls.{counted-marked, family-count-accepted, numbered-marked, count-17, count-tree, family-tree-accepted}
+use Rattle.laws.specs.Calls.Settling.{marksOfTable, into-marked}
+use Rattle.laws.specs.Calls.FamilyCalls.{counted-marked, family-count-accepted, count-17, count-tree, family-tree-accepted}
 use Rattle.trees.specs.Trees.NetTables.{inputs-several}
 use Rattle.trees.specs.Renaming.RenamedWirings.{count-renamed}
 use Rattle.trees.specs.Renaming.RenamedNets.{family-renamed}
@@ -83,12 +83,12 @@ module _ (r : ℕ → ℕ) (s other : List ℕ) (both : RenamedTables r s other)
       enough' = subst (λ (v : Table). Enough settledNet v cells' marks' output') (is-renamed r s other both) enough-other
 
       judged : familyTreeCall s number cells marks output ≡ afterCount number t cells marks output
-      judged = family-tree-accepted s number cells marks output t (both .reads) ∙ numbered-marked number t cells marks output (enough .cells-fit) (enough .marks-fit)
+      judged = family-tree-accepted s number cells marks output t (both .reads) ∙ into-marked t cells marks output _ (enough .cells-fit) (enough .marks-fit)
 
       judged' : familyTreeCall other number cells' marks' output' ≡ afterCount number u cells' marks' output'
       judged' =
           family-tree-accepted other number cells' marks' output' u (reads-renamed r s other both)
-          ∙ numbered-marked number u cells' marks' output' (enough' .cells-fit) (enough' .marks-fit)
+          ∙ into-marked u cells' marks' output' _ (enough' .cells-fit) (enough' .marks-fit)
 
       go : Dec (number < countOfTable t) → AlikeMade r n (familyTreeCall s number cells marks output) (familyTreeCall other number cells' marks' output')
       go (no large) =

@@ -124,10 +124,10 @@ module _ (r : ℕ → ℕ) (s other : List ℕ) (both : RenamedTables r s other)
   into-alike netFor nets cells marks output cells' marks' output' enough enough' = go (ℕ-discrete _ 2)
     where
       judged : madeInto netFor t cells marks output ≡ afterMarks netFor t cells marks output
-      judged = into-marked netFor t cells marks output (enough .cells-fit) (enough .marks-fit)
+      judged = into-marked t cells marks output _ (enough .cells-fit) (enough .marks-fit)
 
       judged' : madeInto netFor u cells' marks' output' ≡ afterMarks netFor u cells' marks' output'
-      judged' = into-marked netFor u cells' marks' output' (enough' .cells-fit) (enough' .marks-fit)
+      judged' = into-marked u cells' marks' output' _ (enough' .cells-fit) (enough' .marks-fit)
 
       go : Dec (WholeTwo t) → AlikeMade r n (madeInto netFor t cells marks output) (madeInto netFor u cells' marks' output')
       go (no none) =

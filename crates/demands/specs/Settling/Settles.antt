@@ -50,7 +50,7 @@ pub net-written : (netFor : Table → Net) (t : Table) (cells marks output : Lis
 unfolding sheetIn
 net-written netFor t cells marks output two long =
     ap sheetOf
-    (into-marked netFor t cells marks output (long .cells-fit) (long .marks-fit)
+    (into-marked t cells marks output _ (long .cells-fit) (long .marks-fit)
     ∙ marked-tree netFor t cells marks output two
     ∙ sheet-written (printedNet (netFor t)) (written cells (t .inks)) (written marks (storedMarks (marksOfTable t))) output (long .output-fits))
     ∙ ap accepted (written-front output (printedNet (netFor t)))
@@ -124,13 +124,13 @@ settled-is s cells marks output sheet e = by-read (readNet s) refl
         → Dec (marksLength (tableOfNet net .header .inputs) ≤ length marks) → Dec (length (printedNet (settledNet (tableOfNet net))) ≤ length output)
         → sheet ≡ printedNet (settledNet (tableOfNet net))
     written-is net reads (no short) m o =
-        absurd (not-given 13 _ (ap sheetOf (settle-accepted s cells marks output net reads ∙ into-13 settledNet (tableOfNet net) cells marks output (omega arith))))
+        absurd (not-given 13 _ (ap sheetOf (settle-accepted s cells marks output net reads ∙ into-13 (tableOfNet net) cells marks output _ (omega arith))))
     written-is net reads (yes c) (no short) o =
-        absurd (not-given 14 _ (ap sheetOf (settle-accepted s cells marks output net reads ∙ into-14 settledNet (tableOfNet net) cells marks output c (omega arith))))
+        absurd (not-given 14 _ (ap sheetOf (settle-accepted s cells marks output net reads ∙ into-14 (tableOfNet net) cells marks output _ c (omega arith))))
     written-is net reads (yes c) (yes m) (no short) =
         absurd (not-given 15 _ (ap sheetOf
         (settle-accepted s cells marks output net reads
-        ∙ into-marked settledNet (tableOfNet net) cells marks output c m
+        ∙ into-marked (tableOfNet net) cells marks output _ c m
         ∙ marked-tree settledNet (tableOfNet net) cells marks output (net-whole-two net (net-accepted s net reads .1))
         ∙ sheet-15 (printedNet (settledNet (tableOfNet net))) (written cells (tableOfNet net .inks)) (written marks (storedMarks (marksOfTable (tableOfNet net)))) output (omega arith))))
     written-is net reads (yes c) (yes m) (yes o) =

@@ -8,10 +8,9 @@ use mathlib.Core.List.{List, [], _∷_}
 use native.Mathlib.Nat.{le-trans}
 use native.Mathlib.Omega.{arith}
 use lib.ListN.{length}
-use lib.Dec.{leb}
-use borrow.Author.Tests.{leb-true, le-ltb}
+use borrow.Author.Tests.{le-ltb}
 use Rattle.rules.specs.Lists.{range, all, any}
-use Rattle.rules.specs.Limits.{mostCells, mostSettled, mostTableSheet}
+use Rattle.rules.specs.Limits.{cellsFit, mostCells, mostSettled, mostTableSheet}
 use Rattle.rules.specs.Sheets.Sheets.{Header, Net, Table}
 use Rattle.rules.specs.Sheets.Printed.{printedTable}
 use Rattle.rules.specs.Groups.Marks.{markIn, marksOf, marksLength, storedMarks}
@@ -25,7 +24,7 @@ use Rattle.rules.specs.Calls.Settling.{Made, settleCall, makeCall}
 use Rattle.rules.specs.Calls.Checking.{turnedDown, sameHeader, compared, Checked, checkedInto, checkCall}
 use Rattle.rules.specs.Calls.TableWriting.{Written, writeTableCall}
 use Rattle.laws.specs.Lists.Distinct.{In, wider}
-use Rattle.laws.specs.Numbers.Sizes.{Size, sized, kept-size, everySize, at-size}
+use Rattle.laws.specs.Numbers.Sizes.{Size, sized, kept-size, everySize, bounded-at}
 use Rattle.laws.specs.Calls.Settling.{settle-refused, make-refused}
 use Rattle.laws.specs.Calls.Checking.{check-net-refused, check-table-refused, check-accepted, check-12, check-compared, Compared, all-agree, first-differs, comparison}
 use Rattle.laws.specs.Calls.TableWriting.{table-refused, table-written}
@@ -47,17 +46,10 @@ use Rattle.laws.specs.Calls.OpenCells.{cells-sized}
 abbrev pub mostMarks : ℕ
 mostMarks = 1_024
 
-marksTest : ℕ → ℕ → Bool
-marksTest m n = leb (marksLength n) mostMarks
-
-marks-tested : everySize marksTest ≡ true
-unfolding everySize all range marksTest marksLength
-marks-tested = refl
-
 -- enough marks at every size that a sheet, or bare cells, may have
 pub size-marks : (m n : ℕ) → Size m n → marksLength n ≤ mostMarks
-unfolding marksTest
-size-marks m n size = leb-true (marksLength n) mostMarks (at-size marksTest marks-tested m n size)
+unfolding everySize all range cellsFit marksLength
+size-marks = bounded-at (λ _ n. marksLength n) mostMarks refl
 
 -- "Needed: m to the n bytes", and of marks "2 to the n, divided by 4" (document 02, K7): enough cells and marks for each accepted sheet
 module _ (h : Header) (kept : HeaderRules h) where

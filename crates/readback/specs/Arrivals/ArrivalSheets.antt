@@ -25,7 +25,7 @@ use Rattle.readback.specs.Readers.Collects.{Collects, collects-none, col
 use Rattle.readback.specs.Readers.Fields.{plain, isWord, Judges, judged-good, parts-space, parts-newline, spells-field, judges-word, Ended, spells-end}
 use Rattle.readback.specs.Readers.Decimals.{decimal-word}
 use Rattle.readback.specs.Readers.Judges.{name-word}
-use Rattle.readback.specs.Sheets.ReadBack.{whole-back, whole-only}
+use Rattle.readback.specs.Sheets.ReadBack.{whole-back, whole-kept, whole-sheets}
 
 -- ---- the fields
 
@@ -111,16 +111,10 @@ module _ (names : List (List ℕ)) (names-good : GoodNames names) where
   pub arrivals-accepted : (s : List ℕ) (arrivals : List Arrival) → readArrivals names s ≡ accepted arrivals
       → (s ≡ printedArrivalSheet names arrivals) × ArrivalSheetRules names arrivals
   unfolding readArrivals
-  arrivals-accepted s arrivals e =
-      let ((own, k), q, d) = whole-only spells-arrivals s arrivals e in
-      rw q (d, k)
+  arrivals-accepted = whole-kept (printedArrivalSheet names) spells-arrivals
 
   -- an arrival sheet is accepted exactly when it is the print of arrivals that keep the rules, one for each input
   pub arrival-sheets : (s : List ℕ)
       → ((arrivals : List Arrival) × (readArrivals names s ≡ accepted arrivals)) ↔ ((arrivals : List Arrival) × ArrivalSheetRules names arrivals × (s ≡ printedArrivalSheet names arrivals))
-  arrival-sheets s = (
-    λ (arrivals, e).
-        let (d, k) = arrivals-accepted s arrivals e in
-        (arrivals, k, d),
-    λ (arrivals, k, d). (arrivals, rw d (arrivals-read-back arrivals k)),
-  )
+  unfolding readArrivals
+  arrival-sheets = whole-sheets (printedArrivalSheet names) spells-arrivals
