@@ -38,7 +38,7 @@ lists-within m n pos g g< b room xs ys e h =
 
 -- Room to count the classes of a group of m levels and n inputs: the cells, and work arrays for the group's assignments and those of
 -- the other inputs. Offsets are below 2 to the 16.
-pub record Room (m n : ℕ) (cells xs ys : List ℕ) : Type 0 where
+pub record OffsetRoom (m n : ℕ) (cells xs ys : List ℕ) : Type 0 where
   pub some : 0 < m
   pub inputs : n ≤ mostMembers
   pub small : m ^ n ≤ mostOffsets

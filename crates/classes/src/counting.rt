@@ -9,7 +9,7 @@ ghost use Rattle.rules.specs.Calls.Answers.{inkIn};
 ghost use Rattle.radix.specs.Fronts.{Front};
 ghost use Rattle.classes.specs.Firsts.{classesOver};
 ghost use Rattle.classes.specs.Keys.{mostColumns};
-ghost use Rattle.classes.specs.Within.{Within, Room};
+ghost use Rattle.classes.specs.Within.{Within, OffsetRoom};
 use crate::keys;
 use radix::limits::MOST_LEVELS;
 use radix::offsets;
@@ -63,7 +63,7 @@ pub fn group_firsts(
     firsts: &mut [u16],
     keys: &mut [u32],
 ) -> usize
-    requires { ⌜ (Room m n (now cells) (now xs) (now ys)) × (enough ≤ length (now firsts)) × (enough ≤ length (now keys)) × (columns ≤ mostColumns)
+    requires { ⌜ (OffsetRoom m n (now cells) (now xs) (now ys)) × (enough ≤ length (now firsts)) × (enough ≤ length (now keys)) × (columns ≤ mostColumns)
         × (g < 2 ^ n) ⌝ }
     ensures { λ r. ⌜ Front (take enough (classes m n (inkIn (now (cells .entry))) g)) r (now (firsts .exit)) ⌝ }
 {
@@ -90,7 +90,7 @@ pub fn more_classes_than_levels(
     xs: &mut [u16],
     ys: &mut [u16],
 ) -> bool
-    requires { ⌜ (Room m n (now cells) (now xs) (now ys)) × (m ≤ mostLevels) × (g < 2 ^ n) ⌝ }
+    requires { ⌜ (OffsetRoom m n (now cells) (now xs) (now ys)) × (m ≤ mostLevels) × (g < 2 ^ n) ⌝ }
     ensures { λ r. ⌜ r ≡ ltb m (multiplicity m n (inkIn (now (cells .entry))) g) ⌝ }
 {
     let mut firsts = [0u16; MOST_LEVELS + 1];

@@ -123,7 +123,8 @@ module _ (t : Table) (cells marks output : List ℕ) where
       go (no none) = rw (marked-16 settledNet t cells marks output none) (record { cells = refl; marks = refl })
 
   -- .. and refuses with 16 or 15 only
-  pub marked-numbers : (number place : ℕ) → (number ≡ 15 → ⊥) → (number ≡ 16 → ⊥) → afterMarks settledNet t cells marks output .answer ≡ refused number place → ⊥
+  pub marked-numbers : (number place : ℕ) → (number ≡ 15 → ⊥) → (number ≡ 16 → ⊥)
+      → afterMarks settledNet t cells marks output .answer ≡ refused number place → ⊥
   unfolding any
   marked-numbers number place not-15 not-16 = go (ℕ-discrete _ 2)
     where
@@ -152,8 +153,8 @@ pub data NumberJudged (s : List ℕ) (r : ℕ) (cells marks output : List ℕ) :
       ≡ writtenSheet (printedNet (familyNet r t)) (written cells (t .inks)) (written marks (storedMarks (marksOfTable t))) output
       → NumberJudged s r cells marks output
 
-pub numbered : (s : List ℕ) (r : ℕ) (cells marks output : List ℕ) → NumberJudged s r cells marks output
-numbered s r cells marks output = go (judge s cells marks)
+pub judge-number : (s : List ℕ) (r : ℕ) (cells marks output : List ℕ) → NumberJudged s r cells marks output
+judge-number s r cells marks output = go (judge s cells marks)
   where
     by : (t : Table) → GoesOn s cells marks t → Dec (r < countOfTable t) → NumberJudged s r cells marks output
     by t is (yes small) = has-tree t is small (is .numbers r output ∙ count-tree r t cells marks output small)

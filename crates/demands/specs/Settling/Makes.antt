@@ -35,6 +35,15 @@ use Rattle.demands.specs.Numbers.SettlingNumbers.{sheet-numbers}
 use Rattle.rules.specs.Calls.OpenCells.{readFull}
 use Rattle.demands.specs.Sheets.FullSheets.{FullTableRules, full-accepted}
 
+-- a table's levels, inputs and inks, by one letter each
+pub record TableLetters : Type 0 where
+  pub m : ℕ
+  pub n : ℕ
+  pub f : ℕ → ℕ
+
+abbrev pub tableLetters : Table → TableLetters
+tableLetters t = record { m = t .header .levels; n = t .header .inputs; f = inkIn (t .inks) }
+
 -- "just the inputs that matter .. if fewer than two do, the first-listed others make up two" (document 02, K12): a table's leaves, as a group
 abbrev pub leavesOfTable : Table → ℕ
 leavesOfTable t = leavesOf (t .header .levels) (t .header .inputs) (inkIn (t .inks))
@@ -98,7 +107,8 @@ pub sheet-gates : (t : Table) (r : List ℕ) (net : Net) → readNet r ≡ accep
     → IsNet (t .header .levels) (t .header .inputs) (net .gates) × Computes (t .header .levels) (t .header .inputs) (net .gates) (inkIn (t .inks))
 unfolding tableOfNet
 sheet-gates t r net reads table =
-    subst (λ (u : Table). IsNet (u .header .levels) (u .header .inputs) (net .gates) × Computes (u .header .levels) (u .header .inputs) (net .gates) (inkIn (u .inks)))
+    subst (λ (u : Table). IsNet (u .header .levels) (u .header .inputs) (net .gates)
+    × Computes (u .header .levels) (u .header .inputs) (net .gates) (inkIn (u .inks)))
     table (net-accepted r net reads .1 .gates, λ p h. sym (table-at (net .header .levels) (net .header .inputs) (net .gates) p h))
 
 pub sheet-tree : (t : Table) → HasSheet t → HasTree t
@@ -139,13 +149,19 @@ module _ (s : List ℕ) (t : Table) (reads : readFull s ≡ accepted t) where
   unfolding any
   make-refuses cells marks output cells-fit marks-fit =
       let marked = make-accepted s cells marks output t reads ∙ into-marked t cells marks output _ cells-fit marks-fit in (
-        λ r tree. not-given (15 ∷ []) _ (sheet-numbers (15 ∷ []) refl (printedNet (settledNet t)) (written cells (t .inks)) (written marks (storedMarks (marksOfTable t))) output) 16 (r .0) refl
+        λ r tree. not-given (15 ∷ []) _
+            (sheet-numbers (15 ∷ []) refl (printedNet (settledNet t)) (written cells (t .inks)) (written marks (storedMarks (marksOfTable t))) output)
+            16 (r .0) refl
             (sym (ap (λ (made : Made). made .answer) (marked ∙ marked-tree settledNet t cells marks output (two-tree t kept .0 tree))) ∙ r .1),
-        λ none. (noTreePlace (t .header .inputs) (marksOfTable t), ap (λ (made : Made). made .answer) (marked ∙ marked-16 settledNet t cells marks output (λ two. none (two-tree t kept .1 two)))),
+        λ none. (
+          noTreePlace (t .header .inputs) (marksOfTable t),
+          ap (λ (made : Made). made .answer) (marked ∙ marked-16 settledNet t cells marks output (λ two. none (two-tree t kept .1 two))),
+        ),
       )
 
   -- .. and so exactly when no accepted net sheet of those levels and names has that table.
-  pub make-refuses-sheets : (cells marks output : List ℕ) → t .header .levels ^ t .header .inputs ≤ length cells → marksLength (t .header .inputs) ≤ length marks
+  pub make-refuses-sheets : (cells marks output : List ℕ) → t .header .levels ^ t .header .inputs ≤ length cells
+      → marksLength (t .header .inputs) ≤ length marks
       → ((place : ℕ) × (makeCall s cells marks output .answer ≡ refused 16 place)) ↔ (HasSheet t → ⊥)
   make-refuses-sheets cells marks output cells-fit marks-fit =
       let iff = make-refuses cells marks output cells-fit marks-fit in
@@ -183,7 +199,9 @@ module _ (s : List ℕ) (t : Table) (reads : readFull s ≡ accepted t) where
       go : Dec (WholeTwo t) → Making t (makeCall s cells marks output)
       go (no other) =
           no-tree (λ tree. other (two-tree t kept .0 tree))
-          (ap (λ (made : Made). made .answer) (make-accepted s cells marks output t reads ∙ into-marked t cells marks output _ cells-fit marks-fit ∙ marked-16 settledNet t cells marks output other))
+          (ap (λ (made : Made). made .answer)
+          (make-accepted s cells marks output t reads ∙ into-marked t cells marks output _ cells-fit marks-fit
+          ∙ marked-16 settledNet t cells marks output other))
       go (yes two) =
           let tree = two-tree t kept .1 two in
           some-tree tree (makes cells marks output tree (record { cells-fit = cells-fit; marks-fit = marks-fit; output-fits = output-fits tree }))

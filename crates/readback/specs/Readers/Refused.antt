@@ -11,7 +11,8 @@ use Rattle.rules.specs.Sheets.Fields.{Read, read, turnedBack, Reader, run}
 use Rattle.rules.specs.Sheets.Sheets.{netSheet, tableSheet}
 use Rattle.rules.specs.Calls.Answers.{Answer, refused}
 use Rattle.rules.specs.Sheets.Reading.{answered, readNet, readTable}
-use Rattle.readback.specs.Readers.Fronts.{FromFront, front-closed, turned-place, fieldEnd, turned-alike, turned-through}
+use Rattle.laws.specs.Lists.Runs.{fieldEnd}
+use Rattle.readback.specs.Readers.Fronts.{FromFront, front-closed, turned-place, turned-alike, turned-through}
 use Rattle.readback.specs.Readers.Ends.{front-or-end, front-used}
 use Rattle.readback.specs.Nets.NetSheets.{netToEnd}
 use Rattle.readback.specs.Readers.Walks.{front-composes, any-first, to-end-walk, net-walk, table-walk}
@@ -46,9 +47,9 @@ pub record JudgedFromFront {A : Type 0} (call : List ℕ → Answer A) : Type 0 
 
 module _ {A : Type 0} {r : Reader A} (front : FromFront r) where
   -- a refusal is the reader's
-  pub turned : (s : List ℕ) (number place : ℕ) → answered (r s 0) ≡ refused number place → r s 0 ≡ turnedBack number place
+  pub refusal-turned : (s : List ℕ) (number place : ℕ) → answered (r s 0) ≡ refused number place → r s 0 ≡ turnedBack number place
   unfolding answered
-  turned s number place e = go (r s 0) refl e
+  refusal-turned s number place e = go (r s 0) refl e
     where
       go : (u : Read A) → r s 0 ≡ u → answered u ≡ refused number place → r s 0 ≡ turnedBack number place
       go (read a rest p) d e = absurd (let z : _≡_ {A = ℕ} 0 1 = cc in omega arith)
@@ -58,9 +59,9 @@ module _ {A : Type 0} {r : Reader A} (front : FromFront r) where
   unfolding answered
   judged-from-front =
       record {
-        places-within = λ s number place e. rw (zero-add (length s)) at (turned-place front s 0 number place (turned s number place e));
-        front = λ s t number place e h. ap answered (turned-through front s t number place (turned s number place e) h);
-        field = λ s t number place e h k. ap answered (turned-alike front s t number place (turned s number place e) h k);
+        places-within = λ s number place e. rw (zero-add (length s)) at (turned-place front s 0 number place (refusal-turned s number place e));
+        front = λ s t number place e h. ap answered (turned-through front s t number place (refusal-turned s number place e) h);
+        field = λ s t number place e h k. ap answered (turned-alike front s t number place (refusal-turned s number place e) h k);
       }
 
 pub net-judged : JudgedFromFront readNet
