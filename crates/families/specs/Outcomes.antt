@@ -74,7 +74,8 @@ module _ (s cells marks : List ℕ) where
   count-turned (by-sheet e) = sym (family-count-refused s cells marks _ _ e)
   count-turned (by-room t reads short) = sym (counted-refused t cells marks _ _ short) ∙ sym (family-count-accepted s cells marks t reads)
 
-  pub input-counted : (h : Header) (inks : List ℕ) → InputTaken s h inks cells marks → countedInto (tableIn s h inks) cells marks ≡ familyCountCall s cells marks
+  pub input-counted : (h : Header) (inks : List ℕ) → InputTaken s h inks cells marks
+      → countedInto (tableIn s h inks) cells marks ≡ familyCountCall s cells marks
   input-counted h inks taken = sym (family-count-accepted s cells marks _ (taken .reads))
 
   module _ (order : ℕ) (output : List ℕ) where

@@ -43,7 +43,8 @@ room-numbers t cells marks numbers h13 h14 =
     by-test (Gives numbers) (ltb (length cells) (t .header .levels ^ t .header .inputs)) _ _ (refuses numbers 13 _ h13)
     (by-test (Gives numbers) (ltb (length marks) (marksLength (t .header .inputs))) _ _ (refuses numbers 14 _ h14) (accepts numbers tt))
 
-pub in-room-numbers : (numbers : List ℕ) → In 13 numbers → In 14 numbers → (t : Table) (cells marks output : List ℕ) (rest : Made) → Gives numbers (rest .answer)
+pub in-room-numbers : (numbers : List ℕ) → In 13 numbers → In 14 numbers → (t : Table) (cells marks output : List ℕ) (rest : Made)
+    → Gives numbers (rest .answer)
     → Gives numbers (inRoom t cells marks output rest .answer)
 unfolding inRoom
 in-room-numbers numbers h13 h14 t cells marks output rest h =
@@ -65,7 +66,8 @@ module _ (s cells marks output : List ℕ) where
   unfolding settleCall any all
   settle-numbers =
       by-answer (MadeGives settleNumbers) (readNet s) _ _
-      (λ net e. into-numbers settledNet settleNumbers refl refl refl (tableOfNet net) (λ other. absurd (other (net-whole-two net (net-accepted s net e .1)))) cells marks output)
+      (λ net e. into-numbers settledNet settleNumbers refl refl refl (tableOfNet net)
+      (λ other. absurd (other (net-whole-two net (net-accepted s net e .1)))) cells marks output)
       (λ number place e. refuses settleNumbers number place (wider netNumbers settleNumbers refl number (net-refusal s number place e)))
 
   pub make-numbers : Gives makeNumbers (makeCall s cells marks output .answer)

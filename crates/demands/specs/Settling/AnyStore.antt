@@ -137,7 +137,8 @@ MarksUnread rest = (t : Table) (cells marks other output : List ℕ) → SameOut
 sheet-alike : (sheet cells marks other output : List ℕ) → SameOutcome (writtenSheet sheet cells marks output) (writtenSheet sheet cells other output)
 unfolding writtenSheet
 sheet-alike sheet cells marks other output =
-    test-alike (ltb (length output) (length sheet)) _ _ _ _ (record { answer = refl; cells = refl; output = refl }) (record { answer = refl; cells = refl; output = refl })
+    test-alike (ltb (length output) (length sheet)) _ _ _ _ (record { answer = refl; cells = refl; output = refl })
+    (record { answer = refl; cells = refl; output = refl })
 
 pub make-any-store : (netFor : Table → Net) → MarksUnread (makes-any-store netFor)
 unfolding makes-any-store
@@ -168,9 +169,11 @@ stores-alike s s' rest unread (refused number place) cells marks other output lo
 stores-alike s s' rest unread (accepted t) cells marks other output long = go (decLe (t .header .levels ^ t .header .inputs) (length cells))
   where
     go : Dec (t .header .levels ^ t .header .inputs ≤ length cells) → SameOutcome (intoBy s rest t cells marks output) (intoBy s' rest t cells other output)
-    go (no h) = subst₂ SameOutcome (sym (by-13 s rest t cells marks output (lt-of-not-le h))) (sym (by-13 s' rest t cells other output (lt-of-not-le h))) (record { answer = refl; cells = refl; output = refl })
+    go (no h) = subst₂ SameOutcome (sym (by-13 s rest t cells marks output (lt-of-not-le h)))
+        (sym (by-13 s' rest t cells other output (lt-of-not-le h))) (record { answer = refl; cells = refl; output = refl })
     go (yes h) =
-        subst₂ SameOutcome (sym (by-rest s rest t cells marks output h (long .first t refl))) (sym (by-rest s' rest t cells other output h (long .second t refl)))
+        subst₂ SameOutcome (sym (by-rest s rest t cells marks output h (long .first t refl)))
+        (sym (by-rest s' rest t cells other output h (long .second t refl)))
         (unread t _ _ _ output)
 
 -- ---- the calls are of this kind
@@ -217,7 +220,8 @@ module _ (sheet cells marks output : List ℕ) where
       go (accepted net) = into-is (tableOfNet net) cells marks output settledNet
 
   -- the shallow ones carry the layers of the net besides, which do not depend on marks in a buffer at all
-  pub make-shallow-is : makeShallowCall sheet cells marks output ≡ withShallow (readFull sheet) (callBy fourToByte (makes-any-store shallowNet) (readFull sheet) cells marks output)
+  pub make-shallow-is : makeShallowCall sheet cells marks output
+      ≡ withShallow (readFull sheet) (callBy fourToByte (makes-any-store shallowNet) (readFull sheet) cells marks output)
   unfolding makeShallowCall callBy withShallow withLayers layered onward layeredInto
   make-shallow-is = go (readFull sheet)
     where
@@ -228,7 +232,8 @@ module _ (sheet cells marks output : List ℕ) where
       go (refused number place) = refl
       go (accepted t) = ap (withLayers (netLayers (shallowNet t))) (into-is t cells marks output shallowNet)
 
-  pub settle-shallow-is : settleShallowCall sheet cells marks output ≡ withShallow (readAsTable sheet) (callBy fourToByte (makes-any-store shallowNet) (readAsTable sheet) cells marks output)
+  pub settle-shallow-is : settleShallowCall sheet cells marks output
+      ≡ withShallow (readAsTable sheet) (callBy fourToByte (makes-any-store shallowNet) (readAsTable sheet) cells marks output)
   unfolding settleShallowCall callBy withShallow withLayers layered onward layeredInto
   settle-shallow-is = go (readNet sheet)
     where
@@ -279,13 +284,15 @@ module _ (sheet cells marks other output : List ℕ) where
   pub make-as-before : BothLong fourToByte byteEach (readFull sheet) marks other
       → SameOutcome (makeCall sheet cells marks output) (callBy byteEach (makes-any-store settledNet) (readFull sheet) cells other output)
   make-as-before long =
-      subst⁻¹ (λ (made : Made). SameOutcome made (callBy byteEach (makes-any-store settledNet) (readFull sheet) cells other output)) (make-is sheet cells marks output)
+      subst⁻¹ (λ (made : Made). SameOutcome made (callBy byteEach (makes-any-store settledNet) (readFull sheet) cells other output))
+      (make-is sheet cells marks output)
       (stores-alike fourToByte byteEach (makes-any-store settledNet) (make-any-store settledNet) (readFull sheet) cells marks other output long)
 
   pub settle-as-before : BothLong fourToByte byteEach (readAsTable sheet) marks other
       → SameOutcome (settleCall sheet cells marks output) (callBy byteEach (makes-any-store settledNet) (readAsTable sheet) cells other output)
   settle-as-before long =
-      subst⁻¹ (λ (made : Made). SameOutcome made (callBy byteEach (makes-any-store settledNet) (readAsTable sheet) cells other output)) (settle-is sheet cells marks output)
+      subst⁻¹ (λ (made : Made). SameOutcome made (callBy byteEach (makes-any-store settledNet) (readAsTable sheet) cells other output))
+      (settle-is sheet cells marks output)
       (stores-alike fourToByte byteEach (makes-any-store settledNet) (make-any-store settledNet) (readAsTable sheet) cells marks other output long)
 
 -- ---- marking, which has bare cells
@@ -310,7 +317,8 @@ module _ (m n : ℕ) (cells buffer : List ℕ) where
 
 -- what it comes to
 module _ (s : Store) (m n : ℕ) (cells buffer : List ℕ) where
-  by-bare : (number place : ℕ) → fullCells m n cells ≡ refused number place → markingBy s m n cells buffer ≡ record { answer = refused number place; marks = buffer }
+  by-bare : (number place : ℕ) → fullCells m n cells ≡ refused number place
+      → markingBy s m n cells buffer ≡ record { answer = refused number place; marks = buffer }
   unfolding markingBy
   by-bare number place e = rw (e, markingBy)
 

@@ -108,7 +108,8 @@ module _ (s cells marks output : List ℕ) (ample : Ample cells marks output) wh
   pub make-ample : (t : Table) → readFull s ≡ accepted t → Making t (makeCall s cells marks output)
   make-ample t reads =
       let kept = full-accepted s t reads .1 .header in
-      make-either s t reads cells marks output (le-trans (kept-cells (t .header) kept) (ample .cells-most)) (le-trans (kept-marks (t .header) kept) (ample .marks-most))
+      make-either s t reads cells marks output (le-trans (kept-cells (t .header) kept) (ample .cells-most))
+      (le-trans (kept-marks (t .header) kept) (ample .marks-most))
       (λ tree. le-trans (made-short s t reads tree) (ample .output-most))
 
   -- settling refuses with the numbers of its sheet alone, ..
@@ -158,14 +159,16 @@ checkAmpleNumbers neither = 12 ∷ []
 
 module _ (s r cells : List ℕ) (ample : mostCells ≤ length cells) where
   -- checking refuses with the numbers of its two sheets and 12
-  pub check-ample-numbers : (named : Named) (number place : ℕ) → checkCall s r cells .answer ≡ turnedDown named number place → In number (checkAmpleNumbers named)
+  pub check-ample-numbers : (named : Named) (number place : ℕ) → checkCall s r cells .answer ≡ turnedDown named number place
+      → In number (checkAmpleNumbers named)
   unfolding any
   check-ample-numbers named number place e = go (readNet s) refl (readTable r) refl
     where
       answer : (made : Checked) → checkCall s r cells ≡ made → made .answer ≡ turnedDown named number place
       answer made d = sym (ap (λ (c : Checked). c .answer) d) ∙ e
 
-      turned : (named' : Named) (k at : ℕ) → In k (checkAmpleNumbers named') → turnedDown named' k at ≡ turnedDown named number place → In number (checkAmpleNumbers named)
+      turned : (named' : Named) (k at : ℕ) → In k (checkAmpleNumbers named') → turnedDown named' k at ≡ turnedDown named number place
+          → In number (checkAmpleNumbers named)
       turned named' k at h d =
           subst₂ (λ (w : Named) (j : ℕ). In j (checkAmpleNumbers w)) (let z : named' ≡ named = cc in z) (let z : k ≡ number = cc in z) h
 
@@ -214,4 +217,6 @@ module _ (m n : ℕ) (cells marks : List ℕ) (ample : mostMarks ≤ length mark
     where
       go : (a : Answer (Unit {0})) → fullCells m n cells ≡ a → In number bareNumbers
       go (accepted _) d = absurd (not-refused _ number place (sym (ap (λ (made : Marked). made .answer) (marks-written d)) ∙ e))
-      go (refused k at) d = refuses bareNumbers k at (cells-numbers m n cells bareNumbers refl refl refl k at d) number place (sym (ap (λ (made : Marked). made .answer) (marks-refused k at d)) ∙ e)
+      go (refused k at) d =
+          refuses bareNumbers k at (cells-numbers m n cells bareNumbers refl refl refl k at d) number place
+          (sym (ap (λ (made : Marked). made .answer) (marks-refused k at d)) ∙ e)

@@ -46,8 +46,18 @@ module _ (netFor other : Table → Net) (t : Table) (cells marks output : List �
           → ButSheet (madeInto netFor t cells marks output) (madeInto other t cells marks output)
       go (refused number place) e _ = rw (into-refused t cells marks output _ number place e, into-refused t cells marks output _ number place e) (but-none _)
       go (accepted tt) e (no none) =
-          rw (into-room t cells marks output _ e, into-room t cells marks output _ e, marked-16 netFor t cells marks output none, marked-16 other t cells marks output none)
+          rw (
+            into-room t cells marks output _ e,
+            into-room t cells marks output _ e,
+            marked-16 netFor t cells marks output none,
+            marked-16 other t cells marks output none,
+          )
           (but-none _)
       go (accepted tt) e (yes two) =
-          rw (into-room t cells marks output _ e, into-room t cells marks output _ e, marked-tree netFor t cells marks output two, marked-tree other t cells marks output two)
+          rw (
+            into-room t cells marks output _ e,
+            into-room t cells marks output _ e,
+            marked-tree netFor t cells marks output two,
+            marked-tree other t cells marks output two,
+          )
           (sheets-but (printedNet (netFor t)) (printedNet (other t)) (written cells (t .inks)) (written marks (storedMarks (marksOfTable t))) output (long two))

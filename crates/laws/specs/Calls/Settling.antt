@@ -42,7 +42,8 @@ module _ (t : Table) (cells marks : List ℕ) where
   room-both h k = rw (le-ltb _ _ h, le-ltb _ _ k, roomFor)
 
   -- where there is room, both lengths suffice
-  pub room-fits : roomFor t cells marks ≡ accepted tt → (t .header .levels ^ t .header .inputs ≤ length cells) × (marksLength (t .header .inputs) ≤ length marks)
+  pub room-fits : roomFor t cells marks ≡ accepted tt → (t .header .levels ^ t .header .inputs ≤ length cells)
+      × (marksLength (t .header .inputs) ≤ length marks)
   room-fits e = go (decLe (t .header .levels ^ t .header .inputs) (length cells)) (decLe (marksLength (t .header .inputs)) (length marks))
     where
       go : Dec (t .header .levels ^ t .header .inputs ≤ length cells) → Dec (marksLength (t .header .inputs) ≤ length marks)
@@ -73,7 +74,8 @@ module _ (t : Table) (cells marks output : List ℕ) (rest : Made) where
       ≡ record { answer = refused 14 (marksLength (t .header .inputs)); cells = cells; marks = marks; output = output }
   into-14 h k = into-refused 14 _ (room-14 t cells marks h k)
 
-  pub into-marked : t .header .levels ^ t .header .inputs ≤ length cells → marksLength (t .header .inputs) ≤ length marks → inRoom t cells marks output rest ≡ rest
+  pub into-marked : t .header .levels ^ t .header .inputs ≤ length cells → marksLength (t .header .inputs) ≤ length marks
+      → inRoom t cells marks output rest ≡ rest
   into-marked h k = into-room (room-both t cells marks h k)
 
 module _ (netFor : Table → Net) (t : Table) (cells marks output : List ℕ) where

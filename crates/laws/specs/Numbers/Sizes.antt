@@ -58,7 +58,8 @@ kept-size h kept = sized (h .levels) (h .inputs) (kept-fits h kept)
 
 unfoldable pub everySize : (ℕ → ℕ → Bool) → Bool
 everySize test =
-    all (λ m. all (λ n. not (cellsFit m n) || test m n) (range fewestInputs (mostInputs + 1 - fewestInputs))) (range fewestLevels (mostLevels + 1 - fewestLevels))
+    all (λ m. all (λ n. not (cellsFit m n) || test m n) (range fewestInputs (mostInputs + 1 - fewestInputs)))
+    (range fewestLevels (mostLevels + 1 - fewestLevels))
 
 -- what it finds holds at each
 pub at-size : (test : ℕ → ℕ → Bool) → everySize test ≡ true → (m n : ℕ) → Size m n → test m n ≡ true

@@ -33,7 +33,8 @@ module _ (one : In 1 arrivalNumbers) (eighteen : In 18 arrivalNumbers) (nineteen
       test-bad arrivalNumbers one (isDecimal w && leb time mostTime && leb least time) time 19 k nineteen e
 
   among-arrivals : (names : List (List ℕ)) → Among arrivalNumbers (arrivalSheet names)
-  among-arrivals = arrivals-walk (among-composes arrivalNumbers one strict) (among-word arrivalNumbers one) among-next among-time (among-closed arrivalNumbers one)
+  among-arrivals = arrivals-walk (among-composes arrivalNumbers one strict) (among-word arrivalNumbers one) among-next among-time
+      (among-closed arrivalNumbers one)
 
 pub arrivals-refusal : (names : List (List ℕ)) → Refuses arrivalNumbers (readArrivals names)
 unfolding readArrivals any

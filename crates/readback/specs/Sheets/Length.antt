@@ -76,7 +76,8 @@ sheet-length net k =
     let c = names-length (h .names) (k .header .names) (omega arith) in
     let d = gates-length (h .names) (k .header .names) (h .levels) (h .inputs) (net .gates)
     (k .gates .rules .back) (omega arith) (k .gates .rules .tables) in
-    let e : length (net .gates) * (19 + h .levels * h .levels) ≤ (h .inputs - 1) * (19 + h .levels * h .levels) = mul-le-mul-right (19 + h .levels * h .levels) (omega (arith, k .gates .count)) in
+    let e : length (net .gates) * (19 + h .levels * h .levels) ≤ (h .inputs - 1) * (19 + h .levels * h .levels) =
+    mul-le-mul-right (19 + h .levels * h .levels) (omega (arith, k .gates .count)) in
     simp length-append (omega arith)
 
 -- no net sheet is longer than 512 bytes
