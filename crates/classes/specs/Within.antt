@@ -39,7 +39,7 @@ lists-within m n pos g g< b room xs ys e h =
 
 -- Room to count the classes of a group of m levels and n inputs: the cells, and work arrays for the group's assignments and those of
 -- the other inputs. Offsets are below 2 to the 16.
-pub record Room (m n : ℕ) (cells xs ys : List ℕ) : Type 0 where
+pub record OffsetRoom (m n : ℕ) (cells xs ys : List ℕ) : Type 0 where
   pub some : 0 < m
   pub inputs : n ≤ mostMembers
   pub small : m ^ n ≤ mostOffsets
@@ -61,7 +61,7 @@ pub record ListRoom (m n : ℕ) (cells : List ℕ) (enough : ℕ) (out : List �
   pub few : enough ≤ mostLevels + 1
   pub for-out : enough ≤ length out
 
-pub few-room : {m n enough : ℕ} {cells out : List ℕ} → ListRoom m n cells enough out → (xs ys : List ℕ) → m ^ n ≤ length xs → m ^ n ≤ length ys → Room m n cells xs ys
+pub few-room : {m n enough : ℕ} {cells out : List ℕ} → ListRoom m n cells enough out → (xs ys : List ℕ) → m ^ n ≤ length xs → m ^ n ≤ length ys → OffsetRoom m n cells xs ys
 few-room few xs ys for-xs for-ys =
     record {
       some = few .some;

@@ -10,7 +10,7 @@ ghost use Rattle.radix.specs.Fronts.{Front};
 ghost use Rattle.classes.specs.Firsts.{classesOver};
 ghost use Rattle.classes.specs.Chains.{NoChains};
 ghost use Rattle.classes.specs.Keys.{HeadsFor, Keys};
-ghost use Rattle.classes.specs.Within.{Within, Room};
+ghost use Rattle.classes.specs.Within.{Within, OffsetRoom};
 use crate::keys;
 use radix::limits::MOST_LEVELS;
 use radix::offsets;
@@ -70,7 +70,7 @@ pub fn group_firsts(
     links: &mut [u16],
     heads: &mut [u16],
 ) -> usize
-    requires { ⌜ (Room m n (now cells) (now xs) (now ys)) × (m ≤ mostLevels) × (enough ≤ length (now firsts)) × (enough ≤ length (now links)) × (enough ≤ mostCells)
+    requires { ⌜ (OffsetRoom m n (now cells) (now xs) (now ys)) × (m ≤ mostLevels) × (enough ≤ length (now firsts)) × (enough ≤ length (now links)) × (enough ≤ mostCells)
         × NoChains (now heads) × (HeadsFor columns (length (now heads))) × (g < 2 ^ n) ⌝ }
     ensures { λ r. ⌜ Front (take enough (classes m n (inkIn (now (cells .entry))) g)) r (now (firsts .exit)) ⌝ }
 {
@@ -99,7 +99,7 @@ pub fn more_classes_than_levels(
     xs: &mut [u16],
     ys: &mut [u16],
 ) -> bool
-    requires { ⌜ (Room m n (now cells) (now xs) (now ys)) × (m ≤ mostLevels) × (g < 2 ^ n) ⌝ }
+    requires { ⌜ (OffsetRoom m n (now cells) (now xs) (now ys)) × (m ≤ mostLevels) × (g < 2 ^ n) ⌝ }
     ensures { λ r. ⌜ r ≡ ltb m (multiplicity m n (inkIn (now (cells .entry))) g) ⌝ }
 {
     let mut firsts = [0u16; MOST_LEVELS + 1];

@@ -240,7 +240,8 @@ tail-length m g i (suc k) pos = step (member i g) refl (tail-length m g (suc i) 
     step : (t : Bool) → member i g ≡ t → (0 < length (tail m g (suc i) k)) × (length (tail m g (suc i) k) ≤ m ^ k)
         → (0 < length (tail m g i (suc k))) × (length (tail m g i (suc k)) ≤ m ^ suc k)
     step true e h =
-        let l : length (tail m g i (suc k)) ≡ length (tail m g (suc i) k) * m = ap length (tail-member m g i k e) ∙ widened-length m (m ^ k) (tail m g (suc i) k) in (
+        let l : length (tail m g i (suc k)) ≡ length (tail m g (suc i) k) * m =
+        ap length (tail-member m g i k e) ∙ widened-length m (m ^ k) (tail m g (suc i) k) in (
           subst⁻¹ (λ (x : ℕ). 0 < x) l (one-le-mul (h .0) pos),
           subst⁻¹ (λ (x : ℕ). x ≤ m ^ suc k) l (subst⁻¹ (λ (x : ℕ). length (tail m g (suc i) k) * m ≤ x) (pow-suc m k) (mul-le-mul-right m (h .1))),
         )

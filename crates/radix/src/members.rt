@@ -34,6 +34,13 @@ pub fn members(n: usize, g: usize) -> usize
     count
 }
 
+// Returns how many members group g has.
+pub fn members_of(g: usize) -> usize
+    ensures { λ r. ⌜ ((n : ℕ) → g < 2 ^ n → r ≡ size n g) ⌝ }
+{
+    usize::count_ones(g) as usize
+}
+
 // A group's first-listed input, or n where it is empty.
 pub fn first_input(n: usize, g: usize) -> usize
     requires { ⌜ n ≤ 64 ⌝ }

@@ -62,12 +62,12 @@ module _ (output : List ℕ) where
       where
         go : Dec (t .header .levels ^ t .header .inputs ≤ length cells) → Dec (marksLength (t .header .inputs) ≤ length marks) → Dec (WholeTwo t)
             → SettlingFits output (madeInto settledNet t cells marks output)
-        go (no h) d e = subst⁻¹ (SettlingFits output) (into-13 settledNet t cells marks output (lt-of-not-le h)) (refusal-fits 13 _ cells marks)
-        go (yes h) (no k) e = subst⁻¹ (SettlingFits output) (into-14 settledNet t cells marks output h (lt-of-not-le k)) (refusal-fits 14 _ cells marks)
+        go (no h) d e = subst⁻¹ (SettlingFits output) (into-13 t cells marks output _ (lt-of-not-le h)) (refusal-fits 13 _ cells marks)
+        go (yes h) (no k) e = subst⁻¹ (SettlingFits output) (into-14 t cells marks output _ h (lt-of-not-le k)) (refusal-fits 14 _ cells marks)
         go (yes h) (yes k) (no other) =
-            subst⁻¹ (SettlingFits output) (into-marked settledNet t cells marks output h k ∙ marked-16 settledNet t cells marks output other) (refusal-fits 16 _ (written cells (t .inks)) (written marks (storedMarks (marksOfTable t))))
+            subst⁻¹ (SettlingFits output) (into-marked t cells marks output _ h k ∙ marked-16 settledNet t cells marks output other) (refusal-fits 16 _ (written cells (t .inks)) (written marks (storedMarks (marksOfTable t))))
         go (yes h) (yes k) (yes two) =
-            subst⁻¹ (SettlingFits output) (into-marked settledNet t cells marks output h k ∙ marked-tree settledNet t cells marks output two)
+            subst⁻¹ (SettlingFits output) (into-marked t cells marks output _ h k ∙ marked-tree settledNet t cells marks output two)
             (sheet-fits (printedNet (settledNet t)) (written cells (t .inks)) (written marks (storedMarks (marksOfTable t))))
 
   module _ (s cells marks : List ℕ) where

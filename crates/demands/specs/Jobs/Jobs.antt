@@ -124,7 +124,8 @@ module _ (s : List ℕ) (t : Table) (reads : readFull s ≡ accepted t) (moves :
 
   own-cells : fullCells (jobAfter .table .header .levels) (jobAfter .table .header .inputs) (jobAfter .table .inks) ≡ accepted tt
   own-cells =
-      ap (λ (t : Table). fullCells (t .header .levels) (t .header .inputs) (t .inks)) keeps-table ∙ cells-kept t (full-keeps t (full-accepted s t reads .1)) (full-accepted s t reads .1 .below)
+      ap (λ (t : Table). fullCells (t .header .levels) (t .header .inputs) (t .inks)) keeps-table
+      ∙ cells-kept t (full-keeps t (full-accepted s t reads .1)) (full-accepted s t reads .1 .below)
 
   module _ (cells marks output : List ℕ) where
     -- "finishing writes what making writes", and hands back the job, which may be finished again

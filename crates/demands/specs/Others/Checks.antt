@@ -46,7 +46,8 @@ same-names (w ∷ ws) = rw (same-refl w, same-names ws)
 
 pub same-header : (h k : Header) → h ≡ k → sameHeader h k ≡ true
 unfolding sameHeader
-same-header h k e = subst (λ (l : Header). sameHeader h l ≡ true) e (rw (eq-eqb (h .levels) (h .levels) refl, eq-eqb (h .inputs) (h .inputs) refl, same-names (h .names)))
+same-header h k e = subst (λ (l : Header). sameHeader h l ≡ true) e
+    (rw (eq-eqb (h .levels) (h .levels) refl, eq-eqb (h .inputs) (h .inputs) refl, same-names (h .names)))
 
 names-same : (vs ws : List (List ℕ)) → sameNames vs ws ≡ true → vs ≡ ws
 unfolding sameNames
@@ -65,7 +66,8 @@ header-same h k e =
     let same-names = names-same (h .names) (k .names) names in
     λ i. record { levels = levels i; inputs = inputs i; names = same-names i }
 
-module _ (s r : List ℕ) (net : Net) (t : Table) (reads-net : readNet s ≡ accepted net) (reads-table : readTable r ≡ accepted t) (header : net .header ≡ t .header)
+module _ (s r : List ℕ) (net : Net) (t : Table) (reads-net : readNet s ≡ accepted net) (reads-table : readTable r ≡ accepted t)
+    (header : net .header ≡ t .header)
     (cells : List ℕ) (long : t .header .levels ^ t .header .inputs ≤ length cells) where
   -- the inks are compared, and stand in the cells buffer whether they agree or not
   pub checked : checkCall s r cells ≡ record { answer = compared (t .header .levels) (tableOfNet net .inks) (t .inks); cells = written cells (t .inks) }
@@ -125,7 +127,8 @@ module _ (s r : List ℕ) (net : Net) (t : Table) (reads-net : readNet s ≡ acc
           let same : j ≡ k = differ-same j k (sym e ∙ sym answer-is ∙ d) in (
             omega (arith, inks-length),
             subst (λ (i : ℕ). inkIn (t .inks) i ≡ t .header .levels → ⊥) same shut,
-            subst (λ (i : ℕ). value (net .header .levels) (net .header .inputs) (net .gates) i ≡ inkIn (t .inks) i → ⊥) same (λ q. unlike (sym (value-at j l) ∙ q)),
+            subst (λ (i : ℕ). value (net .header .levels) (net .header .inputs) (net .gates) i ≡ inkIn (t .inks) i → ⊥) same
+                (λ q. unlike (sym (value-at j l) ∙ q)),
             λ p b shut. let c : p < j = omega arith in value-at p (omega arith) ∙ earlier p c shut,
           )
 
@@ -158,7 +161,8 @@ module _ (s r cells : List ℕ) where
     where
       go : checkCall s r cells .answer ≡ agree → (a : Answer Net) → readNet s ≡ a → (b : Answer Table) → readTable r ≡ b → Agreeing s r cells
       go answer (refused number place) d b e = absurd (not-agree netNamed number place _ (check-net-refused s r cells number place d) refl answer)
-      go answer (accepted net) d (refused number place) e = absurd (not-agree tableNamed number place _ (check-table-refused s r cells net d number place e) refl answer)
+      go answer (accepted net) d (refused number place) e =
+          absurd (not-agree tableNamed number place _ (check-table-refused s r cells net d number place e) refl answer)
       go answer (accepted net) d (accepted t) e = judged (sameHeader (net .header) (t .header)) refl (decLe (length (t .inks)) (length cells))
         where
           both : checkCall s r cells ≡ checkedInto net t cells
@@ -192,7 +196,8 @@ module _ (s : List ℕ) (net : Net) (reads : readNet s ≡ accepted net) where
   printed-accepted = table-read-back (tableOfNet net) (kept-table net (net-accepted s net reads .1))
 
   -- .. and checks against it
-  printed-checks : (cells : List ℕ) → net .header .levels ^ net .header .inputs ≤ length cells → checkCall s (printedTable (tableOfNet net)) cells .answer ≡ agree
+  printed-checks : (cells : List ℕ) → net .header .levels ^ net .header .inputs ≤ length cells
+      → checkCall s (printedTable (tableOfNet net)) cells .answer ≡ agree
   unfolding tableOfNet
   printed-checks cells long =
       check-agrees s (printedTable (tableOfNet net)) net (tableOfNet net) reads printed-accepted refl cells long .1
@@ -220,4 +225,5 @@ module _ (s : List ℕ) (net : Net) (reads : readNet s ≡ accepted net) where
   -- .. and checks against the net sheet.
   pub written-checks : (output sheet : List ℕ) → tableSheetOf (writeTableCall s output) ≡ accepted sheet
       → (cells : List ℕ) → net .header .levels ^ net .header .inputs ≤ length cells → checkCall s sheet cells .answer ≡ agree
-  written-checks output sheet e cells long = subst (λ (r : List ℕ). checkCall s r cells .answer ≡ agree) (writes-only output sheet e) (printed-checks cells long)
+  written-checks output sheet e cells long =
+      subst (λ (r : List ℕ). checkCall s r cells .answer ≡ agree) (writes-only output sheet e) (printed-checks cells long)

@@ -64,12 +64,14 @@ module _ (input : List ℕ) where
   -- the settling program prints the settled sheet of an accepted net sheet, ..
   pub program-settles : (net : Net) → readNet (take mostRead input) ≡ accepted net → settleProgram input ≡ printedNet (settledNet (tableOfNet net))
   unfolding settleProgram
-  program-settles net reads = prints-sheet (settleRun input) _ (settles (take mostRead input) net reads _ _ _ (settle-ample (take mostRead input) _ _ _ zeros-ample net reads))
+  program-settles net reads =
+      prints-sheet (settleRun input) _ (settles (take mostRead input) net reads _ _ _ (settle-ample (take mostRead input) _ _ _ zeros-ample net reads))
 
   -- .. and the refusal of any other
   pub program-settle-refused : (number place : ℕ) → readNet (take mostRead input) ≡ refused number place → settleProgram input ≡ refusalLines number place
   unfolding settleProgram
-  program-settle-refused number place e = prints-refusal (settleRun input) number place (ap (λ (made : Made). made .answer) (settle-refused (take mostRead input) _ _ _ number place e))
+  program-settle-refused number place e =
+      prints-refusal (settleRun input) number place (ap (λ (made : Made). made .answer) (settle-refused (take mostRead input) _ _ _ number place e))
 
   -- the making program prints the settled sheet of an accepted sheet of a full table with a tree, ..
   pub program-makes : (t : Table) → readFull (take mostRead input) ≡ accepted t → HasTree t → makeProgram input ≡ printedNet (settledNet t)
@@ -93,7 +95,8 @@ module _ (input : List ℕ) where
   -- .. and the refusal of any other sheet
   pub program-make-refused : (number place : ℕ) → readFull (take mostRead input) ≡ refused number place → makeProgram input ≡ refusalLines number place
   unfolding makeProgram
-  program-make-refused number place e = prints-refusal (makeRun input) number place (ap (λ (made : Made). made .answer) (make-refused (take mostRead input) _ _ _ number place e))
+  program-make-refused number place e =
+      prints-refusal (makeRun input) number place (ap (λ (made : Made). made .answer) (make-refused (take mostRead input) _ _ _ number place e))
 
   -- So a program never prints 13, 14 or 15: its call gives the numbers of its sheet alone, and making 16.
   pub program-settle-numbers : Gives netNumbers (settleRun input .answer)

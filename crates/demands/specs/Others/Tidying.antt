@@ -18,7 +18,7 @@ use Rattle.rules.specs.Sheets.Reading.{readTable}
 use Rattle.rules.specs.Sheets.LooseSheet.{Row, LooseTable, readLoose, inkNamed, tableOfLoose, looseFields, LooseRules}
 use Rattle.rules.specs.Calls.Tidying.{Tidied, tidyCall}
 use Rattle.laws.specs.Calls.Answers.{accepted-inj, written-front}
-use Rattle.laws.specs.Numbers.Assignments.{Assignment, indexOf, index-below, levels-index}
+use Rattle.laws.specs.Numbers.Assignments.{Assignment, indexOf, index-of-below, levels-index}
 use Rattle.laws.specs.Lists.Ranges.{map-range-same}
 use Rattle.laws.specs.Calls.Tidying.{tidy-accepted, tidied-sheet, tidied-written}
 use Rattle.readback.specs.Readers.Decimals.{decimal-injective}
@@ -28,8 +28,8 @@ use Rattle.readback.specs.Tables.LooseTables.{ink-of-row, row-of, all-named, in
 use Rattle.demands.specs.Settling.Settles.{sheetIn}
 
 -- the sheet that tidying wrote: "A call that writes a sheet answers its length, and the sheet is that many bytes from the front of the output."
-abbrev pub tidiedOf : Tidied → Answer (List ℕ)
-tidiedOf tidied = sheetIn (tidied .answer) (tidied .output)
+abbrev pub tidiedText : Tidied → Answer (List ℕ)
+tidiedText tidied = sheetIn (tidied .answer) (tidied .output)
 
 -- buffers as long as a table needs
 pub record LongTable (t : Table) (cells output : List ℕ) : Type 0 where
@@ -57,7 +57,12 @@ module _ (s : List ℕ) (t : LooseTable) (reads : readLoose s ≡ accepted t) wh
   -- the call writes the sheet of the table, ..
   pub tidies : (cells output : List ℕ) → LongTable (tableOfLoose t) cells output
       → tidyCall s cells output
-      ≡ record { answer = accepted (length (printedTable (tableOfLoose t))); cells = written cells (tableOfLoose t .inks); output = written output (printedTable (tableOfLoose t)) }
+      ≡ record {
+        answer = accepted (length (printedTable (tableOfLoose t)));
+        cells = written cells (tableOfLoose t .inks);
+        output =
+            written output (printedTable (tableOfLoose t));
+      }
   tidies cells output long =
       tidy-accepted s cells output t reads
       ∙ tidied-sheet (tableOfLoose t) cells output (long .cells-fit)
@@ -65,11 +70,11 @@ module _ (s : List ℕ) (t : LooseTable) (reads : readLoose s ≡ accepted t) wh
 
   -- .. which is an accepted table sheet
   pub tidied-accepted : (cells output : List ℕ) → LongTable (tableOfLoose t) cells output
-      → (tidiedOf (tidyCall s cells output) ≡ accepted (printedTable (tableOfLoose t)))
+      → (tidiedText (tidyCall s cells output) ≡ accepted (printedTable (tableOfLoose t)))
       × (readTable (printedTable (tableOfLoose t)) ≡ accepted (tableOfLoose t))
   unfolding sheetIn
   tidied-accepted cells output long = (
-    ap tidiedOf (tidies cells output long) ∙ ap accepted (written-front output (printedTable (tableOfLoose t))),
+    ap tidiedText (tidies cells output long) ∙ ap accepted (written-front output (printedTable (tableOfLoose t))),
     table-read-back (tableOfLoose t) (loose-kept t kept-loose),
   )
 
@@ -79,7 +84,7 @@ module _ (s : List ℕ) (t : LooseTable) (reads : readLoose s ≡ accepted t) wh
   each-named ls given d =
       let m = t .header .levels in
       let n = t .header .inputs in
-      let (k, h, e) = row-of (t .rows) (indexOf m ls) (all-named t kept-loose (indexOf m ls) (index-below m n ls given)) d in
+      let (k, h, e) = row-of (t .rows) (indexOf m ls) (all-named t kept-loose (indexOf m ls) (index-of-below m n ls given)) d in
       (k, h, ap (levelsAt m n) e ∙ levels-index m n ls given)
 
   -- .. and whatever row names it, the table has that row's ink there
@@ -128,7 +133,8 @@ module _ (s r : List ℕ) (t u : LooseTable) (reads : readLoose s ≡ accepted t
   same-inks : SameNamedInks → tableOfLoose t ≡ tableOfLoose u
   unfolding tableOfLoose
   same-inks each =
-      let inks : map (inkNamed (t .rows)) (range 0 (t .header .levels ^ t .header .inputs)) ≡ map (inkNamed (u .rows)) (range 0 (u .header .levels ^ u .header .inputs)) =
+      let inks : map (inkNamed (t .rows)) (range 0 (t .header .levels ^ t .header .inputs))
+      ≡ map (inkNamed (u .rows)) (range 0 (u .header .levels ^ u .header .inputs)) =
       map-range-same (inkNamed (t .rows)) (inkNamed (u .rows)) 0 (t .header .levels ^ t .header .inputs) (λ p _ h. each p (rw zero-add at h))
       ∙ ap (λ (x : Header). map (inkNamed (u .rows)) (range 0 (x .levels ^ x .inputs))) headers in
       (λ q. record { header = headers q; inks = inks q })
@@ -142,7 +148,7 @@ module _ (s r : List ℕ) (t u : LooseTable) (reads : readLoose s ≡ accepted t
       ∙ table-read-back (tableOfLoose u) (loose-kept u (kept-loose r u reads')))
 
   pub tidied-equal : (cells output cells' output' : List ℕ) → LongTable (tableOfLoose t) cells output → LongTable (tableOfLoose u) cells' output'
-      → (tidiedOf (tidyCall s cells output) ≡ tidiedOf (tidyCall r cells' output')) ↔ SameNamedInks
+      → (tidiedText (tidyCall s cells output) ≡ tidiedText (tidyCall r cells' output')) ↔ SameNamedInks
   tidied-equal cells output cells' output' long long' =
       let first = tidied-accepted s t reads cells output long .0 in
       let second = tidied-accepted r u reads' cells' output' long' .0 in (

@@ -47,7 +47,8 @@ ArrivalHolds (answers net-sheet arrival-sheet delay earliest latest) =
 ArrivalHolds (double quarters bits) = toBits binary64 (quarter quarters) ≡ bits
 -- the sheet that is refused, whatever the delay
 ArrivalHolds (netBack net-sheet arrival-sheet number place) = (delay : ℕ) → arrivalsCall (paper net-sheet) (paper arrival-sheet) delay ≡ netRefused number place
-ArrivalHolds (arrivalsBack net-sheet arrival-sheet number place) = (delay : ℕ) → arrivalsCall (paper net-sheet) (paper arrival-sheet) delay ≡ arrivalsRefused number place
+ArrivalHolds (arrivalsBack net-sheet arrival-sheet number place) =
+    (delay : ℕ) → arrivalsCall (paper net-sheet) (paper arrival-sheet) delay ≡ arrivalsRefused number place
 
 -- b and c pass two gates, a passes one
 abbrev pub three : String

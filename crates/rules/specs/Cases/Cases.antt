@@ -123,8 +123,19 @@ starred =
 
 pub starred-hold : AllHold Holds starred
 unfolding computing writing zeroTable majority twoNotZero seven figureRows figure marksOfCase
-starred-hold =
-    (refl, (refl, (refl, (refl, ((refl, refl), (refl, (refl, (refl, ((refl, refl), ((refl, refl), ((refl, refl), ((refl, refl), (refl, (refl, (refl, tt)))))))))))))))
+starred-hold = (
+  refl,
+  (
+    refl,
+    (
+      refl,
+      (
+        refl,
+        ((refl, refl), (refl, (refl, (refl, ((refl, refl), ((refl, refl), ((refl, refl), ((refl, refl), (refl, (refl, (refl, tt))))))))))),
+      ),
+    ),
+  ),
+)
 
 -- Cases 9 and 10, which the document leaves to tests. "2 with 12, 4 with 6, 5 with 5, 7 with 4 and 8 with 4 come in. Refusals 3 and 9 and case 10 move
 -- with it; 2 with 13 is the new refused side." (document 02, K6)

@@ -1,4 +1,5 @@
--- Document 02, K2, by small cases: a table whose settled net has a layer more than need be, and the shallower of two sheets. Sheets are written as in `Cases`, with `/` for the line feed.
+-- Document 02, K2, by small cases: a table whose settled net has a layer more than need be, and the shallower of two sheets. Sheets are
+-- written as in `Cases`, with `/` for the line feed.
 -- Assumes nothing.
 use Prim.Native.Nat.{ℕ, _+_, _%_}
 use Prim.Native.String.{String}

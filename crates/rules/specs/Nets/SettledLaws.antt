@@ -58,9 +58,9 @@ module _ (n : ℕ) (marks : List ℕ) (g : ℕ) where
   abbrev pub mayBeA : ℕ → Bool
   mayBeA a = partsAt n marks g a && member (firstInput n g) a
 
-  pub tested : (a : ℕ) → MayBeA n marks g a → mayBeA a ≡ true
+  pub may-be-a : (a : ℕ) → MayBeA n marks g a → mayBeA a ≡ true
   unfolding partsAt
-  tested a is = rw (is .part, is .two, is .rest-two, is .holds-first)
+  may-be-a a is = rw (is .part, is .two, is .rest-two, is .holds-first)
 
   pub may-be : (a : ℕ) → 0 < a → a < g → mayBeA a ≡ true → MayBeA n marks g a
   unfolding partsAt
@@ -75,7 +75,7 @@ module _ (n : ℕ) (marks : List ℕ) (g : ℕ) where
   unfolding splitOf
   split-lowest a is =
       let (passes, least) : (mayBeA (splitOf n marks g) ≡ true) × (splitOf n marks g ≤ a) =
-      found-in-range _ 1 _ a (is .some) (omega (arith, is .less)) (tested a is) in
+      found-in-range _ 1 _ a (is .some) (omega (arith, is .less)) (may-be-a a is) in
       (may-be (splitOf n marks g) (omega arith) (omega (arith, is .less)) passes, least)
 
 -- ---- "in the order in which they first appear"

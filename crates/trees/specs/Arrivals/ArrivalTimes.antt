@@ -1,5 +1,5 @@
--- When the output of a net settles: every used input has just one way to it and no other input has any, and the settling time is, gate by gate, that of the later of the two that a gate joins
--- and one delay more.
+-- When the output of a net settles: every used input has just one way to it and no other input has any, and the settling time is, gate by gate, that
+-- of the later of the two that a gate joins and one delay more.
 -- Assumes nothing.
 use Prim.Native.Nat.{ℕ, suc, _+_, _-_, _*_, _≤_, _<_, max}
 use mathlib.Core.Path.{_≡_, refl, sym, ap, ap₂, _∙_}
@@ -28,7 +28,7 @@ use Rattle.laws.specs.Nets.Times.{gateTime, withTimes}
 use Rattle.rules.specs.Nets.Trees.{Tree, leaf, wiringIn, EachOnce}
 use Rattle.trees.specs.Groups.Members.{member-single, member-join}
 use Rattle.trees.specs.Trees.Wirings.{group-below}
-use Rattle.trees.specs.Trees.Forest.{joined, withTrees, inputTrees, trees-length, inputs-length}
+use Rattle.trees.specs.Trees.Forest.{joinedTree, withTrees, inputTrees, trees-length, inputs-length}
 use Rattle.trees.specs.Trees.NetTree.{net-tree, netWiring, net-uses}
 use Rattle.trees.specs.Trees.UsedOnce.{listed-used, used-listed, used-inputs-length}
 use Rattle.trees.specs.Shallow.Depths.{depth}
@@ -127,7 +127,7 @@ module _ (delay : ℕ) (arrival : ℕ → ℕ) where
   timeTo t = timeIn delay arrival (wiringIn t)
 
   gate-time : (forest : List Tree) (g : Gate) → g .left < length forest → g .right < length forest
-      → gateTime delay (map timeTo forest) g ≡ timeTo (joined forest g)
+      → gateTime delay (map timeTo forest) g ≡ timeTo (joinedTree forest g)
   unfolding gateTime timeIn
   gate-time forest g l< r< = rw (map-at timeTo forest (g .left) (leaf 0) 0 l<, map-at timeTo forest (g .right) (leaf 0) 0 r<)
 
@@ -136,8 +136,8 @@ module _ (delay : ℕ) (arrival : ℕ → ℕ) where
   unfolding withTimes withTrees
   gates-times [] forest back = refl
   gates-times (g ∷ gates) forest back =
-      rw (gate-time forest g (back .0) (back .1), ← (map-append timeTo forest (joined forest g ∷ [])))
-      (gates-times gates (forest ++ (joined forest g ∷ [])) (rw length-snoc (back .2)))
+      rw (gate-time forest g (back .0) (back .1), ← (map-append timeTo forest (joinedTree forest g ∷ [])))
+      (gates-times gates (forest ++ (joinedTree forest g ∷ [])) (rw length-snoc (back .2)))
 
   inputs-times : (n : ℕ) → map timeTo (inputTrees n) ≡ map arrival (range 0 n)
   unfolding inputTrees timeIn
@@ -205,7 +205,8 @@ module _ (m n : ℕ) (gates : List Gate) (net : IsNet m n gates) where
       where
         most-within : most (map through (usedInputs n gates)) ≤ timeIn delay arrival tree
         most-within =
-            let (i, listed, is) = Memᴰ·of-map through (usedInputs n gates) (most-listed (map through (usedInputs n gates)) (rw (length-map, used-inputs-length m n gates net) (omega arith))) in
+            let (i, listed, is) = Memᴰ·of-map through (usedInputs n gates)
+            (most-listed (map through (usedInputs n gates)) (rw (length-map, used-inputs-length m n gates net) (omega arith))) in
             let (i<, used) = listed-used n gates i listed in
             rw (← is) (arrival-way-within delay arrival i (gatesOnWay n gates i) tree (way-in-tree i i< used))
 
@@ -226,7 +227,8 @@ module _ (m n : ℕ) (gates : List Gate) (net : IsNet m n gates) where
         ∙ sym (map-at (timeTo delay arrival) (withTrees (inputTrees n) gates) (n + length gates - 1) (leaf 0) 0 last<)
         ∙ ap (λ (times : List ℕ). getD times (n + length gates - 1) 0)
         (sym (gates-times delay arrival gates (inputTrees n) (rw inputs-length (net .rules .back)))
-        ∙ ap (λ (times : List ℕ). withTimes delay times gates) (inputs-times delay arrival n ∙ ap (λ (k : ℕ). map arrival (range 0 k)) (sym count) ∙ by-places 0 arrivals))
+        ∙ ap (λ (times : List ℕ). withTimes delay times gates)
+        (inputs-times delay arrival n ∙ ap (λ (k : ℕ). map arrival (range 0 k)) (sym count) ∙ by-places 0 arrivals))
 
   -- with every arrival at 0 and a delay of 1 it is the layers
   pub settling-layers : (arrivals : List ℕ) → ((i : ℕ) → getD arrivals i 0 ≡ 0) → settlingTime n gates 1 arrivals ≡ layers n gates

@@ -113,8 +113,13 @@ module _ (n : ℕ) where
       let left = left-kept before groups a b (once .1) grouped ∙ group-at-reference before groups a (once .1) grouped in
       let right = group-at-reference mid (groupsAfter groups before a) b (once .2) after-a in
       let own : n + before + gatesIn a + gatesIn b ≡ length (groupsBelow groups before a b) = omega arith in
-      rw (groups-append groups (linksOf n before a ++ linksOf n mid b) (ownLink before a b ∷ []), groups-append groups (linksOf n before a) (linksOf n mid b), own)
-      (getD-append-seam (groupsBelow groups before a b) (linkGroup (groupsBelow groups before a b) (ownLink before a b)) [] 0 ∙ ap₂ (λ (x y : ℕ). x + y) left right)
+      rw (
+        groups-append groups (linksOf n before a ++ linksOf n mid b) (ownLink before a b ∷ []),
+        groups-append groups (linksOf n before a) (linksOf n mid b),
+        own,
+      )
+      (getD-append-seam (groupsBelow groups before a b) (linkGroup (groupsBelow groups before a b) (ownLink before a b)) [] 0
+      ∙ ap₂ (λ (x y : ℕ). x + y) left right)
 
   -- the same of both sides of a gate
   module _ (before : ℕ) (groups : List ℕ) (a b : Wiring) (once : EachOnce n (gate a b)) (grouped : Grouped before groups) where

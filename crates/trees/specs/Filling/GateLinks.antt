@@ -22,7 +22,7 @@ use Rattle.trees.specs.Groups.Classes.{Few}
 use Rattle.trees.specs.Filling.Carried.{single-few}
 use Rattle.trees.specs.Filling.DigitRule.{Parts}
 use Rattle.trees.specs.Trees.Wirings.{group-below, group-some}
-use Rattle.trees.specs.Trees.Forest.{treeAt, joined, inputTrees, inputs-length}
+use Rattle.trees.specs.Trees.Forest.{treeAt, joinedTree, inputTrees, inputs-length}
 use Rattle.trees.specs.Trees.Homes.{Grown, grown-inputs, sides-apart, grown-snoc, heads-unused}
 use Rattle.trees.specs.Filling.Fillings.{linkGroup, withGroups, groups-earlier, inputs-grouped, Fillable}
 
@@ -40,11 +40,11 @@ group-at forest r h = map-at treeGroup forest r (leaf 0) 0 h
 
 -- one gate more
 pub groups-joined : (forest : List Tree) (g : Gate) → g .left < length forest → g .right < length forest
-    → groupsIn forest ++ (linkGroup (groupsIn forest) (linkOf g) ∷ []) ≡ groupsIn (forest ++ (joined forest g ∷ []))
+    → groupsIn forest ++ (linkGroup (groupsIn forest) (linkOf g) ∷ []) ≡ groupsIn (forest ++ (joinedTree forest g ∷ []))
 unfolding groupOf
 groups-joined forest g l< r< =
     ap (λ (k : ℕ). groupsIn forest ++ (k ∷ [])) (ap₂ (λ (a b : ℕ). a + b) (group-at forest (g .left) l<) (group-at forest (g .right) r<))
-    ∙ sym (map-append treeGroup forest (joined forest g ∷ []))
+    ∙ sym (map-append treeGroup forest (joinedTree forest g ∷ []))
 
 -- the inputs' trees have the inputs' groups
 pub inputs-in : (n : ℕ) → groupsIn (inputTrees n) ≡ inputGroups n
@@ -93,9 +93,10 @@ module _ (m n : ℕ) (f : ℕ → ℕ) where
         let before : (r : ℕ) → r < length groups → Few m n f (getD groups r 0) =
         λ r h. subst (Few m n f) (List·getD-append groups (own ∷ []) 0 r h) (still r (omega arith)) in
         let parts = may-join used forest grown g (back .0) (back .1) (heads .0) (heads .1) (heads .2)
-        (before (g .left) (omega arith)) (before (g .right) (omega arith)) (subst (Few m n f) (getD-append-seam groups own [] 0) (still (length groups) (omega arith))) in
+        (before (g .left) (omega arith)) (before (g .right) (omega arith))
+        (subst (Few m n f) (getD-append-seam groups own [] 0) (still (length groups) (omega arith))) in
         let grow = groups-joined forest g (back .0) (back .1) in
-        let rest = fillable-gates gates (used ++ (g .left ∷ g .right ∷ [])) (forest ++ (joined forest g ∷ [])) next
+        let rest = fillable-gates gates (used ++ (g .left ∷ g .right ∷ [])) (forest ++ (joinedTree forest g ∷ [])) next
         (rw length-snoc (back .2)) (rw append-assoc distinct) (tables .1)
         (subst (λ (gs : List ℕ). AllFew gs (gateLinks gates)) grow (λ r h. few r (omega arith))) in
         (omega arith, omega arith, parts, subst⁻¹ (λ (gs : List ℕ). Fillable m n f gs (gateLinks gates)) grow rest)

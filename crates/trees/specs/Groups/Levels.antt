@@ -146,7 +146,8 @@ module _ (m n : ℕ) (pos : 0 < m) where
       either false = refl
 
   pub part-whole : (p : ℕ) → p < m ^ n → part m n (wholeGroup n) p ≡ p
-  part-whole p p< = level-ext m n pos (part m n (wholeGroup n) p) p (part-below (wholeGroup n) p) p< (λ i h. level-part-in (wholeGroup n) p i h (member-whole i n h))
+  part-whole p p< = level-ext m n pos (part m n (wholeGroup n) p) p (part-below (wholeGroup n) p) p<
+      (λ i h. level-part-in (wholeGroup n) p i h (member-whole i n h))
 
   -- what a group is given depends on the levels of its members alone
   pub part-ext : (g p q : ℕ) → ((i : ℕ) → i < n → member i g ≡ true → level m n p i ≡ level m n q i) → part m n g p ≡ part m n g q

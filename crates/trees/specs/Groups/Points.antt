@@ -152,7 +152,14 @@ pub points-length : (m n : ℕ) → 0 < m → (g : ℕ) → length (points m n g
 unfolding points size those range
 points-length m zero pos g = sym (pow-zero m)
 points-length m (suc n) pos g =
-    rw (points-suc, concat-length (block m (member n g)) (choices m (member n g)) (λ p. range-length (p * m) _), points-length m n pos g, size-last, pow-add, pow-choice)
+    rw (
+      points-suc,
+      concat-length (block m (member n g)) (choices m (member n g)) (λ p. range-length (p * m) _),
+      points-length m n pos g,
+      size-last,
+      pow-add,
+      pow-choice,
+    )
 
 -- ---- the whole group's and the empty group's
 

@@ -35,7 +35,7 @@ use Rattle.trees.specs.Groups.Classes.{Few}
 use Rattle.trees.specs.Filling.DigitRule.{gate-table}
 use Rattle.trees.specs.Trees.Wirings.{group-below}
 use Rattle.trees.specs.Trees.Homes.{grown-inputs, grown-gates}
-use Rattle.trees.specs.Trees.Forest.{treeAt, withTrees, joined, inputTrees, trees-length, inputs-length}
+use Rattle.trees.specs.Trees.Forest.{treeAt, withTrees, joinedTree, inputTrees, trees-length, inputs-length}
 use Rattle.trees.specs.Trees.NetTree.{net-tree, netWiring, netGroup, net-group-below, net-uses}
 use Rattle.trees.specs.Leaves.Mattering.{Holding, holding-part}
 use Rattle.trees.specs.Trees.Existence.{net-few, net-holds}
@@ -83,10 +83,12 @@ module _ (m n : ℕ) (pos : 0 < m) (f : ℕ → ℕ) where
         let v : ℕ = gateValue m values (lineGate m n f true groups l) in
         ap (λ (i : ℕ). getD (values ++ (v ∷ [])) i 0) at ∙ getD-append-seam values v [] 0
         ∙ line-value m n pos f p groups values l true carries (may .0) (may .1) (may .2)
-        ∙ ap (λ (x : ℕ). given m n f true x p) (sym (ap (λ (i : ℕ). getD (groups ++ (linkGroup groups l ∷ [])) i 0) own ∙ getD-append-seam groups (linkGroup groups l) [] 0))
+        ∙ ap (λ (x : ℕ). given m n f true x p)
+        (sym (ap (λ (i : ℕ). getD (groups ++ (linkGroup groups l ∷ [])) i 0) own ∙ getD-append-seam groups (linkGroup groups l) [] 0))
     last-gives groups values l (k ∷ links) carries may =
         let next = line-carries m n pos f p groups values l carries (may .0) (may .1) (may .2) in
-        let on : length groups + suc (length links) ≡ length (groups ++ (linkGroup groups l ∷ [])) + length links = omega (arith, length-snoc groups (linkGroup groups l)) in
+        let on : length groups + suc (length links) ≡ length (groups ++ (linkGroup groups l ∷ [])) + length links =
+        omega (arith, length-snoc groups (linkGroup groups l)) in
         rw (more-left m n f groups l k links, on)
         (last-gives (groups ++ (linkGroup groups l ∷ [])) (values ++ (gateValue m values (lineGate m n f false groups l) ∷ [])) k links next (may .3))
 
@@ -110,7 +112,7 @@ unfolding withGroups withTrees
 groups-of-trees forest [] back = refl
 groups-of-trees forest (g ∷ gates) back =
     ap (λ (gs : List ℕ). withGroups gs (gateLinks gates)) (groups-joined forest g (back .0) (back .1))
-    ∙ groups-of-trees (forest ++ (joined forest g ∷ [])) gates (rw length-snoc (back .2))
+    ∙ groups-of-trees (forest ++ (joinedTree forest g ∷ [])) gates (rw length-snoc (back .2))
 
 -- and groups of inputs below n
 pub group-small : (m n : ℕ) (gates : List Gate) → IsNet m n gates → (r : ℕ) → r < n + length gates

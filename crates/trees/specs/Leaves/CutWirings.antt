@@ -112,7 +112,8 @@ module _ (m n : ℕ) (pos : 0 < m) (f : ℕ → ℕ) where
   -- of a gate, by what is left on its two sides
   module _ (g : ℕ) (a b : Wiring) (once : EachOnce n (gate a b)) where
     -- a gate's leaves in g are those of its sides
-    gate-meets : (i : ℕ) → i < n → (member i (groupOf (gate a b)) && member i g) ≡ ((member i (groupOf a) && member i g) || (member i (groupOf b) && member i g))
+    gate-meets : (i : ℕ) → i < n → (member i (groupOf (gate a b)) && member i g)
+        ≡ ((member i (groupOf a) && member i g) || (member i (groupOf b) && member i g))
     unfolding groupOf
     gate-meets i i< =
         ap (λ t. t && member i g) (member-join i n (groupOf a) (groupOf b) (group-below n a (once .1)) (group-below n b (once .2)) (once .0) i<)

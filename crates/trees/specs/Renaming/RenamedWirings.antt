@@ -1,5 +1,5 @@
--- Two tables of which one is a renaming of the other's inks have the same wirings, since these are chosen by marks and leaves: the settled one, the shallow one,
--- and each of the family, which has as many. A given wiring fits both or neither, at the same gate.
+-- Two tables of which one is a renaming of the other's inks have the same wirings, since these are chosen by marks and leaves: the settled one, the
+-- shallow one, and each of the family, which has as many. A given wiring fits both or neither, at the same gate.
 -- Assumes nothing.
 use Prim.Native.Nat.{ℕ, suc, _+_, _-_, _<_}
 use mathlib.Core.Path.{_≡_, refl, sym, _∙_, ap, ap₂}
@@ -86,7 +86,8 @@ shallow-layers-renamed m n pos f h same =
 
 -- ---- of a net sheet and two table sheets
 
-module _ (net : Net) (t u : Table) (pos : 0 < net .header .levels) (same : SameInks (net .header .levels) (net .header .inputs) (inkIn (t .inks)) (inkIn (u .inks))) where
+module _ (net : Net) (t u : Table) (pos : 0 < net .header .levels)
+    (same : SameInks (net .header .levels) (net .header .inputs) (inkIn (t .inks)) (inkIn (u .inks))) where
   abbrev m : ℕ
   m = net .header .levels
 

@@ -18,7 +18,7 @@ use Rattle.laws.specs.Lists.Places.{length-snoc, map-at}
 use Rattle.laws.specs.Lists.Extremes.{most-bounds, most-listed, most-append, most-suc}
 use Rattle.trees.specs.Trees.Trees.{fill}
 use Rattle.rules.specs.Nets.Trees.{Tree, leaf, node, wiringIn, EachOnce}
-use Rattle.trees.specs.Trees.Forest.{treeAt, joined, withTrees, inputTrees, trees-length, inputs-length}
+use Rattle.trees.specs.Trees.Forest.{treeAt, joinedTree, withTrees, inputTrees, trees-length, inputs-length}
 use Rattle.trees.specs.Shallow.Depths.{depth}
 use Rattle.trees.specs.Trees.NetTree.{net-tree, netWiring}
 use Rattle.trees.specs.Trees.TreeLists.{treeGates, lines-length, lines-back}
@@ -51,7 +51,7 @@ depth-most (gate a b) =
 -- for ways of any kind: those at a gate are the ways at its two sides, each with one gate more
 module _ (ways : Tree → List ℕ) (joins : (digits : List ℕ) (a b : Tree) → ways (node digits a b) ≡ map suc (ways a ++ ways b)) where
   gate-ways : (forest : List Tree) (g : Gate) → g .left < length forest → g .right < length forest
-      → gateWays (map ways forest) g ≡ ways (joined forest g)
+      → gateWays (map ways forest) g ≡ ways (joinedTree forest g)
   unfolding gateWays
   gate-ways forest g l< r< =
       rw (map-at ways forest (g .left) (leaf 0) [] l<, map-at ways forest (g .right) (leaf 0) [] r<) (sym (joins (g .digits) _ _))
@@ -61,8 +61,8 @@ module _ (ways : Tree → List ℕ) (joins : (digits : List ℕ) (a b : Tree) �
   unfolding withWays withTrees
   gates-ways [] forest back = refl
   gates-ways (g ∷ gates) forest back =
-      rw (gate-ways forest g (back .0) (back .1), ← (map-append ways forest (joined forest g ∷ [])))
-      (gates-ways gates (forest ++ (joined forest g ∷ [])) (rw length-snoc (back .2)))
+      rw (gate-ways forest g (back .0) (back .1), ← (map-append ways forest (joinedTree forest g ∷ [])))
+      (gates-ways gates (forest ++ (joinedTree forest g ∷ [])) (rw length-snoc (back .2)))
 
 -- the ways in a tree
 abbrev waysTo : Tree → List ℕ

@@ -21,13 +21,13 @@ abbrev pub treeAt : List Tree → ℕ → Tree
 treeAt forest r = getD forest r (leaf 0)
 
 -- the tree of one more gate
-abbrev pub joined : List Tree → Gate → Tree
-joined forest g = node (g .digits) (treeAt forest (g .left)) (treeAt forest (g .right))
+abbrev pub joinedTree : List Tree → Gate → Tree
+joinedTree forest g = node (g .digits) (treeAt forest (g .left)) (treeAt forest (g .right))
 
 -- the trees of all references: those given, then the gates', in order
 unfoldable pub withTrees : List Tree → List Gate → List Tree
 withTrees forest [] = forest
-withTrees forest (g ∷ gates) = withTrees (forest ++ (joined forest g ∷ [])) gates
+withTrees forest (g ∷ gates) = withTrees (forest ++ (joinedTree forest g ∷ [])) gates
 
 -- the trees of the inputs
 unfoldable pub inputTrees : ℕ → List Tree
@@ -40,7 +40,7 @@ pub trees-length : (forest : List Tree) (gates : List Gate) → length (withTree
 unfolding withTrees
 trees-length forest [] = omega arith
 trees-length forest (g ∷ gates) =
-    omega (arith, trees-length (forest ++ (joined forest g ∷ [])) gates, length-snoc forest (joined forest g))
+    omega (arith, trees-length (forest ++ (joinedTree forest g ∷ [])) gates, length-snoc forest (joinedTree forest g))
 
 -- each input has a tree
 pub inputs-length : (n : ℕ) → length (inputTrees n) ≡ n
@@ -61,7 +61,7 @@ module _ (m n p : ℕ) where
 
   -- a gate's value is its tree's
   gate-value : (forest : List Tree) (g : Gate) → g .left < length forest → g .right < length forest
-      → gateValue m (map valueOf forest) g ≡ valueOf (joined forest g)
+      → gateValue m (map valueOf forest) g ≡ valueOf (joinedTree forest g)
   unfolding gateValue treeValue
   gate-value forest g l< r< =
       rw (map-at valueOf forest (g .left) (leaf 0) 0 l<, map-at valueOf forest (g .right) (leaf 0) 0 r<)
@@ -72,8 +72,8 @@ module _ (m n p : ℕ) where
   unfolding withGates withTrees
   gates-values [] forest back = refl
   gates-values (g ∷ gates) forest back =
-      rw (gate-value forest g (back .0) (back .1), ← (map-append valueOf forest (joined forest g ∷ [])))
-      (gates-values gates (forest ++ (joined forest g ∷ [])) (rw length-snoc (back .2)))
+      rw (gate-value forest g (back .0) (back .1), ← (map-append valueOf forest (joinedTree forest g ∷ [])))
+      (gates-values gates (forest ++ (joinedTree forest g ∷ [])) (rw length-snoc (back .2)))
 
   -- an input's value is its level
   inputs-values : map valueOf (inputTrees n) ≡ levelsAt m n p

@@ -13,7 +13,7 @@ use Rattle.rules.specs.Nets.Filling.{filled}
 use Rattle.laws.specs.Lists.Places.{length-snoc}
 use Rattle.trees.specs.Trees.Trees.{fill}
 use Rattle.rules.specs.Nets.Trees.{Tree, leaf, node, wiringIn, EachOnce}
-use Rattle.trees.specs.Trees.Forest.{treeAt, joined, withTrees, inputTrees, trees-length, inputs-length, input-at}
+use Rattle.trees.specs.Trees.Forest.{treeAt, joinedTree, withTrees, inputTrees, trees-length, inputs-length, input-at}
 use Rattle.trees.specs.Trees.GateLists.{reference-below, list-lines}
 use Rattle.trees.specs.Trees.TreeLists.{treeGates, lines-length}
 use Rattle.trees.specs.Filling.Fillings.{filled-list}
@@ -24,22 +24,22 @@ use Rattle.trees.specs.Filling.Fillings.{filled-list}
 trees-append : (forest : List Tree) (xs ys : List Gate) → withTrees forest (xs ++ ys) ≡ withTrees (withTrees forest xs) ys
 unfolding withTrees
 trees-append forest [] ys = refl
-trees-append forest (x ∷ xs) ys = trees-append (forest ++ (joined forest x ∷ [])) xs ys
+trees-append forest (x ∷ xs) ys = trees-append (forest ++ (joinedTree forest x ∷ [])) xs ys
 
 -- the trees before stay
 trees-earlier : (forest : List Tree) (gates : List Gate) (r : ℕ) → r < length forest → treeAt (withTrees forest gates) r ≡ treeAt forest r
 unfolding withTrees
 trees-earlier forest [] r h = refl
 trees-earlier forest (g ∷ gates) r h =
-    trees-earlier (forest ++ (joined forest g ∷ [])) gates r (omega (arith, length-snoc forest (joined forest g)))
-    ∙ List·getD-append forest (joined forest g ∷ []) (leaf 0) r h
+    trees-earlier (forest ++ (joinedTree forest g ∷ [])) gates r (omega (arith, length-snoc forest (joinedTree forest g)))
+    ∙ List·getD-append forest (joinedTree forest g ∷ []) (leaf 0) r h
 
 -- the last is the last gate's
 trees-last : (forest : List Tree) (xs : List Gate) (g : Gate) (k : ℕ) → k ≡ length forest + length xs
-    → treeAt (withTrees forest (xs ++ (g ∷ []))) k ≡ joined (withTrees forest xs) g
+    → treeAt (withTrees forest (xs ++ (g ∷ []))) k ≡ joinedTree (withTrees forest xs) g
 unfolding withTrees
 trees-last forest xs g k e =
-    rw (trees-append, e, ← trees-length forest xs) (getD-append-seam (withTrees forest xs) (joined (withTrees forest xs) g) [] (leaf 0))
+    rw (trees-append, e, ← trees-length forest xs) (getD-append-seam (withTrees forest xs) (joinedTree (withTrees forest xs) g) [] (leaf 0))
 
 -- ---- a tree's own lines
 

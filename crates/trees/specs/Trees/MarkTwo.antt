@@ -158,8 +158,10 @@ module _ (n : ℕ) (mark : ℕ → ℕ) (leaves : ℕ) (split : ℕ → ℕ) (sp
       λ several.
       let half = parted g g< g-in two several in
       ap₂ gate
-      (wiring-agree other same fuel _ (a-below g g< g-in two several) (a-inside g g< g-in two several) (half .two-a) ∙ ap (wiringBy n other fuel) (same g g< two))
-      (wiring-agree other same fuel _ (b-below g g< g-in two several) (b-inside g g< g-in two several) (half .two-b) ∙ ap (λ (a : ℕ). wiringBy n other fuel (g - a)) (same g g< two))
+      (wiring-agree other same fuel _ (a-below g g< g-in two several) (a-inside g g< g-in two several) (half .two-a)
+      ∙ ap (wiringBy n other fuel) (same g g< two))
+      (wiring-agree other same fuel _ (b-below g g< g-in two several) (b-inside g g< g-in two several) (half .two-b)
+      ∙ ap (λ (a : ℕ). wiringBy n other fuel (g - a)) (same g g< two))
     where
       go : {w v : Wiring} (b : Bool) → eqb (size n g) 1 ≡ b → (size n g ≢ 1 → w ≡ v)
           → _≡_ {A = Wiring} (elim b [ true ↦ input (firstInput n g) | false ↦ w ]) (elim b [ true ↦ input (firstInput n g) | false ↦ v ])
