@@ -1,6 +1,6 @@
 -- What reading an arrival sheet answers.
 -- Assumes nothing.
-use Prim.Native.Nat.{ℕ, _≤_, _<_}
+use Prim.Native.Nat.{ℕ}
 use mathlib.Core.Path.{_≡_, ap, _∙_}
 use mathlib.Core.List.{List, []}
 use lib.ListN.{length, drop}
@@ -8,12 +8,13 @@ use Rattle.rules.specs.Text.{space, newline, text, spaceByte, newlineByte}
 use Rattle.rules.specs.Sheets.Fields.{Reader, then, _>>=_, give, field, theWord, closed}
 use Rattle.rules.specs.Sheets.Reading.{answered}
 use Rattle.rules.specs.Sheets.ArrivalSheet.{Arrival, arrivalLines, arrivalSheet, readArrivals}
-use Rattle.fields.specs.Chained.{chained-back, chained-on, Answers, answers-back, answers-on, answers-over, answers-closed, field-then-then}
+use Rattle.fields.specs.Chained.{chained-back, chained-on, Answers, answers-back, answers-on, answers-end, endOf, field-then-then}
 use Rattle.fields.specs.Steps.{stepAs, nothing, spelled}
 use Rattle.fields.specs.Words.{twoWords, twoWordsIn}
 use Rattle.fields.specs.declared.steps.Step.{Step}
 use Rattle.fields.specs.declared.steps.Step.the-variants.{On, Back}
 use Rattle.answers.specs.AnswerMaps.{outcomeAs}
+use Rattle.answers.specs.declared.outcome.Outcome.{Outcome}
 use Rattle.answers.specs.declared.outcome.Outcome.the-variants.{Accepted, Refused}
 use Rattle.arrivals.specs.declared.sheet.lines.TimesRead.{TimesRead}
 use Rattle.arrivals.specs.Sheet.Lines.{arrivalsIn, TimesHeld, LinesRead}
@@ -52,25 +53,9 @@ module _ (s : List ℕ) (at : ℕ) (step : Step) (reads : stepAs nothing s step 
 -- ---- from the lines on
 
 module _ (names : List (List ℕ)) (s : List ℕ) (at : ℕ) (r : TimesRead) (lines : LinesRead names s at r) where
-  abbrev given : ℕ → List Arrival
-  given _ = arrivalsIn (r .times) (length names)
-
-  pub arrival-reading-lines-back : (number place : ℕ) → r .step ≡ Back number place
-      → ArrivalsRest names s at (fromLines names) (record { outcome = Refused number place; times = r .times })
+  pub lines-ended : (o : Outcome) → o ≡ endOf s (r .step) → ArrivalsRest names s at (fromLines names) (record { outcome = o; times = r .times })
   unfolding fromLines
-  arrival-reading-lines-back number place e = answers-back given (arrivalLines names []) _ s at (r .step) (lines .reads) _ _ number place e
-
-  module _ (value next : ℕ) (e : r .step ≡ On value next) where
-    pub lines-over : next < length s → ArrivalsRest names s at (fromLines names) (record { outcome = Refused 1 next; times = r .times })
-    unfolding fromLines
-    lines-over more =
-        answers-on given (arrivalLines names []) _ s at (r .step) (lines .reads) _ _ value next (Refused 1 next) e (answers-over s next _ _ more)
-
-    pub lines-closed : length s ≤ next → ArrivalsRest names s at (fromLines names) (record { outcome = Accepted; times = r .times })
-    unfolding fromLines
-    lines-closed done =
-        answers-on given (arrivalLines names []) _ s at (r .step) (lines .reads) _ _ value next Accepted e
-        (answers-closed s next _ _ done (lines .held value next e))
+  lines-ended o is = answers-end (arrivalLines names []) (λ arrivals. arrivals) s at _ (r .step) (lines .reads) _ (lines .held) o is
 
 -- ---- the whole sheet
 

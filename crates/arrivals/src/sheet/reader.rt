@@ -9,6 +9,7 @@ ghost use Rattle.arrivals.specs.Sheet.ArrivalReading.{ArrivalsRest, Arri
 use crate::sheet::lines::Times;
 use crate::sheet::lines::arrival_lines;
 use answers::outcome::Outcome;
+use fields::ends::ended;
 use fields::runs::SPACE;
 use fields::steps::Step;
 use fields::words::two_words;
@@ -54,26 +55,9 @@ fn from_lines(net: &[u8], header: Header, s: &[u8], at: usize) -> ArrivalsRead
     let read = arrival_lines(net, header, s, at);
     let step = read.step;
     let times = read.times;
-    match step {
-        Step::Back { number, place } => ArrivalsRead {
-            outcome: Outcome::Refused { number, place },
-            times,
-        },
-        Step::On { value: _, next } => {
-            if next < s.len() {
-                return ArrivalsRead {
-                    outcome: Outcome::Refused {
-                        number: 1,
-                        place: next,
-                    },
-                    times,
-                };
-            }
-            ArrivalsRead {
-                outcome: Outcome::Accepted,
-                times,
-            }
-        }
+    ArrivalsRead {
+        outcome: ended(s, step),
+        times,
     }
 }
 
