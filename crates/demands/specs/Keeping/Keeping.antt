@@ -39,7 +39,7 @@ use Rattle.trees.specs.Trees.NetTables.{levels-pos}
 use Rattle.demands.specs.Settling.Settles.{sheetOf}
 use Rattle.demands.specs.Settling.Makes.{made-sheet}
 use Rattle.demands.specs.Families.FamilySheets.{tree-sheet}
-use Rattle.demands.specs.Others.Checks.{same-header, header-same}
+use Rattle.laws.specs.Calls.Checking.{same-header, header-same}
 use Rattle.demands.specs.Keeping.KeptNets.{FillingFor, Roomy, LeftOut, left-out, kept-inputs, crowded-exactly, kept-filling, kept-keeps, kept-has-table, kept-wiring, own-roomy, filling-roomy, kept-header, kept-twice, settled-header, settled-refilled, family-header, family-kept-own, refilled, kept-by-wiring}
 
 -- two answers that differ

@@ -22,7 +22,7 @@ use Rattle.readback.specs.Readers.Numbers.{netNumbers, tableNumbers, net-refusa
 use Rattle.readback.specs.Sheets.ReadBack.{table-accepted}
 use Rattle.demands.specs.Sheets.FullSheets.{fullNumbers}
 use Rattle.demands.specs.Numbers.Numbers.{full-numbers}
-use Rattle.demands.specs.Others.Checks.{header-same}
+use Rattle.laws.specs.Calls.Checking.{header-same}
 use Rattle.demands.specs.Sheets.Lengths.{kept-cells}
 use Rattle.demands.specs.Keeping.Keeping.{Past, PastEnds, ends-23-0, ends-23, ends-15, ends-written, past-ends, kept-short}
 

@@ -42,7 +42,7 @@ use Rattle.demands.specs.Numbers.Numbers.{Gives, accepts, bare-numbers, 
 use Rattle.demands.specs.Numbers.SettlingNumbers.{sheet-numbers, in-room-numbers, into-numbers}
 use Rattle.demands.specs.Shallow.ShallowRefusals.{make-shallow-refuses}
 use Rattle.demands.specs.Families.FamilyCounting.{count-refuses}
-use Rattle.demands.specs.Others.Checks.{same-header, header-same}
+use Rattle.laws.specs.Calls.Checking.{same-header, header-same}
 
 -- ---- the lowest open index
 

@@ -31,7 +31,7 @@ use Rattle.trees.specs.Renaming.RenamedNets.{kept-renamed}
 use Rattle.trees.specs.Keeping.KeptLinks.{kept-length}
 use Rattle.trees.specs.Keeping.KeptWirings.{all-roomy}
 use Rattle.readback.specs.Sheets.ReadBack.{net-accepted}
-use Rattle.demands.specs.Others.Checks.{same-header, header-same}
+use Rattle.laws.specs.Calls.Checking.{same-header, header-same}
 use Rattle.demands.specs.Keeping.KeptNets.{Roomy}
 use Rattle.demands.specs.Keeping.Keeping.{Past, kept-accepted, kept-as-long}
 use Rattle.demands.specs.Renaming.RenamedSheets.{RenamedTables, renamedTable, kept-one, kept-other, reads-renamed, renamed-inks-below, inks-renamed, RenamedNets, renamed-long, nets-renamed}

@@ -18,17 +18,17 @@ use Rattle.rules.specs.Sheets.SheetRules.{RefersBack, IsNet}
 use Rattle.rules.specs.Nets.Wirings.{Wiring, input, gate, groupOf}
 use Rattle.rules.specs.Nets.Layers.{most, layers}
 use Rattle.rules.specs.Nets.Arrivals.{startsAt, waysFrom, gatesOnWay, usedInputs, settlingTime}
-use Rattle.laws.specs.Lists.Concat.{map-append}
 use Rattle.laws.specs.Lists.Extremes.{most-bounds, most-listed}
-use Rattle.laws.specs.Lists.Places.{length-snoc, map-at, mem-place}
+use Rattle.laws.specs.Lists.Places.{map-at, mem-place}
 use Rattle.laws.specs.Lists.Ranges.{by-places}
 use Rattle.laws.specs.Lists.Same.{eqb-comm}
 use Rattle.laws.specs.Lists.Tests.{oneWhere, one-if-or, not-false-true}
 use Rattle.laws.specs.Nets.Times.{gateTime, withTimes}
 use Rattle.rules.specs.Nets.Trees.{Tree, leaf, wiringIn, EachOnce}
+use Rattle.laws.specs.Lists.WithEach.{with-each-length, gates-step}
 use Rattle.trees.specs.Groups.Members.{member-single, member-join}
 use Rattle.trees.specs.Trees.Wirings.{group-below}
-use Rattle.trees.specs.Trees.Forest.{joinedTree, withTrees, inputTrees, trees-length, inputs-length}
+use Rattle.trees.specs.Trees.Forest.{joinedTree, withTrees, inputTrees, inputs-length}
 use Rattle.trees.specs.Trees.NetTree.{net-tree, netWiring, net-uses}
 use Rattle.trees.specs.Trees.UsedOnce.{listed-used, used-listed, used-inputs-length}
 use Rattle.trees.specs.Shallow.Depths.{depth}
@@ -133,11 +133,7 @@ module _ (delay : ℕ) (arrival : ℕ → ℕ) where
 
   gates-times : (gates : List Gate) (forest : List Tree) → RefersBack (length forest) gates
       → withTimes delay (map timeTo forest) gates ≡ map timeTo (withTrees forest gates)
-  unfolding withTimes withTrees
-  gates-times [] forest back = refl
-  gates-times (g ∷ gates) forest back =
-      rw (gate-time forest g (back .0) (back .1), ← (map-append timeTo forest (joinedTree forest g ∷ [])))
-      (gates-times gates (forest ++ (joinedTree forest g ∷ [])) (rw length-snoc (back .2)))
+  gates-times = gates-step timeTo joinedTree (gateTime delay) gate-time
 
   inputs-times : (n : ℕ) → map timeTo (inputTrees n) ≡ map arrival (range 0 n)
   unfolding inputTrees timeIn
@@ -148,7 +144,7 @@ module _ (m n : ℕ) (gates : List Gate) (net : IsNet m n gates) where
   tree = netWiring m n gates net
 
   last< : n + length gates - 1 < length (withTrees (inputTrees n) gates)
-  last< = omega (arith, trees-length (inputTrees n) gates, inputs-length n)
+  last< = omega (arith, with-each-length joinedTree (inputTrees n) gates, inputs-length n)
 
   -- the ways from an input to the output are those in the net's tree
   ways-from : (i : ℕ) → waysFrom n gates i ≡ waysInFrom i tree

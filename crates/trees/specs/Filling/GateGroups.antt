@@ -12,7 +12,7 @@ use lib.ListN.{length, List·getD-append}
 use lib.Seq.{getD-append-seam}
 use lib.Dec.{eqb}
 use borrow.Author.Tests.{eq-eqb}
-use Rattle.rules.specs.Lists.{any}
+use Rattle.rules.specs.Lists.{any, withEach}
 use Rattle.rules.specs.Sheets.Sheets.{Gate, usedBy}
 use Rattle.rules.specs.Nets.Wirings.{Wiring, input, gate, groupOf, Link, gatesIn, linksOf}
 use Rattle.rules.specs.Nets.Filling.{inputGroups, filledFrom, filled}
@@ -24,11 +24,12 @@ use Rattle.laws.specs.Lists.Places.{length-snoc}
 use Rattle.laws.specs.Lists.Distinct.{NotIn, not-in-two}
 use Rattle.laws.specs.Lists.Totals.{any-mem}
 use Rattle.rules.specs.Nets.Trees.{Tree, leaf, wiringIn, EachOnce, Turned}
-use Rattle.trees.specs.Trees.Forest.{treeAt, joinedTree, withTrees, inputTrees, trees-length, inputs-length, input-at}
+use Rattle.laws.specs.Lists.WithEach.{with-each-append, with-each-length}
+use Rattle.trees.specs.Trees.Forest.{treeAt, joinedTree, withTrees, inputTrees, inputs-length, input-at}
 use Rattle.trees.specs.Trees.Homes.{grown-inputs, grown-gates}
 use Rattle.trees.specs.Trees.NetTree.{net-tree, netWiring, netGroup}
 use Rattle.trees.specs.Trees.UsedOnce.{net-gates}
-use Rattle.trees.specs.Filling.Fillings.{linkGroup, withGroups, groups-append, ownLink, Grouped, inputs-grouped, grouped-after, groupsAfter, left-group, right-group}
+use Rattle.trees.specs.Filling.Fillings.{linkGroup, withGroups, ownLink, Grouped, inputs-grouped, grouped-after, groupsAfter, left-group, right-group}
 use Rattle.trees.specs.Filling.GateLinks.{treeGroup, groupsIn, group-at, groups-joined, inputs-in}
 use Rattle.trees.specs.Families.NormalWirings.{groupsJoined, Joins, SameGates, joins-left, joins-right, joins-own, joins-cases, joins-none, joined-leaves, turned-same, same-turned}
 
@@ -47,7 +48,7 @@ filled-groups m n f groups (l ∷ links) =
     ap (λ (gs : List ℕ). linkGroup groups l ∷ gs) (filled-groups m n f (groups ++ (linkGroup groups l ∷ [])) links)
 
 link-groups-append : (groups : List ℕ) (xs ys : List Link) → linkGroups groups (xs ++ ys) ≡ linkGroups groups xs ++ linkGroups (withGroups groups xs) ys
-unfolding linkGroups withGroups
+unfolding linkGroups withEach
 link-groups-append groups [] ys = refl
 link-groups-append groups (x ∷ xs) ys =
     ap (λ (gs : List ℕ). linkGroup groups x ∷ gs) (link-groups-append (groups ++ (linkGroup groups x ∷ [])) xs ys)
@@ -65,9 +66,8 @@ wiring-groups n before groups (gate a b) once grouped =
     link-groups-append groups (of-a ++ of-b) (own ∷ [])
     ∙ ap₂ (λ (xs ys : List ℕ). xs ++ ys)
     (link-groups-append groups of-a of-b
-    ∙ ap₂ (λ (xs ys : List ℕ). xs ++ ys) (wiring-groups n before groups a (once .1) grouped)
-    (wiring-groups n mid (groupsAfter n groups before a) b (once .2) after))
-    (ap (λ (gs : List ℕ). linkGroup gs own ∷ []) (groups-append groups of-a of-b)
+    ∙ ap₂ (λ (xs ys : List ℕ). xs ++ ys) (wiring-groups n before groups a (once .1) grouped) (wiring-groups n mid (groupsAfter n groups before a) b (once .2) after))
+    (ap (λ (gs : List ℕ). linkGroup gs own ∷ []) (with-each-append linkGroup groups of-a of-b)
     ∙ ap₂ (λ (x y : ℕ). (x + y) ∷ []) (left-group n before groups a b once grouped) (right-group n before groups a b once grouped))
 
 -- the groups of the gates of a wiring's links, filled, are the wiring's
@@ -175,7 +175,7 @@ joined-group forest g l< r< = ap₂ (λ (a b : ℕ). a + b) (group-at forest (g 
 -- all gates
 housed-gates : (gates : List Gate) (used : List ℕ) (forest : List Tree) (done : List ℕ) → Housed used forest done → RefersBack (length forest) gates
     → Housed (used ++ usedBy gates) (withTrees forest gates) (done ++ groupsFrom (groupsIn forest) gates)
-unfolding usedBy withTrees groupsFrom
+unfolding usedBy withEach groupsFrom
 housed-gates [] used forest done housed back = rw (append-nil used, append-nil done) housed
 housed-gates (g ∷ gates) used forest done housed back =
     let l< = back .0 in
@@ -196,7 +196,7 @@ module _ (m n : ℕ) (gates : List Gate) (net : IsNet m n gates) where
   forest = withTrees (inputTrees n) gates
 
   forest-length : length forest ≡ n + length gates
-  forest-length = trees-length (inputTrees n) gates ∙ rw inputs-length
+  forest-length = with-each-length joinedTree (inputTrees n) gates ∙ rw inputs-length
 
   back : RefersBack (length (inputTrees n)) gates
   back = rw inputs-length (net .rules .back)

@@ -10,7 +10,7 @@ use native.Mathlib.Nat.{mod-lt, div-add-mod', div-lt-iff-lt-mul}
 use native.Mathlib.Omega.{arith}
 use lib.ListN.{length, getD}
 use lib.Dec.{eqb}
-use Rattle.rules.specs.Lists.{firstPlace}
+use Rattle.rules.specs.Lists.{firstPlace, withEach}
 use Rattle.rules.specs.Sheets.Sheets.{Gate, level, levelsAt}
 use Rattle.rules.specs.Nets.Value.{gateValue, withGates}
 use Rattle.rules.specs.Groups.Groups.{part, points, others, size, classes, alikeOver}
@@ -130,7 +130,7 @@ module _ (m n : ℕ) (pos : 0 < m) (r f h : ℕ → ℕ) (below : (p : ℕ) → 
   -- the last gate alone
   last-renamed : (groups : List ℕ) (values : ℕ → List ℕ) (l : Link) → ((p : ℕ) → Carries m n pos f p groups (values p)) → Fillable m n f groups (l ∷ [])
       → RenamedFrom m n r values (filledFrom m n f groups (l ∷ [])) (filledFrom m n h groups (l ∷ []))
-  unfolding filledFrom withGates
+  unfolding filledFrom withEach
   last-renamed groups values l carries may =
       record {
         lines = record { before = []; last = own; digits = gateDigits m n h true a b; ours = refl; theirs = refl };
@@ -160,7 +160,7 @@ module _ (m n : ℕ) (pos : 0 < m) (r f h : ℕ → ℕ) (below : (p : ℕ) → 
 
   from-renamed : (groups : List ℕ) (values : ℕ → List ℕ) (l : Link) (links : List Link) → ((p : ℕ) → Carries m n pos f p groups (values p))
       → Fillable m n f groups (l ∷ links) → RenamedFrom m n r values (filledFrom m n f groups (l ∷ links)) (filledFrom m n h groups (l ∷ links))
-  unfolding withGates
+  unfolding withEach
   from-renamed groups values l [] carries may = last-renamed groups values l carries may
   from-renamed groups values l (k ∷ links) carries may =
       let line : Gate = lineGate m n f false groups l in

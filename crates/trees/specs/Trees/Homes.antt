@@ -11,7 +11,7 @@ use lib.ListN.{length, List·getD-append}
 use lib.Seq.{getD-append-seam}
 use lib.Dec.{eqb}
 use borrow.Author.Tests.{eqb-true, eqb-false, eq-eqb, ne-eqb}
-use Rattle.rules.specs.Lists.{any}
+use Rattle.rules.specs.Lists.{any, withEach}
 use Rattle.rules.specs.Sheets.Sheets.{Gate, usedBy}
 use Rattle.rules.specs.Groups.Groups.{member}
 use Rattle.rules.specs.Nets.Wirings.{groupOf}
@@ -180,7 +180,7 @@ module _ (m n : ℕ) where
   pub grown-gates : (gates : List Gate) (used : List ℕ) (forest : List Tree) → Grown m n used forest
       → RefersBack (length forest) gates → Distinct (used ++ usedBy gates) → Tables m gates
       → Grown m n (used ++ usedBy gates) (withTrees forest gates)
-  unfolding usedBy withTrees
+  unfolding usedBy withEach
   grown-gates [] used forest grown back distinct tables = rw append-nil grown
   grown-gates (g ∷ gates) used forest grown back distinct tables =
       let heads = heads-unused used (g .left) (g .right) (usedBy gates) distinct in

@@ -1,9 +1,9 @@
--- `evaluation::gate::two_level_digit` meets its contract, by the four pairs of levels. Assumes nothing.
+-- `evaluation::fast::two_levels::two_level_digit` meets its contract, by the four pairs of levels. Assumes nothing.
 use Prim.Native.Nat.{_+_, _*_}
 use mathlib.Core.Path.{_≡_}
 use native.Mathlib.Omega.{arith}
-use Rattle.evaluation.proofs.gate.two_level_digit.Statement.{statement}
-use Rattle.evaluation.proofs.gate.two_level_digit.Tie as tie
+use Rattle.evaluation.proofs.fast.two_levels.two_level_digit.Statement.{statement}
+use Rattle.evaluation.proofs.fast.two_levels.two_level_digit.Tie as tie
 
 returns : tie.Need-returns
 returns c = let e : c .before .before .args .l * 2 + c .before .before .args .r ≡ 0 = omega arith in rw e

@@ -1,11 +1,12 @@
--- `evaluation::gate::two_level_values` meets its contract. The loop's invariant: the gate has its first p values. Assumes nothing.
+-- `evaluation::fast::two_levels::two_level_values` meets its contract. The loop's invariant: the gate has its first p values. Assumes nothing.
 use Prim.Native.Nat.{_-_, _+_, _≤_, _<_}
 use mathlib.Core.Path.{_∙_}
 use native.Mathlib.Omega.{arith}
 use lib.ListN.{getD}
-use Rattle.evaluation.specs.Gates.{GateDone, Places, places-there, gate-none, gate-more, read-below, four-digits}
-use Rattle.evaluation.proofs.gate.two_level_values.Statement.{statement}
-use Rattle.evaluation.proofs.gate.two_level_values.Tie as tie
+use Rattle.evaluation.specs.Gates.{GateDone, Places, places-there, gate-none, gate-more, read-below}
+use Rattle.evaluation.specs.Fast.TwoLevels.{four-digits}
+use Rattle.evaluation.proofs.fast.two_levels.two_level_values.Statement.{statement}
+use Rattle.evaluation.proofs.fast.two_levels.two_level_values.Tie as tie
 
 abbrev Inv-loop : tie.InvT-loop
 Inv-loop digits from left right to count wires₀ a b c d p₀ wires p = (p ≤ count) × GateDone 2 digits from left right to p wires₀ wires
