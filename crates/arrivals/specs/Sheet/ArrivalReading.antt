@@ -4,13 +4,13 @@ use Prim.Native.Nat.{ℕ}
 use mathlib.Core.Path.{_≡_, ap, _∙_}
 use mathlib.Core.List.{List, []}
 use lib.ListN.{length, drop}
-use Rattle.rules.specs.Text.{space, newline, text, spaceByte, newlineByte}
-use Rattle.rules.specs.Sheets.Fields.{Reader, then, _>>=_, give, field, theWord, closed}
+use Rattle.rules.specs.Text.{space, newline, text}
+use Rattle.rules.specs.Sheets.Fields.{Reader, _>>=_, give, theWord, closed}
 use Rattle.rules.specs.Sheets.Reading.{answered}
 use Rattle.rules.specs.Sheets.ArrivalSheet.{Arrival, arrivalLines, arrivalSheet, readArrivals}
-use Rattle.fields.specs.Chained.{chained-back, chained-on, Answers, answers-back, answers-on, answers-end, endOf, field-then-then}
+use Rattle.fields.specs.Chained.{Answers, answers-back, answers-on, answers-end, endOf}
 use Rattle.fields.specs.Steps.{stepAs, nothing, spelled}
-use Rattle.fields.specs.Words.{twoWords, twoWordsIn}
+use Rattle.fields.specs.Words.{threeWords, three-words-then}
 use Rattle.fields.specs.declared.steps.Step.{Step}
 use Rattle.fields.specs.declared.steps.Step.the-variants.{On, Back}
 use Rattle.answers.specs.AnswerMaps.{outcomeAs}
@@ -30,25 +30,12 @@ abbrev pub ArrivalsRest : List (List ℕ) → List ℕ → ℕ → Reader (List 
 ArrivalsRest names s at reader r = Answers s at reader (arrivalsIn (r .times) (length names)) (TimesHeld (r .times) (length names)) (r .outcome)
 
 -- line 1
-unfoldable pub headingLine : Reader (Unit {0})
-headingLine = field (theWord "name") space >>= λ _. field (theWord "from") space >>= λ _. field (theWord "to") newline
+abbrev pub headingLine : Reader (Unit {0})
+headingLine = threeWords (text "name") (text "from") (text "to")
 
 -- the lines, and the end after them
 unfoldable pub fromLines : List (List ℕ) → Reader (List Arrival)
 fromLines names = arrivalLines names [] >>= λ arrivals. closed >>= λ _. give arrivals
-
--- ---- line 1: a word, then two more
-
-module _ (s : List ℕ) (at : ℕ) (step : Step) (reads : stepAs nothing s step ≡ field (spelled (text "name")) spaceByte (drop at s) at) (r : Step) where
-  pub name-back : (number place : ℕ) → step ≡ Back number place → r ≡ Back number place → stepAs nothing s r ≡ headingLine (drop at s) at
-  unfolding headingLine spelled theWord space
-  name-back number place e q = chained-back nothing (field (theWord "name") spaceByte) _ s at step reads nothing r number place e q
-
-  pub name-on : (value next : ℕ) → step ≡ On value next → stepAs nothing s r ≡ twoWords (text "from") (text "to") (drop next s) next
-      → stepAs nothing s r ≡ headingLine (drop at s) at
-  unfolding headingLine twoWordsIn spelled theWord space newline
-  name-on value next e onward =
-      chained-on nothing (field (theWord "name") spaceByte) (λ _. field (theWord "from") spaceByte >>= λ _. field (theWord "to") newlineByte) s at step reads nothing r value next e onward
 
 -- ---- from the lines on
 
@@ -61,10 +48,8 @@ module _ (names : List (List ℕ)) (s : List ℕ) (at : ℕ) (r : TimesRead) (li
 
 -- the sheet is line 1, and the rest
 sheet-split : (names : List (List ℕ)) (s : List ℕ) → (headingLine >>= λ _. fromLines names) s 0 ≡ arrivalSheet names s 0
-unfolding arrivalSheet fromLines headingLine
-sheet-split names s =
-    field-then-then (field (theWord "name") space s 0) _ _
-    ∙ ap (then (field (theWord "name") space s 0)) (λ i _ u p. field-then-then (field (theWord "from") space u p) (λ _. field (theWord "to") newline) (λ _. fromLines names) i)
+unfolding arrivalSheet fromLines spelled theWord space newline
+sheet-split names s = three-words-then (text "name") (text "from") (text "to") (fromLines names) s 0
 
 whole : (names : List (List ℕ)) (s : List ℕ) (r : ArrivalsRead) → ArrivalsRest names s 0 (headingLine >>= λ _. fromLines names) r → ArrivalsReads names s r
 unfolding readArrivals
