@@ -14,7 +14,7 @@ use Rattle.rules.specs.Calls.Answers.{accepted, refused}
 use Rattle.rules.specs.Calls.Settling.{makeCall}
 use Rattle.rules.specs.Sheets.SheetRules.{FullTable}
 use Rattle.rules.specs.Sheets.Reading.{readNet, readTable}
-use Rattle.rules.specs.Calls.Programs.{settleProgram, makeProgram}
+use Rattle.rules.specs.Calls.Programs.{refusalLines, settleProgram, makeProgram}
 use Rattle.laws.specs.Calls.OpenCells.{read-refused}
 use Rattle.readback.specs.Sheets.ReadBack.{table-accepted}
 use Rattle.readback.specs.Tables.TableLength.{table-longer, table-within}
@@ -22,7 +22,7 @@ use Rattle.readback.specs.Sheets.CutSheets.{table-cut, net-cut, not-ended, acce
 use Rattle.demands.specs.Sheets.FullSheets.{full-sheet}
 use Rattle.demands.specs.Settling.Makes.{Making}
 use Rattle.demands.specs.Sheets.Lengths.{Ample, make-ample}
-use Rattle.demands.specs.Others.Programs.{refusalLines, program-settle-refused, program-make-refused}
+use Rattle.demands.specs.Others.Programs.{program-settle-refused, program-make-refused}
 
 module _ (input : List ℕ) where
   -- "a sheet without an earlier fault that hasn't ended by then": of a table sheet, ..

@@ -1,4 +1,4 @@
--- `net_sheets::text::refusal::print_refusal` meets its contract: 55 bytes suffice for every number and place.
+-- `programs::refusal::print_refusal` meets its contract: 55 bytes suffice for every number and place.
 -- Assumes nothing.
 use Prim.Native.Nat.{_≤_}
 use native.Mathlib.Omega.{arith}
@@ -6,10 +6,11 @@ use borrow.Author.Needs.{needs}
 use lib.ListN.{length}
 use Rattle.rules.specs.Text.{space, newline, text}
 use Rattle.rules.specs.Sheets.Printed.{line}
+use Rattle.rules.specs.Calls.Programs.{refusalLines}
 use Rattle.net_sheets.specs.Text.Put.{put-wrote}
-use Rattle.net_sheets.specs.Text.Refusals.{refusalLines, refusal-length}
-use Rattle.net_sheets.proofs.text.refusal.print_refusal.Statement.{statement}
-use Rattle.net_sheets.proofs.text.refusal.print_refusal.Tie as tie
+use Rattle.programs.specs.Refusals.{refusal-length}
+use Rattle.programs.proofs.refusal.print_refusal.Statement.{statement}
+use Rattle.programs.proofs.refusal.print_refusal.Tie as tie
 
 -- the start, from the call of `print_pair`
 abbrev at-start : tie.After-print-pair-arg2 → tie.Start

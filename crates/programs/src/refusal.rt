@@ -1,9 +1,10 @@
-// What a program prints of a refusal.
+// What a program prints for a refusal.
 ghost use Prim.Native.Nat.{_≤_};
 ghost use lib.ListN.{length};
+ghost use Rattle.rules.specs.Calls.Programs.{refusalLines};
 ghost use Rattle.net_sheets.specs.Text.Put.{NetWrote};
-ghost use Rattle.net_sheets.specs.Text.Refusals.{refusalLines, mostRefusal};
-use crate::text::header::print_pair;
+ghost use Rattle.programs.specs.Refusals.{mostRefusal};
+use net_sheets::text::header::print_pair;
 
 // Writes the line `number place` and the line of the two values to the front of `out`, and answers their length.
 pub fn print_refusal(number: usize, place: usize, out: &mut [u8]) -> usize
