@@ -31,8 +31,8 @@ pub data Pair : Type 0 where
   pair : sheets.Net → Table → Pair
   turnedBack : answers.Named → ℕ → ℕ → Pair
 
--- "A call that refuses either of two sheets judges the net first, and names the sheet it refuses" (document 01). 12: the sheets differ in m, n or names; it names
--- neither.
+-- "A call that refuses either of two sheets judges the net first, and names the sheet it refuses" (document 01). 12: the sheets differ in m, n or
+-- names; it names neither.
 unfoldable pub readBoth : List ℕ → List ℕ → Pair
 readBoth net-sheet table-sheet =
     elim (readNet net-sheet) [

@@ -10,7 +10,8 @@ use Rattle.rules.specs.Calls.Settling.{roomFor, writtenSheet}
 use Rattle.rules.specs.Nets.Family.{familyGates}
 use Rattle.rules.specs.Calls.FamilyCalls.{Counted, countOfTable, familyNet, countedInto, afterCount, familyCountCall, familyTreeCall}
 use Rattle.laws.specs.Calls.Settling.{into-refused, into-room}
-use Rattle.laws.specs.Calls.FamilyCalls.{counted-refused, counted-room, count-17, count-tree, family-count-refused, family-count-accepted, family-tree-refused, family-tree-accepted}
+use Rattle.laws.specs.Calls.FamilyCalls.{counted-refused, counted-room, count-17, count-tree, family-count-refused, family-count-accepted}
+use Rattle.laws.specs.Calls.FamilyCalls.{family-tree-refused, family-tree-accepted}
 use Rattle.nets.specs.declared.forms.Header.{Header}
 use Rattle.nets.specs.declared.forms.Net as own
 use Rattle.nets.specs.Forms.{headerOf, netIn, tableIn}

@@ -5,7 +5,9 @@ use Prim.Native.Nat.{ℕ, zero, suc, _+_, _*_, _/_, _%_, _^_, _≤_, _<_}
 use mathlib.Core.Path.{_≡_, refl, sym, ap, ap₂, _∙_, subst, subst⁻¹}
 use mathlib.Core.Bool.{Bool, true, false}
 use mathlib.Core.List.{List, [], _∷_, _++_, map, append-nil, map-map, map-id}
-use native.Mathlib.Nat.{zero-mul, zero-add, add-comm, mod-lt, div-lt-iff-lt-mul, div-add-mod', add-mul, mul-assoc, add-assoc, mul-one, pow-zero, pow-suc, add-zero, add-suc, suc-add, mul-comm, suc-mul, mul-suc, mul-zero, mul-le-mul-left, mul-le-mul-right, lt-of-lt-of-le, le-mul-of-pos-right, one-le-mul}
+use native.Mathlib.Nat.{zero-mul, zero-add, add-comm, mod-lt, div-lt-iff-lt-mul, div-add-mod', add-mul, mul-assoc, add-assoc, mul-one, pow-zero}
+use native.Mathlib.Nat.{pow-suc, add-zero, add-suc, suc-add, mul-comm, suc-mul, mul-suc, mul-zero, mul-le-mul-left, mul-le-mul-right, lt-of-lt-of-le}
+use native.Mathlib.Nat.{le-mul-of-pos-right, one-le-mul}
 use native.Mathlib.Omega.{arith}
 use lib.ListN.{length, getD, take, length-append, length-map, List·getD-append}
 use lib.Seq.{take-at, getD-append-add}

@@ -12,7 +12,8 @@ use Rattle.rules.specs.Calls.OpenCells.{readFull}
 use Rattle.rules.specs.Calls.Settling.{settledNet, afterMarks, settleCall, makeCall}
 use Rattle.rules.specs.Calls.ShallowSettling.{LayeredMade, layeredInto, makeShallowCall, netLayers, settleShallowCall, withLayers}
 use Rattle.laws.specs.Calls.Settling.{settle-accepted, settle-refused, make-accepted, make-refused}
-use Rattle.laws.specs.Calls.ShallowSettling.{plainAnswer, plainMade, plain-made, settle-shallow-refused, settle-shallow-accepted, make-shallow-refused, make-shallow-accepted}
+use Rattle.laws.specs.Calls.ShallowSettling.{plainAnswer, plainMade, plain-made, settle-shallow-refused, settle-shallow-accepted}
+use Rattle.laws.specs.Calls.ShallowSettling.{make-shallow-refused, make-shallow-accepted}
 use Rattle.answers.specs.declared.answer.Answer as own-answer
 use Rattle.answers.specs.declared.layered.Layered as own
 use Rattle.answers.specs.AnswerMaps.{answerOf, madeOf}

@@ -16,7 +16,8 @@ use Rattle.laws.specs.Calls.Answers.{accepted-inj, not-refused}
 use Rattle.trees.specs.Families.FamilyBounds.{treesOn}
 use Rattle.demands.specs.Numbers.Numbers.{not-given, refuses}
 use Rattle.demands.specs.Settling.Makes.{HasTree, HasSheet, make-refuses, make-refuses-sheets}
-use Rattle.demands.specs.Families.FamilyOutcomes.{made-answer, counted-answer, judgedNumbers, SheetJudged, turned-back, goes-on, on-with, judge, marked-leaves, marked-numbers}
+use Rattle.demands.specs.Families.FamilyOutcomes.{made-answer, counted-answer, judgedNumbers, SheetJudged, turned-back, goes-on, on-with}
+use Rattle.demands.specs.Families.FamilyOutcomes.{judge, marked-leaves, marked-numbers}
 use Rattle.demands.specs.Numbers.FamilyNumbers.{family-count-numbers}
 use Rattle.demands.specs.Families.FamilyTables.{none-counted, table-bound, table-fits}
 use Rattle.rules.specs.Calls.OpenCells.{readFull}

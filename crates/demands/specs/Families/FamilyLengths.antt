@@ -19,7 +19,8 @@ use Rattle.laws.specs.Calls.FamilyCalls.{family-count-refused, family-tree-refu
 use Rattle.demands.specs.Numbers.Numbers.{Gives, refuses}
 use Rattle.demands.specs.Settling.Settles.{Long}
 use Rattle.demands.specs.Sheets.Lengths.{mostMarks, kept-cells, kept-marks, Ample, no-refusal}
-use Rattle.demands.specs.Families.FamilyOutcomes.{made-answer, counted-answer, GoesOn, on-with, NumberJudged, refuses-all, no-number, has-tree, judge-number}
+use Rattle.demands.specs.Families.FamilyOutcomes.{made-answer, counted-answer, GoesOn, on-with, NumberJudged, refuses-all, no-number, has-tree}
+use Rattle.demands.specs.Families.FamilyOutcomes.{judge-number}
 use Rattle.demands.specs.Families.FamilyTables.{family-as-long}
 use Rattle.demands.specs.Families.FamilySheets.{writes-tree, tree-short}
 use Rattle.rules.specs.Calls.OpenCells.{readFull}

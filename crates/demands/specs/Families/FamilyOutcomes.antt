@@ -18,7 +18,8 @@ use Rattle.rules.specs.Calls.FamilyCalls.{countOfTable, familyNet, Counted, fam
 use Rattle.laws.specs.Lists.Tests.{by-test}
 use Rattle.laws.specs.Lists.Distinct.{In, NotIn, not-in-cons, wider}
 use Rattle.laws.specs.Calls.Settling.{WholeTwo, marksOfTable, room-fits, into-refused, into-marked, marked-16, marked-tree, make-refused, make-accepted}
-use Rattle.laws.specs.Calls.FamilyCalls.{counted-refused, counted-marked, count-17, count-tree, family-count-refused, family-count-accepted, family-tree-refused, family-tree-accepted}
+use Rattle.laws.specs.Calls.FamilyCalls.{counted-refused, counted-marked, count-17, count-tree, family-count-refused, family-count-accepted}
+use Rattle.laws.specs.Calls.FamilyCalls.{family-tree-refused, family-tree-accepted}
 use Rattle.demands.specs.Sheets.FullSheets.{fullNumbers, full-refusal}
 use Rattle.demands.specs.Numbers.Numbers.{not-given, refuses}
 use Rattle.demands.specs.Numbers.SettlingNumbers.{sheet-numbers, room-numbers}

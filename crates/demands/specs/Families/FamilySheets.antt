@@ -30,7 +30,8 @@ use Rattle.demands.specs.Sheets.FirstLines.{threeLines, three-lines}
 use Rattle.demands.specs.Settling.Settles.{sheetIn, sheetOf, Long}
 use Rattle.demands.specs.Settling.Makes.{leavesOfTable}
 use Rattle.demands.specs.Families.FamilyOutcomes.{on-with, NumberJudged, refuses-all, no-number, has-tree, judge-number}
-use Rattle.demands.specs.Families.FamilyTables.{family-kept, family-has-table, family-on-leaves, numbers-long, family-as-long, numbers-apart, number-of, numbers-on-leaves}
+use Rattle.demands.specs.Families.FamilyTables.{family-kept, family-has-table, family-on-leaves, numbers-long, family-as-long, numbers-apart}
+use Rattle.demands.specs.Families.FamilyTables.{number-of, numbers-on-leaves}
 use Rattle.rules.specs.Calls.OpenCells.{readFull}
 use Rattle.demands.specs.Sheets.FullSheets.{FullTableRules, full-accepted}
 

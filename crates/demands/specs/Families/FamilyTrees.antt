@@ -21,7 +21,8 @@ use Rattle.laws.specs.Calls.ButSheet.{ButSheet, but-none, sheets-but}
 use Rattle.demands.specs.Numbers.Numbers.{not-given, refuses}
 use Rattle.demands.specs.Numbers.SettlingNumbers.{sheet-numbers}
 use Rattle.demands.specs.Settling.Makes.{HasTree, make-refuses, two-tree}
-use Rattle.demands.specs.Families.FamilyOutcomes.{made-answer, counted-answer, judgedNumbers, TurnedBack, GoesOn, marked-leaves, sheet-leaves, NumberJudged, refuses-all, no-number, has-tree, judge-number}
+use Rattle.demands.specs.Families.FamilyOutcomes.{made-answer, counted-answer, judgedNumbers, TurnedBack, GoesOn, marked-leaves, sheet-leaves}
+use Rattle.demands.specs.Families.FamilyOutcomes.{NumberJudged, refuses-all, no-number, has-tree, judge-number}
 use Rattle.demands.specs.Families.FamilyTables.{none-counted, tree-counted, some-two, first-settled, family-as-long}
 use Rattle.demands.specs.Sheets.FullSheets.{FullTableRules, full-accepted}
 

@@ -14,8 +14,10 @@ use Rattle.rules.specs.Sheets.Sheets.{Table}
 use Rattle.rules.specs.Groups.Marks.{markIn}
 use Rattle.rules.specs.Calls.Answers.{accepted, refused}
 use Rattle.rules.specs.Calls.Settling.{madeInto, settledNet, makeCall}
-use Rattle.rules.specs.Calls.Jobs.{Job, noTable, newJob, emptyJob, groupsOf, Opened, openJob, Stepped, stepJob, further, askJob, final, notReached, finishJob, Move, step, ask, moved, afterMoves}
-use Rattle.laws.specs.Calls.Jobs.{open-refused, open-accepted, step-done, step-on, ask-empty, ask-over, ask-passed, ask-ahead, may-refused, may-22, may-on, finish-refused, finish-on}
+use Rattle.rules.specs.Calls.Jobs.{Job, noTable, newJob, emptyJob, groupsOf, Opened, openJob, Stepped, stepJob, further, askJob, final, notReached}
+use Rattle.rules.specs.Calls.Jobs.{finishJob, Move, step, ask, moved, afterMoves}
+use Rattle.laws.specs.Calls.Jobs.{open-refused, open-accepted, step-done, step-on, ask-empty, ask-over, ask-passed, ask-ahead, may-refused, may-22}
+use Rattle.laws.specs.Calls.Jobs.{may-on, finish-refused, finish-on}
 use Rattle.laws.specs.Calls.BareCells.{bare-size}
 use Rattle.laws.specs.Calls.OpenCells.{cells-kept, cells-refused}
 use Rattle.laws.specs.Calls.Settling.{marksOfTable, make-accepted}

@@ -25,7 +25,8 @@ use Rattle.rules.specs.Calls.OpenCells.{fullTable, readFull}
 use Rattle.rules.specs.Calls.Checking.{sameHeader}
 use Rattle.rules.specs.Calls.Settling.{settledNet, makeCall}
 use Rattle.rules.specs.Calls.FamilyCalls.{familyNet, familyTreeCall}
-use Rattle.rules.specs.Calls.Keeping.{gateLinks, keptGates, keptNet, roomyBefore, leavesOut, tableAt, changedGates, Keeping, rewritten, turnedAway, KeptWiring, keptInto, keepCall}
+use Rattle.rules.specs.Calls.Keeping.{gateLinks, keptGates, keptNet, roomyBefore, leavesOut, tableAt, changedGates, Keeping, rewritten, turnedAway}
+use Rattle.rules.specs.Calls.Keeping.{KeptWiring, keptInto, keepCall}
 use Rattle.laws.specs.Calls.Answers.{written-front}
 use Rattle.laws.specs.Calls.Keeping.{keep-net-refused, keep-table-refused, keep-accepted, keep-12, keep-27, keep-13, keep-23-0, keep-23, keep-15, keep-written}
 use Rattle.laws.specs.Calls.OpenCells.{read-full, read-accepted}
@@ -40,7 +41,9 @@ use Rattle.demands.specs.Settling.Settles.{sheetOf}
 use Rattle.demands.specs.Settling.Makes.{made-sheet}
 use Rattle.demands.specs.Families.FamilySheets.{tree-sheet}
 use Rattle.laws.specs.Calls.Checking.{same-header, header-same}
-use Rattle.demands.specs.Keeping.KeptNets.{FillingFor, Roomy, LeftOut, left-out, kept-inputs, crowded-exactly, kept-filling, kept-keeps, kept-has-table, kept-wiring, own-roomy, filling-roomy, kept-header, kept-twice, settled-header, settled-refilled, family-header, family-kept-own, refilled, kept-by-wiring}
+use Rattle.demands.specs.Keeping.KeptNets.{FillingFor, Roomy, LeftOut, left-out, kept-inputs, crowded-exactly, kept-filling, kept-keeps}
+use Rattle.demands.specs.Keeping.KeptNets.{kept-has-table, kept-wiring, own-roomy, filling-roomy, kept-header, kept-twice, settled-header}
+use Rattle.demands.specs.Keeping.KeptNets.{settled-refilled, family-header, family-kept-own, refilled, kept-by-wiring}
 
 -- two answers that differ
 rewritten-not : (count changed : ℕ) (named : Named) (number place : ℕ) → _≡_ {A = Keeping} (rewritten count changed) (turnedAway named number place) → ⊥

@@ -12,7 +12,8 @@ use Rattle.laws.specs.Calls.Answers.{not-refused}
 use Rattle.laws.specs.Lists.Distinct.{In, wider}
 use Rattle.demands.specs.Numbers.Numbers.{Gives, not-given, refuses}
 use Rattle.demands.specs.Numbers.SettlingNumbers.{sheet-numbers}
-use Rattle.demands.specs.Families.FamilyOutcomes.{made-answer, counted-answer, judgedNumbers, SheetJudged, turned-back, goes-on, judge, NumberJudged, refuses-all, no-number, has-tree, judge-number}
+use Rattle.demands.specs.Families.FamilyOutcomes.{made-answer, counted-answer, judgedNumbers, SheetJudged, turned-back, goes-on, judge}
+use Rattle.demands.specs.Families.FamilyOutcomes.{NumberJudged, refuses-all, no-number, has-tree, judge-number}
 
 -- those, 17 and 15
 abbrev pub familyTreeNumbers : List ℕ

@@ -35,7 +35,8 @@ agree-differ k e = let z : _≡_ {A = ℕ} 0 1 = cc in omega arith
 differ-same : (j k : ℕ) → _≡_ {A = Verdict} (differ j) (differ k) → j ≡ k
 differ-same j k e = cc
 
-module _ (s r : List ℕ) (net : Net) (t : Table) (reads-net : readNet s ≡ accepted net) (reads-table : readTable r ≡ accepted t) (header : net .header ≡ t .header)
+module _ (s r : List ℕ) (net : Net) (t : Table) (reads-net : readNet s ≡ accepted net) (reads-table : readTable r ≡ accepted t)
+    (header : net .header ≡ t .header)
     (cells : List ℕ) (long : t .header .levels ^ t .header .inputs ≤ length cells) where
   -- the inks are compared, and stand in the cells buffer whether they agree or not
   pub checked : checkCall s r cells ≡ record { answer = compared (t .header .levels) (tableOfNet net .inks) (t .inks); cells = written cells (t .inks) }

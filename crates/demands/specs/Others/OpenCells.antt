@@ -30,7 +30,8 @@ use Rattle.rules.specs.Calls.Jobs.{Job, emptyJob, Opened, openJob, mayFinish}
 use Rattle.laws.specs.Calls.Answers.{not-refused}
 use Rattle.laws.specs.Lists.Distinct.{In}
 use Rattle.laws.specs.Lists.Tests.{by-test}
-use Rattle.laws.specs.Calls.OpenCells.{Fullness, all-shut, lowest-open, fullness, some-open, cells-refused, cells-judged, FullRead, turned-back, left-open, whole, full-read, read-27}
+use Rattle.laws.specs.Calls.OpenCells.{Fullness, all-shut, lowest-open, fullness, some-open, cells-refused, cells-judged, FullRead, turned-back}
+use Rattle.laws.specs.Calls.OpenCells.{left-open, whole, full-read, read-27}
 use Rattle.laws.specs.Calls.Settling.{make-refused, make-accepted}
 use Rattle.laws.specs.Calls.ShallowSettling.{make-shallow-refused}
 use Rattle.laws.specs.Calls.FamilyCalls.{family-count-refused, family-tree-refused, family-tree-accepted}

@@ -22,7 +22,8 @@ use Rattle.demands.specs.Sheets.FullSheets.{FullTableRules}
 use Rattle.demands.specs.Settling.Makes.{two-tree}
 use Rattle.demands.specs.Families.FamilyTables.{some-two, family-as-long}
 use Rattle.demands.specs.Families.FamilySheets.{tree-accepted}
-use Rattle.demands.specs.Renaming.RenamedSheets.{Letters, lettersOf, RenamedTables, kept-one, positive, is-renamed, reads-renamed, kept-other, renamed-inks-below, inks-renamed, same-inks, same-marks, RenamedNets, nets-renamed}
+use Rattle.demands.specs.Renaming.RenamedSheets.{Letters, lettersOf, RenamedTables, kept-one, positive, is-renamed, reads-renamed, kept-other}
+use Rattle.demands.specs.Renaming.RenamedSheets.{renamed-inks-below, inks-renamed, same-inks, same-marks, RenamedNets, nets-renamed}
 use Rattle.demands.specs.Renaming.Renaming.{Enough, AlikeMade, left-marks, alike-refused, alike-written, stored-count}
 
 -- what the two count calls come to: the same answer and the same marks

@@ -34,7 +34,8 @@ use Rattle.readback.specs.Sheets.ReadBack.{net-accepted}
 use Rattle.laws.specs.Calls.Checking.{same-header, header-same}
 use Rattle.demands.specs.Keeping.KeptNets.{Roomy}
 use Rattle.demands.specs.Keeping.Keeping.{Past, kept-accepted, kept-as-long}
-use Rattle.demands.specs.Renaming.RenamedSheets.{RenamedTables, renamedTable, kept-one, kept-other, reads-renamed, renamed-inks-below, inks-renamed, RenamedNets, renamed-long, nets-renamed}
+use Rattle.demands.specs.Renaming.RenamedSheets.{RenamedTables, renamedTable, kept-one, kept-other, reads-renamed, renamed-inks-below}
+use Rattle.demands.specs.Renaming.RenamedSheets.{inks-renamed, RenamedNets, renamed-long, nets-renamed}
 
 -- What the two calls come to on the net sheet q.
 pub data AlikeKept (r : ℕ → ℕ) (q : List ℕ) (made other : KeptWiring) : Type 0 where

@@ -28,7 +28,9 @@ use Rattle.trees.specs.Shallow.ShallowTables.{shallow-kept}
 use Rattle.readback.specs.Sheets.ReadBack.{net-read-back}
 use Rattle.demands.specs.Sheets.FullSheets.{full-keeps}
 use Rattle.demands.specs.Settling.Makes.{HasTree, two-tree, made-accepted}
-use Rattle.demands.specs.Renaming.RenamedSheets.{Letters, lettersOf, RenamedTables, kept-one, positive, is-renamed, reads-renamed, kept-other, renamed-inks-below, inks-renamed, same-inks, same-marks, RenamedNets, renamed-long, nets-renamed}
+use Rattle.demands.specs.Renaming.RenamedSheets.{Letters, lettersOf, RenamedTables, kept-one, positive, is-renamed, reads-renamed, kept-other}
+use Rattle.demands.specs.Renaming.RenamedSheets.{renamed-inks-below, inks-renamed, same-inks, same-marks, RenamedNets, renamed-long}
+use Rattle.demands.specs.Renaming.RenamedSheets.{nets-renamed}
 
 -- "given long enough buffers": for the cells, for the marks, and, where there is a tree, for the sheet of the net that is made
 pub record Enough (netFor : Table → Net) (t : Table) (cells marks output : List ℕ) : Type 0 where

@@ -18,7 +18,8 @@ use Rattle.rules.specs.Sheets.SheetRules.{NetRules}
 use Rattle.rules.specs.Calls.Answers.{Answer, accepted, refused, written}
 use Rattle.rules.specs.Calls.Settling.{Made, settledNet, madeInto, settleCall}
 use Rattle.rules.specs.Sheets.Reading.{readNet, tableOfNet}
-use Rattle.laws.specs.Calls.Settling.{WholeTwo, marksOfTable, settle-accepted, into-marked, marked-tree, sheet-written, settle-refused, into-13, into-14, sheet-15}
+use Rattle.laws.specs.Calls.Settling.{WholeTwo, marksOfTable, settle-accepted, into-marked, marked-tree, sheet-written, settle-refused, into-13}
+use Rattle.laws.specs.Calls.Settling.{into-14, sheet-15}
 use Rattle.demands.specs.Sheets.FirstLines.{threeLines, three-lines, same-lines}
 use Rattle.readback.specs.Sheets.ReadBack.{net-read-back, net-accepted}
 use Rattle.readback.specs.Sheets.Length.{net-length}

@@ -13,7 +13,8 @@ use Rattle.rules.specs.Calls.Settling.{settledNet, madeInto, settleCall, makeCa
 use Rattle.rules.specs.Calls.ShallowSettling.{Layered, layeredInto, shallowNet, settleShallowCall, makeShallowCall}
 use Rattle.laws.specs.Calls.Answers.{not-refused}
 use Rattle.laws.specs.Calls.Settling.{settle-refused, settle-accepted, make-refused, make-accepted}
-use Rattle.laws.specs.Calls.ShallowSettling.{plainAnswer, plainMade, plain-into, settle-shallow-refused, settle-shallow-accepted, make-shallow-refused, make-shallow-accepted}
+use Rattle.laws.specs.Calls.ShallowSettling.{plainAnswer, plainMade, plain-into, settle-shallow-refused, settle-shallow-accepted}
+use Rattle.laws.specs.Calls.ShallowSettling.{make-shallow-refused, make-shallow-accepted}
 use Rattle.laws.specs.Calls.ButSheet.{ButSheet, but-none, into-but}
 use Rattle.readback.specs.Sheets.ReadBack.{net-accepted}
 use Rattle.trees.specs.Shallow.ShallowTables.{shallow-as-long}

@@ -26,7 +26,8 @@ use Rattle.rules.specs.Calls.TableWriting.{Written, writeTableCall}
 use Rattle.laws.specs.Lists.Distinct.{In, wider}
 use Rattle.laws.specs.Numbers.Sizes.{Size, sized, kept-size, everySize, bounded-at}
 use Rattle.laws.specs.Calls.Settling.{settle-refused, make-refused}
-use Rattle.laws.specs.Calls.Checking.{check-net-refused, check-table-refused, check-accepted, check-12, check-compared, Compared, all-agree, first-differs, comparison}
+use Rattle.laws.specs.Calls.Checking.{check-net-refused, check-table-refused, check-accepted, check-12, check-compared, Compared, all-agree}
+use Rattle.laws.specs.Calls.Checking.{first-differs, comparison}
 use Rattle.laws.specs.Calls.TableWriting.{table-refused, table-written}
 use Rattle.readback.specs.Readers.Numbers.{netNumbers, tableNumbers, net-refusal, table-refusal}
 use Rattle.readback.specs.Sheets.ReadBack.{net-accepted, table-accepted}

@@ -31,7 +31,8 @@ same-names (w ∷ ws) = rw (same-refl w, same-names ws)
 
 pub same-header : (h k : Header) → h ≡ k → sameHeader h k ≡ true
 unfolding sameHeader
-same-header h k e = subst (λ (l : Header). sameHeader h l ≡ true) e (rw (eq-eqb (h .levels) (h .levels) refl, eq-eqb (h .inputs) (h .inputs) refl, same-names (h .names)))
+same-header h k e =
+    subst (λ (l : Header). sameHeader h l ≡ true) e (rw (eq-eqb (h .levels) (h .levels) refl, eq-eqb (h .inputs) (h .inputs) refl, same-names (h .names)))
 
 names-same : (vs ws : List (List ℕ)) → sameNames vs ws ≡ true → vs ≡ ws
 unfolding sameNames

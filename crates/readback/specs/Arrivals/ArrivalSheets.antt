@@ -16,7 +16,9 @@ use Rattle.rules.specs.Sheets.Fields.{good, isSeparator}
 use Rattle.rules.specs.Sheets.Printed.{line}
 use Rattle.rules.specs.Sheets.SheetRules.{GoodNames}
 use Rattle.rules.specs.Calls.Answers.{accepted}
-use Rattle.rules.specs.Sheets.ArrivalSheet.{Arrival, arrivalOf, earliestOf, latestOf, nextName, timeField, arrivalLine, arrivalLines, arrivalSheet, readArrivals, printedArrival, printedArrivals, printedArrivalSheet, ArrivalRules, EachArrivalRules, ArrivalSheetRules}
+use Rattle.rules.specs.Sheets.ArrivalSheet.{Arrival, arrivalOf, earliestOf, latestOf, nextName, timeField, arrivalLine, arrivalLines, arrivalSheet}
+use Rattle.rules.specs.Sheets.ArrivalSheet.{readArrivals, printedArrival, printedArrivals, printedArrivalSheet, ArrivalRules, EachArrivalRules}
+use Rattle.rules.specs.Sheets.ArrivalSheet.{ArrivalSheetRules}
 use Rattle.laws.specs.Lists.Same.{same-refl, same-true}
 use Rattle.laws.specs.Nets.ArrivalEnds.{earliest-of, latest-of, kept-of, arrival-again, kept-order}
 use Rattle.laws.specs.Numbers.Digits.{decimal-value, decimal-is, is-decimal}

@@ -9,7 +9,9 @@ use native.Mathlib.Omega.{arith}
 use lib.Dec.{eqb}
 use Rattle.rules.specs.Lists.{same}
 use Rattle.rules.specs.Text.{space, text}
-use Rattle.rules.specs.Sheets.Fields.{Read, read, turnedBack, Reader, then, _>>=_, give, Judged, good, bad, Judge, judged, run, past, separator, pastSpaces, spacesIn, spaces, strict, loose, Layout, looseSeparator, separatorIn, afterFieldIn, fieldOfIn, field, fieldIn, theWord, closed}
+use Rattle.rules.specs.Sheets.Fields.{Read, read, turnedBack, Reader, then, _>>=_, give, Judged, good, bad, Judge, judged, run, past, separator}
+use Rattle.rules.specs.Sheets.Fields.{pastSpaces, spacesIn, spaces, strict, loose, Layout, looseSeparator, separatorIn, afterFieldIn, fieldOfIn}
+use Rattle.rules.specs.Sheets.Fields.{field, fieldIn, theWord, closed}
 use Rattle.rules.specs.Calls.Answers.{Answer, refused}
 use Rattle.rules.specs.Sheets.Reading.{answered}
 use Rattle.laws.specs.Lists.Distinct.{In}

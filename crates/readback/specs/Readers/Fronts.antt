@@ -13,7 +13,8 @@ use lib.ListN.{length, take, drop, length-append}
 use lib.Seq.{append-snoc, drop-at, take-append-add}
 use lib.Dec.{eqb}
 use borrow.Author.Tests.{eqb-true, eq-eqb}
-use Rattle.rules.specs.Sheets.Fields.{Read, read, turnedBack, Reader, then, _>>=_, give, Judged, good, bad, Judge, isSeparator, run, past, separator, afterField, afterFieldIn, fieldOf, fieldOfIn, field, fieldIn, closed}
+use Rattle.rules.specs.Sheets.Fields.{Read, read, turnedBack, Reader, then, _>>=_, give, Judged, good, bad, Judge, isSeparator, run, past, separator}
+use Rattle.rules.specs.Sheets.Fields.{afterField, afterFieldIn, fieldOf, fieldOfIn, field, fieldIn, closed}
 use Rattle.laws.specs.Lists.Runs.{fieldEnd, at-separator, at-plain, run-past}
 use Rattle.readback.specs.Readers.Spells.{not-read}
 

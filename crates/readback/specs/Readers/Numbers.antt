@@ -11,13 +11,15 @@ use Rattle.rules.specs.Lists.{all, any, same}
 use Rattle.rules.specs.Text.{space, newline, digitByte, isDigit}
 use Rattle.rules.specs.Limits.{levelsFit, cellsFit}
 use Rattle.rules.specs.Sheets.Fields.{Read, read, turnedBack, Judged, bad, judged, strict, loose, Layout, theWord}
-use Rattle.rules.specs.Sheets.Sheets.{levelsField, inputsOf, inputsField, isName, nameField, referenceOf, referenceField, digitsField, netSheet, levelField, inkField, tableSheet}
+use Rattle.rules.specs.Sheets.Sheets.{levelsField, inputsOf, inputsField, isName, nameField, referenceOf, referenceField, digitsField, netSheet}
+use Rattle.rules.specs.Sheets.Sheets.{levelField, inkField, tableSheet}
 use Rattle.rules.specs.Sheets.LooseSheet.{Row, anyLevel, indexFields, isOf, notGiven, rowFrom, looseRows, looseSheet, readLoose}
 use Rattle.rules.specs.Sheets.Reading.{readNet, readTable}
 use Rattle.readback.specs.Readers.Spells.{not-read}
 use Rattle.laws.specs.Lists.Distinct.{In}
 use Rattle.laws.specs.Nets.Inks.{field-bad}
-use Rattle.readback.specs.Readers.Among.{Among, AmongJudge, Refuses, named-bad, named-turned, test-bad, among-give, among-then, among-field-in, among-word, among-closed, among-answer}
+use Rattle.readback.specs.Readers.Among.{Among, AmongJudge, Refuses, named-bad, named-turned, test-bad, among-give, among-then, among-field-in}
+use Rattle.readback.specs.Readers.Among.{among-word, among-closed, among-answer}
 use Rattle.readback.specs.Readers.Ends.{among-or-end, among-used}
 use Rattle.readback.specs.Nets.NetSheets.{netToEnd}
 use Rattle.readback.specs.Readers.Walks.{Compositional, FirstJudges, among-composes, header-walk, to-end-walk, net-walk, table-walk}

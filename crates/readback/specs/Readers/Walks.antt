@@ -7,7 +7,9 @@ use mathlib.Core.List.{List, [], _∷_, _++_}
 use lib.ListN.{length}
 use Rattle.rules.specs.Text.{space, newline}
 use Rattle.rules.specs.Sheets.Fields.{Reader, _>>=_, give, Judge, Layout, strict, fieldIn, theWord, closed}
-use Rattle.rules.specs.Sheets.Sheets.{Gate, levelsField, inputsField, nameField, nameFieldsIn, headerLinesIn, referenceField, digitsField, usedBy, gateLine, orEnd, gateLines, allUsed, netSheet, levelsAt, levelField, inkField, levelFields, rowLines, tableSheet}
+use Rattle.rules.specs.Sheets.Sheets.{Gate, levelsField, inputsField, nameField, nameFieldsIn, headerLinesIn, referenceField, digitsField, usedBy}
+use Rattle.rules.specs.Sheets.Sheets.{gateLine, orEnd, gateLines, allUsed, netSheet, levelsAt, levelField, inkField, levelFields, rowLines}
+use Rattle.rules.specs.Sheets.Sheets.{tableSheet}
 use Rattle.rules.specs.Sheets.ArrivalSheet.{Arrival, nextName, timeField, arrivalLine, arrivalLines, arrivalSheet}
 use Rattle.laws.specs.Lists.Distinct.{In}
 use Rattle.readback.specs.Readers.Among.{AmongJudge, Among, among-give, among-then, among-field-in}

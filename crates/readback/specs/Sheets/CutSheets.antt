@@ -19,7 +19,9 @@ use Rattle.rules.specs.Lists.{all, any, same}
 use Rattle.rules.specs.Text.{space, newline, text, digitByte, isDigit}
 use Rattle.rules.specs.Limits.{cellsFit, mostLevels, mostInputs}
 use Rattle.rules.specs.Sheets.Fields.{Read, read, turnedBack, Reader, then, _>>=_, give, Judged, good, bad, judged, strict, run, field, theWord, closed}
-use Rattle.rules.specs.Sheets.Sheets.{Header, Gate, Net, levelsField, inputsOf, inputsField, isName, nameField, nameFields, nameFieldsIn, headerLines, headerLinesIn, referenceText, referenceOf, referenceField, digitsField, usedBy, gateLine, orEnd, gateLines, allUsed, netSheet, levelsAt, levelField, inkField, levelFields, rowLines, tableSheet}
+use Rattle.rules.specs.Sheets.Sheets.{Header, Gate, Net, levelsField, inputsOf, inputsField, isName, nameField, nameFields, nameFieldsIn}
+use Rattle.rules.specs.Sheets.Sheets.{headerLines, headerLinesIn, referenceText, referenceOf, referenceField, digitsField, usedBy, gateLine, orEnd}
+use Rattle.rules.specs.Sheets.Sheets.{gateLines, allUsed, netSheet, levelsAt, levelField, inkField, levelFields, rowLines, tableSheet}
 use Rattle.rules.specs.Sheets.SheetRules.{GoodNames, HeaderRules}
 use Rattle.rules.specs.Calls.Answers.{Answer, accepted, refused}
 use Rattle.rules.specs.Sheets.Reading.{answered, readNet, readTable}
@@ -38,7 +40,9 @@ use Rattle.readback.specs.Readers.Collects.{then-then}
 use Rattle.readback.specs.Readers.Ends.{used-read, used-turned}
 use Rattle.readback.specs.Sheets.Length.{reference-length}
 use Rattle.readback.specs.Readers.Walks.{Compositional, AnyJudge, any-first, names-walk, header-walk, levels-walk, rows-walk, gate-walk}
-use Rattle.readback.specs.Readers.Cuts.{Goes, Stopped, at-end, late-end, before, Firm, Shuts, Takes, goes-give, firm-give, takes-give, goes-then, firm-then, takes-then, shuts-then, takes-more, firm-more, Stays, Narrow, goes-field, field-good, firm-field, firm-step, takes-step, firm-end, shuts-end}
+use Rattle.readback.specs.Readers.Cuts.{Goes, Stopped, at-end, late-end, before, Firm, Shuts, Takes, goes-give, firm-give, takes-give}
+use Rattle.readback.specs.Readers.Cuts.{goes-then, firm-then, takes-then, shuts-then, takes-more, firm-more, Stays, Narrow, goes-field}
+use Rattle.readback.specs.Readers.Cuts.{field-good, firm-field, firm-step, takes-step, firm-end, shuts-end}
 
 -- ---- the judges
 

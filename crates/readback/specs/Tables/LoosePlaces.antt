@@ -10,7 +10,8 @@ use lib.ListN.{length, length-append}
 use lib.Dec.{eqb}
 use Rattle.rules.specs.Lists.{any}
 use Rattle.rules.specs.Text.{space, newline}
-use Rattle.rules.specs.Sheets.Fields.{Read, read, turnedBack, Reader, then, _>>=_, give, Judged, good, bad, Judge, run, past, separator, pastSpaces, spacesIn, spaces, loose, looseSeparator, afterFieldIn, fieldOfIn, fieldIn, theWord, closed}
+use Rattle.rules.specs.Sheets.Fields.{Read, read, turnedBack, Reader, then, _>>=_, give, Judged, good, bad, Judge, run, past, separator, pastSpaces}
+use Rattle.rules.specs.Sheets.Fields.{spacesIn, spaces, loose, looseSeparator, afterFieldIn, fieldOfIn, fieldIn, theWord, closed}
 use Rattle.rules.specs.Sheets.Sheets.{levelsField, inputsField, nameField, nameFieldsIn, headerLinesIn, inkField}
 use Rattle.rules.specs.Calls.Answers.{refused}
 use Rattle.rules.specs.Sheets.Reading.{answered}

@@ -14,7 +14,8 @@ use Rattle.rules.specs.Text.{space, newline, text, digitByte, decimal}
 use Rattle.rules.specs.Sheets.Fields.{Read, Reader, read, turnedBack, _>>=_, give, isSeparator, loose, fieldIn}
 use Rattle.rules.specs.Sheets.Sheets.{Header, isName, nameField, nameFieldsIn, headerLinesIn, inkByte, levelsAt}
 use Rattle.rules.specs.Sheets.SheetRules.{GoodNames, Distinct, HeaderRules}
-use Rattle.rules.specs.Sheets.LooseSheet.{Row, LooseTable, indexFields, isOf, notGiven, rowFrom, looseRows, looseSheet, blanks, LooseLine, LooseLines, rowFields, looseFields, EachRow, IsLoose}
+use Rattle.rules.specs.Sheets.LooseSheet.{Row, LooseTable, indexFields, isOf, notGiven, rowFrom, looseRows, looseSheet, blanks, LooseLine}
+use Rattle.rules.specs.Sheets.LooseSheet.{LooseLines, rowFields, looseFields, EachRow, IsLoose}
 use Rattle.rules.specs.Sheets.LooseSheet.{readLoose}
 use Rattle.rules.specs.Calls.Answers.{accepted}
 use Rattle.readback.specs.Sheets.ReadBack.{whole-back, whole-only}

@@ -18,7 +18,8 @@ use Rattle.rules.specs.Sheets.Printed.{line, firstLines, printedRow, printedRow
 use Rattle.rules.specs.Sheets.SheetRules.{Distinct, TableRules}
 use Rattle.rules.specs.Calls.Answers.{accepted}
 use Rattle.rules.specs.Sheets.Reading.{readTable}
-use Rattle.rules.specs.Sheets.LooseSheet.{Row, LooseTable, inkNamed, tableOfLoose, blanks, LooseLine, LooseLines, rowFields, looseFields, EachRow, LooseRules, IsLoose, readLoose}
+use Rattle.rules.specs.Sheets.LooseSheet.{Row, LooseTable, inkNamed, tableOfLoose, blanks, LooseLine, LooseLines, rowFields, looseFields, EachRow}
+use Rattle.rules.specs.Sheets.LooseSheet.{LooseRules, IsLoose, readLoose}
 use Rattle.laws.specs.Lists.Counts.{times-range}
 use Rattle.laws.specs.Lists.Distinct.{In, NotIn, not-in-cons, times-distinct, all-stand}
 use Rattle.laws.specs.Lists.Ranges.{map-range-length, map-range-at}

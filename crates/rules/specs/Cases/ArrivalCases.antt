@@ -56,7 +56,8 @@ three = "levels inputs/2 3/a b c/left right table/b c 0110/a 1 0110/"
 
 -- a and b pass all ten gates
 abbrev pub tenGates : String
-tenGates = "levels inputs/2 11/a b c d e f g h i j k/left right table/a b 0110/1 c 0110/2 d 0110/3 e 0110/4 f 0110/5 g 0110/6 h 0110/7 i 0110/8 j 0110/9 k 0110/"
+tenGates =
+    "levels inputs/2 11/a b c d e f g h i j k/left right table/a b 0110/1 c 0110/2 d 0110/3 e 0110/4 f 0110/5 g 0110/6 h 0110/7 i 0110/8 j 0110/9 k 0110/"
 
 -- every input at any time
 abbrev pub wide : String

@@ -254,7 +254,9 @@ module _ (same : ℕ → ℕ → Bool) (own : (p : ℕ) → same p p ≡ true) (
 
   -- What `firsts` keeps of a list is one element of each class, in the order in which they first appear.
   firsts-by-appearance : (ps : List ℕ) → ByAppearance same ps (firsts same [] ps)
-  firsts-by-appearance ps = firsts-on [] [] ps (record { all-listed = λ p h. h; appears = λ i h. absurd (omega arith); first = λ i h. absurd (omega arith); order = λ i j h k. absurd (omega arith) })
+  firsts-by-appearance ps =
+      firsts-on [] [] ps
+      (record { all-listed = λ p h. h; appears = λ i h. absurd (omega arith); first = λ i h. absurd (omega arith); order = λ i j h k. absurd (omega arith) })
 
 -- two assignments are alike over a list of others exactly when the ink is the same with each
 alike-cons : (f : ℕ → ℕ) (y : ℕ) (ys : List ℕ) (p q : ℕ) → (alikeOver f (y ∷ ys) p q ≡ true) ↔ ((f (p + y) ≡ f (q + y)) × (alikeOver f ys p q ≡ true))
@@ -285,4 +287,5 @@ alike-chain f (y ∷ ys) p q r a b =
 pub classes-by-appearance : (m n : ℕ) (f : ℕ → ℕ) (g : ℕ) → ByAppearance (alike m n f g) (points m n g) (classes m n f g)
 unfolding classes alike
 classes-by-appearance m n f g =
-    firsts-by-appearance (alikeOver f (points m n (others n g))) (alike-own f (points m n (others n g))) (alike-chain f (points m n (others n g))) (points m n g)
+    firsts-by-appearance (alikeOver f (points m n (others n g))) (alike-own f (points m n (others n g))) (alike-chain f (points m n (others n g)))
+    (points m n g)

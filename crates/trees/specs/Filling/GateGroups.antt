@@ -5,7 +5,8 @@ use Prim.Native.Nat.{ℕ, _+_, _-_, _≤_, _<_}
 use mathlib.Core.Path.{_≡_, refl, sym, ap, ap₂, _∙_, subst}
 use mathlib.Core.Logic.{_↔_, ⊎-elim}
 use mathlib.Core.Bool.{true≢false}
-use mathlib.Core.List.{List, [], _∷_, _++_, append-assoc, append-nil, List·Memᴰ, List·Memᴰ·head, List·Memᴰ·append-cases, List·Memᴰ·eq-of-singleton, List·Memᴰ·not-nil, Memᴰ·append-left, Memᴰ·append-right}
+use mathlib.Core.List.{List, [], _∷_, _++_, append-assoc, append-nil, List·Memᴰ, List·Memᴰ·head, List·Memᴰ·append-cases, List·Memᴰ·eq-of-singleton}
+use mathlib.Core.List.{List·Memᴰ·not-nil, Memᴰ·append-left, Memᴰ·append-right}
 use native.Mathlib.Omega.{arith}
 use native.Mathlib.Decide.{decLt, ℕ-discrete}
 use lib.ListN.{length, List·getD-append}
@@ -31,7 +32,8 @@ use Rattle.trees.specs.Trees.NetTree.{net-tree, netWiring, netGroup}
 use Rattle.trees.specs.Trees.UsedOnce.{net-gates}
 use Rattle.trees.specs.Filling.Fillings.{linkGroup, withGroups, ownLink, Grouped, inputs-grouped, grouped-after, groupsAfter, left-group, right-group}
 use Rattle.trees.specs.Filling.GateLinks.{treeGroup, groupsIn, group-at, groups-joined, inputs-in}
-use Rattle.trees.specs.Families.NormalWirings.{groupsJoined, Joins, SameGates, joins-left, joins-right, joins-own, joins-cases, joins-none, joined-leaves, turned-same, same-turned}
+use Rattle.trees.specs.Families.NormalWirings.{groupsJoined, Joins, SameGates, joins-left, joins-right, joins-own, joins-cases, joins-none}
+use Rattle.trees.specs.Families.NormalWirings.{joined-leaves, turned-same, same-turned}
 
 -- ---- a wiring's links, filled
 
@@ -66,7 +68,8 @@ wiring-groups n before groups (gate a b) once grouped =
     link-groups-append groups (of-a ++ of-b) (own ∷ [])
     ∙ ap₂ (λ (xs ys : List ℕ). xs ++ ys)
     (link-groups-append groups of-a of-b
-    ∙ ap₂ (λ (xs ys : List ℕ). xs ++ ys) (wiring-groups n before groups a (once .1) grouped) (wiring-groups n mid (groupsAfter n groups before a) b (once .2) after))
+    ∙ ap₂ (λ (xs ys : List ℕ). xs ++ ys) (wiring-groups n before groups a (once .1) grouped)
+    (wiring-groups n mid (groupsAfter n groups before a) b (once .2) after))
     (ap (λ (gs : List ℕ). linkGroup gs own ∷ []) (with-each-append linkGroup groups of-a of-b)
     ∙ ap₂ (λ (x y : ℕ). (x + y) ∷ []) (left-group n before groups a b once grouped) (right-group n before groups a b once grouped))
 

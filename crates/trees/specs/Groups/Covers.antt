@@ -4,7 +4,8 @@
 use Prim.Native.Nat.{ℕ, zero, suc, _+_, _-_, _*_, _/_, _%_, _^_, _≤_, _<_}
 use mathlib.Core.Path.{_≡_, refl, sym, ap, ap₂, _∙_, subst, subst⁻¹}
 use mathlib.Core.Bool.{Bool, true, false, cond, _&&_, true≢false}
-use native.Mathlib.Nat.{add-comm, add-zero, zero-add, sub-self, mul-comm, mul-assoc, mul-one, zero-mul, pow-zero, pow-suc, one-le-pow, le-refl, le-step, mod-lt, mod-eq-of-lt, mul-div-cancel, div-lt-iff-lt-mul}
+use native.Mathlib.Nat.{add-comm, add-zero, zero-add, sub-self, mul-comm, mul-assoc, mul-one, zero-mul, pow-zero, pow-suc, one-le-pow, le-refl}
+use native.Mathlib.Nat.{le-step, mod-lt, mod-eq-of-lt, mul-div-cancel, div-lt-iff-lt-mul}
 use native.Mathlib.Decide.{decLt}
 use native.Mathlib.Omega.{arith}
 use lib.Arith.{digits-lt, digits-div, digits-mod, sub-sub-self}

@@ -21,7 +21,8 @@ use Rattle.rules.specs.Nets.Leaves.{matters, leavesOf}
 use Rattle.laws.specs.Lists.Tests.{not-true-false, or-false-iff}
 use Rattle.trees.specs.Trees.Trees.{WiringOf, EachGate, mix}
 use Rattle.rules.specs.Nets.Trees.{Apart, EachOnce}
-use Rattle.trees.specs.Groups.Members.{member-ext, member-zero, member-single, member-join, member-rest, member-whole, member-inside, inside-member, inside-join, inside-le, first-member, single-below, join-below, whole-below, size-single}
+use Rattle.trees.specs.Groups.Members.{member-ext, member-zero, member-single, member-join, member-rest, member-whole, member-inside}
+use Rattle.trees.specs.Groups.Members.{inside-member, inside-join, inside-le, first-member, single-below, join-below, whole-below, size-single}
 use Rattle.trees.specs.Groups.Levels.{level-mix-in, level-mix-out, mix-below}
 use Rattle.trees.specs.Groups.Classes.{Few, class-below, class-alike, few-classes}
 use Rattle.trees.specs.Trees.Wirings.{group-below}

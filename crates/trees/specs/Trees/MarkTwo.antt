@@ -21,7 +21,8 @@ use Rattle.trees.specs.Trees.Trees.{WiringOf, EachGate}
 use Rattle.rules.specs.Nets.Trees.{EachOnce}
 use Rattle.trees.specs.Groups.Classes.{Few}
 use Rattle.trees.specs.Trees.Wirings.{group-below}
-use Rattle.trees.specs.Groups.Members.{member-join, member-rest, inside-member, member-inside, first-member, size-zero, size-single, size-one, size-join, size-pos, size-le, rest-apart}
+use Rattle.trees.specs.Groups.Members.{member-join, member-rest, inside-member, member-inside, first-member, size-zero, size-single, size-one}
+use Rattle.trees.specs.Groups.Members.{size-join, size-pos, size-le, rest-apart}
 use Rattle.trees.specs.Groups.MarkRule.{PartsIntoTwos, parts-at-holds, parts-found, parts-swap, Way, to-none, to-two, to-one, marked, way, three-way}
 
 -- the test for document 01's A: a part of mark 2 with a rest of mark 2, that holds the first-listed input

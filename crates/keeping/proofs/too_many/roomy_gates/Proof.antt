@@ -15,7 +15,8 @@ use Rattle.nets.specs.declared.forms.Net.{Net}
 use Rattle.nets.specs.Room.{mostWires}
 use Rattle.nets.specs.Sound.{Sound, sound-size}
 use Rattle.nets.specs.References.{GateStep, gate-step}
-use Rattle.keeping.specs.Groups.{GroupsTo, RoomyTo, gateGroupAt, groups-none, keeping-group-below, next-group, groups-next, roomy-next, first-crowded, none-crowded}
+use Rattle.keeping.specs.Groups.{GroupsTo, RoomyTo, gateGroupAt, groups-none, keeping-group-below, next-group, groups-next, roomy-next}
+use Rattle.keeping.specs.Groups.{first-crowded, none-crowded}
 use Rattle.keeping.proofs.too_many.roomy_gates.Statement.{statement}
 use Rattle.keeping.proofs.too_many.roomy_gates.Tie as tie
 

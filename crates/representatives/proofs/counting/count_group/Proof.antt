@@ -9,7 +9,8 @@ use Rattle.rules.specs.Calls.Answers.{inkIn}
 use Rattle.rules.specs.Nets.Trees.{Apart}
 use Rattle.radix.specs.Parts.{part-inside, part-apart}
 use Rattle.representatives.specs.Counting.{front-listed}
-use Rattle.representatives.specs.Working.{step-level, step-own-places, step-covering, step-cover, step-before-counted, step-run, step-columns, step-columns-listed, step-judged}
+use Rattle.representatives.specs.Working.{step-level, step-own-places, step-covering, step-cover, step-before-counted, step-run, step-columns}
+use Rattle.representatives.specs.Working.{step-columns-listed, step-judged}
 use borrow.Author.Needs.{needs}
 use Rattle.representatives.proofs.counting.count_group.Statement.{statement}
 use Rattle.representatives.proofs.counting.count_group.Tie as tie

@@ -18,7 +18,8 @@ use Rattle.trees.specs.Families.FamilyCounts.{groupTrees, splitCounted, no-part
 use Rattle.trees.specs.Families.FamilyBounds.{group-trees-fit}
 use Rattle.radix.specs.Parts.{PartOf, Next}
 use Rattle.radix.specs.Widths.{groupsEnd}
-use Rattle.tree_counts.specs.Counts.{CountsKnown, Countable, Splittable, splittable-sizes, one-kept, smaller, split-none, split-fits, product-fits, product-split}
+use Rattle.tree_counts.specs.Counts.{CountsKnown, Countable, Splittable, splittable-sizes, one-kept, smaller, split-none, split-fits}
+use Rattle.tree_counts.specs.Counts.{product-fits, product-split}
 use Rattle.tree_counts.specs.Walking.{Passed, passed-none, passed-next, looked, Summed, summed-none, summed-next, summed-all, summed-most}
 use borrow.Fn.Kinds.{In}
 use borrow.Fn.PlainCycle.{Measures, is, falls, and}

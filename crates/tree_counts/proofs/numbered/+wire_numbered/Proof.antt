@@ -12,7 +12,8 @@ use Rattle.trees.specs.Groups.Members.{size-one}
 use Rattle.rules.specs.Nets.Family.{splitsOf, numberedAt}
 use Rattle.trees.specs.Families.FamilyCounts.{groupTrees, splitCounted, counted-two}
 use Rattle.tree_counts.specs.Counts.{Countable, smaller}
-use Rattle.tree_counts.specs.Numbered.{InCount, NumberWired, numbered-single, tree-count-part-less, tree-count-part-sizes, count-some, left-in, right-in, numbered-several}
+use Rattle.tree_counts.specs.Numbered.{InCount, NumberWired, numbered-single, tree-count-part-less, tree-count-part-sizes, count-some, left-in}
+use Rattle.tree_counts.specs.Numbered.{right-in, numbered-several}
 use borrow.Fn.Kinds.{In}
 use borrow.Fn.PlainCycle.{Measures, is, falls, and}
 use Rattle.tree_counts.proofs.numbered.wire_numbered.Reads as wire-numbered
