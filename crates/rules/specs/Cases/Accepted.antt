@@ -33,7 +33,7 @@ use Rattle.rules.specs.Cases.Cases.{gateCount}
 use Rattle.rules.specs.Cases.ArrivalCases.{bitsIn}
 use Rattle.rules.specs.Cases.GlyphCases.{signedFrom, signed}
 use Rattle.rules.specs.Cases.Refusals.{jobStepped}
-use Rattle.rules.specs.Cases.Written.{AllHold, paper, digits, nines, letterNames, writing}
+use Rattle.rules.specs.Cases.Written.{_also_, AllHold, paper, digits, nines, letterNames, writing}
 use Rattle.rules.specs.Evaluation.{computing}
 
 -- ---- what a case says
@@ -230,100 +230,8 @@ acceptedCases =
 
 pub accepted-hold : AllHold AnswersAs acceptedCases
 unfolding computing writing toBits lent held gateCount bitsIn signedFrom signed jobStepped
-accepted-hold = (
-  refl,
-  (
-    refl,
-    (
-      refl,
-      (
-        refl,
-        (
-          refl,
-          (
-            refl,
-            (
-              refl,
-              (
-                refl,
-                (
-                  refl,
-                  (
-                    refl,
-                    (
-                      refl,
-                      (
-                        refl,
-                        (
-                          refl,
-                          (
-                            refl,
-                            (
-                              refl,
-                              (
-                                refl,
-                                (
-                                  refl,
-                                  (
-                                    refl,
-                                    (
-                                      refl,
-                                      (
-                                        refl,
-                                        (
-                                          refl,
-                                          (
-                                            refl,
-                                            (
-                                              refl,
-                                              (
-                                                refl,
-                                                (
-                                                  refl,
-                                                  (
-                                                    refl,
-                                                    (
-                                                      refl,
-                                                      (
-                                                        refl,
-                                                        (
-                                                          refl,
-                                                          (
-                                                            refl,
-                                                            (
-                                                              refl,
-                                                              (
-                                                                refl,
-                                                                (refl, (refl, (refl, (refl, (refl, (refl, (refl, (refl, (refl, (refl, (refl, (refl, (refl, (refl, (refl, (refl, tt)))))))))))))))),
-                                                              ),
-                                                            ),
-                                                          ),
-                                                        ),
-                                                      ),
-                                                    ),
-                                                  ),
-                                                ),
-                                              ),
-                                            ),
-                                          ),
-                                        ),
-                                      ),
-                                    ),
-                                  ),
-                                ),
-                              ),
-                            ),
-                          ),
-                        ),
-                      ),
-                    ),
-                  ),
-                ),
-              ),
-            ),
-          ),
-        ),
-      ),
-    ),
-  ),
-)
+accepted-hold =
+    refl also refl also refl also refl also refl also refl also refl also refl also refl also refl also refl also refl also refl also refl also refl
+    also refl also refl also refl also refl also refl also refl also refl also refl also refl also refl also refl also refl also refl also refl
+    also refl also refl also refl also refl also refl also refl also refl also refl also refl also refl also refl also refl also refl also refl
+    also refl also refl also refl also refl also refl also tt

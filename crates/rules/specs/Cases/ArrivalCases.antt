@@ -10,7 +10,7 @@ use Rattle.rules.specs.Calls.Answers.{Answer, accepted, onward}
 use Rattle.rules.specs.Sheets.Reading.{readNet}
 use Rattle.rules.specs.Sheets.ArrivalSheet.{readArrivals}
 use Rattle.rules.specs.Nets.Arrivals.{Timing, settles, netRefused, arrivalsRefused, quarter, earliestSettling, latestSettling, arrivalsCall}
-use Rattle.rules.specs.Cases.Written.{AllHold, paper, writing}
+use Rattle.rules.specs.Cases.Written.{_also_, AllHold, paper, writing}
 use Rattle.rules.specs.Evaluation.{computing}
 
 -- ---- what a case says
@@ -97,4 +97,5 @@ arrivalCases =
 pub arrival-cases-hold : AllHold ArrivalHolds arrivalCases
 unfolding computing writing toBits quartersIn bitsIn
 arrival-cases-hold =
-    (refl, (refl, (refl, (refl, (refl, (refl, (refl, (refl, (refl, (refl, (refl, (λ _. refl, (λ _. refl, (λ _. refl, (λ _. refl, (λ _. refl, tt))))))))))))))))
+    refl also refl also refl also refl also refl also refl also refl also refl also refl also refl also refl also (λ _. refl) also (λ _. refl)
+    also (λ _. refl) also (λ _. refl) also (λ _. refl) also tt

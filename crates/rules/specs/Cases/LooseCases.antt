@@ -10,7 +10,7 @@ use Rattle.rules.specs.Text.{text}
 use Rattle.rules.specs.Calls.Answers.{accepted, refused, written}
 use Rattle.rules.specs.Sheets.LooseSheet.{readLoose}
 use Rattle.rules.specs.Calls.Tidying.{tidyCall}
-use Rattle.rules.specs.Cases.Written.{AllHold, paper, digits, nines, writing}
+use Rattle.rules.specs.Cases.Written.{_also_, AllHold, paper, digits, nines, writing}
 use Rattle.rules.specs.Evaluation.{computing}
 
 -- what a case may say
@@ -73,28 +73,6 @@ looseCases =
 
 pub loose-cases-hold : AllHold LooseHolds looseCases
 unfolding computing writing
-loose-cases-hold = (
-  refl,
-  (
-    refl,
-    (
-      refl,
-      (
-        refl,
-        (
-          refl,
-          (
-            refl,
-            (
-              refl,
-              (
-                refl,
-                (refl, (refl, (refl, (refl, (refl, (refl, (refl, (refl, (refl, (refl, (refl, (refl, (refl, (refl, (refl, (refl, tt)))))))))))))))),
-              ),
-            ),
-          ),
-        ),
-      ),
-    ),
-  ),
-)
+loose-cases-hold =
+    refl also refl also refl also refl also refl also refl also refl also refl also refl also refl also refl also refl also refl also refl also refl
+    also refl also refl also refl also refl also refl also refl also refl also refl also refl also tt
