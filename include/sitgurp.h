@@ -169,7 +169,7 @@ typedef struct sitgurp_job {
     size_t passed;
 } sitgurp_job;
 
-/* kind 0: value is the group's mark; 1: the group is not reached, and value is 0; 2: refused with 11 at place value */
+/* kind 0: value is the group's mark; 1: the group is not reached, and value is 0; otherwise kind is SITGURP_REFUSED_GROUP (11), and value its place */
 typedef struct sitgurp_mark {
     size_t kind;
     size_t value;

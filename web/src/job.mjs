@@ -1,7 +1,6 @@
 // Marking as a job: one group per step, so that its caller can do other things in between.
 
 import { textOf } from './bytes.mjs';
-import { Kind } from './kind.mjs';
 import { JOB_LINES, JOB_MARKS, MOST_CELLS, MOST_MARKS, MOST_NET_SHEET } from './limits.mjs';
 import { isRefusal, Refusal } from './refusal.mjs';
 
@@ -67,7 +66,7 @@ export class Job {
 
   mark(group) {
     const [kind, value] = this.#sitgurp.calls.call('job_mark_parts', this.#lines, this.#marks, this.passed, group).map(Number);
-    if (kind === 2) return new Refusal(Kind.Group, value, 'neither', new Uint8Array());
+    if (kind > 1) return new Refusal(kind, value, 'neither', new Uint8Array());
     return kind === 0 ? value : null;
   }
 

@@ -97,6 +97,6 @@ export function numberOf(name, answer) {
   if (name === 'check') return answer[0] === 2n ? Number(answer[2]) : 0;
   if (name === 'keep' || name === 'arrivals') return Number(answer[1]);
   if (name === 'gate_line') return answer[0] === 2n ? Number(answer[1]) : 0;
-  if (name === 'job_mark_parts') return answer[0] === 2n ? 11 : 0;
+  if (name === 'job_mark_parts') return answer[0] > 1n ? Number(answer[0]) : 0;
   return Number(answer[0]);
 }

@@ -12,8 +12,8 @@ use Rattle.rules.specs.Sheets.SheetRules.{NetRules, TableRules, FullTable, IsNe
 use Rattle.rules.specs.Nets.Value.{tableOf}
 use Rattle.rules.specs.Calls.Answers.{accepted, refused}
 use Rattle.rules.specs.Sheets.Reading.{readNet, readTable, tableOfNet}
-use Rattle.rules.specs.Calls.OpenCells.{full, fullTable, readFull}
-use Rattle.laws.specs.Calls.OpenCells.{read-full, read-accepted, table-full}
+use Rattle.rules.specs.Calls.OpenCells.{readFull}
+use Rattle.laws.specs.Calls.OpenCells.{read-accepted, table-full}
 use Rattle.laws.specs.Numbers.Sizes.{Size, sized}
 use Rattle.trees.specs.Trees.Uniqueness.{net-table-length}
 use Rattle.nets.specs.declared.forms.Header.{Header}
@@ -86,11 +86,6 @@ module _ (s cells : List ℕ) (r : TableRead) (read : FullReads s cells r) where
   pub read-full-refused : (number place : ℕ) → r .outcome ≡ Refused number place → readFull s ≡ refused number place
   read-full-refused number place e = sym (read .answer) ∙ ap (outcomeAs (tableIn s (r .header) (inksIn cells (r .header)))) e
 
--- a table sheet whose cells are judged full
-pub taken-full : (s : List ℕ) (h : Header) (cells : List ℕ) → TableTaken s h cells → full (h .levels) (inksIn cells h) ≡ accepted tt → FullTaken s h cells
-unfolding fullTable headerOf
-taken-full s h cells taken on = record { reads = read-full s (tableIn s h (inksIn cells h)) (taken .reads) on; header = taken .header }
-
 -- ---- what the calls ask
 
 module _ (s : List ℕ) (h : Header) (held : HeaderHeld s h) where
@@ -157,12 +152,17 @@ module _ (s : List ℕ) (h : Header) (cells : List ℕ) (count : ℕ) (is : coun
   pub inks-table : tableIn s h (take (count - 0) cells) ≡ tableIn s h (inksIn cells h)
   inks-table = ap (tableIn s h) inks-front
 
-  pub inks-kept : TableTaken s h cells → TableRules (tableIn s h (take (count - 0) cells))
-  inks-kept taken = subst⁻¹ TableRules inks-table (table-accepted s (tableIn s h (inksIn cells h)) (taken .reads) .1)
+  -- the names may be those of another sheet with the same header
+  module _ (sheet : List ℕ) where
+    pub inks-kept : readTable sheet ≡ accepted (tableIn s h (inksIn cells h)) → TableRules (tableIn s h (take (count - 0) cells))
+    inks-kept reads = subst⁻¹ TableRules inks-table (table-accepted sheet (tableIn s h (inksIn cells h)) reads .1)
+
+    pub inks-full : readFull sheet ≡ accepted (tableIn s h (inksIn cells h)) → HeaderHeld s h → Given s h (take (count - 0) cells)
+    inks-full full-reads held =
+        let t = tableIn s h (inksIn cells h) in
+        let (reads, on) = read-accepted sheet t full-reads in
+        let keeps = table-accepted sheet t reads .1 in
+        record { names = names-inside s h held; kept = inks-kept reads; full = subst⁻¹ FullTable inks-table (table-full t keeps on) }
 
   pub inks-given : FullTaken s h cells → Given s h (take (count - 0) cells)
-  inks-given taken =
-      let t = tableIn s h (inksIn cells h) in
-      let (reads, on) = read-accepted s t (taken .reads) in
-      let keeps = table-accepted s t reads .1 in
-      record { names = names-inside s h (taken .header); kept = subst⁻¹ TableRules inks-table keeps; full = subst⁻¹ FullTable inks-table (table-full t keeps on) }
+  inks-given taken = inks-full s (taken .reads) (taken .header)

@@ -1,1 +1,2 @@
-// What reading a sheet gives a call that works on it, in specs/. This crate has no code.
+// What reading a sheet gives a call that works on it, in specs/; and the two sheets of a call, read and compared.
+pub mod both;

@@ -10,7 +10,7 @@ use native.Mathlib.Omega.{arith}
 use lib.ListN.{length, getD, set, length-set, List·getD-append, List·getD-eq-default}
 use lib.Ieee.{Float}
 use lib.Seq.{getD-set-same, getD-set-other, getD-at}
-use Rattle.rules.specs.Lists.{range}
+use Rattle.rules.specs.Lists.{range, withEach}
 use Rattle.rules.specs.Limits.{mostInputs, mostTime, mostDelay}
 use Rattle.rules.specs.Sheets.ArrivalSheet.{Arrival, arrivalOf, earliestOf, latestOf}
 use Rattle.rules.specs.Nets.Arrivals.{settlingTime, quarter}
@@ -19,11 +19,12 @@ use Rattle.laws.specs.Lists.Concat.{map-same}
 use Rattle.laws.specs.Lists.Places.{length-snoc}
 use Rattle.laws.specs.Numbers.Quarters.{exactBelow}
 use Rattle.laws.specs.Lists.Ranges.{map-range-length, map-range-at, map-range-suc}
-use Rattle.laws.specs.Nets.Times.{gateTime, withTimes, times-snoc, times-length, times-most}
+use Rattle.laws.specs.Nets.Times.{gateTime, withTimes, times-most}
+use Rattle.laws.specs.Lists.WithEach.{with-each-length, with-each-snoc}
 use Rattle.trees.specs.Arrivals.ArrivalTimes.{settling-last}
 use Rattle.nets.specs.declared.forms.Net.{Net}
 use Rattle.nets.specs.Forms.{gateOf, gatesOf}
-use Rattle.nets.specs.References.{refers-back}
+use Rattle.nets.specs.References.{gate-step}
 use Rattle.nets.specs.Room.{mostWires}
 use Rattle.nets.specs.Sound.{Sound, sound-size, gates-pos, gates-count, gates-length, wires-room}
 use Rattle.arrivals.specs.declared.sheet.lines.Times.{Times}
@@ -93,7 +94,7 @@ pub record Wired (net : Net) (times : Times) (delay k : ℕ) (ends : List Ends) 
 
 pub wired-none : (net : Net) (times : Times) (delay : ℕ) (ends : List Ends) → WiresAt (firstTimes (times .from) (net .inputs)) (firstTimes (times .to) (net .inputs)) ends
     → Wired net times delay 0 ends
-unfolding range withTimes
+unfolding range withEach
 wired-none net times delay ends wires = record { low = omega arith; wires = wires }
 
 -- the same from the inputs' ends, for whichever times they are of
@@ -112,7 +113,7 @@ first-most b end n most i = go (decLt i n)
 module _ (net : Net) (sound : Sound net) (delay : ℕ) (byte : delay ≤ mostDelay) (end : List ℕ) (most : (i : ℕ) → i < net .inputs → getD end i 0 ≤ mostTime) where
   to-length : (k : ℕ) → length (timesTo net delay end k) ≡ net .inputs + k
   to-length k =
-      times-length delay (firstTimes end (net .inputs)) (map (gateOf net) (range 0 k))
+      with-each-length (gateTime delay) (firstTimes end (net .inputs)) (map (gateOf net) (range 0 k))
       ∙ ap₂ _+_ (map-range-length (λ i. getD end i 0) 0 (net .inputs)) (map-range-length (gateOf net) 0 k)
 
   to-small : (k : ℕ) → k ≤ net .gates → (i : ℕ) → getD (timesTo net delay end k) i 0 < exactBelow
@@ -123,7 +124,7 @@ module _ (net : Net) (sound : Sound net) (delay : ℕ) (byte : delay ≤ mostDel
       omega (arith, rw (map-range-length (gateOf net) 0 k) at bound, small)
 
   to-more : (k : ℕ) → timesTo net delay end (k + 1) ≡ timesTo net delay end k ++ (gateTime delay (timesTo net delay end k) (gateOf net k) ∷ [])
-  to-more k = rw (add-one, map-range-suc, times-snoc)
+  to-more k = rw (add-one, map-range-suc, with-each-snoc)
 
   -- the last gate's time is the settling time
   to-last : (arrivals : List ℕ) → arrivals ≡ firstTimes end (net .inputs)
@@ -178,7 +179,7 @@ module _ (net : Net) (sound : Sound net) (delay : ℕ) (byte : delay ≤ mostDel
         where
           read-ends : joinedEnds a b step ≡ endsAt (gateTime delay early (gateOf net k)) (gateTime delay late (gateOf net k))
           read-ends =
-              let back = refers-back net sound k turn in
+              let back = gate-step net sound k turn in
               (λ i. joinedEnds ((is-a ∙ at-reference d (getD (net .left) k 0) (back .0)) i) ((is-b ∙ at-reference f (getD (net .right) k 0) (back .1)) i) (is-step i))
               ∙ gate-ends (getD (net .left) k 0) (getD (net .right) k 0)
 

@@ -6,7 +6,7 @@ ghost use lib.ListN.{length, getD};
 ghost use Rattle.rules.specs.Limits.{mostLevels};
 ghost use Rattle.cells.specs.Bound.{FirstAtLeast};
 
-// Returns whether some cell is at least `bound`. The loop has no early exit, so that the compiler can vectorise it.
+// Returns false only if every cell is below `bound`. The loop has no early exit, so that the compiler can vectorise it.
 fn some_at_least(bound: usize, cells: &[u8]) -> bool
     requires { ⌜ bound ≤ mostLevels + 1 ⌝ }
     ensures { λ r. ⌜ (r ≡ false → (p : ℕ) → p < length (now (cells .entry)) → getD (now (cells .entry)) p 0 < bound) ⌝ }

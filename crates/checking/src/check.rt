@@ -2,50 +2,46 @@
 ghost use mathlib.Core.Path.{_≡_};
 ghost use Rattle.rules.specs.Calls.Checking.{checkCall};
 ghost use Rattle.checking.specs.CheckAnswers.{checkedOf};
-ghost use Rattle.accepted.specs.Taken.{NetTaken};
-use crate::both::check_accepted;
 use crate::verdict::Verdict;
+use crate::verdict::compare_into;
+use accepted::both::Pairing;
+use accepted::both::read_both;
 use answers::named::Named;
-use answers::outcome::Outcome;
-use net_sheets::reader::net::read_net;
-use nets::forms::Header;
-use nets::forms::Net;
+use evaluation::table;
 use radix::limits::MOST_CELLS;
-use table_reader::sheet::read_table;
+use radix::powers::power;
 
-// The accepted net sheet s against the table sheet t.
-fn check_table(s: &[u8], header: Header, net: Net, t: &[u8], cells: &mut [u8]) -> Verdict
-    requires { ⌜ NetTaken (now s) header net ⌝ }
-    ensures { λ r. ⌜ checkedOf r (now (cells .exit)) ≡ checkCall (now (s .entry)) (now (t .entry)) (now (cells .entry)) ⌝ }
-{
-    let mut inks = [0u8; MOST_CELLS];
-    let read = read_table(t, &mut inks);
-    let outcome = read.outcome;
-    let other = read.header;
-    match outcome {
-        Outcome::Refused { number, place } => Verdict::Refused {
-            named: Named::Table,
-            number,
-            place,
-        },
-        Outcome::Accepted => check_accepted(s, header, net, t, other, &inks, cells),
-    }
-}
-
-// Holds a net sheet against a table sheet, and puts the table sheet's inks in the cells buffer. Any bytes may come in.
+// Compares a net sheet with a table sheet, and puts the table sheet's inks in the cells buffer. Any bytes may come in.
 pub fn check(net_sheet: &[u8], table_sheet: &[u8], cells: &mut [u8]) -> Verdict
     ensures { λ r. ⌜ checkedOf r (now (cells .exit)) ≡ checkCall (now («net_sheet» .entry)) (now («table_sheet» .entry)) (now (cells .entry)) ⌝ }
 {
-    let read = read_net(net_sheet);
+    let mut inks = [0u8; MOST_CELLS];
+    let read = read_both(net_sheet, table_sheet, &mut inks);
     let outcome = read.outcome;
     let header = read.header;
     let net = read.net;
     match outcome {
-        Outcome::Refused { number, place } => Verdict::Refused {
-            named: Named::Net,
+        Pairing::Refused {
+            named,
+            number,
+            place,
+        } => Verdict::Refused {
+            named,
             number,
             place,
         },
-        Outcome::Accepted => check_table(net_sheet, header, net, table_sheet, cells),
+        Pairing::Accepted => {
+            let count = power(header.levels, header.inputs);
+            if cells.len() < count {
+                return Verdict::Refused {
+                    named: Named::Neither,
+                    number: 13,
+                    place: count,
+                };
+            }
+            let mut table = [0u8; MOST_CELLS];
+            table::table(net, &mut table);
+            compare_into(&table[0..count], &inks[0..count], cells, header.levels)
+        }
     }
 }

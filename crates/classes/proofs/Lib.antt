@@ -1,3 +1,3 @@
+pub mod KeptChains
 pub mod KeyMaking
-pub mod KnownKeys
 pub mod Sames

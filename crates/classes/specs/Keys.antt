@@ -1,43 +1,68 @@
--- A key of an assignment: a number made of its inks at some assignments of the other inputs. Alike assignments have the same key, so two keys that differ spare a
--- comparison.
+-- A key of an assignment: a number made of its inks at some assignments of the other inputs. Alike assignments have the same key, so only those with the
+-- same key are compared.
 -- Assumes nothing.
-use Prim.Native.Nat.{ℕ, zero, suc, _+_, _*_}
+use Prim.Native.Nat.{ℕ, zero, suc, _+_, _*_, _%_, _≤_, _<_}
 use mathlib.Core.Path.{_≡_, refl, ap, _∙_}
 use mathlib.Core.Bool.{true}
 use mathlib.Core.List.{List, [], _∷_}
+use native.Mathlib.Omega.{arith}
 use lib.ListN.{take}
 use borrow.Author.Tests.{eqb-true}
 use Rattle.rules.specs.Groups.Groups.{alikeOver}
 use Rattle.laws.specs.Lists.Tests.{all-iff}
 
--- past every ink of a sheet
-abbrev pub keyBase : ℕ
-keyBase = 9
-
--- The columns that a key is made of: so many have room in 32 bits, whatever bytes the cells are.
-abbrev pub mostColumns : ℕ
-mostColumns = 8
+-- keys are below it
+abbrev pub keyBound : ℕ
+keyBound = 256
 
 -- the key so far, and the columns that are left
-unfoldable pub keyFrom : (ℕ → ℕ) → ℕ → ℕ → List ℕ → ℕ
-keyFrom f p key [] = key
-keyFrom f p key (y ∷ ys) = keyFrom f p (key * keyBase + f (p + y)) ys
+unfoldable pub keyFrom : ℕ → (ℕ → ℕ) → ℕ → ℕ → List ℕ → ℕ
+keyFrom m f p key [] = key
+keyFrom m f p key (y ∷ ys) = keyFrom m f p ((key * m + f (p + y)) % 256) ys
 
 -- the key of p over the first `width` of the columns ys
-unfoldable pub keyOf : (ℕ → ℕ) → List ℕ → ℕ → ℕ → ℕ
-keyOf f ys width p = keyFrom f p 0 (take width ys)
+unfoldable pub keyOf : ℕ → (ℕ → ℕ) → List ℕ → ℕ → ℕ → ℕ
+keyOf m f ys width p = keyFrom m f p 0 (take width ys)
 
--- alike assignments have the same key
-module _ (f : ℕ → ℕ) (p q : ℕ) where
-  from-alike : (ys : List ℕ) (width key : ℕ) → alikeOver f ys p q ≡ true → keyFrom f p key (take width ys) ≡ keyFrom f q key (take width ys)
-  unfolding keyFrom alikeOver
-  from-alike ys zero key h = refl
-  from-alike [] (suc width) key h = refl
-  from-alike (y ∷ ys) (suc width) key h =
-      let both = all-iff _ y ys .0 h in
-      ap (λ (ink : ℕ). keyFrom f p (key * keyBase + ink) (take width ys)) (eqb-true _ _ (both .0))
-      ∙ from-alike ys width (key * keyBase + f (q + y)) (both .1)
+module _ (m : ℕ) (f : ℕ → ℕ) where
+  from-below : (p key : ℕ) → key < keyBound → (ys : List ℕ) → keyFrom m f p key ys < keyBound
+  unfolding keyFrom
+  from-below p key h [] = h
+  from-below p key h (y ∷ ys) = from-below p ((key * m + f (p + y)) % 256) (omega arith) ys
 
-  pub alike-key : (ys : List ℕ) (width : ℕ) → alikeOver f ys p q ≡ true → keyOf f ys width p ≡ keyOf f ys width q
+  pub key-below : (ys : List ℕ) (width p : ℕ) → keyOf m f ys width p < keyBound
   unfolding keyOf
-  alike-key ys width h = from-alike ys width 0 h
+  key-below ys width p = from-below p 0 (omega arith) (take width ys)
+
+  -- no columns: one key
+  pub key-none : (ys : List ℕ) (p : ℕ) → keyOf m f ys 0 p ≡ 0
+  unfolding keyOf keyFrom
+  key-none ys p = refl
+
+  -- alike assignments have the same key
+  module _ (p q : ℕ) where
+    from-alike : (ys : List ℕ) (width key : ℕ) → alikeOver f ys p q ≡ true → keyFrom m f p key (take width ys) ≡ keyFrom m f q key (take width ys)
+    unfolding keyFrom alikeOver
+    from-alike ys zero key h = refl
+    from-alike [] (suc width) key h = refl
+    from-alike (y ∷ ys) (suc width) key h =
+        let both = all-iff _ y ys .0 h in
+        ap (λ (ink : ℕ). keyFrom m f p ((key * m + ink) % 256) (take width ys)) (eqb-true _ _ (both .0))
+        ∙ from-alike ys width ((key * m + f (q + y)) % 256) (both .1)
+
+    pub alike-key : (ys : List ℕ) (width : ℕ) → alikeOver f ys p q ≡ true → keyOf m f ys width p ≡ keyOf m f ys width q
+    unfolding keyOf
+    alike-key ys width h = from-alike ys width 0 h
+
+-- every key has its place among so many heads
+abbrev pub Keys : ℕ → (ℕ → ℕ) → List ℕ → ℕ → ℕ → Type 0
+Keys m f ys width heads = (p : ℕ) → keyOf m f ys width p < heads
+
+-- heads for keys of so many columns: one if there are none
+pub record HeadsFor (columns heads : ℕ) : Type 0 where
+  pub one : 0 < heads
+  pub all : 0 < columns → keyBound ≤ heads
+
+pub heads-enough : (m : ℕ) (f : ℕ → ℕ) (ys : List ℕ) (width columns heads : ℕ) → HeadsFor columns heads → width ≤ columns → Keys m f ys width heads
+heads-enough m f ys zero columns heads room low p = omega (arith, room .one, key-none m f ys p)
+heads-enough m f ys (suc width) columns heads room low p = omega (arith, room .all (omega arith), key-below m f ys (suc width) p)

@@ -1,3 +1,4 @@
+pub mod Chains
 pub mod Counting
 pub mod Differences
 pub mod Firsts

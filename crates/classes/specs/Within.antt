@@ -5,6 +5,7 @@ use mathlib.Core.Path.{_≡_, sym, subst₂}
 use mathlib.Core.List.{List}
 use native.Mathlib.Omega.{arith}
 use lib.ListN.{length, getD}
+use Rattle.rules.specs.Limits.{mostCells, mostInputs, mostLevels}
 use Rattle.rules.specs.Groups.Groups.{part, others, points}
 use Rattle.trees.specs.Trees.Trees.{mix}
 use Rattle.trees.specs.Groups.Levels.{mix-below}
@@ -38,10 +39,35 @@ lists-within m n pos g g< b room xs ys e h =
 
 -- Room to count the classes of a group of m levels and n inputs: the cells, and work arrays for the group's assignments and those of
 -- the other inputs. Offsets are below 2 to the 16.
-pub record Room (m n : ℕ) (cells xs ys : List ℕ) : Type 0 where
+pub record OffsetRoom (m n : ℕ) (cells xs ys : List ℕ) : Type 0 where
   pub some : 0 < m
   pub inputs : n ≤ mostMembers
   pub small : m ^ n ≤ mostOffsets
   pub for-cells : m ^ n ≤ length cells
   pub for-xs : m ^ n ≤ length xs
   pub for-ys : m ^ n ≤ length ys
+
+-- the cells of a small table
+abbrev pub fewCells : ℕ
+fewCells = 256
+
+-- room to list a few classes, with work arrays of its own: the cells of a table within a sheet's bounds, and a place for each class
+pub record ListRoom (m n : ℕ) (cells : List ℕ) (enough : ℕ) (out : List ℕ) : Type 0 where
+  pub some : 0 < m
+  pub levels : m ≤ mostLevels
+  pub inputs : n ≤ mostInputs
+  pub small : m ^ n ≤ mostCells
+  pub for-cells : m ^ n ≤ length cells
+  pub few : enough ≤ mostLevels + 1
+  pub for-out : enough ≤ length out
+
+pub few-room : {m n enough : ℕ} {cells out : List ℕ} → ListRoom m n cells enough out → (xs ys : List ℕ) → m ^ n ≤ length xs → m ^ n ≤ length ys → OffsetRoom m n cells xs ys
+few-room few xs ys for-xs for-ys =
+    record {
+      some = few .some;
+      inputs = omega (arith, few .inputs);
+      small = omega (arith, few .small);
+      for-cells = few .for-cells;
+      for-xs = for-xs;
+      for-ys = for-ys;
+    }

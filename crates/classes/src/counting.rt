@@ -3,29 +3,33 @@ ghost use mathlib.Core.Path.{_≡_};
 ghost use Prim.Native.Nat.{ℕ, _^_, _≤_, _<_};
 ghost use lib.Dec.{ltb};
 ghost use lib.ListN.{length, take, getD};
-ghost use Rattle.rules.specs.Limits.{mostLevels};
+ghost use Rattle.rules.specs.Limits.{mostCells, mostLevels};
 ghost use Rattle.rules.specs.Groups.Groups.{classes, multiplicity};
 ghost use Rattle.rules.specs.Calls.Answers.{inkIn};
 ghost use Rattle.radix.specs.Fronts.{Front};
 ghost use Rattle.classes.specs.Firsts.{classesOver};
-ghost use Rattle.classes.specs.Keys.{mostColumns};
-ghost use Rattle.classes.specs.Within.{Within, Room};
+ghost use Rattle.classes.specs.Chains.{NoChains};
+ghost use Rattle.classes.specs.Keys.{HeadsFor, Keys};
+ghost use Rattle.classes.specs.Within.{Within, OffsetRoom};
 use crate::keys;
 use radix::limits::MOST_LEVELS;
 use radix::offsets;
 
-// Puts the first of each class among the assignments xs to the front of `firsts`, until there are `enough`, and returns how many these are. `keys` takes
-// the key of each, over the first `width` columns.
+// Puts the first of each class among the assignments xs to the front of `firsts`, until there are `enough`, and returns how many these are. `heads` and
+// `links` take the chains of these, by their keys over the first `width` columns.
 fn class_firsts(
+    m: usize,
     cells: &[u8],
     xs: &[u16],
     ys: &[u16],
     width: usize,
     enough: usize,
     firsts: &mut [u16],
-    keys: &mut [u32],
+    links: &mut [u16],
+    heads: &mut [u16],
 ) -> usize
-    requires { ⌜ (enough ≤ length (now firsts)) × (enough ≤ length (now keys)) × (width ≤ length (now ys)) × (width ≤ mostColumns)
+    requires { ⌜ (m ≤ mostLevels) × (enough ≤ length (now firsts)) × (enough ≤ length (now links)) × (enough ≤ mostCells) × (width ≤ length (now ys))
+        × NoChains (now heads) × (Keys m (inkIn (now cells)) (now ys) width (length (now heads)))
         × ((i : ℕ) → i < length (now xs) → Within (length (now cells)) (now ys) (getD (now xs) i 0)) ⌝ }
     ensures { λ r. ⌜ Front (take enough (classesOver (inkIn (now (cells .entry))) (now (ys .entry)) (now (xs .entry)))) r (now (firsts .exit)) ⌝ }
 {
@@ -36,21 +40,23 @@ fn class_firsts(
             return count;
         }
         let p = xs[i];
-        let key = keys::key(cells, ys, width, p as usize);
-        if keys::class_by_key(cells, ys, firsts, keys, count, key, p as usize) < count {
+        let key = keys::key(m, cells, ys, width, p as usize);
+        let head = heads[key];
+        if keys::in_chain(cells, ys, firsts, links, head as usize, p as usize) {
             i += 1;
         } else {
             firsts[count] = p;
-            keys[count] = key;
+            links[count] = head;
             count += 1;
+            heads[key] = count as u16;
             i += 1;
         }
     }
     count
 }
 
-// Puts the first of each class of group g to the front of `firsts`, until there are `enough`, and returns how many these are. `xs`, `ys` and `keys` are
-// work arrays. A key has at most `columns` columns: many where many classes are expected, 0 for no keys.
+// Puts the first of each class of group g to the front of `firsts`, until there are `enough`, and returns how many these are. `xs`, `ys`, `links` and
+// `heads` are work arrays. A key has at most `columns` columns: many where many classes are expected, 0 for one chain of all.
 pub fn group_firsts(
     m: usize,
     n: usize,
@@ -61,23 +67,26 @@ pub fn group_firsts(
     xs: &mut [u16],
     ys: &mut [u16],
     firsts: &mut [u16],
-    keys: &mut [u32],
+    links: &mut [u16],
+    heads: &mut [u16],
 ) -> usize
-    requires { ⌜ (Room m n (now cells) (now xs) (now ys)) × (enough ≤ length (now firsts)) × (enough ≤ length (now keys)) × (columns ≤ mostColumns)
-        × (g < 2 ^ n) ⌝ }
+    requires { ⌜ (OffsetRoom m n (now cells) (now xs) (now ys)) × (m ≤ mostLevels) × (enough ≤ length (now firsts)) × (enough ≤ length (now links)) × (enough ≤ mostCells)
+        × NoChains (now heads) × (HeadsFor columns (length (now heads))) × (g < 2 ^ n) ⌝ }
     ensures { λ r. ⌜ Front (take enough (classes m n (inkIn (now (cells .entry))) g)) r (now (firsts .exit)) ⌝ }
 {
     let count = offsets::offsets(m, n, g, xs);
     let other = offsets::other_offsets(m, n, g, ys);
     let width = keys::key_width(columns, other);
     class_firsts(
+        m,
         cells,
         &xs[0..count],
         &ys[0..other],
         width,
         enough,
         firsts,
-        keys,
+        links,
+        heads,
     )
 }
 
@@ -90,10 +99,24 @@ pub fn more_classes_than_levels(
     xs: &mut [u16],
     ys: &mut [u16],
 ) -> bool
-    requires { ⌜ (Room m n (now cells) (now xs) (now ys)) × (m ≤ mostLevels) × (g < 2 ^ n) ⌝ }
+    requires { ⌜ (OffsetRoom m n (now cells) (now xs) (now ys)) × (m ≤ mostLevels) × (g < 2 ^ n) ⌝ }
     ensures { λ r. ⌜ r ≡ ltb m (multiplicity m n (inkIn (now (cells .entry))) g) ⌝ }
 {
     let mut firsts = [0u16; MOST_LEVELS + 1];
-    let mut known = [0u32; MOST_LEVELS + 1];
-    m < group_firsts(m, n, cells, g, 0, m + 1, xs, ys, &mut firsts, &mut known)
+    let mut links = [0u16; MOST_LEVELS + 1];
+    let mut heads = [0u16; 1];
+    m
+        < group_firsts(
+            m,
+            n,
+            cells,
+            g,
+            0,
+            m + 1,
+            xs,
+            ys,
+            &mut firsts,
+            &mut links,
+            &mut heads,
+        )
 }

@@ -1,19 +1,20 @@
-// Keys of assignments, for speed: one comparison of two numbers distinguishes most assignments that are not alike.
+// The kept assignments by key. A key is a number made of an assignment's first inks. Alike assignments have the same key, so only kept ones of the same key
+// are compared. These form a chain, the last one kept first: a head has 1 more than its place, each link the same for the next, and 0 ends the chain.
 ghost use mathlib.Core.Path.{_≡_};
-ghost use mathlib.Core.Bool.{true};
 ghost use Prim.Native.Nat.{ℕ, _≤_, _<_};
-ghost use lib.ListN.{length, take, getD};
-ghost use Rattle.rules.specs.Lists.{firstPlace};
+ghost use lib.ListN.{length, getD};
+ghost use Rattle.rules.specs.Limits.{mostLevels};
 ghost use Rattle.rules.specs.Groups.Groups.{alikeOver};
 ghost use Rattle.rules.specs.Calls.Answers.{inkIn};
-ghost use Rattle.classes.specs.Keys.{mostColumns, keyOf};
+ghost use Rattle.classes.specs.Chains.{Searched};
+ghost use Rattle.classes.specs.Keys.{keyOf};
 ghost use Rattle.classes.specs.Within.{Within};
 use crate::alike;
 
-// Past every ink of a sheet.
-const KEY_BASE: u32 = 9;
+// Keys are below it.
+pub const KEYS: usize = 256;
 
-// The most columns of a key.
+// The columns of a key where many classes are expected.
 pub const MOST_COLUMNS: usize = 8;
 
 // Returns how many of `other` columns a key has, `columns` at most.
@@ -23,47 +24,42 @@ pub fn key_width(columns: usize, other: usize) -> usize
     if other < columns { other } else { columns }
 }
 
-// Returns the key of p: a number made of its inks at the first `width` columns.
-pub fn key(cells: &[u8], ys: &[u16], width: usize, p: usize) -> u32
-    requires { ⌜ (width ≤ length (now ys)) × (width ≤ mostColumns) × (Within (length (now cells)) (now ys) p) ⌝ }
-    ensures { λ r. ⌜ r ≡ keyOf (inkIn (now (cells .entry))) (now (ys .entry)) width p ⌝ }
+// Returns the key of p: its inks at the first `width` columns as the digits of a number in base m, reduced below 256.
+pub fn key(m: usize, cells: &[u8], ys: &[u16], width: usize, p: usize) -> usize
+    requires { ⌜ (m ≤ mostLevels) × (width ≤ length (now ys)) × (Within (length (now cells)) (now ys) p) ⌝ }
+    ensures { λ r. ⌜ r ≡ keyOf m (inkIn (now (cells .entry))) (now (ys .entry)) width p ⌝ }
 {
-    let mut made: u32 = 0;
+    let mut made: usize = 0;
     let mut k: usize = 0;
     while k < width {
         let y = ys[k] as usize;
-        made = made * KEY_BASE + cells[p + y] as u32;
+        made = (made * m + cells[p + y] as usize) % KEYS;
         k += 1;
     }
     made
 }
 
-// Returns the number of p's class, as `alike::class_of` does. `keys` has the keys of the firsts, and `key` is p's.
-pub fn class_by_key(
+// Returns whether p is alike to one of `firsts` in the chain from `head` on.
+pub fn in_chain(
     cells: &[u8],
     ys: &[u16],
     firsts: &[u16],
-    keys: &[u32],
-    count: usize,
-    key: u32,
+    links: &[u16],
+    head: usize,
     p: usize,
-) -> usize
-    requires { ⌜ (count ≤ length (now firsts)) × (count ≤ length (now keys)) × (Within (length (now cells)) (now ys) p)
-        × ((j : ℕ) → j < count → Within (length (now cells)) (now ys) (getD (now firsts) j 0))
-        × ((j : ℕ) → j < count → alikeOver (inkIn (now cells)) (now ys) p (getD (now firsts) j 0) ≡ true → getD (now keys) j 0 ≡ key) ⌝ }
-    ensures { λ r. ⌜ r ≡ firstPlace (alikeOver (inkIn (now (cells .entry))) (now (ys .entry)) p) (take count (now (firsts .entry))) ⌝ }
+) -> bool
+    requires { ⌜ (head ≤ length (now firsts)) × (head ≤ length (now links)) × (Within (length (now cells)) (now ys) p)
+        × ((j : ℕ) → j < head → Within (length (now cells)) (now ys) (getD (now firsts) j 0))
+        × ((j : ℕ) → j < head → getD (now links) j 0 ≤ j) ⌝ }
+    ensures { λ r. ⌜ Searched (alikeOver (inkIn (now (cells .entry))) (now (ys .entry)) p) (now (firsts .entry)) (now (links .entry)) head r ⌝ }
 {
-    let mut j: usize = 0;
-    while j < count {
-        if keys[j] != key {
-            j += 1;
-        } else {
-            let q = firsts[j] as usize;
-            if alike::alike(cells, ys, p, q) {
-                return j;
-            }
-            j += 1;
+    let mut at = head;
+    while 0 < at {
+        let i = at - 1;
+        if alike::alike(cells, ys, p, firsts[i] as usize) {
+            return true;
         }
+        at = links[i] as usize;
     }
-    count
+    false
 }

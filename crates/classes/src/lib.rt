@@ -2,5 +2,6 @@
 pub mod alike;
 pub mod counting;
 pub mod differences;
+pub mod few;
 pub mod keys;
 pub mod multiplicity;

@@ -1,19 +1,97 @@
 // The multiplicity call.
 ghost use mathlib.Core.Path.{_≡_};
 ghost use mathlib.Core.Bool.{true};
-ghost use Prim.Native.Nat.{_^_};
+ghost use Prim.Native.Nat.{_^_, _≤_, _<_};
 ghost use lib.ListN.{length};
 ghost use Rattle.rules.specs.Limits.{sizeFits};
+ghost use Rattle.rules.specs.Groups.Groups.{multiplicity};
+ghost use Rattle.rules.specs.Calls.Answers.{inkIn};
 ghost use Rattle.rules.specs.Calls.Multiplicity.{multiplicityCall};
 ghost use Rattle.answers.specs.AnswerMaps.{answerOf};
 ghost use Rattle.laws.specs.Calls.Multiplicity.{groupAnswer};
+ghost use Rattle.classes.specs.Within.{fewCells};
 use crate::counting;
+use crate::few;
 use crate::keys;
 use answers::answer::Answer;
 use answers::outcome::Outcome;
 use cells::bare;
 use radix::limits;
 use radix::powers;
+
+// Returns the number of classes of a group. The arrays are for work.
+fn counted(
+    m: usize,
+    n: usize,
+    cells: &[u8],
+    group: usize,
+    xs: &mut [u16],
+    ys: &mut [u16],
+    firsts: &mut [u16],
+    links: &mut [u16],
+) -> usize
+    requires { ⌜ (sizeFits m n ≡ true) × (length (now cells) ≡ m ^ n) × (group < 2 ^ n) × (m ^ n ≤ length (now xs)) × (m ^ n ≤ length (now ys))
+        × (m ^ n ≤ length (now firsts)) × (m ^ n ≤ length (now links)) ⌝ }
+    ensures { λ r. ⌜ r ≡ multiplicity m n (inkIn (now (cells .entry))) group ⌝ }
+{
+    let mut heads = [0u16; keys::KEYS];
+    let enough = cells.len();
+    counting::group_firsts(
+        m,
+        n,
+        cells,
+        group,
+        keys::MOST_COLUMNS,
+        enough,
+        xs,
+        ys,
+        firsts,
+        links,
+        &mut heads,
+    )
+}
+
+// Does the same with arrays for a small table.
+fn counted_small(m: usize, n: usize, cells: &[u8], group: usize) -> usize
+    requires { ⌜ (sizeFits m n ≡ true) × (length (now cells) ≡ m ^ n) × (group < 2 ^ n) × (length (now cells) ≤ fewCells) ⌝ }
+    ensures { λ r. ⌜ r ≡ multiplicity m n (inkIn (now (cells .entry))) group ⌝ }
+{
+    let mut xs = [0u16; few::FEW_CELLS];
+    let mut ys = [0u16; few::FEW_CELLS];
+    let mut firsts = [0u16; few::FEW_CELLS];
+    let mut links = [0u16; few::FEW_CELLS];
+    counted(
+        m,
+        n,
+        cells,
+        group,
+        &mut xs,
+        &mut ys,
+        &mut firsts,
+        &mut links,
+    )
+}
+
+// Does the same with arrays for any table.
+fn counted_large(m: usize, n: usize, cells: &[u8], group: usize) -> usize
+    requires { ⌜ (sizeFits m n ≡ true) × (length (now cells) ≡ m ^ n) × (group < 2 ^ n) ⌝ }
+    ensures { λ r. ⌜ r ≡ multiplicity m n (inkIn (now (cells .entry))) group ⌝ }
+{
+    let mut xs = [0u16; limits::MOST_CELLS];
+    let mut ys = [0u16; limits::MOST_CELLS];
+    let mut firsts = [0u16; limits::MOST_CELLS];
+    let mut links = [0u16; limits::MOST_CELLS];
+    counted(
+        m,
+        n,
+        cells,
+        group,
+        &mut xs,
+        &mut ys,
+        &mut firsts,
+        &mut links,
+    )
+}
 
 // Returns refusal 11, or the group's multiplicity.
 fn group_answer(m: usize, n: usize, cells: &[u8], group: usize) -> Answer
@@ -32,22 +110,10 @@ fn group_answer(m: usize, n: usize, cells: &[u8], group: usize) -> Answer
             place: 0,
         };
     }
-    let mut xs = [0u16; limits::MOST_CELLS];
-    let mut ys = [0u16; limits::MOST_CELLS];
-    let mut firsts = [0u16; limits::MOST_CELLS];
-    let mut known = [0u32; limits::MOST_CELLS];
-    Answer::Accepted(counting::group_firsts(
-        m,
-        n,
-        cells,
-        group,
-        keys::MOST_COLUMNS,
-        limits::MOST_CELLS,
-        &mut xs,
-        &mut ys,
-        &mut firsts,
-        &mut known,
-    ))
+    if cells.len() <= few::FEW_CELLS {
+        return Answer::Accepted(counted_small(m, n, cells, group));
+    }
+    Answer::Accepted(counted_large(m, n, cells, group))
 }
 
 // Returns the number of classes of a group, or refusal 9, 10, 27 or 11. Any arguments may come in.

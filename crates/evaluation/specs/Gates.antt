@@ -1,8 +1,8 @@
 -- One gate at many assignments: what is asked, what is promised, and one assignment after the other.
 -- Assumes nothing.
-use Prim.Native.Nat.{ℕ, zero, suc, _+_, _*_, _≤_, _<_}
-use mathlib.Core.Path.{_≡_, refl, ap, _∙_}
-use mathlib.Core.List.{List, [], _∷_}
+use Prim.Native.Nat.{ℕ, _+_, _*_, _≤_, _<_}
+use mathlib.Core.Path.{_≡_, refl, _∙_}
+use mathlib.Core.List.{List}
 use native.Mathlib.Decide.{ℕ-discrete}
 use native.Mathlib.Omega.{arith}
 use lib.ListN.{length, getD, set, length-set}
@@ -72,14 +72,3 @@ module _ (m : ℕ) (digits : List ℕ) (from left right to count : ℕ) (before 
           ∙ (λ i. getD digits (from + left-read i * m + right-read i) 0))
       go q h (no other) =
           getD-set-other after (to + p) (to + q) v 0 (λ e. other (omega arith)) ∙ done .new q (omega arith)
-
--- a gate's four digits, of two levels
-pub four-digits : (digits : List ℕ) (from l r : ℕ) → l < 2 → r < 2
-    → getD (getD digits from 0 ∷ getD digits (from + 1) 0 ∷ getD digits (from + 2) 0 ∷ getD digits (from + 3) 0 ∷ []) (l * 2 + r) 0 ≡ getD digits (from + l * 2 + r) 0
-four-digits digits from zero zero h k = ap (λ (q : ℕ). getD digits q 0) (omega arith)
-four-digits digits from zero (suc zero) h k = ap (λ (q : ℕ). getD digits q 0) (omega arith)
-four-digits digits from (suc zero) zero h k = ap (λ (q : ℕ). getD digits q 0) (omega arith)
-four-digits digits from (suc zero) (suc zero) h k = ap (λ (q : ℕ). getD digits q 0) (omega arith)
-four-digits digits from zero (suc (suc r)) h k = absurd (omega arith)
-four-digits digits from (suc zero) (suc (suc r)) h k = absurd (omega arith)
-four-digits digits from (suc (suc l)) r h k = absurd (omega arith)

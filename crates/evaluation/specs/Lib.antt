@@ -1,3 +1,4 @@
+pub mod Fast
 pub mod Gates
 pub mod Inputs
 pub mod TableBlocks

@@ -3,7 +3,7 @@
 use Prim.Native.Nat.{ℕ, _+_, _-_, _*_, _^_, _≤_, _<_}
 use mathlib.Core.Path.{_≡_, sym, ap, ap₂, _∙_}
 use mathlib.Core.List.{List, _++_, map}
-use native.Mathlib.Nat.{zero-add, zero-mul, suc-mul, mod-lt, mul-le-mul, mul-le-mul-right}
+use native.Mathlib.Nat.{zero-add, zero-mul, suc-mul, mod-lt, mul-le-mul-right}
 use native.Mathlib.Numerals.{add-one}
 use native.Mathlib.Decide.{decLt}
 use native.Mathlib.Omega.{arith}
@@ -20,10 +20,9 @@ use Rattle.laws.specs.Nets.Pictures.{value-levels}
 use Rattle.laws.specs.Lists.Ranges.{map-range-at, map-range-length, map-range-same}
 use Rattle.nets.specs.declared.forms.Net.{Net}
 use Rattle.nets.specs.Forms.{gatesOf}
-use Rattle.nets.specs.Room.{mostGates}
-use Rattle.nets.specs.Sound.{Sound, sound-size, gates-count, net-levels-pos}
+use Rattle.nets.specs.Sound.{Sound, sound-size, net-levels-pos}
 use Rattle.nets.specs.Evaluating.{Tabled}
-use Rattle.evaluation.specs.Values.{levelsIn, ValuesReady, ValuesDone}
+use Rattle.evaluation.specs.Values.{levelsIn, mostColumns, columns-room, ValuesReady, ValuesDone}
 use Rattle.evaluation.specs.Inputs.Runs.{Run, run-none, run-join, run-sets}
 use Rattle.evaluation.specs.Inputs.Places.{place, place-below, place-above}
 use Rattle.evaluation.specs.Inputs.Laying.{mostBlock, LevelsLaid, HighReady, HighLaid}
@@ -34,7 +33,7 @@ abbrev pub inputCells : ℕ
 inputCells = mostInputs * mostBlock
 
 abbrev pub blockCells : ℕ
-blockCells = inputCells + mostGates * mostBlock
+blockCells = inputCells + mostColumns * mostBlock
 
 -- the net's value at index p
 abbrev pub valueOf : Net → ℕ → ℕ
@@ -111,10 +110,7 @@ module _ (net : Net) (starts levels : List ℕ) (high count q : ℕ) (before cel
         record {
           sound = ready .sound;
           inputs-there = λ i h. omega (arith, ready .starts-are i h, ready .within, most);
-          room =
-              let few : net .gates ≤ mostGates = omega (arith, gates-count net (ready .sound), most) in
-              let all : net .gates * count ≤ mostGates * mostBlock = mul-le-mul few (ready .within) in
-              omega (arith, all, laid .same, ready .long);
+          room = columns-room net (ready .sound) inputCells count mostBlock wires (ready .within) (omega (arith, laid .same, ready .long));
           levels = λ i p h l. rw (level-read i p h l) (mod-lt _ (net-levels-pos net (ready .sound)));
         }
 

@@ -3,23 +3,23 @@
 use Prim.Native.Nat.{ℕ, suc, _+_, _-_, _*_, _≤_, _<_}
 use mathlib.Core.Path.{_≡_, refl, sym, ap, ap₂, _∙_}
 use mathlib.Core.List.{List, [], _∷_, _++_, map}
-use native.Mathlib.Nat.{zero-add, add-zero, zero-mul, suc-mul, add-assoc, mul-le-mul-right}
+use native.Mathlib.Nat.{zero-add, add-zero, zero-mul, suc-mul, add-assoc, mul-le-mul, mul-le-mul-right}
 use native.Mathlib.Numerals.{add-one}
 use native.Mathlib.Decide.{ℕ-discrete}
 use native.Mathlib.Omega.{arith}
 use lib.ListN.{length, getD, drop, set, length-set}
 use lib.Seq.{getD-set-same, getD-set-other, getD-take, getD-drop}
 use lib.Arith.{digits-lt}
-use Rattle.rules.specs.Lists.{range}
+use Rattle.rules.specs.Lists.{range, withEach}
 use Rattle.rules.specs.Nets.Value.{gateValue, withGates, valueWith}
 use Rattle.laws.specs.Lists.Ranges.{map-range-at, map-range-suc, map-range-same}
+use Rattle.laws.specs.Lists.WithEach.{with-each-snoc}
 use Rattle.nets.specs.declared.forms.Net.{Net}
 use Rattle.nets.specs.Forms.{gateOf, gatesOf}
-use Rattle.nets.specs.References.{refers-back}
-use Rattle.nets.specs.Room.{mostWires}
-use Rattle.nets.specs.Sound.{Sound, gates-count, gates-length, wires-room}
+use Rattle.nets.specs.References.{GateStep, gate-step}
+use Rattle.nets.specs.Room.{mostGates, mostWires}
+use Rattle.nets.specs.Sound.{Sound, sound-size, gates-count, gates-length, wires-room}
 use Rattle.nets.specs.Tables.{net-gate-table, digits-within}
-use Rattle.nets.specs.Values.{with-snoc}
 use Rattle.evaluation.specs.Gates.{GateReady, GateDone}
 
 -- the levels of the first `count` wires at assignment p: those of wire j begin at its start
@@ -32,6 +32,18 @@ pub record ValuesReady (net : Net) (starts : List ℕ) (base count : ℕ) (wires
   pub inputs-there : (i : ℕ) → i < net .inputs → getD starts i 0 + count ≤ base
   pub room : base + net .gates * count ≤ length wires
   pub levels : (i p : ℕ) → i < net .inputs → p < count → getD wires (getD starts i 0 + p) 0 < net .levels
+
+-- the most columns that the values take, one for each gate
+abbrev pub mostColumns : ℕ
+mostColumns = mostGates
+
+-- so many columns have room for the values of every net
+pub columns-room : (net : Net) → Sound net → (base count most : ℕ) (wires : List ℕ) → count ≤ most → base + mostColumns * most ≤ length wires
+    → base + net .gates * count ≤ length wires
+columns-room net sound base count most wires small room =
+    let few : net .gates ≤ mostColumns = omega (arith, gates-count net sound, sound-size net sound .inputs-most) in
+    let all : net .gates * count ≤ mostColumns * most = mul-le-mul few small in
+    omega (arith, all, room)
 
 -- what stands before `base` is kept, and from `last` on stands the net's value at each assignment
 pub record ValuesDone (net : Net) (starts : List ℕ) (base count : ℕ) (before after : List ℕ) (last : ℕ) : Type 0 where
@@ -54,7 +66,7 @@ pub record GatesDone (net : Net) (starts₀ : List ℕ) (base count : ℕ) (befo
 
 module _ (net : Net) (starts₀ : List ℕ) (base count : ℕ) (before : List ℕ) (ready : ValuesReady net starts₀ base count before) where
   pub gates-none : length starts₀ ≡ mostWires → GatesDone net starts₀ base count before 0 starts₀ base before
-  unfolding range withGates
+  unfolding range withEach
   gates-none room =
       record {
         low = omega arith;
@@ -78,8 +90,8 @@ module _ (net : Net) (starts₀ : List ℕ) (base count : ℕ) (before : List �
     abbrev b : ℕ
     b = getD starts (getD (net .right) k 0) 0
 
-    back : (getD (net .left) k 0 < net .inputs + k) × (getD (net .right) k 0 < net .inputs + k)
-    back = refers-back net (ready .sound) k turn
+    back : GateStep net k
+    back = gate-step net (ready .sound) k turn
 
     pub column-gate-room : to + count ≤ length wires
     column-gate-room =
@@ -178,7 +190,7 @@ module _ (net : Net) (starts₀ : List ℕ) (base count : ℕ) (before : List �
               ap (λ (s : ℕ). getD after (s + p) 0) (earlier j l') ∙ gate .kept (getD starts j 0 + p) (omega (arith, done .there j l'))) in
               let new : getD after (getD (set starts (net .inputs + k) to) (net .inputs + k) 0 + p) 0 ≡ gateValue m (known p h) (gateOf net k) =
               ap (λ (s : ℕ). getD after (s + p) 0) own ∙ gate-value p h in
-              rw (next, map-range-suc, add-one, map-range-suc, with-snoc, ← (done .values p h))
+              rw (next, map-range-suc, add-one, map-range-suc, with-each-snoc, ← (done .values p h))
               (ap₂ (λ (vs : List ℕ) (v : ℕ). vs ++ (v ∷ [])) kept new)
 
   -- all gates have their values

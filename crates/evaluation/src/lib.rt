@@ -1,4 +1,5 @@
 // A net's value at many assignments at once, and its table.
+pub mod fast;
 pub mod gate;
 pub mod inputs;
 pub mod table;

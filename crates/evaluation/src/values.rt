@@ -3,6 +3,10 @@ ghost use Rattle.evaluation.specs.Values.{ValuesReady, ValuesDone};
 use crate::gate::gate_values;
 use nets::forms::MOST_WIRES;
 use nets::forms::Net;
+use radix::limits::MOST_GATES;
+
+// The most columns that `values` fills, one for each gate: so many times `count` is room enough behind `base` for every net.
+pub const MOST_COLUMNS: usize = MOST_GATES;
 
 // Computes the value of a net at `count` assignments. The levels of input i are at starts[i] and after it, one for each assignment, all before
 // `base`; the values of the gates are put from `base` on. Returns where the net's values begin.

@@ -16,7 +16,7 @@ use Rattle.trees.specs.Groups.Members.{size-le}
 use Rattle.trees.specs.Leaves.LeafGroup.{leaves-below}
 use Rattle.trees.specs.Filling.Fillings.{Fillable}
 use Rattle.trees.specs.Families.Families.{wired}
-use Rattle.trees.specs.Families.FamilyCounts.{counted}
+use Rattle.trees.specs.Families.FamilyCounts.{groupTrees}
 use Rattle.trees.specs.Families.FamilyWirings.{OfFamily, wiringNumbered, number-gives}
 use Rattle.nets.specs.declared.forms.Net.{Net}
 use Rattle.wirings.specs.declared.forms.Wiring.{Wiring}
@@ -37,7 +37,7 @@ module _ (m n : ℕ) (fit : sizeFits m n ≡ true) (f : ℕ → ℕ) (own : List
       record {
         inputs = sized m n fit .inputs-most;
         below = leaves-below m n pos f;
-        number = subst⁻¹ (λ (l : List ℕ). r < counted n l (leavesOf m n f)) front below;
+        number = subst⁻¹ (λ (l : List ℕ). r < groupTrees n l (leavesOf m n f)) front below;
       }
 
   -- what its wiring is

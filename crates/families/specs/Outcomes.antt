@@ -9,7 +9,9 @@ use Rattle.rules.specs.Calls.Answers.{accepted, refused, inkIn}
 use Rattle.rules.specs.Calls.Settling.{roomFor, writtenSheet}
 use Rattle.rules.specs.Nets.Family.{familyGates}
 use Rattle.rules.specs.Calls.FamilyCalls.{Counted, countOfTable, familyNet, countedInto, afterCount, familyCountCall, familyTreeCall}
-use Rattle.laws.specs.Calls.FamilyCalls.{counted-refused, counted-room, numbered-refused, numbered-room, count-17, count-tree, family-count-refused, family-count-accepted, family-tree-refused, family-tree-accepted}
+use Rattle.laws.specs.Calls.Settling.{into-refused, into-room}
+use Rattle.laws.specs.Calls.FamilyCalls.{counted-refused, counted-room, count-17, count-tree, family-count-refused, family-count-accepted}
+use Rattle.laws.specs.Calls.FamilyCalls.{family-tree-refused, family-tree-accepted}
 use Rattle.nets.specs.declared.forms.Header.{Header}
 use Rattle.nets.specs.declared.forms.Net as own
 use Rattle.nets.specs.Forms.{headerOf, netIn, tableIn}
@@ -73,7 +75,8 @@ module _ (s cells marks : List ℕ) where
   count-turned (by-sheet e) = sym (family-count-refused s cells marks _ _ e)
   count-turned (by-room t reads short) = sym (counted-refused t cells marks _ _ short) ∙ sym (family-count-accepted s cells marks t reads)
 
-  pub input-counted : (h : Header) (inks : List ℕ) → InputTaken s h inks cells marks → countedInto (tableIn s h inks) cells marks ≡ familyCountCall s cells marks
+  pub input-counted : (h : Header) (inks : List ℕ) → InputTaken s h inks cells marks
+      → countedInto (tableIn s h inks) cells marks ≡ familyCountCall s cells marks
   input-counted h inks taken = sym (family-count-accepted s cells marks _ (taken .reads))
 
   module _ (order : ℕ) (output : List ℕ) where
@@ -81,9 +84,9 @@ module _ (s cells marks : List ℕ) where
         → record { answer = refused number place; cells = cells; marks = marks; output = output } ≡ familyTreeCall s order cells marks output
     tree-turned (by-sheet e) = sym (family-tree-refused s order cells marks output _ _ e)
     tree-turned (by-room t reads short) =
-        sym (numbered-refused order t cells marks output _ _ short) ∙ sym (family-tree-accepted s order cells marks output t reads)
+        sym (into-refused t cells marks output _ _ _ short) ∙ sym (family-tree-accepted s order cells marks output t reads)
 
     pub input-numbered : (h : Header) (inks : List ℕ) → InputTaken s h inks cells marks
         → afterCount order (tableIn s h inks) cells marks output ≡ familyTreeCall s order cells marks output
     input-numbered h inks taken =
-        sym (numbered-room order (tableIn s h inks) cells marks output (taken .room)) ∙ sym (family-tree-accepted s order cells marks output _ (taken .reads))
+        sym (into-room (tableIn s h inks) cells marks output _ (taken .room)) ∙ sym (family-tree-accepted s order cells marks output _ (taken .reads))

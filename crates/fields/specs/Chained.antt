@@ -1,14 +1,14 @@
 -- One reader after another, by the steps of the code.
 -- Assumes nothing.
 use Prim.Native.Nat.{ℕ, _≤_, _<_}
-use mathlib.Core.Path.{_≡_, refl, _∙_}
+use mathlib.Core.Path.{_≡_, refl, sym, _∙_}
 use mathlib.Core.List.{List}
 use native.Mathlib.Omega.{arith}
 use lib.ListN.{length, drop, drop-of-length-le}
 use lib.Seq.{drop-cons}
 use Rattle.rules.specs.Sheets.Fields.{Read, read, turnedBack, Reader, then, _>>=_, give, closed}
 use Rattle.rules.specs.Sheets.Reading.{answered}
-use Rattle.fields.specs.Steps.{stepAs}
+use Rattle.fields.specs.Steps.{stepAs, nothing}
 use Rattle.answers.specs.AnswerMaps.{outcomeAs}
 use Rattle.answers.specs.declared.outcome.Outcome.{Outcome}
 use Rattle.answers.specs.declared.outcome.Outcome.the-variants.{Accepted, Refused}
@@ -57,17 +57,48 @@ module _ {B : Type 0} (rest : Unit {0} → Reader B) (s : List ℕ) (at : ℕ) (
   unfolding then closed
   answers-ended h o after = record { answer = after .answer ∙ rw (drop-of-length-le s h); held = after .held }
 
--- .. and no more is judged there
-module _ {B : Type 0} (s : List ℕ) (at : ℕ) (b : B) (Held : Type 0) where
-  pub answers-over : at < length s → Answers s at (closed >>= λ _. give b) b Held (Refused 1 at)
-  answers-over = answers-more (λ _. give b) s at b Held
+-- ---- the end of a sheet
 
-  pub answers-given : Held → Answers s at (give b) b Held Accepted
-  unfolding answered
-  answers-given held = record { answer = refl; held = λ _. held }
+-- the outcome of a reader
+abbrev outcomeOf : {A : Type 0} → Read A → Outcome
+outcomeOf (read a rest place) = Accepted
+outcomeOf (turnedBack number place) = Refused number place
 
-  pub answers-closed : length s ≤ at → Held → Answers s at (closed >>= λ _. give b) b Held Accepted
-  answers-closed h held = answers-ended (λ _. give b) s at b Held h Accepted (answers-given held)
+-- the outcome of a sheet whose last line this step read: nothing stands after it
+unfoldable pub endOf : List ℕ → Step → Outcome
+endOf s step = outcomeOf (then (stepAs nothing s step) (λ _. closed))
+
+module _ (s : List ℕ) (step : Step) where
+  pub end-back : (number place : ℕ) → step ≡ Back number place → Refused number place ≡ endOf s step
+  unfolding endOf then
+  end-back number place e = rw e refl
+
+  pub end-over : (value next : ℕ) → step ≡ On value next → next < length s → Refused 1 next ≡ endOf s step
+  unfolding endOf then closed
+  end-over value next e over = rw (e, drop-cons s next 0) refl
+
+  pub end-closed : (value next : ℕ) → step ≡ On value next → length s ≤ next → Accepted ≡ endOf s step
+  unfolding endOf then closed
+  end-closed value next e end = rw (e, drop-of-length-le s end) refl
+
+-- the last lines, which give a, and the end after them
+pub answers-end : {A B : Type 0} (lines : Reader A) (f : A → B) (s : List ℕ) (at : ℕ) (a : A) (step : Step) → stepAs (λ _. a) s step ≡ lines (drop at s) at
+    → (Held : Type 0) → ((value next : ℕ) → step ≡ On value next → Held) → (o : Outcome) → o ≡ endOf s step
+    → Answers s at (lines >>= λ x. closed >>= λ _. give (f x)) (f a) Held o
+unfolding endOf then answered
+answers-end {A} {B} lines f s at a step reads Held held o is = record { answer = rw (← reads, is) (given step); held = λ accepts. on step refl (sym is ∙ accepts) }
+  where
+    closes : (x : Read (Unit {0})) → outcomeAs (f a) (outcomeOf x) ≡ answered (then x (λ _. give (f a)))
+    closes (read u rest place) = refl
+    closes (turnedBack number place) = refl
+
+    given : (step : Step) → outcomeAs (f a) (endOf s step) ≡ answered (then (stepAs (λ _. a) s step) (λ x. closed >>= λ _. give (f x)))
+    given (On value next) = closes (closed (drop next s) next)
+    given (Back number place) = refl
+
+    on : (last : Step) → step ≡ last → endOf s last ≡ Accepted → Held
+    on (On value next) e accepts = held value next e
+    on (Back number place) e accepts = never number place accepts
 
 -- ---- readers and steps
 

@@ -10,7 +10,8 @@ use lib.ListN.{length, drop, getD, drop-of-length-le}
 use lib.Seq.{drop-cons, drop-drop}
 use lib.Dec.{eqb}
 use borrow.Author.Tests.{eq-eqb, ne-eqb}
-use Rattle.rules.specs.Sheets.Fields.{Read, read, turnedBack, Judge, judged, separator, spaces, looseSeparator, separatorIn, afterFieldIn, fieldOfIn, field, fieldIn, run, past, then, pastSpaces, spacesIn, Layout, strict, loose}
+use Rattle.rules.specs.Sheets.Fields.{Read, read, turnedBack, Judge, judged, separator, spaces, looseSeparator, separatorIn, afterFieldIn, fieldOfIn}
+use Rattle.rules.specs.Sheets.Fields.{field, fieldIn, run, past, then, pastSpaces, spacesIn, Layout, strict, loose}
 use Rattle.rules.specs.Text.{space, spaceByte}
 use Rattle.laws.specs.Lists.Runs.{run-rest}
 use Rattle.fields.specs.Runs.{spacesEnd, spaces-past}

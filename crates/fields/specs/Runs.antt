@@ -12,7 +12,7 @@ use lib.Seq.{drop-cons, drop-drop}
 use borrow.Author.Tests.{eq-eqb, ne-eqb}
 use Rattle.rules.specs.Text.{space, newline, spaceByte, newlineByte}
 use Rattle.rules.specs.Sheets.Fields.{isSeparator, run, pastSpaces, spacesIn}
-use Rattle.laws.specs.Lists.Runs.{run-front, run-most, at-space, at-other, spaces-rest}
+use Rattle.laws.specs.Lists.Runs.{fieldEnd, run-front, run-most, at-space, at-other, spaces-rest}
 
 pub is-space : (b : ℕ) → b ≡ spaceByte → isSeparator b ≡ true
 unfolding isSeparator space newline
@@ -25,10 +25,6 @@ is-newline b e = rw e refl
 pub is-neither : (b : ℕ) → (b ≡ spaceByte → ⊥) → (b ≡ newlineByte → ⊥) → isSeparator b ≡ false
 unfolding isSeparator space newline
 is-neither b h k = simp (ne-eqb b spaceByte h, ne-eqb b newlineByte k)
-
--- where the field that starts at `at` ends
-unfoldable pub fieldEnd : List ℕ → ℕ → ℕ
-fieldEnd s at = at + length (run (drop at s))
 
 module _ (s : List ℕ) (at : ℕ) where
   pub ends-within : at ≤ length s → fieldEnd s at ≤ length s

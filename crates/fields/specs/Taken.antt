@@ -11,7 +11,8 @@ use lib.Dec.{eqb}
 use Rattle.rules.specs.Lists.{same}
 use Rattle.rules.specs.Text.{space, isDigit, decimal, zeroByte}
 use Rattle.rules.specs.Limits.{levelsFit, cellsFit, fewestInputs, mostInputs}
-use Rattle.rules.specs.Sheets.Fields.{Read, read, turnedBack, Judge, Judged, good, bad, judged, then, separator, spaces, looseSeparator, separatorIn, afterFieldIn, fieldOfIn, field, fieldIn, run, past, pastSpaces, spacesIn, Layout, strict, loose}
+use Rattle.rules.specs.Sheets.Fields.{Read, read, turnedBack, Judge, Judged, good, bad, judged, then, separator, spaces, looseSeparator, separatorIn}
+use Rattle.rules.specs.Sheets.Fields.{afterFieldIn, fieldOfIn, field, fieldIn, run, past, pastSpaces, spacesIn, Layout, strict, loose}
 use Rattle.rules.specs.Sheets.Sheets.{levelsField, inputsOf, inputsField}
 use Rattle.laws.specs.Lists.Finds.{found-is, first-in-range}
 use Rattle.laws.specs.Lists.Runs.{run-past, spaces-rest, spaces-most}

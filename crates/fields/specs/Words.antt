@@ -1,12 +1,12 @@
--- Two fixed words, to the end of their line.
+-- Two or three fixed words, to the end of their line.
 -- Assumes nothing.
 use Prim.Native.Nat.{ℕ}
-use mathlib.Core.Path.{_≡_, refl}
+use mathlib.Core.Path.{_≡_, refl, ap, _∙_}
 use mathlib.Core.List.{List}
 use lib.ListN.{drop}
-use Rattle.rules.specs.Sheets.Fields.{Reader, _>>=_, fieldIn, Layout, strict}
+use Rattle.rules.specs.Sheets.Fields.{Reader, _>>=_, then, field, fieldIn, Layout, strict}
 use Rattle.rules.specs.Text.{spaceByte, newlineByte}
-use Rattle.fields.specs.Chained.{chained-back, chained-on}
+use Rattle.fields.specs.Chained.{chained-back, chained-on, field-then-then}
 use Rattle.fields.specs.Steps.{stepAs, nothing, spelled}
 use Rattle.fields.specs.declared.steps.Step.{Step}
 use Rattle.fields.specs.declared.steps.Step.the-variants.{On, Back}
@@ -14,17 +14,26 @@ use Rattle.fields.specs.declared.steps.Step.the-variants.{On, Back}
 unfoldable pub twoWordsIn : Layout → List ℕ → List ℕ → Reader (Unit {0})
 twoWordsIn layout a b = fieldIn layout (spelled a) spaceByte >>= λ _. fieldIn layout (spelled b) newlineByte
 
-abbrev pub twoWords : List ℕ → List ℕ → Reader (Unit {0})
-twoWords a b = twoWordsIn strict a b
+unfoldable pub threeWords : List ℕ → List ℕ → List ℕ → Reader (Unit {0})
+threeWords a b c = field (spelled a) spaceByte >>= λ _. twoWordsIn strict b c
 
-module _ (layout : Layout) (s : List ℕ) (at : ℕ) (a b : List ℕ) (first : Step)
+-- a word, then the rest of the line
+module _ (layout : Layout) (s : List ℕ) (at : ℕ) (a : List ℕ) (rest : Reader (Unit {0})) (first : Step)
     (reads : stepAs nothing s first ≡ fieldIn layout (spelled a) spaceByte (drop at s) at) where
-  pub words-back : (number place : ℕ) → first ≡ Back number place → stepAs nothing s (Back number place) ≡ twoWordsIn layout a b (drop at s) at
-  unfolding twoWordsIn
-  words-back number place e = chained-back nothing (fieldIn layout (spelled a) spaceByte) _ s at first reads nothing (Back number place) number place e refl
+  pub word-back : (number place : ℕ) → first ≡ Back number place
+      → stepAs nothing s (Back number place) ≡ (fieldIn layout (spelled a) spaceByte >>= λ _. rest) (drop at s) at
+  word-back number place e = chained-back nothing (fieldIn layout (spelled a) spaceByte) _ s at first reads nothing (Back number place) number place e refl
 
-  pub words-on : (value next : ℕ) (r : Step) → first ≡ On value next → stepAs nothing s r ≡ fieldIn layout (spelled b) newlineByte (drop next s) next
-      → stepAs nothing s r ≡ twoWordsIn layout a b (drop at s) at
-  unfolding twoWordsIn
-  words-on value next r e second =
-      chained-on nothing (fieldIn layout (spelled a) spaceByte) (λ _. fieldIn layout (spelled b) newlineByte) s at first reads nothing r value next e second
+  pub word-on : (value next : ℕ) (r : Step) → first ≡ On value next → stepAs nothing s r ≡ rest (drop next s) next
+      → stepAs nothing s r ≡ (fieldIn layout (spelled a) spaceByte >>= λ _. rest) (drop at s) at
+  word-on value next r e onward = chained-on nothing (fieldIn layout (spelled a) spaceByte) (λ _. rest) s at first reads nothing r value next e onward
+
+-- three words and the lines after them, field by field
+pub three-words-then : {A : Type 0} (a b c : List ℕ) (rest : Reader A) (s : List ℕ) (at : ℕ)
+    → (threeWords a b c >>= λ _. rest) s at
+    ≡ (field (spelled a) spaceByte >>= λ _. field (spelled b) spaceByte >>= λ _. field (spelled c) newlineByte >>= λ _. rest) s at
+unfolding threeWords twoWordsIn
+three-words-then a b c rest s at =
+    field-then-then (field (spelled a) spaceByte s at) _ _
+    ∙ ap (then (field (spelled a) spaceByte s at))
+    (λ i _ u p. field-then-then (field (spelled b) spaceByte u p) (λ _. field (spelled c) newlineByte) (λ _. rest) i)

@@ -1,13 +1,15 @@
-// A field's verdict, and the separator that is due after it.
+// A field's verdict, the separator that is due after it, and the end of a sheet.
 ghost use mathlib.Core.Path.{_≡_};
 ghost use lib.ListN.{drop};
 ghost use Rattle.rules.specs.Sheets.Fields.{run, separator, looseSeparator, separatorIn};
+ghost use Rattle.fields.specs.Chained.{endOf};
 ghost use Rattle.fields.specs.Steps.{tested, judgedField, judgedFieldIn, stepAs, itself, layoutOf};
 use crate::runs::SPACE;
 use crate::runs::spaces_end;
 use crate::steps::Layout;
 use crate::steps::Step;
 use crate::steps::Verdict;
+use answers::outcome::Outcome;
 
 // Returns the verdict of a test: the value, or the refusal's number.
 pub fn judged(test: bool, value: usize, number: usize) -> Verdict
@@ -93,4 +95,22 @@ pub fn after_field(s: &[u8], at: usize, w: &[u8], verdict: Verdict, due: u8) -> 
     ensures { λ r. ⌜ stepAs itself (now (s .entry)) r ≡ judgedField verdict due (now (s .entry)) at ⌝ }
 {
     after_field_in(s, at, w, verdict, due, Layout::Strict)
+}
+
+// Returns the outcome of a sheet whose last line this step read: nothing may follow that line.
+pub fn ended(s: &[u8], step: Step) -> Outcome
+    ensures { λ r. ⌜ r ≡ endOf (now (s .entry)) step ⌝ }
+{
+    match step {
+        Step::Back { number, place } => Outcome::Refused { number, place },
+        Step::On { value: _, next } => {
+            if next < s.len() {
+                return Outcome::Refused {
+                    number: 1,
+                    place: next,
+                };
+            }
+            Outcome::Accepted
+        }
+    }
 }

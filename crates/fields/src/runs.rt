@@ -2,7 +2,8 @@
 ghost use mathlib.Core.Path.{_≡_};
 ghost use lib.ListN.{drop};
 ghost use Rattle.rules.specs.Sheets.Fields.{run};
-ghost use Rattle.fields.specs.Runs.{fieldEnd, spacesEnd};
+ghost use Rattle.laws.specs.Lists.Runs.{fieldEnd};
+ghost use Rattle.fields.specs.Runs.{spacesEnd};
 
 pub const SPACE: u8 = b' ';
 

@@ -3,7 +3,7 @@ ghost use mathlib.Core.Path.{_≡_};
 ghost use lib.ListN.{drop};
 ghost use Rattle.rules.specs.Sheets.Fields.{field, fieldIn};
 ghost use Rattle.fields.specs.Steps.{stepAs, nothing, spelled, layoutOf};
-ghost use Rattle.fields.specs.Words.{twoWords, twoWordsIn};
+ghost use Rattle.fields.specs.Words.{twoWordsIn, threeWords};
 use crate::ends::after_field_in;
 use crate::ends::judged;
 use crate::runs::NEWLINE;
@@ -39,9 +39,13 @@ pub fn two_words_in(s: &[u8], at: usize, first: &[u8], second: &[u8], layout: La
     }
 }
 
-// Does the same in a strict sheet.
-pub fn two_words(s: &[u8], at: usize, first: &[u8], second: &[u8]) -> Step
-    ensures { λ r. ⌜ stepAs nothing (now (s .entry)) r ≡ twoWords (now (first .entry)) (now (second .entry)) (drop at (now (s .entry))) at ⌝ }
+// Reads three words, to the end of their line, in a strict sheet.
+pub fn three_words(s: &[u8], at: usize, first: &[u8], second: &[u8], third: &[u8]) -> Step
+    ensures { λ r. ⌜ stepAs nothing (now (s .entry)) r
+        ≡ threeWords (now (first .entry)) (now (second .entry)) (now (third .entry)) (drop at (now (s .entry))) at ⌝ }
 {
-    two_words_in(s, at, first, second, Layout::Strict)
+    match word_field(s, at, first, SPACE) {
+        Step::Back { number, place } => Step::Back { number, place },
+        Step::On { value: _, next } => two_words_in(s, next, second, third, Layout::Strict),
+    }
 }

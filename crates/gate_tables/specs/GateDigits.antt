@@ -14,7 +14,7 @@ use Rattle.rules.specs.Lists.{firstPlace}
 use Rattle.rules.specs.Groups.Groups.{part, others, points, alikeOver, classes}
 use Rattle.rules.specs.Nets.Filling.{classNumber, given, gateDigits}
 use Rattle.trees.specs.Filling.DigitRule.{Parts, DigitRule, digit-rule}
-use Rattle.gate_tables.specs.Sums.{gate-sum-left, sum-right, gate-sum-own}
+use Rattle.trees.specs.Groups.Covers.{sum-left, sum-right, sum-own}
 use Rattle.gate_tables.specs.Samples.{samples, samples-own, Sampled, sampled}
 use Rattle.gate_tables.specs.SampledDigits.{givenFrom, sampledDigit, sampledDigits, digit-sum, no-left, no-right, sampled-length, sampled-at}
 
@@ -58,10 +58,10 @@ module _ (m n : ℕ) (pos : 0 < m) (f : ℕ → ℕ) (last : Bool) (a b : ℕ) (
       let y = getD right v 0 in
       let x-own = samples-own m n f a (parts .a-below) pos u h in
       let y-own = samples-own m n f b (parts .b-below) pos v k in
-      let at-a = lefts .carries u (x + y) h (gate-sum-left m n pos a b (parts .a-below) (parts .b-below) (parts .apart) x y x-own y-own) in
+      let at-a = lefts .carries u (x + y) h (sum-left m n pos a b (parts .a-below) (parts .b-below) (parts .apart) x y x-own y-own) in
       let at-b = rights .carries v (x + y) k (sum-right m n pos a b (parts .a-below) (parts .b-below) (parts .apart) x y x-own y-own) in
       rule .reached u v (x + y) at-a at-b
-      ∙ sym (given-own (x + y) (gate-sum-own m n pos a b (parts .a-below) (parts .b-below) (parts .apart) x y x-own y-own))
+      ∙ sym (given-own (x + y) (sum-own m n pos a b (parts .a-below) (parts .b-below) (parts .apart) x y x-own y-own))
 
   digit : (u v : ℕ) → u < m → v < m → getD (gateDigits m n f last a b) (u * m + v) 0 ≡ sampledDigit left right (givenBy m n f (a + b) last) u v
   digit u v u< v< = go (decLt u (length left)) (decLt v (length right))

@@ -15,7 +15,7 @@ use Rattle.trees.specs.Filling.DigitRule.{Parts}
 use Rattle.gate_tables.specs.Samples.{samples, samples-own}
 use Rattle.gate_tables.specs.Sized.{Sized}
 use Rattle.gate_tables.specs.DigitsReady.{Ready}
-use Rattle.gate_tables.specs.Sums.{gate-sum-own}
+use Rattle.trees.specs.Groups.Covers.{sum-own}
 
 -- the sum of one of the left list and one of the right is an assignment of group g
 abbrev pub Sums : ℕ → ℕ → ℕ → List ℕ → List ℕ → Type 0
@@ -26,7 +26,7 @@ pub samples-sum : (m n : ℕ) (f : ℕ → ℕ) (a b : ℕ) → 0 < m → Parts 
     → Sums m n (a + b) left right
 samples-sum m n f a b pos parts left right of-a of-b =
     subst₂ (Sums m n (a + b)) (sym of-a) (sym of-b)
-    (λ u v u< v<. gate-sum-own m n pos a b (parts .a-below) (parts .b-below) (parts .apart) _ _
+    (λ u v u< v<. sum-own m n pos a b (parts .a-below) (parts .b-below) (parts .apart) _ _
     (samples-own m n f a (parts .a-below) pos u u<) (samples-own m n f b (parts .b-below) pos v v<))
 
 module _ (m n : ℕ) (cells : List ℕ) (f : ℕ → ℕ) (g : ℕ) (left right : List ℕ) (sized : Sized m n cells) (g< : g < 2 ^ n) (few : Few m n f g)

@@ -7,4 +7,3 @@ pub mod MadeNet
 pub mod SampledDigits
 pub mod Samples
 pub mod Sized
-pub mod Sums

@@ -1,5 +1,5 @@
--- Digits from two lists of assignments, one for each value that the left and the right wire carry: the digit at (u, v) is what the gate gives at the sum of left's
--- u and right's v, and 0 where one of the two has no such assignment.
+-- Digits from two lists of assignments, one for each value that the left and the right wire carry: the digit at (u, v) is what the gate gives at the
+-- sum of left's u and right's v, and 0 where one of the two has no such assignment.
 -- Assumes nothing.
 use Prim.Native.Nat.{ℕ, _+_, _*_, _/_, _%_, _≤_, _<_}
 use mathlib.Core.Path.{_≡_, refl, ap, _∙_}

@@ -1,13 +1,12 @@
 -- One assignment for each value that a wire below the last carries, in the order of the values: an input's levels, or the first of
 -- each class.
 -- Assumes nothing.
-use Prim.Native.Nat.{ℕ, _-_, _*_, _/_, _%_, _^_, _≤_, _<_}
+use Prim.Native.Nat.{ℕ, _-_, _*_, _/_, _%_, _^_, _<_}
 use mathlib.Core.Path.{_≡_, refl, sym, ap, _∙_, subst⁻¹}
 use mathlib.Core.Logic.{_≢_}
 use mathlib.Core.Bool.{Bool, true, false}
 use mathlib.Core.List.{List}
-use native.Mathlib.Nat.{zero-add, pow-suc, mul-div-cancel, mul-comm, mod-eq-of-lt, one-le-pow, pow-le-pow-right}
-use native.Mathlib.Omega.{arith}
+use native.Mathlib.Nat.{zero-add, mul-div-cancel, mod-eq-of-lt, one-le-pow}
 use borrow.Author.Tests.{eq-eqb, eqb-true, eqb-false}
 use lib.ListN.{length, getD, take}
 use lib.Dec.{eqb}
@@ -32,11 +31,6 @@ samples m n f g = elim (eqb (size n g) 1) [ true ↦ points m n g | false ↦ cl
 
 level-points-length : (m w : ℕ) → length (levelPoints m w) ≡ m
 level-points-length m w = map-range-length (λ l. l * w) 0 m
-
--- an input's weight, times m, is within the cells
-pub gate-weight-fits : (m n i : ℕ) → 0 < m → i < n → m * m ^ (n - 1 - i) ≤ m ^ n
-gate-weight-fits m n i pos h =
-    subst⁻¹ (λ (k : ℕ). k ≤ m ^ n) (mul-comm m (m ^ (n - 1 - i)) ∙ sym (pow-suc m (n - 1 - i))) (pow-le-pow-right pos (omega arith))
 
 module _ (m n : ℕ) (f : ℕ → ℕ) (g : ℕ) (g< : g < 2 ^ n) where
   -- a group of one member

@@ -18,8 +18,8 @@ pub record Sized (m n : ℕ) (cells : List ℕ) : Type 0 where
   pub small : m ^ n ≤ mostCells
   pub count : m ^ n ≤ length cells
 
-pub sized : (m n : ℕ) (cells : List ℕ) → sizeFits m n ≡ true → m ^ n ≤ length cells → Sized m n cells
-sized m n cells fits count =
+pub sized-cells : (m n : ℕ) (cells : List ℕ) → sizeFits m n ≡ true → m ^ n ≤ length cells → Sized m n cells
+sized-cells m n cells fits count =
     let s = sizes m n fits in
     record {
       fits = fits;

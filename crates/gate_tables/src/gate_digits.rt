@@ -17,40 +17,7 @@ use crate::samples;
 use radix::limits;
 use radix::offsets;
 
-// Writes the m·m digits of the gate of group g from `at` on, from the samples of its two sides.
-fn group_digits(
-    m: usize,
-    n: usize,
-    cells: &[u8],
-    g: usize,
-    last: bool,
-    left: &[u16],
-    right: &[u16],
-    at: usize,
-    digits: &mut [u8],
-)
-    requires { ⌜ (Sized m n (now cells)) × (g < 2 ^ n) × (Few m n (inkIn (now cells)) g) × (Sums m n g (now left) (now right)) × (at + m * m ≤ length (now digits)) ⌝ }
-    ensures { λ _. ⌜ now (digits .exit) ≡ paste (now (digits .entry)) at
-        (sampledDigits m (now (left .entry)) (now (right .entry)) (givenBy m n (inkIn (now (cells .entry))) g last)) (m * m) ⌝ }
-{
-    let mut ys = [0u16; limits::MOST_CELLS];
-    let mut firsts = [0u16; limits::MOST_LEVELS];
-    let other = offsets::other_offsets(m, n, g, &mut ys);
-    let count = samples::class_list(m, n, cells, g, &mut firsts);
-    digits::write_digits(
-        m,
-        cells,
-        &ys[0..other],
-        &firsts[0..count],
-        last,
-        left,
-        right,
-        at,
-        digits,
-    );
-}
-
-// Does the same, with no lists for the last gate, which gives the ink.
+// Writes the m·m digits of the gate of group g from `at` on, from the samples of its two sides. The last gate gives the ink, so it needs no lists.
 fn side_digits(
     m: usize,
     n: usize,
@@ -66,12 +33,26 @@ fn side_digits(
     ensures { λ _. ⌜ now (digits .exit) ≡ paste (now (digits .entry)) at
         (sampledDigits m (now (left .entry)) (now (right .entry)) (givenBy m n (inkIn (now (cells .entry))) g last)) (m * m) ⌝ }
 {
-    if !last {
-        group_digits(m, n, cells, g, last, left, right, at, digits);
+    if last {
+        let none = &left[0..0];
+        digits::write_digits(m, cells, none, none, last, left, right, at, digits);
         return;
     }
-    let none = &left[0..0];
-    digits::write_digits(m, cells, none, none, last, left, right, at, digits);
+    let mut ys = [0u16; limits::MOST_CELLS];
+    let mut firsts = [0u16; limits::MOST_LEVELS];
+    let other = offsets::other_offsets(m, n, g, &mut ys);
+    let count = samples::class_list(m, n, cells, g, &mut firsts);
+    digits::write_digits(
+        m,
+        cells,
+        &ys[0..other],
+        &firsts[0..count],
+        last,
+        left,
+        right,
+        at,
+        digits,
+    );
 }
 
 // Writes the digits of the gate that joins groups a and b from `at` on.

@@ -9,7 +9,7 @@ ghost use Rattle.trees.specs.Groups.Classes.{Few};
 ghost use Rattle.trees.specs.Leaves.Neighbours.{levelPoints};
 ghost use Rattle.gate_tables.specs.Samples.{samples};
 ghost use Rattle.gate_tables.specs.Sized.{Sized};
-use classes::counting;
+use classes::few;
 use radix::limits;
 use radix::members;
 use radix::powers;
@@ -31,10 +31,7 @@ pub fn class_list(m: usize, n: usize, cells: &[u8], g: usize, out: &mut [u16]) -
     requires { ⌜ (Sized m n (now cells)) × (m ≤ length (now out)) × (g < 2 ^ n) × (Few m n (inkIn (now cells)) g) ⌝ }
     ensures { λ r. ⌜ Front (classes m n (inkIn (now (cells .entry))) g) r (now (out .exit)) ⌝ }
 {
-    let mut xs = [0u16; limits::MOST_CELLS];
-    let mut ys = [0u16; limits::MOST_CELLS];
-    let mut known = [0u32; limits::MOST_LEVELS];
-    counting::group_firsts(m, n, cells, g, 0, m, &mut xs, &mut ys, out, &mut known)
+    few::few_firsts(m, n, cells, g, m, out)
 }
 
 // Writes the samples of group g to the front of `out`, an input's levels or the first of each class, and returns how many there are.

@@ -2,8 +2,8 @@
 -- Assumes nothing.
 use Prim.Native.Nat.{ℕ, zero, suc, _+_, _-_, _*_, _/_, _%_, _≤_, _<_}
 use mathlib.Core.Path.{_≡_, refl, sym, ap, ap₂, _∙_, subst}
-use mathlib.Core.List.{List, [], _++_, map}
-use native.Mathlib.Nat.{zero-add, add-assoc, mul-comm, mul-le-mul, div-add-mod', mod-lt, div-lt-iff-lt-mul}
+use mathlib.Core.List.{List, _++_, map}
+use native.Mathlib.Nat.{zero-add, add-assoc, mul-comm, div-add-mod', mod-lt, div-lt-iff-lt-mul}
 use native.Mathlib.Omega.{arith}
 use lib.ListN.{length, getD, drop, replicate, length-drop, length-replicate}
 use lib.Seq.{ext-getD, length-take-le, getD-take, getD-drop}
@@ -19,9 +19,8 @@ use Rattle.laws.specs.Nets.Pictures.{picture-level-below}
 use Rattle.laws.specs.Lists.Ranges.{map-range-length, map-range-at, map-range-same, range-length}
 use Rattle.nets.specs.declared.forms.Net.{Net}
 use Rattle.nets.specs.Forms.{gatesOf}
-use Rattle.nets.specs.Room.{mostGates}
-use Rattle.nets.specs.Sound.{Sound, sound-size, gates-count, net-levels-pos}
-use Rattle.evaluation.specs.Values.{levelsIn, ValuesReady, ValuesDone}
+use Rattle.nets.specs.Sound.{Sound, net-levels-pos}
+use Rattle.evaluation.specs.Values.{levelsIn, mostColumns, columns-room, ValuesReady, ValuesDone}
 use Rattle.glyphs.specs.Offsets.{span, reach, startOf, moved, across-there, down-there, across-near, down-near}
 use Rattle.glyphs.specs.Frames.{frameSize, GlyphEmpty, GlyphFramed}
 use Rattle.glyphs.specs.Rows.{rowAt, rowsFrom, RowsReady}
@@ -52,7 +51,7 @@ placesOf width height = (height - 1) * span + width
 
 -- the framed picture, and the values of every gate
 abbrev pub mostValues : ℕ
-mostValues = frameSize + mostGates * ((mostSide - 1) * span + mostSide)
+mostValues = frameSize + mostColumns * ((mostSide - 1) * span + mostSide)
 
 zeros-at : (k q : ℕ) → _≡_ {A = ℕ} (getD (replicate k 0) q 0) 0
 zeros-at zero q = refl
@@ -118,10 +117,8 @@ module _ (net : Net) (width height : ℕ) (picture : List ℕ) (offsets : List �
         inputs-there = λ i low.
             omega (arith, each i low, across-near (net .inputs) offsets (ready .offsets-are) i low, down-near (net .inputs) offsets (ready .offsets-are) i low, wide, high, ready .picture-is .along .some);
         room =
-            let few : net .gates ≤ mostGates = omega (arith, gates-count net (ready .sound), sound-size net (ready .sound) .inputs-most) in
             let small : placesOf width height ≤ (mostSide - 1) * span + mostSide = omega (arith, wide, high, ready .picture-is .along .some) in
-            let all : net .gates * placesOf width height ≤ mostGates * ((mostSide - 1) * span + mostSide) = mul-le-mul few small in
-            omega (arith, all, long, framed .same);
+            columns-room net (ready .sound) frameSize (placesOf width height) ((mostSide - 1) * span + mostSide) wires small (omega (arith, long, framed .same));
         levels = λ i p low h.
             levels (getD starts i 0 + p)
             (omega (arith, each i low, across-near (net .inputs) offsets (ready .offsets-are) i low, down-near (net .inputs) offsets (ready .offsets-are) i low, wide, high, ready .picture-is .along .some));

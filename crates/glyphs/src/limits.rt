@@ -1,5 +1,5 @@
 // The limits of a picture, and of the framed picture: a border of zeros as wide as an offset may reach stands around it.
-use radix::limits::MOST_GATES;
+use evaluation::values::MOST_COLUMNS;
 
 pub const MOST_SIDE: usize = 64;
 
@@ -14,4 +14,4 @@ pub const FRAME: usize = SPAN * SPAN;
 pub const MOST_PLACES: usize = (MOST_SIDE - 1) * SPAN + MOST_SIDE;
 
 // The framed picture, then the values of every gate at those places.
-pub const MOST_VALUES: usize = FRAME + MOST_GATES * MOST_PLACES;
+pub const MOST_VALUES: usize = FRAME + MOST_COLUMNS * MOST_PLACES;

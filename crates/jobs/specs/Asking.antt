@@ -50,12 +50,12 @@ module _ (lines : List ℕ) (h : Header) (is : Fronted lines h) (marks : List �
   asked-over l = sym (ap (λ (a : Asked). a .answer) (ask-over job g (rw inputs-are l)))
 
   module _ (some : g ≡ 0 → ⊥) (below : g < 2 ^ h .inputs) where
-    pub asked-ahead : passed < g → accepted notReached ≡ askJob job g .answer
+    pub not-reached-answer : passed < g → accepted notReached ≡ askJob job g .answer
     unfolding jobIn
-    asked-ahead l = sym (ap (λ (a : Asked). a .answer) (ask-ahead job g some (rw inputs-are below) l))
+    not-reached-answer l = sym (ap (λ (a : Asked). a .answer) (ask-ahead job g some (rw inputs-are below) l))
 
-    pub asked-passed : g ≤ passed → accepted (final (getD marks g 0)) ≡ askJob job g .answer
+    pub reached-answer : g ≤ passed → accepted (final (getD marks g 0)) ≡ askJob job g .answer
     unfolding jobIn
-    asked-passed l =
+    reached-answer l =
         ap (λ (v : ℕ). accepted (final v)) (sym (getD-take (2 ^ job .table .header .inputs) marks g 0 (rw inputs-are below)))
         ∙ sym (ap (λ (a : Asked). a .answer) (ask-passed job g some (rw inputs-are below) l))

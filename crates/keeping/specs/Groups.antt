@@ -10,22 +10,22 @@ use native.Mathlib.Omega.{arith}
 use lib.Dec.{ltb}
 use lib.ListN.{length, getD, take, set, length-set}
 use lib.Seq.{getD-take, getD-set-same, getD-set-other}
-use borrow.Author.Tests.{lt-ltb, le-ltb}
 use Rattle.rules.specs.Lists.{firstPlace}
-use Rattle.rules.specs.Groups.Groups.{classes, multiplicity}
+use Rattle.rules.specs.Groups.Groups.{multiplicity}
 use Rattle.rules.specs.Nets.Filling.{inputGroups}
 use Rattle.rules.specs.Nets.Family.{gateGroups}
 use Rattle.rules.specs.Calls.Keeping.{gateLinks, roomyGates}
 use Rattle.laws.specs.Lists.FirstPlaces.{before-first, at-first, place-at-most}
 use Rattle.laws.specs.Lists.Ranges.{map-range-at}
-use Rattle.trees.specs.Filling.Fillings.{withGroups, groups-earlier, inputs-grouped}
+use Rattle.laws.specs.Lists.WithEach.{with-each-earlier}
+use Rattle.trees.specs.Filling.Fillings.{linkGroup, withGroups, inputs-grouped}
 use Rattle.trees.specs.Keeping.KeptLinks.{gate-groups-length, gate-group-at, gate-group}
 use Rattle.trees.specs.Keeping.KeptWirings.{group-small}
 use Rattle.nets.specs.declared.forms.Net.{Net}
 use Rattle.nets.specs.Forms.{gateOf, gatesOf}
 use Rattle.nets.specs.Room.{mostWires}
 use Rattle.nets.specs.Sound.{Sound, gates-length, wires-room}
-use Rattle.nets.specs.References.{refers-back}
+use Rattle.nets.specs.References.{gate-step}
 
 -- the groups of all references of a net
 abbrev pub groupsOf : Net → List ℕ
@@ -51,7 +51,7 @@ module _ (net : Net) (sound : Sound net) where
         known = λ r h.
             let r< : r < net .inputs = omega arith in
             sym (getD-take (net .inputs) groups r 0 r<) ∙ ap (λ (gs : List ℕ). getD gs r 0) front
-            ∙ sym (groups-earlier (inputGroups (net .inputs)) (gateLinks (gatesOf net)) r (omega (arith, inputs-grouped (net .inputs) .0)));
+            ∙ sym (with-each-earlier linkGroup 0 (inputGroups (net .inputs)) (gateLinks (gatesOf net)) r (omega (arith, inputs-grouped (net .inputs) .0)));
       }
 
   module _ (k : ℕ) (turn : k < net .gates) where
@@ -70,7 +70,7 @@ module _ (net : Net) (sound : Sound net) where
       pub next-group : getD groups (getD (net .left) k 0) 0 + getD groups (getD (net .right) k 0) 0 ≡ gateGroupAt net k
       unfolding gateOf
       next-group =
-          let back = refers-back net sound k turn in
+          let back = gate-step net sound k turn in
           ap₂ (λ (a b : ℕ). a + b) (so-far .known (getD (net .left) k 0) (back .0)) (so-far .known (getD (net .right) k 0) (back .1))
           ∙ sym (gate-group (net .inputs) (gatesOf net) (sound .gates .rules .back) k (gateOf net 0) (omega (arith, gates-length net))
           ∙ ap (λ g. getD (groupsOf net) (g .left) 0 + getD (groupsOf net) (g .right) 0) gate-is)

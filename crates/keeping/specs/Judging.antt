@@ -1,32 +1,35 @@
--- Keeping the wiring of two accepted sheets: headers, then a full table.
+-- Keeping a wiring for two sheets: a refusal, then a full table.
 -- Assumes nothing.
 use Prim.Native.Nat.{ℕ, _-_, _^_, _≤_, _<_}
-use mathlib.Core.Path.{_≡_, refl, sym, ap, ap₂, _∙_, subst⁻¹}
-use mathlib.Core.Bool.{Bool, true, false, not, _&&_, and-eq-true-iff}
+use mathlib.Core.Path.{_≡_, refl, sym, ap, _∙_}
+use mathlib.Core.Bool.{Bool, true, false}
 use mathlib.Core.List.{List}
 use native.Mathlib.Nat.{lt-of-not-le}
 use native.Mathlib.Decide.{decLe}
-use native.Mathlib.Omega.{arith}
-use lib.Dec.{eqb}
-use lib.ListN.{length, getD, take, length-take}
-use borrow.Author.Tests.{lt-ltb, le-ltb, not-true, not-false}
+use lib.ListN.{length, getD, take}
+use borrow.Author.Tests.{lt-ltb, le-ltb}
 use Rattle.rules.specs.Sheets.Sheets as sheets
 use Rattle.rules.specs.Sheets.Sheets.{Table}
 use Rattle.rules.specs.Sheets.Printed.{printedNet}
-use Rattle.rules.specs.Sheets.SheetRules.{HeaderRules}
-use Rattle.rules.specs.Calls.Answers.{accepted, inkIn, neither, refused, tableNamed, written}
+use Rattle.rules.specs.Calls.Answers as answers
+use Rattle.rules.specs.Calls.Answers.{accepted, refused, tableNamed, written}
 use Rattle.rules.specs.Calls.OpenCells.{full, fullTable}
-use Rattle.rules.specs.Calls.Checking.{sameNames, sameHeader}
+use Rattle.rules.specs.Calls.Checking.{sameHeader}
 use Rattle.rules.specs.Calls.Keeping.{keptNet, roomyBefore, leavesOut, turnedAway, KeptWiring, keptInto, keepCall}
-use Rattle.laws.specs.Lists.Tests.{both-eqb}
+use Rattle.laws.specs.Calls.Checking.{same-header}
+use Rattle.laws.specs.Calls.OpenCells.{read-full}
 use Rattle.laws.specs.Calls.Settling.{sheet-15, sheet-written}
-use Rattle.laws.specs.Calls.Keeping.{keep-accepted, keep-12, keep-27, keep-13, keep-23-0, keep-23, keep-15, keep-written}
-use Rattle.readback.specs.Sheets.ReadBack.{net-accepted}
+use Rattle.laws.specs.Calls.Keeping.{keep-net-refused, keep-table-refused, keep-accepted, keep-12, keep-27, keep-13, keep-23-0, keep-23, keep-15, keep-written}
+use Rattle.answers.specs.AnswerMaps.{namedOf}
+use Rattle.answers.specs.declared.named.Named.{Named}
 use Rattle.nets.specs.declared.forms.Header.{Header}
 use Rattle.nets.specs.declared.forms.Net.{Net}
 use Rattle.nets.specs.Forms.{headerOf, tableIn, netIn}
 use Rattle.table_reader.specs.TableReading.{inksIn}
-use Rattle.accepted.specs.Taken.{NetTaken, TableTaken, Given, names-inside, taken-full, inks-front, inks-kept, inks-given}
+use Rattle.accepted.specs.declared.both.BothRead.{BothRead}
+use Rattle.accepted.specs.declared.both.Pairing.the-variants.{Accepted, Refused}
+use Rattle.accepted.specs.Taken.{Given, inks-front, inks-table, inks-full}
+use Rattle.accepted.specs.Both.{BothTaken, BothReads, Judges, both-turned, both-onward, both-kept}
 use Rattle.keeping.specs.Rewriting.{full-short, full-long}
 use Rattle.keeping.specs.KeepAnswers.{withChanged, sheetKept, filledInto, fullInto}
 
@@ -56,85 +59,60 @@ module _ (net : sheets.Net) (t : Table) (cells output : List ℕ) (same : sameHe
       go (yes long) = past-13 long ∙ full-long net t cells output long
       go (no short) = keep-13 net t cells output same whole (lt-of-not-le short) ∙ full-short net t cells output (lt-of-not-le short)
 
--- the header of an accepted net sheet keeps the rules
-own-header : (s : List ℕ) (h : Header) (net : Net) → NetTaken s h net → HeaderRules (headerOf s h)
-own-header s h net taken = net-accepted s (netIn s h net) (taken .reads) .1 .header
+-- ---- two sheets
 
--- the table's header has no say in what follows
-any-header : (net : sheets.Net) (t u : Table) (cells output : List ℕ) → t .inks ≡ u .inks → fullInto net t cells output ≡ fullInto net u cells output
-unfolding fullInto filledInto sheetKept leavesOut roomyBefore keptNet
-any-header net t u cells output e = ap (λ (inks : List ℕ). fullInto net (record { header = t .header; inks = inks }) cells output) e
+module _ (s t : List ℕ) (h : Header) (net : Net) (inks : List ℕ) (taken : BothTaken s t h net inks) (count : ℕ) (is : count ≡ h .levels ^ h .inputs) where
+  -- no ink is above the levels
+  pub inks-within : (p : ℕ) → p < length (take (count - 0) inks) → getD (take (count - 0) inks) p 0 ≤ h .levels
+  unfolding headerOf
+  inks-within = both-kept s t h net inks taken count is .within
 
--- ---- two accepted sheets
+  -- the inks are a full table of the net's header
+  pub both-given : accepted tt ≡ full (h .levels) (take (count - 0) inks) → Given s h (take (count - 0) inks)
+  unfolding fullTable headerOf
+  both-given whole =
+      inks-full s h inks count is t
+      (read-full t (tableIn s h (inksIn inks h)) (taken .table) (ap (full (h .levels)) (sym (inks-front s h inks count is)) ∙ sym whole)) (taken .own .header)
 
-module _ (s : List ℕ) (h : Header) (net : Net) (taken : NetTaken s h net) (t : List ℕ) (k : Header) (inks : List ℕ) (other : TableTaken t k inks) (cells output : List ℕ) where
-  both-accepted : keepCall s t cells output ≡ keptInto (netIn s h net) (tableIn t k (inksIn inks k)) cells output
-  both-accepted = keep-accepted s t cells output (netIn s h net) (taken .reads) (tableIn t k (inksIn inks k)) (other .reads)
+module _ (s t inks cells output : List ℕ) (r : BothRead) (read : BothReads s t inks r) where
+  refusal : answers.Named → ℕ → ℕ → KeptWiring
+  refusal who number place = record { answer = turnedAway who number place; cells = cells; output = output }
 
-  -- the headers compared, and the test of the answer
-  module _ (same : Bool) (told : same ≡ sameHeader (headerOf s h) (headerOf t k)) where
-    pub keeping-headers-differ : not same ≡ true → record { answer = turnedAway neither 12 0; cells = cells; output = output } ≡ keepCall s t cells output
-    keeping-headers-differ differ = sym (both-accepted ∙ keep-12 (netIn s h net) (tableIn t k (inksIn inks k)) cells output (sym told ∙ not-true same differ))
+  judges : Judges s t refusal (λ net table. keptInto net table cells output) (keepCall s t cells output)
+  unfolding refusal
+  judges =
+      record {
+        net-back = keep-net-refused s t cells output;
+        table-back = keep-table-refused s t cells output;
+        goes-on = keep-accepted s t cells output;
+        differ = λ net table. keep-12 net table cells output;
+      }
 
-    module _ (alike : not same ≡ false) (count : ℕ) (is : count ≡ h .levels ^ h .inputs) where
-      agreed : sameHeader (headerOf s h) (headerOf t k) ≡ true
-      agreed = sym told ∙ not-false same alike
+  pub keep-refused : (who : Named) (number place : ℕ) → r .outcome ≡ Refused who number place
+      → record { answer = turnedAway (namedOf who) number place; cells = cells; output = output } ≡ keepCall s t cells output
+  unfolding refusal
+  keep-refused who number place e =
+      both-turned s t refusal (λ net table. keptInto net table cells output) (keepCall s t cells output) judges inks r read who number place e
 
-      sizes : (h .levels ≡ k .levels) × (h .inputs ≡ k .inputs)
-      unfolding sameHeader headerOf
-      sizes =
-          both-eqb (h .levels) (k .levels) (h .inputs) (k .inputs) .0
-          (and-eq-true-iff (eqb (h .levels) (k .levels) && eqb (h .inputs) (k .inputs)) (sameNames (headerOf s h .names) (headerOf t k .names)) .0 agreed .0)
+  module _ (on : r .outcome ≡ Accepted) (count : ℕ) (is : count ≡ r .header .levels ^ r .header .inputs) where
+    abbrev h : Header
+    h = r .header
 
-      count-is : count ≡ k .levels ^ k .inputs
-      count-is = is ∙ ap₂ _^_ (sizes .0) (sizes .1)
+    onward : keptInto (netIn s h (r .net)) (tableIn s h (take (count - 0) inks)) cells output ≡ keepCall s t cells output
+    onward =
+        ap (λ (table : Table). keptInto (netIn s h (r .net)) table cells output) (inks-table s h inks count is)
+        ∙ both-onward s t refusal (λ net table. keptInto net table cells output) (keepCall s t cells output) judges inks r read on
 
-      front : take (count - 0) inks ≡ inksIn inks k
-      front = inks-front t k inks count count-is
+    same : sameHeader (headerOf s h) (headerOf s h) ≡ true
+    same = same-header (headerOf s h) (headerOf s h) refl
 
-      front-length : length (take (count - 0) inks) ≡ count
-      unfolding headerOf
-      front-length = inks-kept t k inks count count-is other .count ∙ sym count-is
+    -- 27, which names the table sheet
+    pub table-open : (number place : ℕ) → refused number place ≡ full (h .levels) (take (count - 0) inks)
+        → record { answer = turnedAway tableNamed number place; cells = cells; output = output } ≡ keepCall s t cells output
+    unfolding fullTable headerOf
+    table-open number place e = sym (keep-27 (netIn s h (r .net)) (tableIn s h (take (count - 0) inks)) cells output same number place (sym e)) ∙ onward
 
-      -- the buffer holds all inks
-      pub inks-long : count ≤ length inks
-      inks-long = omega (arith, front-length, length-take (count - 0) inks)
-
-      -- no ink is above the levels
-      pub inks-within : (p : ℕ) → p < length (take (count - 0) inks) → getD (take (count - 0) inks) p 0 ≤ k .levels
-      unfolding headerOf
-      inks-within = inks-kept t k inks count count-is other .within
-
-      -- 27, which names the table sheet
-      pub table-open : (number place : ℕ) → refused number place ≡ full (k .levels) (take (count - 0) inks)
-          → record { answer = turnedAway tableNamed number place; cells = cells; output = output } ≡ keepCall s t cells output
-      unfolding fullTable headerOf
-      table-open number place e =
-          sym (both-accepted ∙ keep-27 (netIn s h net) (tableIn t k (inksIn inks k)) cells output agreed number place (ap (full (k .levels)) (sym front) ∙ sym e))
-
-      module _ (on : accepted tt ≡ full (k .levels) (take (count - 0) inks)) where
-        whole : full (k .levels) (inksIn inks k) ≡ accepted tt
-        whole = ap (full (k .levels)) (sym front) ∙ sym on
-
-        table-given : Given t k (take (count - 0) inks)
-        table-given = inks-given t k inks count count-is (taken-full t k inks other whole)
-
-        -- the inks are a full table of the net's header
-        pub both-given : Given s h (take (count - 0) inks)
-        unfolding headerOf
-        both-given =
-            let below : (p : ℕ) → p < length (take (count - 0) inks) → inkIn (take (count - 0) inks) p < h .levels =
-            λ p p<. subst⁻¹ (λ (m : ℕ). inkIn (take (count - 0) inks) p < m) (sizes .0) (table-given .full p p<) in
-            record {
-              names = names-inside s h (taken .header);
-              kept = record { header = own-header s h net taken; count = front-length ∙ is; within = λ p p<. omega (arith, below p p<) };
-              full = below;
-            }
-
-        pub full-told : (r : KeptWiring) → r ≡ fullInto (netIn s h net) (tableIn s h (take (count - 0) inks)) cells output → r ≡ keepCall s t cells output
-        unfolding fullTable headerOf
-        full-told r e =
-            e
-            ∙ any-header (netIn s h net) (tableIn s h (take (count - 0) inks)) (tableIn t k (inksIn inks k)) cells output front
-            ∙ sym (past-27 (netIn s h net) (tableIn t k (inksIn inks k)) cells output agreed whole)
-            ∙ sym both-accepted
+    pub full-told : accepted tt ≡ full (h .levels) (take (count - 0) inks)
+        → (k : KeptWiring) → k ≡ fullInto (netIn s h (r .net)) (tableIn s h (take (count - 0) inks)) cells output → k ≡ keepCall s t cells output
+    unfolding fullTable headerOf
+    full-told whole k e = e ∙ sym (past-27 (netIn s h (r .net)) (tableIn s h (take (count - 0) inks)) cells output same (sym whole)) ∙ onward

@@ -24,7 +24,7 @@ use Rattle.nets.specs.Forms.{headerOf, gatesOf, tableIn, netIn}
 use Rattle.nets.specs.Sound.{Sound, gates-length}
 use Rattle.wirings.specs.declared.forms.Wiring.{Wiring}
 use Rattle.wirings.specs.Links.{linksIn}
-use Rattle.gate_tables.specs.Sized.{Sized, sized}
+use Rattle.gate_tables.specs.Sized.{Sized, sized-cells}
 use Rattle.gate_tables.specs.Filled.{Filled}
 use Rattle.gate_tables.specs.MadeNet.{NetOf}
 use Rattle.answers.specs.declared.answer.Answer.{Answer}
@@ -64,7 +64,7 @@ module _ (s : List ℕ) (h : Header) (net : Net) (inks : List ℕ) (taken : NetT
   pub table-sized : Sized (net .levels) (net .inputs) inks
   table-sized =
       subst₂ (λ (m n : ℕ). Sized m n inks) (sym (taken .levels)) (sym (taken .inputs))
-      (sized (h .levels) (h .inputs) inks (given-size s h inks given) (omega (arith, given-count s h inks given)))
+      (sized-cells (h .levels) (h .inputs) inks (given-size s h inks given) (omega (arith, given-count s h inks given)))
 
   -- whether an input that matters is left out, in the code's numbers
   out-is : leavesOutOf (net .levels) (net .inputs) (inkIn inks) (gatesOf net) ≡ leavesOut (netIn s h net) (tableIn s h inks)

@@ -18,3 +18,4 @@ pub mod Sums
 pub mod Tests
 pub mod Totals
 pub mod Walks
+pub mod WithEach

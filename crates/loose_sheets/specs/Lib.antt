@@ -1,4 +1,3 @@
 pub mod Fast
-pub mod Program
 pub mod Reader
 pub mod Tidying

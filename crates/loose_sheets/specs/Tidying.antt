@@ -28,7 +28,6 @@ use Rattle.answers.specs.declared.outcome.Outcome.the-variants.{Accepted, Refus
 use Rattle.table_reader.specs.TableReading.{TableReads, inksIn}
 use Rattle.table_reader.specs.declared.sheet.TableRead.{TableRead}
 use Rattle.loose_sheets.specs.Reader.LooseReading.{LooseReads, looseIn}
-use Rattle.loose_sheets.specs.declared.reader.sheet.LooseRead.{LooseRead}
 use Rattle.net_sheets.specs.Text.Put.{Put, NetWrote, put-wrote}
 use Rattle.accepted.specs.Taken.{held-size, names-inside, table-taken}
 use Rattle.table_printer.specs.Lengths.{Measures}
@@ -57,7 +56,7 @@ not-itself s h inks e = absurd (false≢true e)
 
 -- ---- what reading answers
 
-module _ (s cells : List ℕ) (r : LooseRead) (read : LooseReads s cells r) where
+module _ (s cells : List ℕ) (r : TableRead) (read : LooseReads s cells r) where
   pub loose-taken : mostCells ≤ length cells → r .outcome ≡ Accepted → LooseTaken s (r .header) cells
   unfolding tableOfLoose headerOf
   loose-taken room e =

@@ -1,6 +1,4 @@
 // Loose table sheets: the reader, and tidying.
 pub mod fast;
-pub mod program;
 pub mod reader;
 pub mod tidy;
-pub mod top;

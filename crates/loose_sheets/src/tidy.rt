@@ -11,9 +11,10 @@ ghost use Rattle.table_printer.specs.Tables.{TableInside};
 ghost use Rattle.table_reader.specs.TableReading.{inksIn};
 ghost use Rattle.loose_sheets.specs.Tidying.{LooseTaken, Itself, tidiedOf};
 use crate::reader::sheet::read_loose;
-use crate::top::ends_at_top;
 use answers::answer::Answer;
 use answers::outcome::Outcome;
+use fields::runs::NEWLINE;
+use fields::runs::SPACE;
 use net_sheets::text::put::copy;
 use nets::forms::Header;
 use radix::limits::MOST_CELLS;
@@ -94,6 +95,29 @@ fn tidy_either(sheet: &[u8], cells: &mut [u8], out: &mut [u8]) -> Answer
         } => tidy_loose(sheet, cells, out),
         Outcome::Accepted => tidy_accepted(sheet, header, &inks, true, cells, out),
     }
+}
+
+// Tests whether all levels of the last row are the same digit, with one space after each, as in the last row of a table sheet. No promise depends on it: it
+// only decides which way of reading is tried first.
+fn ends_at_top(s: &[u8]) -> bool {
+    if s.len() < 4 {
+        return false;
+    }
+    let top = s[s.len() - 4];
+    let mut p = s.len() - 4;
+    while 1 < p {
+        if s[p] != top {
+            return false;
+        }
+        if s[p + 1] != SPACE {
+            return false;
+        }
+        if s[p - 1] == NEWLINE {
+            return true;
+        }
+        p -= 2;
+    }
+    false
 }
 
 // Puts the inks of a loose table sheet in the cells buffer, in index order, writes its table sheet to the front of `out`, and answers the length. Any

@@ -1,17 +1,17 @@
 -- All marks: what marking answers, its own marks and what it leaves in the buffer, and the step from the marks below a group to the group's.
 -- Assumes nothing.
-use Prim.Native.Nat.{ℕ, suc, _+_, _-_, _^_, _≤_, _<_}
+use Prim.Native.Nat.{ℕ, zero, suc, _+_, _-_, _^_, _≤_, _<_}
 use mathlib.Core.Path.{_≡_, refl, sym, ap, ap₂, _∙_, subst, subst⁻¹}
 use mathlib.Core.List.{List, [], _∷_, _++_}
 use native.Mathlib.Numerals.{add-one}
 use native.Mathlib.Omega.{arith}
 use lib.ListN.{length, getD, take, set, length-set}
 use lib.Pow.{pow-pos}
-use lib.Seq.{getD-take, take-suc-set, getD-set-same}
+use lib.Seq.{getD-take, take-suc-set, getD-set-same, set-getD}
 use Rattle.rules.specs.Groups.Groups.{wholeGroup}
 use Rattle.rules.specs.Groups.Marks.{markIn, markOf, marksBelow, marksOf, storedMarks}
 use Rattle.rules.specs.Calls.Answers.{written}
-use Rattle.trees.specs.Groups.MarkRule.{mark-agree, mark-small}
+use Rattle.trees.specs.Groups.MarkRule.{marked, marks-length, mark-rule, mark-agree, mark-small}
 use Rattle.laws.specs.Nets.StoredMarks.{InTwoBits}
 
 -- every group of a table f marked, by number
@@ -100,3 +100,19 @@ module _ (m n : ℕ) (f : ℕ → ℕ) (before : List ℕ) where
       (sym (getD-set-same marks g mark 0 (omega (arith, has-room room (2 ^ n - 1) marks b, pow-pos n)))
       ∙ ap (λ (l : List ℕ). markIn l g) (sym written)
       ∙ ap (markIn after) (omega arith))
+
+-- all marks have the marks of the groups below g at the front
+all-below : (m n : ℕ) (pos : 0 < m) (f : ℕ → ℕ) (g : ℕ) → g ≤ 2 ^ n → Below m n f (marksOf m n f) g (marksOf m n f)
+all-below m n pos f zero low = below-none m n f (marksOf m n f)
+all-below m n pos f (suc g) low =
+    let all = marksOf m n f in
+    subst (λ (k : ℕ). Below m n f all k all) (add-one g)
+    (subst (Below m n f all (g + 1)) (set-getD all g 0)
+    (below-next m n f all (omega (arith, marks-length m n pos f)) g all (all-below m n pos f g (omega arith)) low (marked m n pos f g) (mark-rule m n pos f g low)))
+
+-- so a mark that is written is the group's
+pub below-marked : (m n : ℕ) (pos : 0 < m) (f : ℕ → ℕ) (before : List ℕ) (g : ℕ) (marks : List ℕ) → Below m n f before g marks → (a : ℕ) → a < g → markIn marks a ≡ marked m n pos f a
+below-marked m n pos f before g marks b a a< =
+    sym (getD-take g marks a 0 a<)
+    ∙ ap (λ (l : List ℕ). getD l a 0) (b .front ∙ sym (all-below m n pos f g (b .low) .front))
+    ∙ getD-take g (marksOf m n f) a 0 a<

@@ -46,12 +46,12 @@ module _ (test : ℕ → ℕ → Bool) (look : ℕ → Bool) (g rest : ℕ) (loo
 
   module _ (part : ℕ) (s : Sought test g rest part) (more : part < rest) where
     -- the part of g that is looked at
-    pub here : (n : ℕ) → g < 2 ^ n → (0 < (g - rest) + part) × ((g - rest) + part < g) × (test n ((g - rest) + part) ≡ look ((g - rest) + part))
-    here n g< = parts.here g rest some is-rest test look looked n g< part more (s .is-part)
+    pub part-looked-at : (n : ℕ) → g < 2 ^ n → (0 < (g - rest) + part) × ((g - rest) + part < g) × (test n ((g - rest) + part) ≡ look ((g - rest) + part))
+    part-looked-at n g< = parts.here g rest some is-rest test look looked n g< part more (s .is-part)
 
     pub sought-found : look ((g - rest) + part) ≡ true → (n : ℕ) → g < 2 ^ n → (g - rest) + part ≡ 1 + firstPlace (test n) (range 1 (g - 1))
     sought-found found n g< =
-        let is = here n g< in
+        let is = part-looked-at n g< in
         sym (stop-at (test n) ((g - rest) + part) g (is .1) (is .2 ∙ found)) ∙ s .left n g<
 
     pub sought-next : look ((g - rest) + part) ≡ false → (next : ℕ) → Next rest part next → Sought test g rest next
@@ -68,5 +68,5 @@ module _ (test : ℕ → ℕ → Bool) (look : ℕ → Bool) (g rest : ℕ) (loo
       where
         -- nothing between the two passes
         none : (n : ℕ) → g < 2 ^ n → (u : ℕ) → (g - rest) + part ≤ u → u < (g - rest) + next → Dec (u ≡ (g - rest) + part) → test n u ≡ false
-        none n g< u low high (yes e) = ap (test n) e ∙ here n g< .2 ∙ missed
+        none n g< u low high (yes e) = ap (test n) e ∙ part-looked-at n g< .2 ∙ missed
         none n g< u low high (no ne) = none-between g rest some is-rest test look looked n g< part next more after u (omega arith) high

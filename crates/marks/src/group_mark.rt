@@ -5,7 +5,7 @@ ghost use lib.ListN.{length};
 ghost use Rattle.rules.specs.Limits.{mostLevels};
 ghost use Rattle.rules.specs.Groups.Marks.{markOf};
 ghost use Rattle.rules.specs.Calls.Answers.{inkIn};
-ghost use Rattle.classes.specs.Within.{Room};
+ghost use Rattle.classes.specs.Within.{OffsetRoom};
 ghost use Rattle.marks.specs.GroupRule.{fewMark};
 ghost use Rattle.radix.specs.Widths.{groupsEnd};
 use crate::split;
@@ -37,7 +37,7 @@ pub fn mark_group(
     ys: &mut [u16],
     marks: &[u8],
 ) -> u8
-    requires { ⌜ (Room m n (now cells) (now xs) (now ys)) × (m ≤ mostLevels) × (g < 2 ^ n) × (g ≤ length (now marks)) ⌝ }
+    requires { ⌜ (OffsetRoom m n (now cells) (now xs) (now ys)) × (m ≤ mostLevels) × (g < 2 ^ n) × (g ≤ length (now marks)) ⌝ }
     ensures { λ r. ⌜ r ≡ markOf m n (inkIn (now (cells .entry))) (now (marks .entry)) g ⌝ }
 {
     if g == 0 {

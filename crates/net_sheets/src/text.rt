@@ -1,7 +1,5 @@
-// Text written into a buffer: bytes, decimal values, the first three lines, a refusal.
+// Text written into a buffer: bytes, decimal values, the first three lines.
 pub mod decimals;
 pub mod header;
-pub mod input;
 pub mod put;
-pub mod refusal;
 pub mod wide;

@@ -5,4 +5,3 @@ pub mod References
 pub mod Room
 pub mod Sound
 pub mod Tables
-pub mod Values

@@ -14,7 +14,7 @@ use Rattle.rules.specs.Nets.Filling.{classNumber}
 use Rattle.rules.specs.Groups.Marks.{markIn, marksOf}
 use Rattle.rules.specs.Calls.Answers.{inkIn}
 use Rattle.rules.specs.Cases.Cases.{seven}
-use Rattle.rules.specs.Cases.Written.{named, byRule, abcd, oneIf}
+use Rattle.rules.specs.Cases.Written.{letterNames, byRule, abcd, oneIf}
 use Rattle.rules.specs.Evaluation.{computing}
 use Rattle.trees.specs.Groups.Members.{others-below}
 use Rattle.paper.specs.Decompositions.{Complex, Labels, class-labels, class-complex, columns-simple, simple-tells}
@@ -79,11 +79,11 @@ module _ (m n : ℕ) (several : 1 < m) (f : ℕ → ℕ) (inks : (p : ℕ) → p
 -- ---- document 01's case 7: 3 levels, inputs a b c d
 
 seven-below : (p : ℕ) → inkIn (seven .inks) p < 3
-unfolding computing named byRule abcd oneIf seven
+unfolding computing letterNames byRule abcd oneIf seven
 seven-below = inks-below 3 (lit< tt) (seven .inks) refl
 
 seven-marks : marksOf 3 4 (inkIn (seven .inks)) ≡ 0 ∷ 2 ∷ 2 ∷ 0 ∷ 2 ∷ 0 ∷ 0 ∷ 1 ∷ 2 ∷ 2 ∷ 0 ∷ 2 ∷ 0 ∷ 0 ∷ 0 ∷ 2 ∷ []
-unfolding computing named byRule abcd oneIf seven
+unfolding computing letterNames byRule abcd oneIf seven
 seven-marks = refl
 
 -- X = a b d, number 11, and Y = c; W = a b c, number 7, and V = d
@@ -109,7 +109,7 @@ ink-below p = go (eqb (p % 3) 0)
 marks : marksOf 3 5 ink
     ≡ 0 ∷ 2 ∷ 2 ∷ 0 ∷ 2 ∷ 0 ∷ 0 ∷ 1 ∷ 2 ∷ 2 ∷ 0 ∷ 2 ∷ 0 ∷ 0 ∷ 0 ∷ 2
     ∷ 2 ∷ 0 ∷ 0 ∷ 0 ∷ 2 ∷ 0 ∷ 0 ∷ 1 ∷ 2 ∷ 0 ∷ 0 ∷ 2 ∷ 0 ∷ 0 ∷ 0 ∷ 2 ∷ []
-unfolding computing named byRule abcd oneIf seven
+unfolding computing letterNames byRule abcd oneIf seven
 marks = refl
 
 -- X = a b d, number 11, and Y = c e; W = a b c, number 7, and V = d e

@@ -78,7 +78,9 @@ module _ (m n g : ℕ) where
 
       -- there is room for the widened list
       pub built-room : len * m ≤ m ^ n
-      built-room = le-trans (mul-le-mul-right m (subst⁻¹ (λ (k : ℕ). k ≤ w) (b .count) (subst⁻¹ (λ (k : ℕ). length (tail m g i (n - i)) ≤ k) (b .weight) (tail-length m g i (n - i) pos .1)))) built-next
+      built-room = le-trans
+          (mul-le-mul-right m (subst⁻¹ (λ (k : ℕ). k ≤ w) (b .count)
+          (subst⁻¹ (λ (k : ℕ). length (tail m g i (n - i)) ≤ k) (b .weight) (tail-length m g i (n - i) pos .1)))) built-next
 
       next-member : member (i - 1) g ≡ true → tail m g (i - 1) (n - (i - 1)) ≡ widened m w (take len out)
       next-member e =
@@ -93,7 +95,8 @@ module _ (m n g : ℕ) where
           record {
             low = omega (arith, b .low);
             weight = next-weight;
-            count = l ∙ ap (λ (k : ℕ). k * m) (b .count ∙ ap length (sym (b .front))) ∙ sym (widened-length m w (take len out)) ∙ ap length (sym (next-member e));
+            count = l ∙ ap (λ (k : ℕ). k * m) (b .count ∙ ap length (sym (b .front))) ∙ sym (widened-length m w (take len out))
+                ∙ ap length (sym (next-member e));
             front = ap (λ (k : ℕ). take k out′) l ∙ f ∙ sym (next-member e);
           }
 

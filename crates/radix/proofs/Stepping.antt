@@ -23,7 +23,8 @@ pub step-up : (m i : ℕ) (xs : List ℕ) → 0 < i → i ≤ length xs → getD
 step-up m zero xs pos h up = absurd (omega arith)
 step-up m (suc i) xs pos h up =
     let e : suc i - 1 ≡ i = omega arith in
-    rw e (rw (set-split xs i (getD xs i 0 + 1) h, take-suc xs i 0 h, next-up m (take i xs) (getD xs i 0) (rw e at up)) (sym (append-snoc (take i xs) (getD xs i 0 + 1) (drop (suc i) xs))))
+    rw e (rw (set-split xs i (getD xs i 0 + 1) h, take-suc xs i 0 h, next-up m (take i xs) (getD xs i 0) (rw e at up))
+    (sym (append-snoc (take i xs) (getD xs i 0 + 1) (drop (suc i) xs))))
 
 -- it turns to 0, and the levels before it are still to be stepped
 pub step-turn : (m i : ℕ) (xs : List ℕ) → 0 < i → i ≤ length xs → m ≤ getD xs (i - 1) 0 + 1 → stepped m (i - 1) (set xs (i - 1) 0) ≡ stepped m i xs
@@ -31,5 +32,7 @@ step-turn m zero xs pos h top = absurd (omega arith)
 step-turn m (suc i) xs pos h top =
     let e : suc i - 1 ≡ i = omega arith in
     let zeroed : drop i (set xs i 0) ≡ 0 ∷ drop (suc i) xs =
-    drop-cons (set xs i 0) i 0 (lt-length-set xs i 0 h) ∙ ap₂ (λ (l : ℕ) (ls : List ℕ). l ∷ ls) (getD-set-same xs i 0 0 h) (drop-set-lt (suc i) xs i 0 (omega arith)) in
-    rw e (rw (take-set-le i xs i 0 (le-refl i), take-suc xs i 0 h, next-turn m (take i xs) (getD xs i 0) (rw e at top), zeroed) (sym (append-snoc (nextLevels m (take i xs)) 0 (drop (suc i) xs))))
+    drop-cons (set xs i 0) i 0 (lt-length-set xs i 0 h) ∙ ap₂ (λ (l : ℕ) (ls : List ℕ). l ∷ ls) (getD-set-same xs i 0 0 h)
+    (drop-set-lt (suc i) xs i 0 (omega arith)) in
+    rw e (rw (take-set-le i xs i 0 (le-refl i), take-suc xs i 0 h, next-turn m (take i xs) (getD xs i 0) (rw e at top), zeroed)
+    (sym (append-snoc (nextLevels m (take i xs)) 0 (drop (suc i) xs))))

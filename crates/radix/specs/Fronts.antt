@@ -18,11 +18,11 @@ pub fits-in : {xs : List ℕ} {r : ℕ} {out : List ℕ} → Front xs r out → 
 fits-in {xs} {r} {out} at = omega (arith, length-take r out, ap length (at .is), at .count)
 
 -- as a part from 0 on
-pub front : (r : ℕ) (out xs : List ℕ) → take r out ≡ xs → take (r - 0) out ≡ xs
-front r out xs e = ap (λ (k : ℕ). take k out) (sub-zero r) ∙ e
+pub front-from-0 : (r : ℕ) (out xs : List ℕ) → take r out ≡ xs → take (r - 0) out ≡ xs
+front-from-0 r out xs e = ap (λ (k : ℕ). take k out) (sub-zero r) ∙ e
 
 pub part-is : {xs : List ℕ} {r : ℕ} {out : List ℕ} → Front xs r out → take (r - 0) out ≡ xs
-part-is {xs} {r} {out} at = front r out xs (at .is)
+part-is {xs} {r} {out} at = front-from-0 r out xs (at .is)
 
 pub rest-others : (n g all : ℕ) → all ≡ 2 ^ n → all - 1 - g ≡ others n g
 unfolding others wholeGroup

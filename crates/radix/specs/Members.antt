@@ -1,16 +1,16 @@
--- The test whether a group has one member only, and its first-listed member as a count of zeros.
+-- The test whether a group has one member only, its first-listed member as a count of zeros, and its members as a count of bits.
 -- Assumes nothing.
-use Prim.Native.Nat.{ℕ, zero, suc, _-_, _/_, _%_, _^_, _<_}
+use Prim.Native.Nat.{ℕ, zero, suc, _+_, _-_, _/_, _%_, _^_, _<_}
 use mathlib.Core.Path.{_≡_, refl, sym, ap, _∙_}
 use mathlib.Core.Bool.{Bool, true, false, cond}
 use native.Mathlib.Decide.{decLt}
 use native.Mathlib.Omega.{arith}
 use borrow.Author.Tests.{eq-eqb, ne-eqb}
-use lib.Count.{trailingZeros, under}
+use lib.Count.{trailingZeros, under, ones, ones-step}
 use lib.Dec.{eqb}
 use Rattle.rules.specs.Groups.Groups.{member, size}
 use Rattle.rules.specs.Nets.Wirings.{firstInput}
-use Rattle.trees.specs.Groups.Members.{low-bit, first-odd, first-even, size-single, size-one, first-member}
+use Rattle.trees.specs.Groups.Members.{low-bit, first-odd, first-even, size-zero, size-suc, size-single, size-one, first-member}
 use Rattle.radix.specs.Parts.{without-first}
 
 -- one member: the first-listed is all
@@ -41,3 +41,9 @@ trailing-first (suc k) (suc n) g some g<k g<n = go (member 0 g) refl (trailing-f
     go false even later =
         let low : g % 2 ≡ 0 = low-bit g ∙ ap (λ b. cond b 1 0) even in
         rw (low, first-even n g even) (ap suc (later (omega arith) (omega arith) (omega arith)))
+
+-- the set bits of a group's number are its members
+pub ones-size : (n g : ℕ) → g < 2 ^ n → ones g ≡ size n g
+unfolding ones
+ones-size zero g g< = let none : g ≡ 0 = omega arith in rw none (sym (size-zero 0))
+ones-size (suc n) g g< = ones-step g ∙ ap (λ (k : ℕ). g % 2 + k) (ones-size n (g / 2) (omega arith)) ∙ sym (size-suc n g)

@@ -5,7 +5,9 @@ use Prim.Native.Nat.{ℕ, zero, suc, _+_, _*_, _/_, _%_, _^_, _≤_, _<_}
 use mathlib.Core.Path.{_≡_, refl, sym, ap, ap₂, _∙_, subst, subst⁻¹}
 use mathlib.Core.Bool.{Bool, true, false}
 use mathlib.Core.List.{List, [], _∷_, _++_, map, append-nil, map-map, map-id}
-use native.Mathlib.Nat.{zero-mul, zero-add, add-comm, mod-lt, div-lt-iff-lt-mul, div-add-mod', add-mul, mul-assoc, add-assoc, mul-one, pow-zero, pow-suc, add-zero, add-suc, suc-add, mul-comm, suc-mul, mul-suc, mul-zero, mul-le-mul-left, mul-le-mul-right, lt-of-lt-of-le, le-mul-of-pos-right, one-le-mul}
+use native.Mathlib.Nat.{zero-mul, zero-add, add-comm, mod-lt, div-lt-iff-lt-mul, div-add-mod', add-mul, mul-assoc, add-assoc, mul-one, pow-zero}
+use native.Mathlib.Nat.{pow-suc, add-zero, add-suc, suc-add, mul-comm, suc-mul, mul-suc, mul-zero, mul-le-mul-left, mul-le-mul-right, lt-of-lt-of-le}
+use native.Mathlib.Nat.{le-mul-of-pos-right, one-le-mul}
 use native.Mathlib.Omega.{arith}
 use lib.ListN.{length, getD, take, length-append, length-map, List·getD-append}
 use lib.Seq.{take-at, getD-append-add}
@@ -240,7 +242,8 @@ tail-length m g i (suc k) pos = step (member i g) refl (tail-length m g (suc i) 
     step : (t : Bool) → member i g ≡ t → (0 < length (tail m g (suc i) k)) × (length (tail m g (suc i) k) ≤ m ^ k)
         → (0 < length (tail m g i (suc k))) × (length (tail m g i (suc k)) ≤ m ^ suc k)
     step true e h =
-        let l : length (tail m g i (suc k)) ≡ length (tail m g (suc i) k) * m = ap length (tail-member m g i k e) ∙ widened-length m (m ^ k) (tail m g (suc i) k) in (
+        let l : length (tail m g i (suc k)) ≡ length (tail m g (suc i) k) * m =
+        ap length (tail-member m g i k e) ∙ widened-length m (m ^ k) (tail m g (suc i) k) in (
           subst⁻¹ (λ (x : ℕ). 0 < x) l (one-le-mul (h .0) pos),
           subst⁻¹ (λ (x : ℕ). x ≤ m ^ suc k) l (subst⁻¹ (λ (x : ℕ). length (tail m g (suc i) k) * m ≤ x) (pow-suc m k) (mul-le-mul-right m (h .1))),
         )

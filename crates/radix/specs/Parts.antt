@@ -2,14 +2,16 @@
 -- Assumes nothing.
 use Prim.Native.Nat.{ℕ, zero, suc, _+_, _-_, _*_, _/_, _%_, _^_, _≤_, _<_, min}
 use mathlib.Core.Path.{_≡_, refl, sym, ap, ap₂, _∙_, subst}
-use mathlib.Core.Bool.{Bool, true, false, cond, _&&_}
+use mathlib.Core.Bool.{Bool, true, false, cond, not, _&&_, and-eq-true-iff}
 use native.Mathlib.Decide.{decLt}
 use native.Mathlib.Omega.{arith}
 use lib.Bits.{bitAnd, and-step, and-zero-r, and-le-l, and-self}
 use Rattle.rules.specs.Groups.Groups.{member}
 use Rattle.rules.specs.Nets.Wirings.{firstInput}
 use Rattle.rules.specs.Groups.Marks.{inside}
-use Rattle.trees.specs.Groups.Members.{low-bit, low-member, member-suc, member-ext, inside-member, member-inside, first-odd, first-even}
+use Rattle.rules.specs.Nets.Trees.{Apart}
+use Rattle.trees.specs.Groups.Members.{low-bit, low-member, member-suc, member-ext, member-rest, inside-member, member-inside, first-odd, first-even}
+use Rattle.trees.specs.Trees.MarkTwo.{rest-inside}
 
 -- every bit of s is one of r
 abbrev pub PartOf : ℕ → ℕ → Type 0
@@ -143,3 +145,40 @@ inside-part n a g a< h = member-ext n (bitAnd a g) a (omega (arith, and-le-l a g
 
 pub part-inside : (n a g : ℕ) → PartOf a g → inside n a g ≡ true
 part-inside n a g p = member-inside n a g (λ i i< e. rw e at (sym (member-and i a g) ∙ ap (member i) p ∙ e))
+
+-- ---- without the members of another group
+
+-- a part of a group shares no input with what the group shares none with
+pub part-apart : (n a g other : ℕ) → inside n a g ≡ true → Apart n g other → Apart n a other
+part-apart n a g other part apart i i< = go (member i a) refl
+  where
+    go : (t : Bool) → member i a ≡ t → (t && member i other) ≡ false
+    go true e = rw (inside-member i n a g part i< e) at (apart i i<)
+    go false e = refl
+
+module _ (n g other : ℕ) (g< : g < 2 ^ n) where
+  shared-inside : inside n (bitAnd g other) g ≡ true
+  shared-inside = member-inside n (bitAnd g other) g (λ i i< e. and-eq-true-iff _ _ .0 (sym (member-and i g other) ∙ e) .0)
+
+  -- what is left is a part, ..
+  pub without-inside : inside n (g - bitAnd g other) g ≡ true
+  without-inside = rest-inside n (bitAnd g other) g (omega (arith, and-le-l g other)) g< shared-inside
+
+  -- .. whose members are not in the other group
+  pub member-without : (i : ℕ) → i < n → member i (g - bitAnd g other) ≡ (member i g && not (member i other))
+  member-without i i< =
+      member-rest i n (bitAnd g other) g (omega (arith, and-le-l g other)) g< shared-inside i<
+      ∙ ap (λ t. member i g && not t) (member-and i g other)
+      ∙ bits (member i g) (member i other)
+    where
+      bits : (s t : Bool) → (s && not (s && t)) ≡ (s && not t)
+      bits true t = refl
+      bits false t = refl
+
+  pub without-apart : Apart n (g - bitAnd g other) other
+  without-apart i i< = rw (member-without i i<) (bits (member i g) (member i other))
+    where
+      bits : (s t : Bool) → ((s && not t) && t) ≡ false
+      bits true true = refl
+      bits true false = refl
+      bits false t = refl

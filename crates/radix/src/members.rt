@@ -1,6 +1,7 @@
 // A group as bits: its members, the first-listed, what is left without it, and its parts by rising number.
 ghost use mathlib.Core.Path.{_≡_};
 ghost use Prim.Native.Nat.{ℕ, _-_, _^_, _≤_, _<_};
+ghost use lib.Bits.{bitAnd};
 ghost use lib.Dec.{eqb};
 ghost use Rattle.rules.specs.Groups.Groups.{member, size};
 ghost use Rattle.rules.specs.Nets.Wirings.{firstInput};
@@ -33,6 +34,13 @@ pub fn members(n: usize, g: usize) -> usize
     count
 }
 
+// Returns how many members group g has.
+pub fn members_of(g: usize) -> usize
+    ensures { λ r. ⌜ ((n : ℕ) → g < 2 ^ n → r ≡ size n g) ⌝ }
+{
+    usize::count_ones(g) as usize
+}
+
 // A group's first-listed input, or n where it is empty.
 pub fn first_input(n: usize, g: usize) -> usize
     requires { ⌜ n ≤ 64 ⌝ }
@@ -62,6 +70,13 @@ pub fn without_first(g: usize) -> usize
     ensures { λ r. ⌜ ((n : ℕ) → g < 2 ^ n → r ≡ g - 2 ^ firstInput n g) ⌝ }
 {
     g & (g - 1)
+}
+
+// Returns group g without the members that it shares with `other`.
+pub fn without(g: usize, other: usize) -> usize
+    ensures { λ r. ⌜ r ≡ g - bitAnd g other ⌝ }
+{
+    g - (g & other)
 }
 
 // Has a group one member?

@@ -1,4 +1,5 @@
--- Theorems about sheets: what was printed is read back, what was accepted is what would be printed (`Sheets`), and where and why a sheet is refused (`Readers`).
+-- Theorems about sheets: what was printed is read back, what was accepted is what would be printed (`Sheets`), and where and why a sheet is refused
+-- (`Readers`).
 pub mod Arrivals
 pub mod Nets
 pub mod Readers

@@ -19,15 +19,15 @@ use Rattle.trees.specs.Trees.MarkTwo.{inside-trans}
 use Rattle.trees.specs.Groups.TakenOff.{off-inside, off-apart, alone-le}
 use Rattle.trees.specs.Groups.Covers.{covers-same, empty-cover}
 use Rattle.trees.specs.Groups.Told.{Told, told-on}
-use Rattle.radix.specs.Parts.{PartOf, part-inside, inside-part}
+use Rattle.radix.specs.Parts.{PartOf, part-inside, inside-part, part-apart}
 use Rattle.representatives.specs.Known.{RepFew, Base, Known}
 use Rattle.representatives.specs.Sources.{PassesOn, OneOf, has-member}
 use Rattle.representatives.specs.Steps.{Work, NextStep, RepStepped}
 use Rattle.representatives.specs.Counting.{judged-many}
 use Rattle.representatives.specs.Working.{step-level, step-own-places, step-judged}
 
-module _ {m n : ℕ} {f : ℕ → ℕ} {cells weights counts kept xs ys firsts : List ℕ} {g past : ℕ}
-    (work : Work m n cells weights counts kept xs ys firsts) (next : NextStep m n f counts kept g past) where
+module _ {m n : ℕ} {f : ℕ → ℕ} {cells weights counts kept xs ys firsts : List ℕ} {idle g past : ℕ}
+    (work : Work m n cells weights counts kept xs ys firsts) (next : NextStep m n f counts kept idle g past) where
   -- there is a level
   level : 0 < m
   level = step-level work next
@@ -68,6 +68,10 @@ module _ {m n : ℕ} {f : ℕ → ℕ} {cells weights counts kept xs ys firsts :
     pub step-off-inside : inside n (g - bit) g ≡ true
     step-off-inside = subst⁻¹ (λ (k : ℕ). inside n (g - k) g ≡ true) (one .alone) (off-inside n g (one .input) (next .group) (one .below) (one .is))
 
+    -- .. and has no idle member
+    pub step-off-apart : Apart n (g - bit) idle
+    step-off-apart = part-apart n (g - bit) g idle step-off-inside (next .apart)
+
     -- a part of the rest is one of the group
     pub step-inner : (b : ℕ) → PartOf b (g - bit) → (b < g) × PartOf b g
     step-inner b part = (
@@ -90,7 +94,7 @@ module _ {m n : ℕ} {f : ℕ → ℕ} {cells weights counts kept xs ys firsts :
         b = getD kept (h * m + 1) 0
 
         known : Known m n f counts kept h
-        known = next .known h (step-off-lower .1)
+        known = next .known h (step-off-lower .1) step-off-apart
 
         base : Base m counts kept h
         base = known .base (passes .over refl)

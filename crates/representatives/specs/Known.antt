@@ -83,10 +83,11 @@ module _ {m n : ℕ} {f : ℕ → ℕ} {counts before : List ℕ} {h : ℕ} (lev
             };
       }
 
--- with its number, the group is known too
-pub known-next : {m n : ℕ} {f : ℕ → ℕ} {counts before after : List ℕ} {g count : ℕ} → 1 < m → g < length counts → ((h : ℕ) → h < g → Known m n f counts before h)
-    → ((j : ℕ) → j < g * m → getD after j 0 ≡ getD before j 0) → Found m n f counts after g count → (h : ℕ) → h < g + 1 → Known m n f (set counts g count) after h
-known-next {m} {n} {f} {counts} {before} {after} {g} {count} levels room known same found h h< = at (ℕ-discrete h g)
+-- with its number, the group is known too, and each below it that was
+pub known-next : {m n : ℕ} {f : ℕ → ℕ} {counts before after : List ℕ} {g count : ℕ} → 1 < m → g < length counts
+    → ((j : ℕ) → j < g * m → getD after j 0 ≡ getD before j 0) → Found m n f counts after g count
+    → (h : ℕ) → h < g + 1 → (h < g → Known m n f counts before h) → Known m n f (set counts g count) after h
+known-next {m} {n} {f} {counts} {before} {after} {g} {count} levels room same found h h< known = at (ℕ-discrete h g)
   where
     here : getD (set counts g count) g 0 ≡ count
     here = getD-set-same counts g count 0 room
@@ -106,5 +107,5 @@ known-next {m} {n} {f} {counts} {before} {after} {g} {count} levels room known s
               };
         })
     at (no ne) =
-        known-same levels (known h (omega arith)) (λ j j<. same j (omega (arith, places-before m h g (omega arith))))
+        known-same levels (known (omega arith)) (λ j j<. same j (omega (arith, places-before m h g (omega arith))))
         (λ j j≤. getD-set-other counts g j count 0 (λ e. omega arith))

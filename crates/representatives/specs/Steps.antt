@@ -2,6 +2,7 @@
 -- Assumes nothing.
 use Prim.Native.Nat.{ℕ, zero, suc, _+_, _*_, _^_, _≤_, _<_}
 use mathlib.Core.Path.{_≡_, refl, sym, ap, _∙_}
+use mathlib.Core.Bool.{true, false}
 use mathlib.Core.List.{List}
 use native.Mathlib.Nat.{mul-assoc, mul-comm, mul-le-mul-right, pow-suc, pow-le-pow-left}
 use native.Mathlib.Numerals.{add-one}
@@ -9,8 +10,10 @@ use native.Mathlib.Decide.{decLt}
 use native.Mathlib.Omega.{arith}
 use lib.ListN.{length, getD}
 use lib.Pow.{pow-pos, pow-mono}
-use Rattle.rules.specs.Groups.Groups.{others}
+use Rattle.rules.specs.Groups.Groups.{member, others}
 use Rattle.rules.specs.Calls.Answers.{inkIn}
+use Rattle.rules.specs.Nets.Leaves.{matters}
+use Rattle.rules.specs.Nets.Trees.{Apart}
 use Rattle.trees.specs.Groups.Reps.{Listed}
 use Rattle.trees.specs.Groups.Told.{Told}
 use Rattle.radix.specs.Weights.{Weights}
@@ -99,10 +102,16 @@ near-twice {n} {g} {past} near e g< =
     below (yes h) = omega arith
     below (no h) = absurd (omega (arith, near .is, pow-mono {i = n} {j = near .end} (omega arith)))
 
--- g is the next group, all below it are known, and `past` is the group of the input after its last member
-pub record NextStep (m n : ℕ) (f : ℕ → ℕ) (counts kept : List ℕ) (g past : ℕ) : Type 0 where
+-- no member of a group matters
+abbrev pub AllIdle : ℕ → ℕ → (ℕ → ℕ) → ℕ → Type 0
+AllIdle m n f idle = (i : ℕ) → i < n → member i idle ≡ true → matters m n f i ≡ false
+
+-- g is the next group without idle inputs, all such groups below it are known, and `past` is the group of the input after its last member
+pub record NextStep (m n : ℕ) (f : ℕ → ℕ) (counts kept : List ℕ) (idle g past : ℕ) : Type 0 where
+  pub all-idle : AllIdle m n f idle
   pub group : g < 2 ^ n
-  pub known : (h : ℕ) → h < g → Known m n f counts kept h
+  pub apart : Apart n g idle
+  pub known : (h : ℕ) → h < g → Apart n h idle → Known m n f counts kept h
   pub near : Near n g past
   pub above : g < past
 

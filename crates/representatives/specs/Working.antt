@@ -1,30 +1,45 @@
 -- A step from group to group over plain lists: what the calls ask that count the classes of a group, and what is found of it.
 -- Assumes nothing.
 use Prim.Native.Nat.{ℕ, _+_, _-_, _*_, _^_, _≤_, _<_}
-use mathlib.Core.Path.{_≡_, ap, _∙_, subst, subst⁻¹}
-use mathlib.Core.Bool.{true}
+use mathlib.Core.Path.{_≡_, refl, sym, ap, _∙_, subst, subst⁻¹}
+use mathlib.Core.Bool.{Bool, true, false, not}
 use mathlib.Core.List.{List}
 use native.Mathlib.Decide.{decLt}
 use native.Mathlib.Omega.{arith}
-use lib.Bits.{and-le-r}
+use lib.Bits.{bitAnd, and-le-r}
 use lib.ListN.{length, getD, take}
 use lib.Pow.{pow-lt}
-use Rattle.rules.specs.Groups.Groups.{others}
+use Rattle.rules.specs.Groups.Groups.{member, others}
 use Rattle.rules.specs.Groups.Marks.{inside}
+use Rattle.rules.specs.Nets.Trees.{Apart}
 use Rattle.trees.specs.Filling.Carried.{first-single}
+use Rattle.trees.specs.Leaves.CutWirings.{Idle}
+use Rattle.trees.specs.Leaves.IdleMarks.{idle-covers}
 use Rattle.rules.specs.Nets.Wirings.{firstInput}
 use Rattle.representatives.specs.Columns.{columnsOf}
 use Rattle.trees.specs.Groups.Covers.{Covers}
 use Rattle.trees.specs.Groups.Reps.{Listed}
-use Rattle.radix.specs.Parts.{PartOf, part-inside}
+use Rattle.radix.specs.Parts.{PartOf, part-inside, part-apart, member-without, without-inside, without-apart}
 use Rattle.representatives.specs.Known.{RepFew, Base, places-before}
 use Rattle.representatives.specs.Extension.{Covering, Covered}
-use Rattle.representatives.specs.Steps.{Work, NextStep, RepJudged, RepStepped}
+use Rattle.representatives.specs.Steps.{AllIdle, Work, NextStep, RepJudged, RepStepped}
 use Rattle.representatives.specs.LastInputs.{run-listed}
 use Rattle.representatives.specs.Counting.{front-listed}
 
-module _ {m n : ℕ} {f : ℕ → ℕ} {cells weights counts kept xs ys firsts : List ℕ} {g past : ℕ}
-    (work : Work m n cells weights counts kept xs ys firsts) (next : NextStep m n f counts kept g past) where
+-- a group without its idle members
+pub without-idle : (m n : ℕ) (pos : 0 < m) (f : ℕ → ℕ) (g idle : ℕ) → g < 2 ^ n → AllIdle m n f idle → Idle m n pos f (g - bitAnd g idle) g
+without-idle m n pos f g idle g< all-idle =
+    record {
+      part = without-inside n g idle g<;
+      idle = λ i i< is out. all-idle i i< (must (member i idle) (rw is at (sym (member-without n g idle g< i i<) ∙ out)));
+    }
+  where
+    must : (t : Bool) → not t ≡ false → t ≡ true
+    must true e = refl
+    must false e = sym e
+
+module _ {m n : ℕ} {f : ℕ → ℕ} {cells weights counts kept xs ys firsts : List ℕ} {idle g past : ℕ}
+    (work : Work m n cells weights counts kept xs ys firsts) (next : NextStep m n f counts kept idle g past) where
   -- there is a level
   pub step-level : 0 < m
   step-level = omega (arith, work .levels)
@@ -37,9 +52,9 @@ module _ {m n : ℕ} {f : ℕ → ℕ} {cells weights counts kept xs ys firsts :
   step-own-places = omega (arith, places-before m g (2 ^ n) (next .group), work .for-kept)
 
   -- a group of few classes below g can be spread to one that has it inside
-  module _ {from to : ℕ} (from< : from < g) (some : 0 < getD counts from 0) (part : inside n from to ≡ true) (low : from ≤ to) (to< : to < 2 ^ n) where
+  module _ {from to : ℕ} (from< : from < g) (free : Apart n from idle) (some : 0 < getD counts from 0) (part : inside n from to ≡ true) (low : from ≤ to) (to< : to < 2 ^ n) where
     few : RepFew m n f kept from (getD counts from 0)
-    few = next .known from from< .few some
+    few = next .known from from< free .few some
 
     pub step-covering : {out : List ℕ} → m ^ n ≤ length out → Covering m n weights counts kept from to out
     step-covering room =
@@ -64,13 +79,16 @@ module _ {m n : ℕ} {f : ℕ → ℕ} {cells weights counts kept xs ys firsts :
     step-cover = few .cover
 
   -- what is kept of a group below g may be asked for
-  pub step-counted : {h : ℕ} → h < g → (h < length counts) × (h * m + 1 < length kept) × (getD counts h 0 ≡ 0 → Base m counts kept h)
-  step-counted {h} h< = (omega (arith, next .group, work .for-counts), omega (arith, step-places h h<, work .levels), next .known h h< .base)
+  pub step-counted : {h : ℕ} → h < g → Apart n h idle → (h < length counts) × (h * m + 1 < length kept) × (getD counts h 0 ≡ 0 → Base m counts kept h)
+  step-counted {h} h< free = (omega (arith, next .group, work .for-counts), omega (arith, step-places h h<, work .levels), next .known h h< free .base)
 
   module _ (some : 0 < g) where
     -- the other inputs before the last member are a group below g, ..
     pub step-others-lower : past - 1 - g < g
     step-others-lower = omega (arith, next .above, next .near .half some)
+
+    others< : past - 1 - g < 2 ^ n
+    others< = omega (arith, step-others-lower, next .group)
 
     -- .. which is what those of a power of two leave
     step-before : past - 1 - g ≡ 2 ^ next .near .end - 1 - g
@@ -93,29 +111,47 @@ module _ {m n : ℕ} {f : ℕ → ℕ} {cells weights counts kept xs ys firsts :
             let none : next .near .end ≡ 0 = omega arith in
             absurd (omega (arith, next .above, next .near .is, ap (λ (k : ℕ). 2 ^ k) none))
 
-    -- a group of few classes inside it can be spread to it
-    module _ {below : ℕ} (part : PartOf below (past - 1 - g)) (counted : 0 < getD counts below 0) where
-      below< : below < g
-      below< = omega (arith, and-le-r below (past - 1 - g), part, step-others-lower)
+    -- those of them that are not idle
+    module _ {before : ℕ} (is-before : before ≡ (past - 1 - g) - bitAnd (past - 1 - g) idle) where
+      before< : before < g
+      before< = omega (arith, is-before, step-others-lower)
 
-      low : below ≤ past - 1 - g
-      low = omega (arith, and-le-r below (past - 1 - g), part)
+      before-free : Apart n before idle
+      before-free = subst⁻¹ (λ (k : ℕ). Apart n k idle) is-before (without-apart n (past - 1 - g) idle others<)
 
-      to< : past - 1 - g < 2 ^ n
-      to< = omega (arith, step-others-lower, next .group)
+      pub step-before-counted : (before < length counts) × (before * m + 1 < length kept) × (getD counts before 0 ≡ 0 → Base m counts kept before)
+      step-before-counted = step-counted before< before-free
 
-      pub step-columns : {out : List ℕ} → m ^ n ≤ length out → Covering m n weights counts kept below (past - 1 - g) out
-      step-columns room = step-covering below< counted (part-inside n below (past - 1 - g) part) low to< room
+      -- a group of few classes inside can be spread to them
+      module _ {below : ℕ} (part : PartOf below before) (counted : 0 < getD counts below 0) where
+        low : below ≤ before
+        low = omega (arith, and-le-r below before, part)
 
-      -- and then, with a run, covers all other inputs
-      pub step-columns-listed : {out : List ℕ} {count run : ℕ} → run ≡ m ^ (n - next .near .end) → Covered m n counts kept below (past - 1 - g) out count
-          → Listed m n f (others n g) (columnsOf run (take (count - 0) out))
-      step-columns-listed {out} {count} {run} is-run covered =
-          subst⁻¹ (λ (r : ℕ). Listed m n f (others n g) (columnsOf r (take (count - 0) out))) is-run
-          (run-listed m n step-level f (next .near .end) (next .near .low) g (omega (arith, next .above, next .near .is)) (take (count - 0) out)
-          (subst (λ (to : ℕ). Listed m n f to (take (count - 0) out)) step-before
-          (front-listed m n step-level f (past - 1 - g) out count (covered .inside-out)
-          (covered .cover f (step-cover below< counted (part-inside n below (past - 1 - g) part) low to<)))))
+        below< : below < g
+        below< = omega (arith, low, before<)
+
+        to< : before < 2 ^ n
+        to< = omega (arith, before<, next .group)
+
+        is-inside : inside n below before ≡ true
+        is-inside = part-inside n below before part
+
+        free : Apart n below idle
+        free = part-apart n below before idle is-inside before-free
+
+        pub step-columns : {out : List ℕ} → m ^ n ≤ length out → Covering m n weights counts kept below before out
+        step-columns room = step-covering below< free counted is-inside low to< room
+
+        -- and then, with a run, covers all other inputs
+        pub step-columns-listed : {out : List ℕ} {count run : ℕ} → run ≡ m ^ (n - next .near .end) → Covered m n counts kept below before out count
+            → Listed m n f (others n g) (columnsOf run (take (count - 0) out))
+        step-columns-listed {out} {count} {run} is-run covered =
+            subst⁻¹ (λ (r : ℕ). Listed m n f (others n g) (columnsOf r (take (count - 0) out))) is-run
+            (run-listed m n step-level f (next .near .end) (next .near .low) g (omega (arith, next .above, next .near .is)) (take (count - 0) out)
+            (subst (λ (to : ℕ). Listed m n f to (take (count - 0) out)) step-before
+            (idle-covers m n step-level f before (past - 1 - g) to< others<
+            (subst⁻¹ (λ (k : ℕ). Idle m n step-level f k (past - 1 - g)) is-before (without-idle m n step-level f (past - 1 - g) idle others< (next .all-idle))) _ _
+            (front-listed m n step-level f before out count (covered .inside-out) (covered .cover f (step-cover below< free counted is-inside low to<))))))
 
   -- what is judged
   pub step-judged : {from count : ℕ} {after : List ℕ} → from < g → PartOf from g → 0 < getD counts from 0 → RepJudged m n f g from kept count after → RepStepped m n f counts kept g count after

@@ -8,13 +8,14 @@ use crate::classifying;
 use crate::extension;
 use radix::members;
 
-// Counts the classes of g: its rows from the group `from` inside it, the heads of the columns from what is kept of the other inputs below `past`. The inputs from
-// there on have the smallest weights: all their assignments are a run.
+// Counts the classes of g: its rows from the group `from` inside it, the heads of the columns from what is kept of the other inputs below `past` that are not
+// in `idle`. The inputs from there on have the smallest weights: all their assignments are a run.
 pub fn count_group(
     m: usize,
     n: usize,
     cells: &[u8],
     weights: &[u16],
+    idle: usize,
     g: usize,
     past: usize,
     from: usize,
@@ -25,11 +26,11 @@ pub fn count_group(
     firsts: &mut [u16],
 ) -> usize
     requires { ⌜ (Work m n (now cells) (now weights) (now counts) (now kept) (now xs) (now ys) (now firsts))
-        × (NextStep m n (inkIn (now cells)) (now counts) (now kept) g past) × (0 < g) × (from < g) × (PartOf from g) × (0 < getD (now counts) from 0) ⌝ }
+        × (NextStep m n (inkIn (now cells)) (now counts) (now kept) idle g past) × (0 < g) × (from < g) × (PartOf from g) × (0 < getD (now counts) from 0) ⌝ }
     ensures { λ r. ⌜ RepStepped m n (inkIn (now (cells .entry))) (now (counts .entry)) (now (kept .entry)) g r (now (kept .exit)) ⌝ }
 {
     let rows = extension::cover(m, n, weights, counts, kept, from, g, xs);
-    let before = past - 1 - g;
+    let before = members::without(past - 1 - g, idle);
     let below = extension::few_inside(m, counts, kept, before);
     let heads = extension::cover(m, n, weights, counts, kept, below, before, ys);
     let run = weights[members::first_of(past) - 1] as usize;

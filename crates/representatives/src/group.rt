@@ -19,12 +19,13 @@ pub fn past_of(g: usize, past: usize) -> usize
     past
 }
 
-// Answers the number of assignments that cover g, which are kept, or 0 where it has more than m classes.
+// Returns the number of assignments that cover g, which are kept, or 0 if it has more than m classes. No member of g is in `idle`, a group of idle inputs.
 pub fn keep_group(
     m: usize,
     n: usize,
     cells: &[u8],
     weights: &[u16],
+    idle: usize,
     g: usize,
     past: usize,
     counts: &[u8],
@@ -34,7 +35,7 @@ pub fn keep_group(
     firsts: &mut [u16],
 ) -> usize
     requires { ⌜ (Work m n (now cells) (now weights) (now counts) (now kept) (now xs) (now ys) (now firsts))
-        × (NextStep m n (inkIn (now cells)) (now counts) (now kept) g past) ⌝ }
+        × (NextStep m n (inkIn (now cells)) (now counts) (now kept) idle g past) ⌝ }
     ensures { λ r. ⌜ RepStepped m n (inkIn (now (cells .entry))) (now (counts .entry)) (now (kept .entry)) g r (now (kept .exit)) ⌝ }
 {
     if g == 0 {
@@ -55,6 +56,7 @@ pub fn keep_group(
         n,
         cells,
         weights,
+        idle,
         g,
         past,
         from,

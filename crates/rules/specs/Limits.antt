@@ -1,5 +1,5 @@
--- The limits of document 01, two of them raised by document 02, K6, each in this one place: of a sheet, of a settled sheet's length, of what a program reads; and
--- those of arrival times (document 02, K5).
+-- The limits of document 01, two of them raised by document 02, K6, each in this one place: of a sheet, of a settled sheet's length, of what a
+-- program reads; and those of arrival times (document 02, K5).
 -- Assumes nothing.
 use Prim.Native.Nat.{ℕ, _^_}
 use mathlib.Core.Bool.{Bool, _&&_}

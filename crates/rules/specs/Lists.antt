@@ -54,7 +54,12 @@ unfoldable pub total : List ℕ → ℕ
 total [] = 0
 total (x ∷ xs) = x + total xs
 
+-- some entries, and behind them one for each of some items: what `next` gives from all entries before it
+unfoldable pub withEach : {A B : Type 0} → (List A → B → A) → List A → List B → List A
+withEach next entries [] = entries
+withEach next entries (x ∷ xs) = withEach next (entries ++ (next entries x ∷ [])) xs
+
 -- all of this file computes
 unfoldable pub computing : Unit {0}
-unfolding range all any firstPlace those concatMap same find total
+unfolding range all any firstPlace those concatMap same find total withEach
 computing = tt

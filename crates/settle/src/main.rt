@@ -1,11 +1,11 @@
-// Settles the net sheet on standard input. What it prints is `settling::program::settle_output`'s.
+// Settles the net sheet on standard input. What it prints is `programs::output::settle_output`'s.
 use libc::STDIN_FILENO;
 use libc::STDOUT_FILENO;
 
 fn main() {
     let mut sheet = io::large_buffer();
     let length = io::read_full(STDIN_FILENO, &mut sheet);
-    let printed = settling::program::settle_output(&sheet[..length]);
+    let printed = programs::output::settle_output(&sheet[..length]);
     let bytes = printed.bytes;
     let end = printed.length;
     io::write_all(STDOUT_FILENO, &bytes[..end]);

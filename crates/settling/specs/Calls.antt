@@ -9,10 +9,11 @@ use Rattle.rules.specs.Sheets.Sheets as sheets
 use Rattle.rules.specs.Calls.Answers.{Answer, accepted, onward, refused}
 use Rattle.rules.specs.Sheets.Reading.{readNet, tableOfNet}
 use Rattle.rules.specs.Calls.OpenCells.{readFull}
-use Rattle.rules.specs.Calls.Settling.{Made, settledNet, afterMarks, madeInto, settleCall, makeCall}
+use Rattle.rules.specs.Calls.Settling.{settledNet, afterMarks, settleCall, makeCall}
 use Rattle.rules.specs.Calls.ShallowSettling.{LayeredMade, layeredInto, makeShallowCall, netLayers, settleShallowCall, withLayers}
 use Rattle.laws.specs.Calls.Settling.{settle-accepted, settle-refused, make-accepted, make-refused}
-use Rattle.laws.specs.Calls.ShallowSettling.{plainAnswer, plain-layered, settle-shallow-refused, settle-shallow-accepted, make-shallow-refused, make-shallow-accepted}
+use Rattle.laws.specs.Calls.ShallowSettling.{plainAnswer, plainMade, plain-made, settle-shallow-refused, settle-shallow-accepted}
+use Rattle.laws.specs.Calls.ShallowSettling.{make-shallow-refused, make-shallow-accepted}
 use Rattle.answers.specs.declared.answer.Answer as own-answer
 use Rattle.answers.specs.declared.layered.Layered as own
 use Rattle.answers.specs.AnswerMaps.{answerOf, madeOf}
@@ -77,19 +78,6 @@ makes-accepted Shallow s cells marks output t e = make-shallow-accepted s cells 
 
 -- ---- without the count of layers
 
-unfoldable pub plainMade : LayeredMade → Made
-plainMade made = record { answer = plainAnswer (made .answer); cells = made .cells; marks = made .marks; output = made .output }
-
-plain-with : (count : ℕ) (made : Made) → plainMade (withLayers count made) ≡ made
-unfolding plainMade withLayers
-plain-with count made = λ i. record { answer = plain-layered count (made .answer) i; cells = made .cells; marks = made .marks; output = made .output }
-
--- making from a table
-pub into-plain : (netFor : Table → sheets.Net) (t : Table) (cells marks output : List ℕ)
-    → plainMade (layeredInto netFor t cells marks output) ≡ madeInto netFor t cells marks output
-unfolding layeredInto
-into-plain netFor t cells marks output = plain-with _ _
-
 module _ (s cells marks output : List ℕ) where
   -- document 01's settling, ..
   pub settles-plain : plainMade (settlesBy Settled s cells marks output) ≡ settleCall s cells marks output
@@ -98,7 +86,7 @@ module _ (s cells marks output : List ℕ) where
     where
       go : (a : Answer sheets.Net) → readNet s ≡ a → plainMade (settlesBy Settled s cells marks output) ≡ settleCall s cells marks output
       go (accepted net) e =
-          ap plainMade (settles-accepted Settled s cells marks output net e) ∙ plain-with _ _ ∙ sym (settle-accepted s cells marks output net e)
+          ap plainMade (settles-accepted Settled s cells marks output net e) ∙ plain-made _ _ ∙ sym (settle-accepted s cells marks output net e)
       go (refused number place) e =
           ap plainMade (settles-refused Settled s cells marks output number place e) ∙ sym (settle-refused s cells marks output number place e)
 
@@ -109,7 +97,7 @@ module _ (s cells marks output : List ℕ) where
     where
       go : (a : Answer Table) → readFull s ≡ a → plainMade (makesBy Settled s cells marks output) ≡ makeCall s cells marks output
       go (accepted t) e =
-          ap plainMade (makes-accepted Settled s cells marks output t e) ∙ plain-with _ _ ∙ sym (make-accepted s cells marks output t e)
+          ap plainMade (makes-accepted Settled s cells marks output t e) ∙ plain-made _ _ ∙ sym (make-accepted s cells marks output t e)
       go (refused number place) e =
           ap plainMade (makes-refused Settled s cells marks output number place e) ∙ sym (make-refused s cells marks output number place e)
 

@@ -60,12 +60,12 @@ module _ (netFor : Table → Net) (t : Table) (cells marks output : List ℕ) wh
       → record { answer = refused number place; cells = cells; marks = marks; output = output } ≡ layeredInto netFor t cells marks output
   unfolding layeredInto
   layered-refused number place e =
-      sym (refused-layers _ _ _ cells marks output) ∙ ap (withLayers (netLayers (netFor t))) (sym (into-refused netFor t cells marks output number place e))
+      sym (refused-layers _ _ _ cells marks output) ∙ ap (withLayers (netLayers (netFor t))) (sym (into-refused t cells marks output _ number place e))
 
   pub layered-marked : roomFor t cells marks ≡ accepted tt
       → withLayers (netLayers (netFor t)) (afterMarks netFor t cells marks output) ≡ layeredInto netFor t cells marks output
   unfolding layeredInto
-  layered-marked e = ap (withLayers (netLayers (netFor t))) (sym (into-room netFor t cells marks output e))
+  layered-marked e = ap (withLayers (netLayers (netFor t))) (sym (into-room t cells marks output _ e))
 
 module _ (s : List ℕ) (h : Header) (inks : List ℕ) (given : Given s h inks) where
   pub given-size : sizeFits (h .levels) (h .inputs) ≡ true

@@ -1,10 +1,9 @@
-// Settling and making, and what the two programs print.
+// Settling and making.
 pub mod calls;
 pub mod chosen;
 pub mod input;
 pub mod into;
 pub mod marked;
-pub mod program;
 pub mod room;
 pub mod shallow;
 pub mod table;

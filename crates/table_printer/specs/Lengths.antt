@@ -15,7 +15,7 @@ use Rattle.nets.specs.declared.forms.Header.{Header}
 use Rattle.nets.specs.Forms.{nameIn, tableIn}
 use Rattle.net_sheets.specs.Text.Lines.{spaced, spacedFrom, spaced-more}
 use Rattle.net_sheets.specs.Text.Names.{NamesInside}
-use Rattle.table_printer.specs.Rows.Rows.{row-text, row-length}
+use Rattle.table_printer.specs.Rows.Rows.{row-text, row-text-length}
 use Rattle.table_printer.specs.Rows.Parts.{table-parts}
 
 -- the digits of the longest decimal value: a number has 64 bits
@@ -44,7 +44,7 @@ module _ (s : List ℕ) (h : Header) where
       ∙ simp length-append (omega (arith, names-total i n (omega arith), name-length i n l))
 
 one-row : (m n p ink : ℕ) → length (printedRow m n p ink) ≡ 2 * n + 2
-one-row m n p ink = ap length (row-text m n p ink) ∙ row-length (levelsAt m n p) (inkByte m ink) ∙ ap (λ (k : ℕ). 2 * k + 2) (levels-length m n p)
+one-row m n p ink = ap length (row-text m n p ink) ∙ row-text-length (levelsAt m n p) (inkByte m ink) ∙ ap (λ (k : ℕ). 2 * k + 2) (levels-length m n p)
 
 rows-length : (m n p : ℕ) (inks : List ℕ) → length (printedRows m n p inks) ≡ length inks * (2 * n + 2)
 unfolding printedRows

@@ -21,8 +21,8 @@ use Rattle.net_sheets.specs.Text.Put.{NetWrote}
 use Rattle.accepted.specs.Taken.{NetTaken, names-inside, own-length, front-length, front-table}
 
 -- the answer, and the output after the call
-abbrev pub writtenOf : Answer → List ℕ → Written
-writtenOf r output = record { answer = answerOf r; output = output }
+abbrev pub tableWrittenOf : Answer → List ℕ → Written
+tableWrittenOf r output = record { answer = answerOf r; output = output }
 
 module _ (s : List ℕ) (h : Header) (net : Net) (taken : NetTaken s h net) (count need : ℕ) (is : count ≡ h .levels ^ h .inputs) (measures : Measures h count need)
     (output : List ℕ) where
@@ -30,8 +30,8 @@ module _ (s : List ℕ) (h : Header) (net : Net) (taken : NetTaken s h net) (cou
   unfolding tableOfNet
   need-is = measures s (tableOfNet (netIn s h net) .inks) (names-inside s h (taken .header)) (own-length s h net taken ∙ sym is)
 
-  pub output-short : length output < need → record { answer = refused 15 need; output = output } ≡ writeTableCall s output
-  output-short short =
+  pub table-output-short : length output < need → record { answer = refused 15 need; output = output } ≡ writeTableCall s output
+  table-output-short short =
       (λ i. record { answer = refused 15 (need-is i); output = output })
       ∙ sym (table-15 s output (netIn s h net) (taken .reads) (subst (λ (k : ℕ). length output < k) need-is short))
 
@@ -40,9 +40,9 @@ module _ (s : List ℕ) (h : Header) (net : Net) (taken : NetTaken s h net) (cou
     output-long =
         subst (λ (k : ℕ). k ≤ length output) (measures s (take (count - 0) after) (names-inside s h (taken .header)) (front-length s h net taken before after all count did is)) long
 
-    pub output-written : (filled : List ℕ) (answer : ℕ) → NetWrote output (printedTable (tableIn s h (take (count - 0) after))) filled answer
+    pub table-output-written : (filled : List ℕ) (answer : ℕ) → NetWrote output (printedTable (tableIn s h (take (count - 0) after))) filled answer
         → record { answer = accepted answer; output = filled } ≡ writeTableCall s output
-    output-written filled answer wrote =
+    table-output-written filled answer wrote =
         let told : NetWrote output (printedTable (tableOfNet (netIn s h net))) filled answer =
         subst (λ (t : Table). NetWrote output (printedTable t) filled answer) (front-table s h net taken before after all count did is) wrote in
         (λ i. record { answer = accepted (told .length i); output = told .text i })

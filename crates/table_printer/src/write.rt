@@ -1,7 +1,7 @@
 // The table writing call: from a net sheet to its table sheet.
 ghost use mathlib.Core.Path.{_≡_};
 ghost use Rattle.rules.specs.Calls.TableWriting.{writeTableCall};
-ghost use Rattle.table_printer.specs.Writing.{writtenOf};
+ghost use Rattle.table_printer.specs.Writing.{tableWrittenOf};
 ghost use Rattle.accepted.specs.Taken.{NetTaken};
 use crate::lengths::table_length;
 use crate::table::print_table;
@@ -17,7 +17,7 @@ use radix::powers::power;
 // Refusal 15, or the table sheet of an accepted net sheet.
 fn write_accepted(sheet: &[u8], header: Header, net: Net, out: &mut [u8]) -> Answer
     requires { ⌜ NetTaken (now sheet) header net ⌝ }
-    ensures { λ r. ⌜ writtenOf r (now (out .exit)) ≡ writeTableCall (now (sheet .entry)) (now (out .entry)) ⌝ }
+    ensures { λ r. ⌜ tableWrittenOf r (now (out .exit)) ≡ writeTableCall (now (sheet .entry)) (now (out .entry)) ⌝ }
 {
     let count = power(header.levels, header.inputs);
     let need = table_length(header, count);
@@ -34,7 +34,7 @@ fn write_accepted(sheet: &[u8], header: Header, net: Net, out: &mut [u8]) -> Ans
 
 // Writes the table sheet of a net sheet to the front of `out`, and answers its length. Any bytes may come in.
 pub fn write_table(sheet: &[u8], out: &mut [u8]) -> Answer
-    ensures { λ r. ⌜ writtenOf r (now (out .exit)) ≡ writeTableCall (now (sheet .entry)) (now (out .entry)) ⌝ }
+    ensures { λ r. ⌜ tableWrittenOf r (now (out .exit)) ≡ writeTableCall (now (sheet .entry)) (now (out .entry)) ⌝ }
 {
     let read = read_net(sheet);
     let outcome = read.outcome;

@@ -4,19 +4,23 @@ use Prim.Native.Nat.{ℕ, suc, _^_}
 use mathlib.Core.Path.{_≡_}
 use mathlib.Core.List.{List, []}
 use lib.ListN.{take}
-use Rattle.rules.specs.Text.{newline}
-use Rattle.rules.specs.Sheets.Fields.{Reader, _>>=_, give, field, theWord, closed}
+use Rattle.rules.specs.Sheets.Fields.{Reader, strict}
 use Rattle.rules.specs.Sheets.Sheets as sheets
-use Rattle.rules.specs.Sheets.Sheets.{Table, rowLines}
+use Rattle.rules.specs.Sheets.Sheets.{Table, rowLines, tableSheet}
 use Rattle.rules.specs.Sheets.Reading.{readTable}
 use Rattle.laws.specs.Lists.Bounds.{Below}
-use Rattle.nets.specs.Forms.{tableIn}
+use Rattle.nets.specs.Forms.{headerOf, tableIn}
 use Rattle.nets.specs.declared.forms.Header.{Header}
-use Rattle.fields.specs.Chained.{Answers}
-use Rattle.fields.specs.Header.FirstLines.{HeaderHeld}
+use Rattle.fields.specs.Chained.{endOf}
+use Rattle.fields.specs.Header.FirstLines.{HeaderHeld, HeaderRest}
+use Rattle.fields.specs.declared.header.name_line.HeaderRead.{HeaderRead}
+use Rattle.fields.specs.declared.steps.Step.{Step}
+use Rattle.fields.specs.declared.steps.Step.the-variants.{On, Back}
 use Rattle.answers.specs.AnswerMaps.{outcomeAs}
 use Rattle.answers.specs.declared.outcome.Outcome.{Outcome}
-use Rattle.answers.specs.declared.outcome.Outcome.the-variants.{Accepted}
+use Rattle.answers.specs.declared.outcome.Outcome.the-variants.{Accepted, Refused}
+use Rattle.table_reader.specs.Fast.Rows.{RowsRead}
+use Rattle.table_reader.specs.Head.{tableHead, wholeSheet, sheet-refused, sheet-ended}
 use Rattle.table_reader.specs.declared.sheet.TableRead.{TableRead}
 
 -- the inks of a table under the header h, at the front of `cells`
@@ -33,19 +37,28 @@ pub record TableReads (s cells : List ℕ) (r : TableRead) : Type 0 where
   pub answer : outcomeAs (tableIn s (r .header) (inksIn cells (r .header))) (r .outcome) ≡ readTable s
   pub held : r .outcome ≡ Accepted → TableHeld s cells (r .header)
 
--- what is left of a table sheet with the header h is read by `reader`
-abbrev pub TableRest : List ℕ → ℕ → Reader Table → Header → List ℕ → Outcome → Type 0
-TableRest s at reader h cells o = Answers s at reader (tableIn s h (inksIn cells h)) (Below (suc (h .levels)) (inksIn cells h)) o
-
--- the rows under a header, and the end after them
-abbrev pub allRows : sheets.Header → Reader (List ℕ)
+-- the rows under a header, and their table
+abbrev allRows : sheets.Header → Reader (List ℕ)
 allRows h = rowLines (h .levels) (h .inputs) 0 (h .levels ^ h .inputs) []
 
-abbrev pub theEnd : sheets.Header → List ℕ → Reader Table
-theEnd h inks = closed >>= λ _. give (record { header = h; inks = inks })
+abbrev tableOf : sheets.Header → List ℕ → Table
+tableOf h inks = record { header = h; inks = inks }
 
-unfoldable pub fromRows : sheets.Header → Reader Table
-fromRows h = allRows h >>= theEnd h
+module _ (s cells : List ℕ) (head : HeaderRead) (lines : HeaderRest s 0 (tableHead strict) head) where
+  pub table-refused : (number place : ℕ) → head .step ≡ Back number place
+      → TableReads s cells (record { outcome = Refused number place; header = head .header })
+  unfolding readTable tableSheet wholeSheet
+  table-refused number place e =
+      let h = head .header in
+      let told = sheet-refused strict allRows tableOf s head lines (TableHeld s cells h) (tableIn s h (inksIn cells h)) number place e in
+      record { answer = told .answer; held = told .held }
 
-unfoldable pub fromInk : sheets.Header → Reader Table
-fromInk h = field (theWord "ink") newline >>= λ _. fromRows h
+  pub table-ended : (value next : ℕ) → head .step ≡ On value next → (last : Step)
+      → RowsRead s next (head .header .levels) (head .header .inputs) cells last → (o : Outcome) → o ≡ endOf s last
+      → TableReads s cells (record { outcome = o; header = head .header })
+  unfolding readTable tableSheet wholeSheet headerOf
+  table-ended value next e last rows o is =
+      let told =
+      sheet-ended strict allRows tableOf s head lines (TableHeld s cells (head .header)) value next e _ last (rows .reads)
+      (λ v n q. record { header = lines .held value next e; inks = rows .held v n q }) o is in
+      record { answer = told .answer; held = told .held }

@@ -1,4 +1,5 @@
 // The reader of table sheets.
+pub mod digits;
 pub mod fast;
 pub mod full;
 pub mod inks;

@@ -6,6 +6,7 @@ ghost use Rattle.fields.specs.Steps.{stepAs, itself};
 ghost use Rattle.table_reader.specs.Row.{rowLine};
 use crate::inks::ink_field;
 use crate::levels::level_field;
+use fields::steps::Layout;
 use fields::steps::Step;
 
 // Reads a row: the first n of `levels`, then the ink, which an accepting step returns.
@@ -28,5 +29,5 @@ pub fn row(s: &[u8], at: usize, levels: &[u8], n: usize, m: usize) -> Step
             }
         }
     }
-    ink_field(s, place, m)
+    ink_field(s, place, m, Layout::Strict)
 }

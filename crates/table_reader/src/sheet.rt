@@ -1,53 +1,45 @@
 // A whole table sheet. Its names stay in the sheet, and its inks go to a buffer.
-ghost use mathlib.Core.Path.{_≡_};
-ghost use mathlib.Core.Bool.{true};
 ghost use Prim.Native.Nat.{_≤_};
 ghost use lib.ListN.{length};
-ghost use Rattle.rules.specs.Limits.{sizeFits, mostCells};
-ghost use Rattle.nets.specs.Forms.{headerOf};
-ghost use Rattle.table_reader.specs.TableReading.{TableReads, TableRest, fromInk, fromRows};
+ghost use Rattle.rules.specs.Limits.{mostCells};
+ghost use Rattle.fields.specs.Header.FirstLines.{HeaderRest};
+ghost use Rattle.fields.specs.Steps.{layoutOf};
+ghost use Rattle.table_reader.specs.Head.{tableHead};
+ghost use Rattle.table_reader.specs.TableReading.{TableReads};
 use crate::rows::rows;
 use answers::outcome::Outcome;
-use fields::header::first_lines::header_lines;
+use fields::ends::ended;
+use fields::header::first_lines::header_lines_in;
+use fields::header::name_line::HeaderRead;
 use fields::runs::NEWLINE;
 use fields::runs::SPACE;
+use fields::steps::Layout;
 use fields::steps::Step;
-use fields::words::word_field;
+use fields::words::word_field_in;
 use nets::forms::Header;
 
-// What reading a table sheet comes to: of an accepted one the header is whole.
+// What reading a table sheet, strict or loose, comes to: of an accepted one the header is whole.
 pub struct TableRead {
     pub outcome: Outcome,
     pub header: Header,
 }
 
-// Reads a table sheet from its first row on. Nothing may follow the last row.
-pub fn from_rows(s: &[u8], at: usize, header: Header, cells: &mut [u8]) -> Outcome
-    requires { ⌜ (sizeFits (header .levels) (header .inputs) ≡ true) × (mostCells ≤ length (now cells)) ⌝ }
-    ensures { λ r. ⌜ TableRest (now (s .entry)) at (fromRows (headerOf (now (s .entry)) header)) header (now (cells .exit)) r ⌝ }
+// Reads the first three lines of a table sheet: the header and the word `ink`.
+pub fn table_head(s: &[u8], layout: Layout) -> HeaderRead
+    ensures { λ r. ⌜ HeaderRest (now (s .entry)) 0 (tableHead (layoutOf layout)) r ⌝ }
 {
-    match rows(s, at, header.levels, header.inputs, cells) {
-        Step::Back { number, place } => Outcome::Refused { number, place },
-        Step::On { value: _, next } => {
-            if next < s.len() {
-                return Outcome::Refused {
-                    number: 1,
-                    place: next,
-                };
-            }
-            Outcome::Accepted
-        }
-    }
-}
-
-// Reads a table sheet from the word `ink` of line 3 on.
-pub fn from_ink(s: &[u8], at: usize, header: Header, cells: &mut [u8]) -> Outcome
-    requires { ⌜ (sizeFits (header .levels) (header .inputs) ≡ true) × (mostCells ≤ length (now cells)) ⌝ }
-    ensures { λ r. ⌜ TableRest (now (s .entry)) at (fromInk (headerOf (now (s .entry)) header)) header (now (cells .exit)) r ⌝ }
-{
-    match word_field(s, at, b"ink", NEWLINE) {
-        Step::Back { number, place } => Outcome::Refused { number, place },
-        Step::On { value: _, next } => from_rows(s, next, header, cells),
+    let read = header_lines_in(s, SPACE, layout);
+    let header = read.header;
+    let step = read.step;
+    match step {
+        Step::Back {
+            number: _,
+            place: _,
+        } => read,
+        Step::On { value: _, next } => HeaderRead {
+            step: word_field_in(s, next, b"ink", NEWLINE, layout),
+            header,
+        },
     }
 }
 
@@ -56,17 +48,20 @@ pub fn read_table(s: &[u8], cells: &mut [u8]) -> TableRead
     requires { ⌜ mostCells ≤ length (now cells) ⌝ }
     ensures { λ r. ⌜ TableReads (now (s .entry)) (now (cells .exit)) r ⌝ }
 {
-    let read = header_lines(s, SPACE);
-    let header = read.header;
-    let step = read.step;
+    let head = table_head(s, Layout::Strict);
+    let header = head.header;
+    let step = head.step;
     match step {
         Step::Back { number, place } => TableRead {
             outcome: Outcome::Refused { number, place },
             header,
         },
-        Step::On { value: _, next } => TableRead {
-            outcome: from_ink(s, next, header, cells),
-            header,
-        },
+        Step::On { value: _, next } => {
+            let last = rows(s, next, header.levels, header.inputs, cells);
+            TableRead {
+                outcome: ended(s, last),
+                header,
+            }
+        }
     }
 }

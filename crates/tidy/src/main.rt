@@ -1,11 +1,11 @@
-// Tidies the loose table sheet on standard input. What it prints is `loose_sheets::program::tidy_output`'s.
+// Tidies the loose table sheet on standard input. What it prints is `programs::output::tidy_output`'s.
 use libc::STDIN_FILENO;
 use libc::STDOUT_FILENO;
 
 fn main() {
     let mut sheet = io::large_buffer();
     let length = io::read_full(STDIN_FILENO, &mut sheet);
-    let printed = loose_sheets::program::tidy_output(&sheet[..length]);
+    let printed = programs::output::tidy_output(&sheet[..length]);
     let bytes = printed.bytes;
     let end = printed.length;
     io::write_all(STDOUT_FILENO, &bytes[..end]);

@@ -19,8 +19,8 @@ use Rattle.rules.specs.Nets.Wirings.{firstInput}
 use Rattle.rules.specs.Nets.SettledLaws.{MayBeA}
 use Rattle.rules.specs.Nets.Family.{splitCount}
 use Rattle.trees.specs.Groups.Members.{rest-apart, size-join, size-pos}
-use Rattle.trees.specs.Families.FamilyCounts.{counted, splitCounted, is-split, no-parts-count, split-most}
-use Rattle.trees.specs.Families.FamilyBounds.{count-fits}
+use Rattle.trees.specs.Families.FamilyCounts.{groupTrees, splitCounted, is-split, no-parts-count, split-most}
+use Rattle.trees.specs.Families.FamilyBounds.{group-trees-fit}
 use Rattle.trees.specs.Families.Families.{split-sizes}
 use Rattle.marks.specs.FirstParts.{bothTwo}
 
@@ -28,14 +28,14 @@ use Rattle.marks.specs.FirstParts.{bothTwo}
 
 -- each entry is 0, for not yet known, or the group's count
 abbrev pub CountsKnown : List ℕ → List ℕ → Type 0
-CountsKnown marks counts = (g : ℕ) → (getD counts g 0 ≡ 0) ⊎ ((n : ℕ) → g < 2 ^ n → getD counts g 0 ≡ counted n marks g)
+CountsKnown marks counts = (g : ℕ) → (getD counts g 0 ≡ 0) ⊎ ((n : ℕ) → g < 2 ^ n → getD counts g 0 ≡ groupTrees n marks g)
 
 -- one count more
-pub one-kept : (marks counts : List ℕ) (g count : ℕ) → CountsKnown marks counts → g < length counts → ((n : ℕ) → g < 2 ^ n → count ≡ counted n marks g)
+pub one-kept : (marks counts : List ℕ) (g count : ℕ) → CountsKnown marks counts → g < length counts → ((n : ℕ) → g < 2 ^ n → count ≡ groupTrees n marks g)
     → CountsKnown marks (set counts g count)
 one-kept marks counts g count kept room is h = go (ℕ-discrete h g)
   where
-    go : Dec (h ≡ g) → (getD (set counts g count) h 0 ≡ 0) ⊎ ((n : ℕ) → h < 2 ^ n → getD (set counts g count) h 0 ≡ counted n marks h)
+    go : Dec (h ≡ g) → (getD (set counts g count) h 0 ≡ 0) ⊎ ((n : ℕ) → h < 2 ^ n → getD (set counts g count) h 0 ≡ groupTrees n marks h)
     go (yes e) = inr (λ n h<. rw e (getD-set-same counts g count 0 room ∙ is n (rw e at h<)))
     go (no other) = rw (getD-set-other counts g h count 0 other) (kept h)
 
@@ -71,7 +71,7 @@ splittable-sizes marks counts g a n g< is =
 
 -- r is the group's count, and what is kept is right
 pub record CountKnown (marks : List ℕ) (g r : ℕ) (counts : List ℕ) : Type 0 where
-  pub count : (n : ℕ) → g < 2 ^ n → r ≡ counted n marks g
+  pub count : (n : ℕ) → g < 2 ^ n → r ≡ groupTrees n marks g
   pub kept : CountsKnown marks counts
 
 -- .. the split's
@@ -99,15 +99,15 @@ module _ (n : ℕ) (marks : List ℕ) (g a : ℕ) (g< : g < 2 ^ n) (some : 0 < a
   unfolding splitCount
   split-none = go (eqb (markIn marks a) 2) refl
     where
-      go : (b : Bool) → eqb (markIn marks a) 2 ≡ b → (b && eqb (markIn marks (g - a)) 2) ≡ false → counted n marks a * counted n marks (g - a) ≡ 0
+      go : (b : Bool) → eqb (markIn marks a) 2 ≡ b → (b && eqb (markIn marks (g - a)) 2) ≡ false → groupTrees n marks a * groupTrees n marks (g - a) ≡ 0
       go true e other = rw (no-parts-count n marks (g - a) (omega arith) (eqb-false _ 2 other)) (mul-zero _)
       go false e other = rw (no-parts-count n marks a (omega arith) (eqb-false _ 2 e)) (zero-mul _)
 
   -- at most the group's count
-  pub split-within : markIn marks g ≡ 2 → inside n a g ≡ true → member (firstInput n g) a ≡ true → splitCounted n marks g a ≤ counted n marks g
+  pub split-within : markIn marks g ≡ 2 → inside n a g ≡ true → member (firstInput n g) a ≡ true → splitCounted n marks g a ≤ groupTrees n marks g
   split-within two is-inside is-held = go (bothTwo marks g a) refl
     where
-      go : (b : Bool) → bothTwo marks g a ≡ b → splitCounted n marks g a ≤ counted n marks g
+      go : (b : Bool) → bothTwo marks g a ≡ b → splitCounted n marks g a ≤ groupTrees n marks g
       go false e = omega (arith, split-none e)
       go true e =
           let twos = and-eq-true-iff (eqb (markIn marks a) 2) _ .0 e in
@@ -121,7 +121,7 @@ pub split-fits : (marks counts : List ℕ) (g a : ℕ) → Splittable marks coun
 split-fits marks counts g a split =
     let within = split-within mostInputs marks g a (split .group .below) (split .some) (split .less) (split .two)
     (split .holds mostInputs (split .group .below) .0) (split .holds mostInputs (split .group .below) .1) in
-    omega (arith, count-fits mostInputs marks (omega arith) g)
+    omega (arith, group-trees-fit mostInputs marks (omega arith) g)
 
 -- ---- what is kept of a split's two groups, multiplied
 
@@ -134,8 +134,8 @@ module _ (marks counts : List ℕ) (g a : ℕ) (split : Splittable marks counts 
   unfolding splitCount
   product-kept = go (split .group .kept a) (split .group .kept (g - a))
     where
-      go : (getD counts a 0 ≡ 0) ⊎ ((n : ℕ) → a < 2 ^ n → getD counts a 0 ≡ counted n marks a)
-          → (getD counts (g - a) 0 ≡ 0) ⊎ ((n : ℕ) → g - a < 2 ^ n → getD counts (g - a) 0 ≡ counted n marks (g - a))
+      go : (getD counts a 0 ≡ 0) ⊎ ((n : ℕ) → a < 2 ^ n → getD counts a 0 ≡ groupTrees n marks a)
+          → (getD counts (g - a) 0 ≡ 0) ⊎ ((n : ℕ) → g - a < 2 ^ n → getD counts (g - a) 0 ≡ groupTrees n marks (g - a))
           → (product ≡ 0) ⊎ ((n : ℕ) → g < 2 ^ n → product ≡ splitCounted n marks g a)
       go (inl none) right = inl (rw none (zero-mul _))
       go (inr left) (inl none) = inl (rw none (mul-zero _))

@@ -11,7 +11,7 @@ use Rattle.rules.specs.Groups.Groups.{size}
 use Rattle.rules.specs.Nets.Wirings.{gate, Link, firstInput, linksOf}
 use Rattle.rules.specs.Nets.Family.{splitsOf, numberedAt}
 use Rattle.trees.specs.Groups.Members.{size-le}
-use Rattle.trees.specs.Families.FamilyCounts.{counted, splitCounted}
+use Rattle.trees.specs.Families.FamilyCounts.{groupTrees, splitCounted}
 use Rattle.trees.specs.Families.Families.{wired, wired-single, wired-several, SplitAt, number-split, split-sizes, split-a-below, split-b-below}
 use Rattle.wirings.specs.declared.forms.Wiring.{Wiring}
 use Rattle.wirings.specs.Links.{linksIn, none-in, Linked}
@@ -32,7 +32,7 @@ pub record SplitFound (marks : List ℕ) (g r : ℕ) (s : Numbered) (counts : Li
 pub record InCount (n : ℕ) (marks : List ℕ) (g r : ℕ) : Type 0 where
   pub inputs : n ≤ mostInputs
   pub below : g < 2 ^ n
-  pub number : r < counted n marks g
+  pub number : r < groupTrees n marks g
 
 -- the links of number r of group g are added, and `reference` refers to the last of them, or to g's only input
 pub record NumberWired (n : ℕ) (marks : List ℕ) (g r : ℕ) (before after : Wiring) (reference : ℕ) (counts : List ℕ) : Type 0 where
@@ -73,7 +73,7 @@ module _ (n : ℕ) (marks : List ℕ) (g r : ℕ) (in-count : InCount n marks g 
   tree-count-part-sizes = split-sizes n marks g a (in-count .below) (at .split)
 
   -- B's count, and the numbers of the two
-  module _ (count : ℕ) (counts : count ≡ counted n marks (g - a)) where
+  module _ (count : ℕ) (counts : count ≡ groupTrees n marks (g - a)) where
     pub count-some : 0 < count
     count-some = subst⁻¹ (λ (k : ℕ). 0 < k) counts (at .rest-some)
 
@@ -81,14 +81,14 @@ module _ (n : ℕ) (marks : List ℕ) (g r : ℕ) (in-count : InCount n marks g 
     left-in = record {
       inputs = in-count .inputs;
       below = split-a-below n marks g a (in-count .below) (at .split);
-      number = subst⁻¹ (λ (k : ℕ). number / k < counted n marks a) counts (at .left);
+      number = subst⁻¹ (λ (k : ℕ). number / k < groupTrees n marks a) counts (at .left);
     }
 
     pub right-in : InCount n marks (g - a) (number % count)
     right-in = record {
       inputs = in-count .inputs;
       below = split-b-below n marks g a (in-count .below) (at .split);
-      number = subst⁻¹ (λ (k : ℕ). number % k < counted n marks (g - a)) counts (at .right);
+      number = subst⁻¹ (λ (k : ℕ). number % k < groupTrees n marks (g - a)) counts (at .right);
     }
 
     module _ (before mid later after : Wiring) (l m : ℕ) (kept-left kept-right : List ℕ) (left : NumberWired n marks a (number / count) before mid l kept-left)
@@ -96,7 +96,8 @@ module _ (n : ℕ) (marks : List ℕ) (g r : ℕ) (in-count : InCount n marks g 
       gate-added : (fuel : ℕ) → size n g ≤ suc fuel → AddedWiring n (wired n marks (suc fuel) g r) before after (n + later .gates)
       gate-added fuel enough =
           subst⁻¹ (λ v. AddedWiring n v before after (n + later .gates)) by-split
-          (wiring-gate n _ _ before mid later after l m (left .wires fuel (omega (arith, tree-count-part-sizes))) (right .wires fuel (omega (arith, tree-count-part-sizes))) own)
+          (wiring-gate n _ _ before mid later after l m (left .wires fuel (omega (arith, tree-count-part-sizes)))
+          (right .wires fuel (omega (arith, tree-count-part-sizes))) own)
         where
           by-split : wired n marks (suc fuel) g r ≡ gate (wired n marks fuel a (number / count)) (wired n marks fuel (g - a) (number % count))
           by-split =
@@ -104,7 +105,7 @@ module _ (n : ℕ) (marks : List ℕ) (g r : ℕ) (in-count : InCount n marks g 
               ∙ (λ i.
               let s = sym is i in
               let b = g - s .part in
-              gate (wired n marks fuel (s .part) (s .number / counted n marks b)) (wired n marks fuel b (s .number % counted n marks b)))
+              gate (wired n marks fuel (s .part) (s .number / groupTrees n marks b)) (wired n marks fuel b (s .number % groupTrees n marks b)))
               ∙ (λ i. gate (wired n marks fuel a (number / sym counts i)) (wired n marks fuel (g - a) (number % sym counts i)))
 
       pub numbered-several : NumberWired n marks g r before after (n + later .gates) kept-right

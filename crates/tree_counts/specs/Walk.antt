@@ -57,7 +57,8 @@ module _ (marks : List ℕ) (g rest : ℕ) (some : 0 < g) (is-rest : (n : ℕ) �
         let is = here g rest some is-rest (settledTest marks g) (bothTwo marks g) (settled-looked marks g) n g< part more is-part in
         let later : those (isA n marks g) (range (at part + 1) (g - (at part + 1))) ≡ splitsFrom n marks g (at next) =
         those-past (isA n marks g) (at part + 1) (at next) g (omega (arith, after .above)) (omega (arith, after .least rest more (and-self rest), is-rest n g<))
-        (λ u low high. none-between g rest some is-rest (settledTest marks g) (bothTwo marks g) (settled-looked marks g) n g< part next more after u (omega arith) high) in
+        (λ u low high. none-between g rest some is-rest (settledTest marks g) (bothTwo marks g) (settled-looked marks g) n g< part next more after u
+        (omega arith) high) in
         ap (those (isA n marks g)) (range-next (at part) g (is .1))
         ∙ those-cons (isA n marks g) (at part) (range (at part + 1) (g - (at part + 1)))
         ∙ (λ i. cond (is .2 i) (at part ∷ later i) (later i))
@@ -72,10 +73,12 @@ module _ (marks : List ℕ) (g rest : ℕ) (some : 0 < g) (is-rest : (n : ℕ) �
         split-none n marks g (at part) g< (is .0) (is .1)
 
     -- so the code need not tell it from the others: what it counts for is taken, ..
-    pub counts-next : countsFor n marks g (splitsFrom n marks g (at part)) ≡ splitCounted n marks g (at part) + countsFor n marks g (splitsFrom n marks g (at next))
+    pub counts-next : countsFor n marks g (splitsFrom n marks g (at part))
+        ≡ splitCounted n marks g (at part) + countsFor n marks g (splitsFrom n marks g (at next))
     counts-next = ap (countsFor n marks g) splits-next ∙ go (bothTwo marks g (at part)) refl
       where
-        go : (b : Bool) → bothTwo marks g (at part) ≡ b → countsFor n marks g (cond b (at part ∷ later) later) ≡ splitCounted n marks g (at part) + countsFor n marks g later
+        go : (b : Bool) → bothTwo marks g (at part) ≡ b → countsFor n marks g (cond b (at part ∷ later) later) ≡ splitCounted n marks g
+            (at part) + countsFor n marks g later
         go true e = unfold total in refl
         go false e = rw (no-count e) (sym (zero-add _))
 

@@ -14,7 +14,7 @@ use Rattle.rules.specs.Groups.Marks.{markIn}
 use Rattle.rules.specs.Nets.Wirings.{firstInput}
 use Rattle.rules.specs.Lists.{total}
 use Rattle.rules.specs.Nets.Family.{splitsOf, numberedAt}
-use Rattle.trees.specs.Families.FamilyCounts.{counted, splitCounted, count-several}
+use Rattle.trees.specs.Families.FamilyCounts.{groupTrees, splitCounted, count-several}
 use Rattle.radix.specs.Parts.{PartOf, Next, next-part}
 use Rattle.marks.specs.FirstParts.{part-at}
 use Rattle.tree_counts.specs.Counts.{Countable, Splittable, CountsKnown}
@@ -43,7 +43,8 @@ SplitsLeft marks g rest r part left =
 
 module _ (marks : List ℕ) (g rest : ℕ) (some : 0 < g) (is-rest : (n : ℕ) → g < 2 ^ n → rest ≡ g - 2 ^ firstInput n g) where
   -- the split that is looked at
-  module _ (counts later : List ℕ) (group : Countable marks counts g) (two : markIn marks g ≡ 2) (same : length later ≡ length counts) (kept : CountsKnown marks later)
+  module _ (counts later : List ℕ) (group : Countable marks counts g) (two : markIn marks g ≡ 2) (same : length later ≡ length counts)
+      (kept : CountsKnown marks later)
       (part : ℕ) (more : part < rest) (passed : Passed rest part) where
     pub looked : Splittable marks later g ((g - rest) + part)
     looked =
@@ -67,7 +68,7 @@ module _ (marks : List ℕ) (g rest : ℕ) (some : 0 < g) (is-rest : (n : ℕ) �
     summed-next n g< = omega (arith, summed n g<, is n g<, counts-next marks g rest some is-rest n g< part next more (passed .is-part) after)
 
   pub summed-all : (part sum : ℕ) → Summed marks g rest part sum → rest ≤ part → markIn marks g ≡ 2 → ((n : ℕ) → g < 2 ^ n → size n g ≢ 1)
-      → (n : ℕ) → g < 2 ^ n → sum ≡ counted n marks g
+      → (n : ℕ) → g < 2 ^ n → sum ≡ groupTrees n marks g
   unfolding total
   summed-all part sum summed end two several n g< =
       omega (arith, summed n g<, ap (countsFor n marks g) (splits-none marks g rest some is-rest n g< part end), count-several n marks g g< two (several n g<))
@@ -75,7 +76,7 @@ module _ (marks : List ℕ) (g rest : ℕ) (some : 0 < g) (is-rest : (n : ℕ) �
   -- one split more is no more than the group's count
   pub summed-most : (part sum count : ℕ) → g < 2 ^ mostInputs → part < rest → Passed rest part → Summed marks g rest part sum
       → ((n : ℕ) → g < 2 ^ n → count ≡ splitCounted n marks g ((g - rest) + part)) → markIn marks g ≡ 2 → ((n : ℕ) → g < 2 ^ n → size n g ≢ 1)
-      → sum + count ≤ counted mostInputs marks g
+      → sum + count ≤ groupTrees mostInputs marks g
   summed-most part sum count g< more passed summed is two several =
       let after = next-part mostInputs rest part (omega (arith, is-rest mostInputs g<)) more (passed .is-part) in
       omega (
@@ -95,7 +96,8 @@ module _ (marks : List ℕ) (g rest : ℕ) (some : 0 < g) (is-rest : (n : ℕ) �
     pub left-none : (part left : ℕ) → SplitsLeft marks g rest r part left → rest ≤ part
         → (n : ℕ) → g < 2 ^ n → record { part = 0; number = left } ≡ falls n marks g (splitsOf n marks g) r
     unfolding numberedAt
-    left-none part left so-far end n g< = sym (ap (λ (splits : List ℕ). falls n marks g splits left) (splits-none marks g rest some is-rest n g< part end)) ∙ so-far n g<
+    left-none part left so-far end n g< =
+        sym (ap (λ (splits : List ℕ). falls n marks g splits left) (splits-none marks g rest some is-rest n g< part end)) ∙ so-far n g<
 
     module _ (part left count : ℕ) (more : part < rest) (passed : Passed rest part) (so-far : SplitsLeft marks g rest r part left)
         (is : (n : ℕ) → g < 2 ^ n → count ≡ splitCounted n marks g ((g - rest) + part)) where

@@ -89,7 +89,8 @@ module _ (n : ℕ) (marks layers : List ℕ) (g : ℕ) (g< : g < 2 ^ n) where
       go [] e =
           ⊎-elim (λ none. none ∙ rw e)
           (λ (found : Attains r).
-          absurd (List·Memᴰ·not-nil (rw e at (listed (found .a) (found .some) (found .less) (and-eq-true-iff (partsAt n marks g (found .a)) _ .0 (found .may) .0)))))
+          absurd (List·Memᴰ·not-nil
+          (rw e at (listed (found .a) (found .some) (found .less) (and-eq-true-iff (partsAt n marks g (found .a)) _ .0 (found .may) .0)))))
           (is .attained)
       go (x ∷ xs) e =
           let best = Memᴰ·of-map by parts (least-listed (map by parts) (rw (e, length-map) (omega arith))) in

@@ -68,7 +68,7 @@ pub struct ArrivalTimes {
     pub latest: f64,
 }
 
-/// `kind` is 0 where `value` is the group's mark, 1 where it is not reached, 2 for refusal 11 at place `value`.
+/// `kind` is 0 if `value` is the group's mark, 1 if the group is not reached, otherwise a refusal's number, 11, at place `value`.
 #[repr(C)]
 #[derive(Clone, Copy)]
 pub struct Mark {

@@ -2,7 +2,7 @@
 
 use std::iter::FusedIterator;
 
-use crate::{answered, ffi, with_buffers, Kind, Named, Refusal, MOST_CELLS};
+use crate::{answered, ffi, with_buffers, Named, Refusal, MOST_CELLS};
 
 /// The bytes that a job has for its first lines, and for its marks.
 const LINES: usize = 128;
@@ -88,10 +88,7 @@ impl Job {
         match mark.kind {
             0 => Ok(Some(mark.value as u8)),
             1 => Ok(None),
-            _ => {
-                let number = Kind::Group.number();
-                Err(Refusal::new(number, mark.value, Named::Neither, &[]))
-            }
+            number => Err(Refusal::new(number, mark.value, Named::Neither, &[])),
         }
     }
 

@@ -1,19 +1,20 @@
 -- What reading an arrival sheet answers.
 -- Assumes nothing.
-use Prim.Native.Nat.{ℕ, _≤_, _<_}
+use Prim.Native.Nat.{ℕ}
 use mathlib.Core.Path.{_≡_, ap, _∙_}
 use mathlib.Core.List.{List, []}
 use lib.ListN.{length, drop}
-use Rattle.rules.specs.Text.{space, newline, text, spaceByte, newlineByte}
-use Rattle.rules.specs.Sheets.Fields.{Reader, then, _>>=_, give, field, theWord, closed}
+use Rattle.rules.specs.Text.{space, newline, text}
+use Rattle.rules.specs.Sheets.Fields.{Reader, _>>=_, give, theWord, closed}
 use Rattle.rules.specs.Sheets.Reading.{answered}
 use Rattle.rules.specs.Sheets.ArrivalSheet.{Arrival, arrivalLines, arrivalSheet, readArrivals}
-use Rattle.fields.specs.Chained.{chained-back, chained-on, Answers, answers-back, answers-on, answers-over, answers-closed, field-then-then}
+use Rattle.fields.specs.Chained.{Answers, answers-back, answers-on, answers-end, endOf}
 use Rattle.fields.specs.Steps.{stepAs, nothing, spelled}
-use Rattle.fields.specs.Words.{twoWords, twoWordsIn}
+use Rattle.fields.specs.Words.{threeWords, three-words-then}
 use Rattle.fields.specs.declared.steps.Step.{Step}
 use Rattle.fields.specs.declared.steps.Step.the-variants.{On, Back}
 use Rattle.answers.specs.AnswerMaps.{outcomeAs}
+use Rattle.answers.specs.declared.outcome.Outcome.{Outcome}
 use Rattle.answers.specs.declared.outcome.Outcome.the-variants.{Accepted, Refused}
 use Rattle.arrivals.specs.declared.sheet.lines.TimesRead.{TimesRead}
 use Rattle.arrivals.specs.Sheet.Lines.{arrivalsIn, TimesHeld, LinesRead}
@@ -29,57 +30,26 @@ abbrev pub ArrivalsRest : List (List ℕ) → List ℕ → ℕ → Reader (List 
 ArrivalsRest names s at reader r = Answers s at reader (arrivalsIn (r .times) (length names)) (TimesHeld (r .times) (length names)) (r .outcome)
 
 -- line 1
-unfoldable pub headingLine : Reader (Unit {0})
-headingLine = field (theWord "name") space >>= λ _. field (theWord "from") space >>= λ _. field (theWord "to") newline
+abbrev pub headingLine : Reader (Unit {0})
+headingLine = threeWords (text "name") (text "from") (text "to")
 
 -- the lines, and the end after them
 unfoldable pub fromLines : List (List ℕ) → Reader (List Arrival)
 fromLines names = arrivalLines names [] >>= λ arrivals. closed >>= λ _. give arrivals
 
--- ---- line 1: a word, then two more
-
-module _ (s : List ℕ) (at : ℕ) (step : Step) (reads : stepAs nothing s step ≡ field (spelled (text "name")) spaceByte (drop at s) at) (r : Step) where
-  pub name-back : (number place : ℕ) → step ≡ Back number place → r ≡ Back number place → stepAs nothing s r ≡ headingLine (drop at s) at
-  unfolding headingLine spelled theWord space
-  name-back number place e q = chained-back nothing (field (theWord "name") spaceByte) _ s at step reads nothing r number place e q
-
-  pub name-on : (value next : ℕ) → step ≡ On value next → stepAs nothing s r ≡ twoWords (text "from") (text "to") (drop next s) next
-      → stepAs nothing s r ≡ headingLine (drop at s) at
-  unfolding headingLine twoWordsIn spelled theWord space newline
-  name-on value next e onward =
-      chained-on nothing (field (theWord "name") spaceByte) (λ _. field (theWord "from") spaceByte >>= λ _. field (theWord "to") newlineByte) s at step reads nothing r value next e onward
-
 -- ---- from the lines on
 
 module _ (names : List (List ℕ)) (s : List ℕ) (at : ℕ) (r : TimesRead) (lines : LinesRead names s at r) where
-  abbrev given : ℕ → List Arrival
-  given _ = arrivalsIn (r .times) (length names)
-
-  pub arrival-reading-lines-back : (number place : ℕ) → r .step ≡ Back number place
-      → ArrivalsRest names s at (fromLines names) (record { outcome = Refused number place; times = r .times })
+  pub lines-ended : (o : Outcome) → o ≡ endOf s (r .step) → ArrivalsRest names s at (fromLines names) (record { outcome = o; times = r .times })
   unfolding fromLines
-  arrival-reading-lines-back number place e = answers-back given (arrivalLines names []) _ s at (r .step) (lines .reads) _ _ number place e
-
-  module _ (value next : ℕ) (e : r .step ≡ On value next) where
-    pub lines-over : next < length s → ArrivalsRest names s at (fromLines names) (record { outcome = Refused 1 next; times = r .times })
-    unfolding fromLines
-    lines-over more =
-        answers-on given (arrivalLines names []) _ s at (r .step) (lines .reads) _ _ value next (Refused 1 next) e (answers-over s next _ _ more)
-
-    pub lines-closed : length s ≤ next → ArrivalsRest names s at (fromLines names) (record { outcome = Accepted; times = r .times })
-    unfolding fromLines
-    lines-closed done =
-        answers-on given (arrivalLines names []) _ s at (r .step) (lines .reads) _ _ value next Accepted e
-        (answers-closed s next _ _ done (lines .held value next e))
+  lines-ended o is = answers-end (arrivalLines names []) (λ arrivals. arrivals) s at _ (r .step) (lines .reads) _ (lines .held) o is
 
 -- ---- the whole sheet
 
 -- the sheet is line 1, and the rest
 sheet-split : (names : List (List ℕ)) (s : List ℕ) → (headingLine >>= λ _. fromLines names) s 0 ≡ arrivalSheet names s 0
-unfolding arrivalSheet fromLines headingLine
-sheet-split names s =
-    field-then-then (field (theWord "name") space s 0) _ _
-    ∙ ap (then (field (theWord "name") space s 0)) (λ i _ u p. field-then-then (field (theWord "from") space u p) (λ _. field (theWord "to") newline) (λ _. fromLines names) i)
+unfolding arrivalSheet fromLines spelled theWord space newline
+sheet-split names s = three-words-then (text "name") (text "from") (text "to") (fromLines names) s 0
 
 whole : (names : List (List ℕ)) (s : List ℕ) (r : ArrivalsRead) → ArrivalsRest names s 0 (headingLine >>= λ _. fromLines names) r → ArrivalsReads names s r
 unfolding readArrivals

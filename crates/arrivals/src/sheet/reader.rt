@@ -1,18 +1,15 @@
 // A whole arrival sheet, for the inputs of a net sheet.
 ghost use mathlib.Core.Path.{_≡_};
-ghost use lib.ListN.{drop};
 ghost use Rattle.nets.specs.Forms.{namesIn};
 ghost use Rattle.fields.specs.Header.FirstLines.{HeaderHeld};
-ghost use Rattle.fields.specs.Steps.{stepAs, nothing};
 ghost use Rattle.answers.specs.declared.outcome.Outcome.the-variants.{Refused};
-ghost use Rattle.arrivals.specs.Sheet.ArrivalReading.{ArrivalsRest, ArrivalsReads, headingLine, fromLines};
+ghost use Rattle.arrivals.specs.Sheet.ArrivalReading.{ArrivalsRest, ArrivalsReads, fromLines};
 use crate::sheet::lines::Times;
 use crate::sheet::lines::arrival_lines;
 use answers::outcome::Outcome;
-use fields::runs::SPACE;
+use fields::ends::ended;
 use fields::steps::Step;
-use fields::words::two_words;
-use fields::words::word_field;
+use fields::words::three_words;
 use nets::forms::Header;
 use radix::limits::MOST_INPUTS;
 
@@ -36,16 +33,6 @@ fn refused(number: usize, place: usize) -> ArrivalsRead
     }
 }
 
-// Line 1.
-fn heading_line(s: &[u8]) -> Step
-    ensures { λ r. ⌜ stepAs nothing (now (s .entry)) r ≡ headingLine (drop 0 (now (s .entry))) 0 ⌝ }
-{
-    match word_field(s, 0, b"name", SPACE) {
-        Step::Back { number, place } => Step::Back { number, place },
-        Step::On { value: _, next } => two_words(s, next, b"from", b"to"),
-    }
-}
-
 // From the first input's line on. Nothing stands after the last one.
 fn from_lines(net: &[u8], header: Header, s: &[u8], at: usize) -> ArrivalsRead
     requires { ⌜ HeaderHeld (now net) header ⌝ }
@@ -54,26 +41,9 @@ fn from_lines(net: &[u8], header: Header, s: &[u8], at: usize) -> ArrivalsRead
     let read = arrival_lines(net, header, s, at);
     let step = read.step;
     let times = read.times;
-    match step {
-        Step::Back { number, place } => ArrivalsRead {
-            outcome: Outcome::Refused { number, place },
-            times,
-        },
-        Step::On { value: _, next } => {
-            if next < s.len() {
-                return ArrivalsRead {
-                    outcome: Outcome::Refused {
-                        number: 1,
-                        place: next,
-                    },
-                    times,
-                };
-            }
-            ArrivalsRead {
-                outcome: Outcome::Accepted,
-                times,
-            }
-        }
+    ArrivalsRead {
+        outcome: ended(s, step),
+        times,
     }
 }
 
@@ -82,7 +52,7 @@ pub fn read_arrivals(net: &[u8], header: Header, s: &[u8]) -> ArrivalsRead
     requires { ⌜ HeaderHeld (now net) header ⌝ }
     ensures { λ r. ⌜ ArrivalsReads (namesIn (now (net .entry)) header) (now (s .entry)) r ⌝ }
 {
-    match heading_line(s) {
+    match three_words(s, 0, b"name", b"from", b"to") {
         Step::Back { number, place } => refused(number, place),
         Step::On { value: _, next } => from_lines(net, header, s, next),
     }

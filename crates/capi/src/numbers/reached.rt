@@ -4,13 +4,15 @@ ghost use Rattle.jobs.specs.Asking.{reachedAs};
 ghost use Rattle.capi.specs.Numbers.Reached.{flatReached};
 use jobs::asking::Reached;
 
-// Kind 0: `value` is the group's mark. Kind 1: it is not reached. Kind 2: the group is refused with 11, at place `value`.
+// Kind 0: `value` is the group's mark. Kind 1: the group is not reached, and `value` is 0. Otherwise `kind` is the refusal's number, which is 11, and
+// `value` its place.
 #[repr(C)]
 pub struct SitgurpMark {
     pub kind: usize,
     pub value: usize,
 }
 
+// Returns a mark, `not reached` or a refusal as two numbers.
 pub fn flat_reached(reached: Reached) -> SitgurpMark
     ensures { λ r. ⌜ r ≡ flatReached (reachedAs reached) ⌝ }
 {
@@ -20,8 +22,8 @@ pub fn flat_reached(reached: Reached) -> SitgurpMark
             value: mark as usize,
         },
         Reached::NotReached => SitgurpMark { kind: 1, value: 0 },
-        Reached::Refused { number: _, place } => SitgurpMark {
-            kind: 2,
+        Reached::Refused { number, place } => SitgurpMark {
+            kind: number,
             value: place,
         },
     }

@@ -16,7 +16,8 @@ use Rattle.laws.specs.Calls.Answers.{accepted-inj, not-refused}
 use Rattle.trees.specs.Families.FamilyBounds.{treesOn}
 use Rattle.demands.specs.Numbers.Numbers.{not-given, refuses}
 use Rattle.demands.specs.Settling.Makes.{HasTree, HasSheet, make-refuses, make-refuses-sheets}
-use Rattle.demands.specs.Families.FamilyOutcomes.{made-answer, counted-answer, judgedNumbers, SheetJudged, turned-back, goes-on, on-with, judge, marked-leaves, marked-numbers}
+use Rattle.demands.specs.Families.FamilyOutcomes.{made-answer, counted-answer, judgedNumbers, SheetJudged, turned-back, goes-on, on-with}
+use Rattle.demands.specs.Families.FamilyOutcomes.{judge, marked-leaves, marked-numbers}
 use Rattle.demands.specs.Numbers.FamilyNumbers.{family-count-numbers}
 use Rattle.demands.specs.Families.FamilyTables.{none-counted, table-bound, table-fits}
 use Rattle.rules.specs.Calls.OpenCells.{readFull}
@@ -27,11 +28,13 @@ use Rattle.demands.specs.Sheets.FullSheets.{full-accepted}
 module _ (s cells marks : List ℕ) where
   module _ (output : List ℕ) where
     -- the cells and the marks are left as making leaves them
-    pub count-leaves : (familyCountCall s cells marks .cells ≡ makeCall s cells marks output .cells) × (familyCountCall s cells marks .marks ≡ makeCall s cells marks output .marks)
+    pub count-leaves : (familyCountCall s cells marks .cells ≡ makeCall s cells marks output .cells)
+        × (familyCountCall s cells marks .marks ≡ makeCall s cells marks output .marks)
     count-leaves = go (judge s cells marks)
       where
         go : SheetJudged s cells marks
-            → (familyCountCall s cells marks .cells ≡ makeCall s cells marks output .cells) × (familyCountCall s cells marks .marks ≡ makeCall s cells marks output .marks)
+            → (familyCountCall s cells marks .cells ≡ makeCall s cells marks output .cells)
+            × (familyCountCall s cells marks .marks ≡ makeCall s cells marks output .marks)
         go (turned-back number place is) = rw (is .counts, is .makes output) (refl, refl)
         go (goes-on t is) =
             let left = marked-leaves t cells marks output in
@@ -44,7 +47,8 @@ module _ (s cells marks : List ℕ) where
     unfolding any
     count-refuses number place = go (judge s cells marks)
       where
-        other : (k : ℕ) → (familyCountCall s cells marks .answer ≡ refused number place) → (number ≡ k) → familyCountCall s cells marks .answer ≡ refused k place
+        other : (k : ℕ) → (familyCountCall s cells marks .answer ≡ refused number place) → (number ≡ k)
+            → familyCountCall s cells marks .answer ≡ refused k place
         other k e q = e ∙ ap (λ (j : ℕ). refused j place) q
 
         not-so : (familyCountCall s cells marks .answer ≡ refused number place) → (number ≡ 15 → ⊥) × (number ≡ 16 → ⊥)
@@ -69,10 +73,12 @@ module _ (s cells marks : List ℕ) where
     unfolding any
     count-0 = go (judge s cells marks)
       where
-        go : SheetJudged s cells marks → (familyCountCall s cells marks .answer ≡ accepted 0) ↔ ((place : ℕ) × (makeCall s cells marks output .answer ≡ refused 16 place))
+        go : SheetJudged s cells marks → (familyCountCall s cells marks .answer ≡ accepted 0)
+            ↔ ((place : ℕ) × (makeCall s cells marks output .answer ≡ refused 16 place))
         go (turned-back k at is) = (
           λ e. absurd (not-refused {A = ℕ} 0 k at (sym e ∙ counted-answer (is .counts))),
-          λ (place, e). absurd (not-given {A = ℕ} judgedNumbers (refused k at) (refuses judgedNumbers k at (is .listed)) 16 place refl (sym (made-answer (is .makes output)) ∙ e)),
+          λ (place, e). absurd (not-given {A = ℕ} judgedNumbers (refused k at) (refuses judgedNumbers k at (is .listed)) 16 place refl
+              (sym (made-answer (is .makes output)) ∙ e)),
         )
         go (goes-on t is) =
             let none = none-counted t (full-accepted s t (is .reads) .1) in
@@ -98,7 +104,8 @@ module _ (s : List ℕ) (t : Table) (reads : readFull s ≡ accepted t) where
   count-most = table-bound t (full-accepted s t reads .1)
 
   -- with room for the cells and the marks
-  module _ (cells marks : List ℕ) (cells-fit : t .header .levels ^ t .header .inputs ≤ length cells) (marks-fit : marksLength (t .header .inputs) ≤ length marks) where
+  module _ (cells marks : List ℕ) (cells-fit : t .header .levels ^ t .header .inputs ≤ length cells)
+      (marks-fit : marksLength (t .header .inputs) ≤ length marks) where
     -- "answers the count of the trees", ..
     pub counts-trees : familyCountCall s cells marks .answer ≡ accepted (countOfTable t)
     counts-trees = counted-answer (on-with s cells marks t reads cells-fit marks-fit .counts)

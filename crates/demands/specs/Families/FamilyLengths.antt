@@ -19,7 +19,8 @@ use Rattle.laws.specs.Calls.FamilyCalls.{family-count-refused, family-tree-refu
 use Rattle.demands.specs.Numbers.Numbers.{Gives, refuses}
 use Rattle.demands.specs.Settling.Settles.{Long}
 use Rattle.demands.specs.Sheets.Lengths.{mostMarks, kept-cells, kept-marks, Ample, no-refusal}
-use Rattle.demands.specs.Families.FamilyOutcomes.{made-answer, counted-answer, GoesOn, on-with, NumberJudged, refuses-all, no-number, has-tree, numbered}
+use Rattle.demands.specs.Families.FamilyOutcomes.{made-answer, counted-answer, GoesOn, on-with, NumberJudged, refuses-all, no-number, has-tree}
+use Rattle.demands.specs.Families.FamilyOutcomes.{judge-number}
 use Rattle.demands.specs.Families.FamilyTables.{family-as-long}
 use Rattle.demands.specs.Families.FamilySheets.{writes-tree, tree-short}
 use Rattle.rules.specs.Calls.OpenCells.{readFull}
@@ -60,17 +61,19 @@ module _ (s : List ℕ) (r : ℕ) (cells marks output : List ℕ) (ample : Ample
   -- .. and each other number is refused with 17
   pub family-tree-ample-numbers : Gives tableOrNumber (familyTreeCall s r cells marks output .answer)
   unfolding any all
-  family-tree-ample-numbers number place e = go (readFull s) refl (numbered s r cells marks output)
+  family-tree-ample-numbers number place e = go (readFull s) refl (judge-number s r cells marks output)
     where
       answer : (made : Made) → familyTreeCall s r cells marks output ≡ made → made .answer ≡ refused number place
       answer made d = sym (made-answer d) ∙ e
 
       go : (a : Answer Table) → readFull s ≡ a → NumberJudged s r cells marks output → In number tableOrNumber
       go (refused k at) d _ =
-          refuses tableOrNumber k at (wider fullNumbers tableOrNumber refl k (full-refusal s k at d)) number place (answer _ (family-tree-refused s r cells marks output k at d))
+          refuses tableOrNumber k at (wider fullNumbers tableOrNumber refl k (full-refusal s k at d)) number place
+          (answer _ (family-tree-refused s r cells marks output k at d))
       go (accepted t) d (no-number u is large made) = refuses tableOrNumber 17 r refl number place (answer _ made)
       go (accepted t) d (has-tree u is small made) =
           absurd (no-refusal (familyTreeCall s r cells marks output) (printedNet (familyNet r u)) number place
           (writes-tree s u (is .reads) r small cells marks output (family-tree-ample u (is .reads) small)) e)
       go (accepted t) d (refuses-all k at is) =
-          absurd (not-refused (countOfTable t) k at (sym (counted-answer (ample-on s cells marks (ample .cells-most) (ample .marks-most) t d .counts)) ∙ counted-answer (is .counts)))
+          absurd (not-refused (countOfTable t)
+          k at (sym (counted-answer (ample-on s cells marks (ample .cells-most) (ample .marks-most) t d .counts)) ∙ counted-answer (is .counts)))

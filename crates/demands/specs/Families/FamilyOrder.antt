@@ -18,7 +18,7 @@ use Rattle.laws.specs.Lists.Finds.{those-mem}
 use Rattle.laws.specs.Lists.Totals.{those-cons, numbered-here, numbered-later}
 use Rattle.trees.specs.Trees.MarkTwo.{isA}
 use Rattle.trees.specs.Groups.Members.{size-pos}
-use Rattle.trees.specs.Families.FamilyCounts.{counted, splitCounted, count-single, count-several, counted-two, counted-some}
+use Rattle.trees.specs.Families.FamilyCounts.{groupTrees, splitCounted, count-single, count-several, counted-two, counted-some}
 use Rattle.trees.specs.Families.Families.{wired, wired-several, split-a-below, split-b-below, split-sizes, SplitAt, number-split, wiring-numbered}
 
 -- ---- the order
@@ -99,31 +99,33 @@ module _ (n : ℕ) (marks : List ℕ) where
   -- the trees of a split and a number in it
   abbrev parted : ℕ → ℕ → Numbered → Wiring
   parted fuel g at =
-      gate (wired n marks fuel (at .part) (at .number / counted n marks (g - at .part))) (wired n marks fuel (g - at .part) (at .number % counted n marks (g - at .part)))
+      gate (wired n marks fuel (at .part) (at .number / groupTrees n marks (g - at .part)))
+      (wired n marks fuel (g - at .part) (at .number % groupTrees n marks (g - at .part)))
 
   -- smaller groups are in order
   abbrev pub InOrder : ℕ → Type 0
-  InOrder fuel = (g r s : ℕ) → g < 2 ^ n → size n g ≤ fuel → r < s → s < counted n marks g → Earlier (wired n marks fuel g r) (wired n marks fuel g s)
+  InOrder fuel = (g r s : ℕ) → g < 2 ^ n → size n g ≤ fuel → r < s → s < groupTrees n marks g → Earlier (wired n marks fuel g r) (wired n marks fuel g s)
 
   module _ (fuel g : ℕ) (g< : g < 2 ^ n) (enough : size n g ≤ suc fuel) where
     -- the group on the left is A
     left-group : (r : ℕ) (at : Numbered) → SplitAt n marks g r at
-        → groupOf (wired n marks fuel (at .part) (at .number / counted n marks (g - at .part))) ≡ at .part
+        → groupOf (wired n marks fuel (at .part) (at .number / groupTrees n marks (g - at .part))) ≡ at .part
     left-group r at is =
-        wiring-numbered n marks fuel (at .part) _ (split-a-below n marks g (at .part) g< (is .split)) (omega (arith, split-sizes n marks g (at .part) g< (is .split))) (is .left)
+        wiring-numbered n marks fuel (at .part) _ (split-a-below n marks g (at .part) g< (is .split))
+        (omega (arith, split-sizes n marks g (at .part) g< (is .split))) (is .left)
         .family .of .1
 
     -- two numbers of one split: A's tree, then B's
     same-split : InOrder fuel → (r s : ℕ) (at : Numbered) (y : ℕ) → SplitAt n marks g r at → SplitAt n marks g s (record { part = at .part; number = y })
         → at .number < y → Earlier (parted fuel g at) (parted fuel g (record { part = at .part; number = y }))
     same-split below r s at y is to less =
-        inr (left-group r at is ∙ sym (left-group s _ to), go (quotients (at .number) y (counted n marks (g - at .part)) (is .rest-some) less))
+        inr (left-group r at is ∙ sym (left-group s _ to), go (quotients (at .number) y (groupTrees n marks (g - at .part)) (is .rest-some) less))
       where
         sizes : (size n g ≡ size n (at .part) + size n (g - at .part)) × (0 < size n (at .part)) × (0 < size n (g - at .part))
         sizes = split-sizes n marks g (at .part) g< (is .split)
 
         rest : ℕ
-        rest = counted n marks (g - at .part)
+        rest = groupTrees n marks (g - at .part)
 
         go : (at .number / rest < y / rest) ⊎ ((at .number / rest ≡ y / rest) × (at .number % rest < y % rest))
             → Earlier (wired n marks fuel (at .part) (at .number / rest)) (wired n marks fuel (at .part) (y / rest))
@@ -131,10 +133,15 @@ module _ (n : ℕ) (marks : List ℕ) where
             × Earlier (wired n marks fuel (g - at .part) (at .number % rest)) (wired n marks fuel (g - at .part) (y % rest)))
         go (inl first) = inl (below (at .part) _ _ (split-a-below n marks g (at .part) g< (is .split)) (omega (arith, sizes)) first (to .left))
         go (inr (same, second)) =
-            inr (ap (wired n marks fuel (at .part)) same, below (g - at .part) _ _ (split-b-below n marks g (at .part) g< (is .split)) (omega (arith, sizes)) second (to .right))
+            inr (
+              ap (wired n marks fuel (at .part)) same,
+              below (g - at .part) _ _ (split-b-below n marks g (at .part) g< (is .split))
+                  (omega (arith, sizes)) second (to .right),
+            )
 
     -- two numbers, wherever they fall
-    any-split : InOrder fuel → (r s : ℕ) (at to : Numbered) → SplitAt n marks g r at → SplitAt n marks g s to → Onward at to → Earlier (parted fuel g at) (parted fuel g to)
+    any-split : InOrder fuel → (r s : ℕ) (at to : Numbered) → SplitAt n marks g r at → SplitAt n marks g s to → Onward at to
+        → Earlier (parted fuel g at) (parted fuel g to)
     any-split below r s at to is is' (inl less) = inl (rw (left-group r at is, left-group s to is') less)
     any-split below r s at to is is' (inr (same, less)) =
         let again : _≡_ {A = Numbered} (record { part = at .part; number = to .number }) to = λ i. record { part = same i; number = to .number } in

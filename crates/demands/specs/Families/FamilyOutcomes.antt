@@ -18,7 +18,8 @@ use Rattle.rules.specs.Calls.FamilyCalls.{countOfTable, familyNet, Counted, fam
 use Rattle.laws.specs.Lists.Tests.{by-test}
 use Rattle.laws.specs.Lists.Distinct.{In, NotIn, not-in-cons, wider}
 use Rattle.laws.specs.Calls.Settling.{WholeTwo, marksOfTable, room-fits, into-refused, into-marked, marked-16, marked-tree, make-refused, make-accepted}
-use Rattle.laws.specs.Calls.FamilyCalls.{counted-refused, counted-marked, numbered-refused, numbered-marked, count-17, count-tree, family-count-refused, family-count-accepted, family-tree-refused, family-tree-accepted}
+use Rattle.laws.specs.Calls.FamilyCalls.{counted-refused, counted-marked, count-17, count-tree, family-count-refused, family-count-accepted}
+use Rattle.laws.specs.Calls.FamilyCalls.{family-tree-refused, family-tree-accepted}
 use Rattle.demands.specs.Sheets.FullSheets.{fullNumbers, full-refusal}
 use Rattle.demands.specs.Numbers.Numbers.{not-given, refuses}
 use Rattle.demands.specs.Numbers.SettlingNumbers.{sheet-numbers, room-numbers}
@@ -68,8 +69,8 @@ module _ (s cells marks : List ℕ) where
     cells-fit = cells-fit;
     marks-fit = marks-fit;
     counts = family-count-accepted s cells marks t reads ∙ counted-marked t cells marks cells-fit marks-fit;
-    numbers = λ r output. family-tree-accepted s r cells marks output t reads ∙ numbered-marked r t cells marks output cells-fit marks-fit;
-    makes = λ output. make-accepted s cells marks output t reads ∙ into-marked settledNet t cells marks output cells-fit marks-fit;
+    numbers = λ r output. family-tree-accepted s r cells marks output t reads ∙ into-marked t cells marks output _ cells-fit marks-fit;
+    makes = λ output. make-accepted s cells marks output t reads ∙ into-marked t cells marks output _ cells-fit marks-fit;
   }
 
   -- any sheet and any buffers
@@ -81,8 +82,8 @@ module _ (s cells marks : List ℕ) where
       room t e (refused number need) d = turned-back number need (record {
         listed = room-numbers t cells marks judgedNumbers refl refl number need d;
         counts = family-count-accepted s cells marks t e ∙ counted-refused t cells marks number need d;
-        numbers = λ r output. family-tree-accepted s r cells marks output t e ∙ numbered-refused r t cells marks output number need d;
-        makes = λ output. make-accepted s cells marks output t e ∙ into-refused settledNet t cells marks output number need d;
+        numbers = λ r output. family-tree-accepted s r cells marks output t e ∙ into-refused t cells marks output _ number need d;
+        makes = λ output. make-accepted s cells marks output t e ∙ into-refused t cells marks output _ number need d;
       })
       room t e (accepted _) d = let fits = room-fits t cells marks d in goes-on t (on-with t e (fits .0) (fits .1))
 
@@ -123,7 +124,8 @@ module _ (t : Table) (cells marks output : List ℕ) where
       go (no none) = rw (marked-16 settledNet t cells marks output none) (record { cells = refl; marks = refl })
 
   -- .. and refuses with 16 or 15 only
-  pub marked-numbers : (number place : ℕ) → (number ≡ 15 → ⊥) → (number ≡ 16 → ⊥) → afterMarks settledNet t cells marks output .answer ≡ refused number place → ⊥
+  pub marked-numbers : (number place : ℕ) → (number ≡ 15 → ⊥) → (number ≡ 16 → ⊥)
+      → afterMarks settledNet t cells marks output .answer ≡ refused number place → ⊥
   unfolding any
   marked-numbers number place not-15 not-16 = go (ℕ-discrete _ 2)
     where
@@ -152,8 +154,8 @@ pub data NumberJudged (s : List ℕ) (r : ℕ) (cells marks output : List ℕ) :
       ≡ writtenSheet (printedNet (familyNet r t)) (written cells (t .inks)) (written marks (storedMarks (marksOfTable t))) output
       → NumberJudged s r cells marks output
 
-pub numbered : (s : List ℕ) (r : ℕ) (cells marks output : List ℕ) → NumberJudged s r cells marks output
-numbered s r cells marks output = go (judge s cells marks)
+pub judge-number : (s : List ℕ) (r : ℕ) (cells marks output : List ℕ) → NumberJudged s r cells marks output
+judge-number s r cells marks output = go (judge s cells marks)
   where
     by : (t : Table) → GoesOn s cells marks t → Dec (r < countOfTable t) → NumberJudged s r cells marks output
     by t is (yes small) = has-tree t is small (is .numbers r output ∙ count-tree r t cells marks output small)

@@ -111,7 +111,8 @@ module _ (s : List ℕ) (t : Table) (reads : readFull s ≡ accepted t) where
   pub written-by-rule : (r : ℕ) (cells marks output sheet : List ℕ) → sheetOf (familyTreeCall s r cells marks output) ≡ accepted sheet
       → (net : Net) → readNet sheet ≡ accepted net → FamilyMember t net
   written-by-rule r cells marks output sheet e net reads-net =
-      subst (FamilyMember t) (the-net r cells marks output sheet e net reads-net) (net-in-family t kept-table r (tree-written s t reads r cells marks output sheet e .0))
+      subst (FamilyMember t) (the-net r cells marks output sheet e net reads-net)
+      (net-in-family t kept-table r (tree-written s t reads r cells marks output sheet e .0))
 
   -- "The order is by A's number, then A's tree, then B's."
   pub written-in-order : (a b : ℕ) → a < b → (cells marks output cells' marks' output' sheet sheet' : List ℕ)

@@ -29,8 +29,9 @@ use Rattle.trees.specs.Trees.Uniqueness.{table-at}
 use Rattle.demands.specs.Sheets.FirstLines.{threeLines, three-lines}
 use Rattle.demands.specs.Settling.Settles.{sheetIn, sheetOf, Long}
 use Rattle.demands.specs.Settling.Makes.{leavesOfTable}
-use Rattle.demands.specs.Families.FamilyOutcomes.{on-with, NumberJudged, refuses-all, no-number, has-tree, numbered}
-use Rattle.demands.specs.Families.FamilyTables.{family-kept, family-has-table, family-on-leaves, numbers-long, family-as-long, numbers-apart, number-of, numbers-on-leaves}
+use Rattle.demands.specs.Families.FamilyOutcomes.{on-with, NumberJudged, refuses-all, no-number, has-tree, judge-number}
+use Rattle.demands.specs.Families.FamilyTables.{family-kept, family-has-table, family-on-leaves, numbers-long, family-as-long, numbers-apart}
+use Rattle.demands.specs.Families.FamilyTables.{number-of, numbers-on-leaves}
 use Rattle.rules.specs.Calls.OpenCells.{readFull}
 use Rattle.demands.specs.Sheets.FullSheets.{FullTableRules, full-accepted}
 
@@ -89,7 +90,7 @@ module _ (s : List ℕ) (t : Table) (reads : readFull s ≡ accepted t) where
   pub tree-written : (r : ℕ) (cells marks output sheet : List ℕ) → sheetOf (familyTreeCall s r cells marks output) ≡ accepted sheet
       → (r < countOfTable t) × (printedNet (familyNet r t) ≡ sheet)
   unfolding sheetIn
-  tree-written r cells marks output sheet e = go (numbered s r cells marks output)
+  tree-written r cells marks output sheet e = go (judge-number s r cells marks output)
     where
       go : NumberJudged s r cells marks output → (r < countOfTable t) × (printedNet (familyNet r t) ≡ sheet)
       go (refuses-all number place is) = absurd (not-refused sheet number place (sym e ∙ ap sheetOf (is .numbers r output)))
@@ -163,7 +164,8 @@ module _ (s : List ℕ) (t : Table) (reads : readFull s ≡ accepted t) where
   -- .. and every accepted net sheet of the table's levels and inputs that has the table and uses just the leaves, whatever its names, sides, gate numbers and
   -- gate tables
   pub every-sheet : (q : List ℕ) (net : Net) → readNet q ≡ accepted net → net .header .levels ≡ t .header .levels → net .header .inputs ≡ t .header .inputs
-      → UsesJust (t .header .inputs) (net .gates) (leavesOfTable t) → tableOfNet net .inks ≡ t .inks → UnderOneNumber (OneWiring (t .header .inputs) (net .gates))
+      → UsesJust (t .header .inputs) (net .gates) (leavesOfTable t) → tableOfNet net .inks ≡ t .inks
+      → UnderOneNumber (OneWiring (t .header .inputs) (net .gates))
   unfolding tableOfNet
   every-sheet q net reads-net levels inputs uses inks =
       every-gates (net .gates)

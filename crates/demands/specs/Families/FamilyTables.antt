@@ -31,7 +31,7 @@ use Rattle.trees.specs.Leaves.CutWirings.{leaves-marked}
 use Rattle.trees.specs.Trees.EquallyLong.{equally-long}
 use Rattle.trees.specs.Families.FamilyCounts.{counted-two}
 use Rattle.trees.specs.Families.FamilyWirings.{two-counted}
-use Rattle.trees.specs.Families.FamilyBounds.{treesOn, count-bound, count-fits}
+use Rattle.trees.specs.Families.FamilyBounds.{treesOn, count-bound, group-trees-fit}
 use Rattle.trees.specs.Families.FamilyNets.{family-computes, family-leaves, family-differ, every-wiring, only-leaves, family-settled, no-family}
 use Rattle.demands.specs.Settling.Makes.{leavesOfTable, HasTree}
 use Rattle.demands.specs.Sheets.FullSheets.{FullTableRules}
@@ -90,11 +90,12 @@ module _ (t : Table) (kept : FullTableRules t) where
 
   -- .. so at most (2n − 3)!!, which is below 2 to the 64
   pub table-bound : countOfTable t ≤ treesOn (t .header .inputs)
-  table-bound = le-trans leaves-bound (trees-more (size (t .header .inputs) (leavesOfTable t)) (t .header .inputs) (size-le (t .header .inputs) (leavesOfTable t)))
+  table-bound = le-trans leaves-bound
+      (trees-more (size (t .header .inputs) (leavesOfTable t)) (t .header .inputs) (size-le (t .header .inputs) (leavesOfTable t)))
 
   pub table-fits : countOfTable t < 2 ^ 64
   unfolding countOfTable treeCount
-  table-fits = count-fits (t .header .inputs) (marksOfTable t) few-inputs (leavesOfTable t)
+  table-fits = group-trees-fit (t .header .inputs) (marksOfTable t) few-inputs (leavesOfTable t)
 
   -- ---- the net of a number
 

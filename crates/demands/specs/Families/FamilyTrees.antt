@@ -21,7 +21,8 @@ use Rattle.laws.specs.Calls.ButSheet.{ButSheet, but-none, sheets-but}
 use Rattle.demands.specs.Numbers.Numbers.{not-given, refuses}
 use Rattle.demands.specs.Numbers.SettlingNumbers.{sheet-numbers}
 use Rattle.demands.specs.Settling.Makes.{HasTree, make-refuses, two-tree}
-use Rattle.demands.specs.Families.FamilyOutcomes.{made-answer, counted-answer, judgedNumbers, TurnedBack, GoesOn, marked-leaves, sheet-leaves, NumberJudged, refuses-all, no-number, has-tree, numbered}
+use Rattle.demands.specs.Families.FamilyOutcomes.{made-answer, counted-answer, judgedNumbers, TurnedBack, GoesOn, marked-leaves, sheet-leaves}
+use Rattle.demands.specs.Families.FamilyOutcomes.{NumberJudged, refuses-all, no-number, has-tree, judge-number}
 use Rattle.demands.specs.Families.FamilyTables.{none-counted, tree-counted, some-two, first-settled, family-as-long}
 use Rattle.demands.specs.Sheets.FullSheets.{FullTableRules, full-accepted}
 
@@ -43,7 +44,7 @@ module _ (s cells marks output : List ℕ) where
     -- the cells and the marks are left as making leaves them
     pub tree-leaves : (familyTreeCall s r cells marks output .cells ≡ makeCall s cells marks output .cells)
         × (familyTreeCall s r cells marks output .marks ≡ makeCall s cells marks output .marks)
-    tree-leaves = go (numbered s r cells marks output)
+    tree-leaves = go (judge-number s r cells marks output)
       where
         go : NumberJudged s r cells marks output
             → (familyTreeCall s r cells marks output .cells ≡ makeCall s cells marks output .cells)
@@ -62,7 +63,7 @@ module _ (s cells marks output : List ℕ) where
     pub past-count : (count : ℕ) → familyCountCall s cells marks .answer ≡ accepted count → count ≤ r
         → familyTreeCall s r cells marks output
         ≡ record { answer = refused 17 r; cells = familyCountCall s cells marks .cells; marks = familyCountCall s cells marks .marks; output = output }
-    past-count count d h = go (numbered s r cells marks output)
+    past-count count d h = go (judge-number s r cells marks output)
       where
         go : NumberJudged s r cells marks output
             → familyTreeCall s r cells marks output
@@ -79,7 +80,7 @@ module _ (s cells marks output : List ℕ) where
         ↔ ((count : ℕ) × (familyCountCall s cells marks .answer ≡ accepted count) × (count ≤ r) × (place ≡ r))
     unfolding any
     refuses-17 place = (
-      go (numbered s r cells marks output),
+      go (judge-number s r cells marks output),
       λ (count, d, h, at). made-answer (past-count count d h) ∙ ap (refused 17) (sym at),
     )
       where
@@ -89,7 +90,8 @@ module _ (s cells marks output : List ℕ) where
         go (no-number t is large e) d = (countOfTable t, counted-answer (is .counts), large, same-place 17 place r (sym d ∙ made-answer e))
         go (has-tree t is small e) d = absurd (not-given (15 ∷ []) _ (sheet-numbers (15 ∷ []) refl _ _ _ output) 17 place refl (sym (made-answer e) ∙ d))
 
-    -- "it takes the place of 16 in the second call": where making refuses with 16 each number is refused with 17, and all buffers are left as making leaves them
+    -- "it takes the place of 16 in the second call": where making refuses with 16 each number is refused with 17, and all buffers are left as making
+    -- leaves them
     pub in-place-of-16 : (place : ℕ) → makeCall s cells marks output .answer ≡ refused 16 place
         → familyTreeCall s r cells marks output
         ≡ record {
@@ -99,7 +101,7 @@ module _ (s cells marks output : List ℕ) where
           output = makeCall s cells marks output .output;
         }
     unfolding any
-    in-place-of-16 place d = go (numbered s r cells marks output)
+    in-place-of-16 place d = go (judge-number s r cells marks output)
       where
         no-tree : (t : Table) → GoesOn s cells marks t → HasTree t → ⊥
         no-tree t is = make-refuses s t (is .reads) cells marks output (is .cells-fit) (is .marks-fit) .0 (place, d)
@@ -120,7 +122,7 @@ module _ (s cells marks output : List ℕ) where
     -- Where it does not refuse with 17 it comes to what making does, but for the sheet: 15 too, with the same place.
     pub tree-but-sheet : ((place : ℕ) → familyTreeCall s r cells marks output .answer ≡ refused 17 place → ⊥)
         → ButSheet (familyTreeCall s r cells marks output) (makeCall s cells marks output)
-    tree-but-sheet not-17 = go (numbered s r cells marks output)
+    tree-but-sheet not-17 = go (judge-number s r cells marks output)
       where
         go : NumberJudged s r cells marks output → ButSheet (familyTreeCall s r cells marks output) (makeCall s cells marks output)
         go (refuses-all k at is) = rw (is .numbers r output, is .makes output) (but-none _)
@@ -130,14 +132,17 @@ module _ (s cells marks output : List ℕ) where
             (sheets-but (printedNet (familyNet r t)) (printedNet (settledNet t)) _ _ output (family-as-long t (kept-on t is) r small))
 
   -- "number 0 is the settled net": where making does not refuse with 16, the call of number 0 comes to just what making does
-  pub first-as-making : ((place : ℕ) → makeCall s cells marks output .answer ≡ refused 16 place → ⊥) → familyTreeCall s 0 cells marks output ≡ makeCall s cells marks output
-  first-as-making not-16 = go (numbered s 0 cells marks output)
+  pub first-as-making : ((place : ℕ) → makeCall s cells marks output .answer ≡ refused 16 place → ⊥)
+      → familyTreeCall s 0 cells marks output ≡ makeCall s cells marks output
+  first-as-making not-16 = go (judge-number s 0 cells marks output)
     where
       go : NumberJudged s 0 cells marks output → familyTreeCall s 0 cells marks output ≡ makeCall s cells marks output
       go (refuses-all k at is) = is .numbers 0 output ∙ sym (is .makes output)
       go (no-number t is large e) =
-          absurd (not-16 _ (made-answer (is .makes output ∙ marked-16 settledNet t cells marks output (λ two. omega (arith, tree-counted t (kept-on t is) two)))))
+          absurd (not-16 _ (made-answer
+          (is .makes output ∙ marked-16 settledNet t cells marks output (λ two. omega (arith, tree-counted t (kept-on t is) two)))))
       go (has-tree t is small e) =
           e
-          ∙ ap (λ (net : Net). writtenSheet (printedNet net) (written cells (t .inks)) (written marks (storedMarks (marksOfTable t))) output) (first-settled t (kept-on t is) small)
+          ∙ ap (λ (net : Net). writtenSheet (printedNet net) (written cells (t .inks)) (written marks (storedMarks (marksOfTable t))) output)
+          (first-settled t (kept-on t is) small)
           ∙ sym (is .makes output ∙ marked-tree settledNet t cells marks output (some-two t (kept-on t is) small))

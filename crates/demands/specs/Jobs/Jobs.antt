@@ -14,8 +14,10 @@ use Rattle.rules.specs.Sheets.Sheets.{Table}
 use Rattle.rules.specs.Groups.Marks.{markIn}
 use Rattle.rules.specs.Calls.Answers.{accepted, refused}
 use Rattle.rules.specs.Calls.Settling.{madeInto, settledNet, makeCall}
-use Rattle.rules.specs.Calls.Jobs.{Job, noTable, newJob, emptyJob, groupsOf, Opened, openJob, Stepped, stepJob, further, askJob, final, notReached, finishJob, Move, step, ask, moved, afterMoves}
-use Rattle.laws.specs.Calls.Jobs.{open-refused, open-accepted, step-done, step-on, ask-empty, ask-over, ask-passed, ask-ahead, may-refused, may-22, may-on, finish-refused, finish-on}
+use Rattle.rules.specs.Calls.Jobs.{Job, noTable, newJob, emptyJob, groupsOf, Opened, openJob, Stepped, stepJob, further, askJob, final, notReached}
+use Rattle.rules.specs.Calls.Jobs.{finishJob, Move, step, ask, moved, afterMoves}
+use Rattle.laws.specs.Calls.Jobs.{open-refused, open-accepted, step-done, step-on, ask-empty, ask-over, ask-passed, ask-ahead, may-refused, may-22}
+use Rattle.laws.specs.Calls.Jobs.{may-on, finish-refused, finish-on}
 use Rattle.laws.specs.Calls.BareCells.{bare-size}
 use Rattle.laws.specs.Calls.OpenCells.{cells-kept, cells-refused}
 use Rattle.laws.specs.Calls.Settling.{marksOfTable, make-accepted}
@@ -124,7 +126,8 @@ module _ (s : List ℕ) (t : Table) (reads : readFull s ≡ accepted t) (moves :
 
   own-cells : fullCells (jobAfter .table .header .levels) (jobAfter .table .header .inputs) (jobAfter .table .inks) ≡ accepted tt
   own-cells =
-      ap (λ (t : Table). fullCells (t .header .levels) (t .header .inputs) (t .inks)) keeps-table ∙ cells-kept t (full-keeps t (full-accepted s t reads .1)) (full-accepted s t reads .1 .below)
+      ap (λ (t : Table). fullCells (t .header .levels) (t .header .inputs) (t .inks)) keeps-table
+      ∙ cells-kept t (full-keeps t (full-accepted s t reads .1)) (full-accepted s t reads .1 .below)
 
   module _ (cells marks output : List ℕ) where
     -- "finishing writes what making writes", and hands back the job, which may be finished again

@@ -1,7 +1,7 @@
--- Document 02, K10, said of the call. "Past 12 and 13 it is refused with 23 exactly when no filling of that wiring computes the table": no digits whatever. "A kept
--- wiring that leaves out an input that matters is refused with 23 at place 0, before its gates are judged." (K12) Otherwise
--- the sheet written is an accepted net with the given wiring and exactly the table, and the set is exactly the gates that changed. Keeping again
--- changes nothing; keeping the wiring of the settled net gives making's very sheet; every sheet of a family is what keeping makes of its own wiring.
+-- Document 02, K10, said of the call. "Past 12 and 13 it is refused with 23 exactly when no filling of that wiring computes the table": no digits
+-- whatever. "A kept wiring that leaves out an input that matters is refused with 23 at place 0, before its gates are judged." (K12) Otherwise the
+-- sheet written is an accepted net with the given wiring and exactly the table, and the set is exactly the gates that changed. Keeping again changes
+-- nothing; keeping the wiring of the settled net gives making's very sheet; every sheet of a family is what keeping makes of its own wiring.
 -- Assumes nothing.
 use Prim.Native.Nat.{ℕ, suc, _-_, _^_, _≤_, _<_}
 use mathlib.Core.Path.{_≡_, refl, sym, ap, ap₂, _∙_, subst, subst⁻¹}
@@ -25,7 +25,8 @@ use Rattle.rules.specs.Calls.OpenCells.{fullTable, readFull}
 use Rattle.rules.specs.Calls.Checking.{sameHeader}
 use Rattle.rules.specs.Calls.Settling.{settledNet, makeCall}
 use Rattle.rules.specs.Calls.FamilyCalls.{familyNet, familyTreeCall}
-use Rattle.rules.specs.Calls.Keeping.{gateLinks, keptGates, keptNet, roomyBefore, leavesOut, tableAt, changedGates, Keeping, rewritten, turnedAway, KeptWiring, keptInto, keepCall}
+use Rattle.rules.specs.Calls.Keeping.{gateLinks, keptGates, keptNet, roomyBefore, leavesOut, tableAt, changedGates, Keeping, rewritten, turnedAway}
+use Rattle.rules.specs.Calls.Keeping.{KeptWiring, keptInto, keepCall}
 use Rattle.laws.specs.Calls.Answers.{written-front}
 use Rattle.laws.specs.Calls.Keeping.{keep-net-refused, keep-table-refused, keep-accepted, keep-12, keep-27, keep-13, keep-23-0, keep-23, keep-15, keep-written}
 use Rattle.laws.specs.Calls.OpenCells.{read-full, read-accepted}
@@ -39,17 +40,21 @@ use Rattle.trees.specs.Trees.NetTables.{levels-pos}
 use Rattle.demands.specs.Settling.Settles.{sheetOf}
 use Rattle.demands.specs.Settling.Makes.{made-sheet}
 use Rattle.demands.specs.Families.FamilySheets.{tree-sheet}
-use Rattle.demands.specs.Others.Checks.{same-header, header-same}
-use Rattle.demands.specs.Keeping.KeptNets.{FillingFor, Roomy, LeftOut, left-out, kept-inputs, crowded-exactly, kept-filling, kept-keeps, kept-has-table, kept-wiring, own-roomy, filling-roomy, kept-header, kept-twice, settled-header, settled-refilled, family-header, family-kept-own, refilled, kept-by-wiring}
+use Rattle.laws.specs.Calls.Checking.{same-header, header-same}
+use Rattle.demands.specs.Keeping.KeptNets.{FillingFor, Roomy, LeftOut, left-out, kept-inputs, crowded-exactly, kept-filling, kept-keeps}
+use Rattle.demands.specs.Keeping.KeptNets.{kept-has-table, kept-wiring, own-roomy, filling-roomy, kept-header, kept-twice, settled-header}
+use Rattle.demands.specs.Keeping.KeptNets.{settled-refilled, family-header, family-kept-own, refilled, kept-by-wiring}
 
 -- two answers that differ
 rewritten-not : (count changed : ℕ) (named : Named) (number place : ℕ) → _≡_ {A = Keeping} (rewritten count changed) (turnedAway named number place) → ⊥
 rewritten-not count changed named number place e = let z : _≡_ {A = ℕ} 0 1 = cc in omega arith
 
-turned-number : (named named' : Named) (number number' place place' : ℕ) → _≡_ {A = Keeping} (turnedAway named number place) (turnedAway named' number' place') → number ≡ number'
+turned-number : (named named' : Named) (number number' place place' : ℕ)
+    → _≡_ {A = Keeping} (turnedAway named number place) (turnedAway named' number' place') → number ≡ number'
 turned-number named named' number number' place place' e = cc
 
-turned-place : (named named' : Named) (number number' place place' : ℕ) → _≡_ {A = Keeping} (turnedAway named number place) (turnedAway named' number' place') → place ≡ place'
+turned-place : (named named' : Named) (number number' place place' : ℕ)
+    → _≡_ {A = Keeping} (turnedAway named number place) (turnedAway named' number' place') → place ≡ place'
 turned-place named named' number number' place place' e = cc
 
 same-answer : {a b c d : ℕ} → _≡_ {A = Keeping} (rewritten a b) (rewritten c d) → (a ≡ c) × (b ≡ d)
@@ -194,12 +199,14 @@ module _ (s r cells : List ℕ) (past : Past s r cells) where
       pos : 0 < net .header .levels
       pos = levels-pos (net .header .levels) (kept-net .header .levels)
 
-      first : leavesOut net t ≡ false → roomyBefore net t < length (net .gates) → keepCall s r cells output ≡ record { answer = turnedAway neither 23 (suc (roomyBefore net t)); cells = written cells (t .inks); output = output }
+      first : leavesOut net t ≡ false → roomyBefore net t < length (net .gates)
+          → keepCall s r cells output ≡ record { answer = turnedAway neither 23 (suc (roomyBefore net t)); cells = written cells (t .inks); output = output }
           → FirstCrowded output (suc (roomyBefore net t))
       first takes crowded e = record {
         uses = leaves-out-none net t .0 takes;
         gate = crowded;
-        crowded = subst (λ (k : ℕ). net .header .levels < multiplicity (net .header .levels) (net .header .inputs) (inkIn (t .inks)) (getD (gateGroups (net .header .inputs) (net .gates)) k 0))
+        crowded = subst (λ (k : ℕ). net .header .levels < multiplicity (net .header .levels) (net .header .inputs) (inkIn (t .inks))
+            (getD (gateGroups (net .header .inputs) (net .gates)) k 0))
             (let z : roomyBefore net t ≡ suc (roomyBefore net t) - 1 = omega arith in z)
             (crowded-at (net .header .levels) (net .header .inputs) pos (inkIn (t .inks)) (net .gates) (kept-net .gates) crowded);
         before = λ k some h.
@@ -259,10 +266,17 @@ own-comes-back : (net : Net) (t : Table) → NetRules net → FullTableRules t �
 own-comes-back net t kept kept-t header has own r reads cells output long fits =
     let (takes, roomy) = own-roomy net t kept kept-t header has in
     keep-accepted (printedNet net) r cells output net (net-read-back net kept) t (read-accepted r t reads .0)
-    ∙ keep-written net t cells output (same-header (net .header) (t .header) header) (read-accepted r t reads .1) (subst⁻¹ (λ (k : ℕ). k ≤ length cells) (kept-t .count) long)
+    ∙ keep-written net t cells output (same-header (net .header) (t .header) header) (read-accepted r t reads .1)
+    (subst⁻¹ (λ (k : ℕ). k ≤ length cells) (kept-t .count) long)
     takes roomy (subst⁻¹ (λ (k : Net). length (printedNet k) ≤ length output) own fits)
-    ∙ ap (λ (k : Net). record { answer = rewritten (length (printedNet k)) (changedGates (net .gates) (k .gates)); cells = written cells (t .inks); output = written output (printedNet k) }) own
-    ∙ ap (λ (changed : ℕ). record { answer = rewritten (length (printedNet net)) changed; cells = written cells (t .inks); output = written output (printedNet net) })
+    ∙ ap (λ (k : Net). record {
+      answer = rewritten (length (printedNet k)) (changedGates (net .gates) (k .gates));
+      cells =
+          written cells (t .inks);
+      output = written output (printedNet k);
+    }) own
+    ∙ ap (λ (changed : ℕ).
+    record { answer = rewritten (length (printedNet net)) changed; cells = written cells (t .inks); output = written output (printedNet net) })
     (none-changed (net .gates))
 
 -- what a sheet that is its own filling comes to, in any buffers that are long enough
@@ -322,7 +336,8 @@ pub record Rewrites (s r cells output : List ℕ) (count changed : ℕ) : Type 0
   pub reads : readNet sheet ≡ accepted net
   pub header : net .header ≡ past .net .header
   pub wiring : gateLinks (net .gates) ≡ gateLinks (past .net .gates)
-  -- .. filled "by the settled net's class rule over the given wiring" (`digit-rule` says what the rule is, and `digit-rule-only` that no other digits keep it), ..
+  -- .. filled "by the settled net's class rule over the given wiring" (`digit-rule` says what the rule is, and `digit-rule-only` that no other digits
+  -- keep it), ..
   pub by-rule : net .gates ≡ filled (past .net .header .levels) (past .net .header .inputs) (inkIn (past .table .inks)) (gateLinks (past .net .gates))
   -- .. and exactly the table
   pub table : tableOfNet net ≡ past .table
@@ -337,7 +352,8 @@ kept-by-rule : (net : Net) (t : Table) → keptNet net t .gates ≡ filled (net 
 unfolding keptNet keptGates
 kept-by-rule net t = refl
 
-pub rewrites : (s r cells output : List ℕ) (count changed : ℕ) → keepCall s r cells output .answer ≡ rewritten count changed → Rewrites s r cells output count changed
+pub rewrites : (s r cells output : List ℕ) (count changed : ℕ) → keepCall s r cells output .answer ≡ rewritten count changed
+    → Rewrites s r cells output count changed
 rewrites s r cells output count changed d = go (keep-ends s r cells output)
   where
     ended : (past : Past s r cells) → PastEnds s r cells past output → Rewrites s r cells output count changed
@@ -360,7 +376,8 @@ rewrites s r cells output count changed d = go (keep-ends s r cells output)
           by-rule = kept-by-rule (past .net) (past .table);
           table = table;
           below = subst (λ (c : ℕ). c < 2 ^ suc (length (past .net .gates))) is-changed (changed-below (past .net .gates) (own .gates));
-          exactly = λ k. subst (λ (c : ℕ). (member k c ≡ true) ↔ ((0 < k) × (k ≤ length (past .net .gates)) × (tableAt (past .net .gates) k ≢ tableAt (own .gates) k))) is-changed
+          exactly = λ k. subst (λ (c : ℕ). (member k c ≡ true)
+              ↔ ((0 < k) × (k ≤ length (past .net .gates)) × (tableAt (past .net .gates) k ≢ tableAt (own .gates) k))) is-changed
               (changed-exactly (past .net .gates) (own .gates) k);
           again = comes-back (printedNet own) r own (past .table) reads (past .reads-table) (kept-header (past .net) (past .table) ∙ past .header) table
               (kept-twice (past .net) (past .table));
@@ -380,7 +397,8 @@ module _ (r : List ℕ) (t : Table) (reads : readFull r ≡ accepted t) where
       comes-back sheet r (settledNet t) t reads-net reads (settled-header t) has (settled-refilled t)
 
   -- .. and so is the sheet of each number of the family
-  pub family-comes-back : (number : ℕ) (cells marks output sheet : List ℕ) → sheetOf (familyTreeCall r number cells marks output) ≡ accepted sheet → ComesBack sheet r t
+  pub family-comes-back : (number : ℕ) (cells marks output sheet : List ℕ) → sheetOf (familyTreeCall r number cells marks output) ≡ accepted sheet
+      → ComesBack sheet r t
   family-comes-back number cells marks output sheet e =
       let (reads-net, has) = tree-sheet r t reads number cells marks output sheet e in
       comes-back sheet r (familyNet number t) t reads-net reads (family-header number t) has (family-kept-own number t)
@@ -391,7 +409,12 @@ module _ (r : List ℕ) (t : Table) (reads : readFull r ≡ accepted t) where
       → (s : List ℕ) (net : Net) → readNet s ≡ accepted net → net .header ≡ t .header → gateLinks (net .gates) ≡ gateLinks (settledNet t .gates)
       → (cells' output' : List ℕ) → t .header .levels ^ t .header .inputs ≤ length cells' → length made ≤ length output'
       → keepCall s r cells' output'
-      ≡ record { answer = rewritten (length made) (changedGates (net .gates) (settledNet t .gates)); cells = written cells' (t .inks); output = written output' made }
+      ≡ record {
+        answer = rewritten (length made) (changedGates (net .gates) (settledNet t .gates));
+        cells = written cells' (t .inks);
+        output =
+            written output' made;
+      }
   keep-as-making cells marks output made e s net reads-net header wiring cells' output' long fits =
       let (reads-made, has) = made-sheet r t reads cells marks output made e in
       let (printed, kept-made) = net-accepted made (settledNet t) reads-made in
@@ -401,6 +424,18 @@ module _ (r : List ℕ) (t : Table) (reads : readFull r ≡ accepted t) where
       let own = kept-filling (settledNet t) t kept-made kept-t (settled-header t) (own-roomy (settledNet t) t kept-made kept-t (settled-header t) has) in
       let past : Past s r cells' = record { net = net; table = t; reads-net = reads-net; reads-table = reads; header = header; long = long } in
       let fills : FillingFor net t (keptNet (settledNet t) t .gates) = refilled net (settledNet t) t (header ∙ sym (settled-header t)) wiring own in
-      keeps s r cells' past (keptNet (settledNet t) t .gates) fills output' (subst⁻¹ (λ (k : Net). length (printedNet k) ≤ length output') is (subst (λ (b : List ℕ). length b ≤ length output') printed fits))
-      ∙ ap (λ (k : Net). record { answer = rewritten (length (printedNet k)) (changedGates (net .gates) (k .gates)); cells = written cells' (t .inks); output = written output' (printedNet k) }) is
-      ∙ ap (λ (b : List ℕ). record { answer = rewritten (length b) (changedGates (net .gates) (settledNet t .gates)); cells = written cells' (t .inks); output = written output' b }) (sym printed)
+      keeps s r cells' past (keptNet (settledNet t) t .gates) fills output'
+      (subst⁻¹ (λ (k : Net). length (printedNet k) ≤ length output') is (subst (λ (b : List ℕ). length b ≤ length output') printed fits))
+      ∙ ap (λ (k : Net). record {
+        answer = rewritten (length (printedNet k)) (changedGates (net .gates) (k .gates));
+        cells =
+            written cells' (t .inks);
+        output = written output' (printedNet k);
+      }) is
+      ∙ ap (λ (b : List ℕ).
+      record {
+        answer = rewritten (length b) (changedGates (net .gates) (settledNet t .gates));
+        cells = written cells' (t .inks);
+        output =
+            written output' b;
+      }) (sym printed)

@@ -22,7 +22,7 @@ use Rattle.readback.specs.Readers.Numbers.{netNumbers, tableNumbers, net-refusa
 use Rattle.readback.specs.Sheets.ReadBack.{table-accepted}
 use Rattle.demands.specs.Sheets.FullSheets.{fullNumbers}
 use Rattle.demands.specs.Numbers.Numbers.{full-numbers}
-use Rattle.demands.specs.Others.Checks.{header-same}
+use Rattle.laws.specs.Calls.Checking.{header-same}
 use Rattle.demands.specs.Sheets.Lengths.{kept-cells}
 use Rattle.demands.specs.Keeping.Keeping.{Past, PastEnds, ends-23-0, ends-23, ends-15, ends-written, past-ends, kept-short}
 
@@ -33,14 +33,16 @@ keepAmpleNumbers tableNamed = fullNumbers
 keepAmpleNumbers neither = 12 ∷ 23 ∷ []
 
 module _ (s r cells output : List ℕ) (ample-cells : mostCells ≤ length cells) (ample-output : mostSettled ≤ length output) where
-  pub keep-ample-numbers : (named : Named) (number place : ℕ) → keepCall s r cells output .answer ≡ turnedAway named number place → In number (keepAmpleNumbers named)
+  pub keep-ample-numbers : (named : Named) (number place : ℕ) → keepCall s r cells output .answer ≡ turnedAway named number place
+      → In number (keepAmpleNumbers named)
   unfolding any all fullTable
   keep-ample-numbers named number place e = go (readNet s) refl (readTable r) refl
     where
       answer : (made : KeptWiring) → keepCall s r cells output ≡ made → made .answer ≡ turnedAway named number place
       answer made d = sym (ap (λ (k : KeptWiring). k .answer) d) ∙ e
 
-      turned : (named' : Named) (k at : ℕ) → In k (keepAmpleNumbers named') → _≡_ {A = Keeping} (turnedAway named' k at) (turnedAway named number place) → In number (keepAmpleNumbers named)
+      turned : (named' : Named) (k at : ℕ) → In k (keepAmpleNumbers named')
+          → _≡_ {A = Keeping} (turnedAway named' k at) (turnedAway named number place) → In number (keepAmpleNumbers named)
       turned named' k at h d =
           subst₂ (λ (w : Named) (j : ℕ). In j (keepAmpleNumbers w)) (let z : named' ≡ named = cc in z) (let z : k ≡ number = cc in z) h
 
@@ -52,7 +54,8 @@ module _ (s r cells output : List ℕ) (ample-cells : mostCells ≤ length cells
 
       go : (a : Answer Net) → readNet s ≡ a → (b : Answer Table) → readTable r ≡ b → In number (keepAmpleNumbers named)
       go (refused k at) d b f = turned netNamed k at (net-refusal s k at d) (answer _ (keep-net-refused s r cells output k at d))
-      go (accepted net) d (refused k at) f = turned tableNamed k at (wider tableNumbers fullNumbers refl k (table-refusal r k at f)) (answer _ (keep-table-refused s r cells output net d k at f))
+      go (accepted net) d (refused k at) f =
+          turned tableNamed k at (wider tableNumbers fullNumbers refl k (table-refusal r k at f)) (answer _ (keep-table-refused s r cells output net d k at f))
       go (accepted net) d (accepted t) f = headers (sameHeader (net .header) (t .header)) refl (fullTable t) refl
         where
           fits : t .header .levels ^ t .header .inputs ≤ length cells

@@ -56,7 +56,11 @@ left-out net t = (
       let (free, is) = and-eq-true-iff _ _ .0 passes in
       record {
         input = i;
-        below = omega (arith, range-mem 0 (net .header .inputs) i (mem-getD (range 0 (net .header .inputs)) (firstPlace test (range 0 (net .header .inputs))) 0 k<) .1);
+        below = omega (
+          arith,
+          range-mem 0 (net .header .inputs) i
+              (mem-getD (range 0 (net .header .inputs)) (firstPlace test (range 0 (net .header .inputs))) 0 k<) .1,
+        );
         unused = not-true (any (eqb i) (usedBy (net .gates))) free;
         mattering = is;
       },
@@ -110,7 +114,11 @@ module _ (net : Net) (t : Table) (kept : NetRules net) (kept-t : FullTableRules 
     -- .. with which the net keeps every rule of a net sheet ..
     pub kept-keeps : NetRules (keptNet net t)
     unfolding keptNet
-    kept-keeps = record { header = kept .header; gates = same-net m n (net .gates) (keptNet net t .gates) (kept-filling .wiring) (kept .gates) (kept-filling .tables) }
+    kept-keeps = record {
+      header = kept .header;
+      gates = same-net m n (net .gates) (keptNet net t .gates) (kept-filling .wiring) (kept .gates)
+          (kept-filling .tables);
+    }
 
     -- .. and has exactly the table
     pub kept-has-table : tableOfNet (keptNet net t) ≡ t
@@ -178,7 +186,8 @@ family-kept-own number t =
     λ i. record { header = t .header; gates = same i }
 
 -- .. and nets with one header and one wiring are kept as one net, whatever their gate tables
-pub kept-by-wiring : (net other : Net) (t : Table) → other .header ≡ net .header → gateLinks (other .gates) ≡ gateLinks (net .gates) → keptNet other t ≡ keptNet net t
+pub kept-by-wiring : (net other : Net) (t : Table) → other .header ≡ net .header → gateLinks (other .gates) ≡ gateLinks (net .gates)
+    → keptNet other t ≡ keptNet net t
 unfolding keptNet
 kept-by-wiring net other t header same =
     let gates = kept-by-links (net .header .levels) (net .header .inputs) (inkIn (t .inks)) (net .gates) (other .gates) same in

@@ -17,8 +17,7 @@ use Rattle.rules.specs.Sheets.Sheets.{Table, level, levelsAt}
 use Rattle.rules.specs.Groups.Groups.{member, size}
 use Rattle.rules.specs.Nets.Leaves.{matters, mattering, leafInputs}
 use Rattle.rules.specs.Sheets.SheetRules.{TableRules}
-use Rattle.rules.specs.Calls.Answers.{inkIn}
-use Rattle.laws.specs.Numbers.Assignments.{indexOf, index-levels, index-below, levels-index, levels-given}
+use Rattle.laws.specs.Numbers.Assignments.{indexOf, index-levels, index-of-below, levels-index, levels-given}
 use Rattle.laws.specs.Lists.Tests.{mem-any}
 use Rattle.laws.specs.Lists.Ranges.{mem-range, range-mem, map-range-at}
 use Rattle.laws.specs.Lists.Finds.{those-mem}
@@ -27,7 +26,7 @@ use Rattle.laws.specs.Lists.Totals.{those-cons, any-mem}
 use Rattle.trees.specs.Leaves.Mattering.{Differing, matters-exactly}
 use Rattle.trees.specs.Leaves.LeafGroup.{leaf-is, leaves-hold, leaves-size}
 use Rattle.trees.specs.Trees.NetTables.{levels-pos, inputs-several}
-use Rattle.demands.specs.Settling.Makes.{leavesOfTable}
+use Rattle.demands.specs.Settling.Makes.{TableLetters, tableLetters, leavesOfTable}
 use Rattle.demands.specs.Settling.Assignments.{LevelsGiven, inkAt}
 
 -- ---- which inputs matter
@@ -47,20 +46,23 @@ unfolding levelsAt
 level-at m n p j h = map-range-at (level m n p) 0 n j 0 h ∙ ap (level m n p) (zero-add j)
 
 -- the first of a rising list are the lowest: those that a test lets through
-first-those : (test : ℕ → Bool) (from count k i j : ℕ) → i < j → List·Memᴰ i (those test (range from count)) → List·Memᴰ j (take k (those test (range from count)))
+first-those : (test : ℕ → Bool) (from count k i j : ℕ) → i < j → List·Memᴰ i (those test (range from count))
+    → List·Memᴰ j (take k (those test (range from count)))
     → List·Memᴰ i (take k (those test (range from count)))
 unfolding range those
 first-those test from count zero i j less = λ is late. absurd (List·Memᴰ·not-nil late)
 first-those test from zero (suc k) i j less = λ is late. absurd (List·Memᴰ·not-nil is)
 first-those test from (suc count) (suc k) i j less =
-    rw (those-cons test from (range (suc from) count)) (go (test from) (first-those test (suc from) count k i j less) (first-those test (suc from) count (suc k) i j less))
+    rw (those-cons test from (range (suc from) count))
+    (go (test from) (first-those test (suc from) count k i j less) (first-those test (suc from) count (suc k) i j less))
   where
     rest : List ℕ
     rest = those test (range (suc from) count)
 
     go : (t : Bool) → (List·Memᴰ i rest → List·Memᴰ j (take k rest) → List·Memᴰ i (take k rest))
         → (List·Memᴰ i rest → List·Memᴰ j (take (suc k) rest) → List·Memᴰ i (take (suc k) rest))
-        → List·Memᴰ i (cond t (from ∷ rest) rest) → List·Memᴰ j (take (suc k) (cond t (from ∷ rest) rest)) → List·Memᴰ i (take (suc k) (cond t (from ∷ rest) rest))
+        → List·Memᴰ i (cond t (from ∷ rest) rest) → List·Memᴰ j (take (suc k) (cond t (from ∷ rest) rest))
+        → List·Memᴰ i (take (suc k) (cond t (from ∷ rest) rest))
     go true behind _ is late =
         ⊎-elim List·Memᴰ·head
         (λ later.
@@ -70,14 +72,7 @@ first-those test from (suc count) (suc k) i j less =
     go false _ skipped is late = skipped is late
 
 module _ (t : Table) (kept : TableRules t) where
-  abbrev m : ℕ
-  m = t .header .levels
-
-  abbrev n : ℕ
-  n = t .header .inputs
-
-  abbrev f : ℕ → ℕ
-  f = inkIn (t .inks)
+  open TableLetters (tableLetters t) using (m, n, f)
 
   pos : 0 < m
   pos = levels-pos m (kept .header .levels)
@@ -94,7 +89,8 @@ module _ (t : Table) (kept : TableRules t) where
           one-given = levels-given m n (two .one) pos;
           other-given = levels-given m n (two .other) pos;
           elsewhere = λ j j< apart. level-at m n (two .one) j j< ∙ two .elsewhere j j< apart ∙ sym (level-at m n (two .other) j j<);
-          inks = λ e. two .inks (ap f (sym (index-levels m n (two .one) pos (two .one-below))) ∙ e ∙ ap f (index-levels m n (two .other) pos (two .other-below)));
+          inks = λ e. two .inks
+              (ap f (sym (index-levels m n (two .one) pos (two .one-below))) ∙ e ∙ ap f (index-levels m n (two .other) pos (two .other-below)));
         },
     λ two.
         let own : (ls : List ℕ) → LevelsGiven (t .header) ls → (j : ℕ) → j < n → level m n (indexOf m ls) j ≡ getD ls j 0 =
@@ -103,8 +99,8 @@ module _ (t : Table) (kept : TableRules t) where
         record {
           one = indexOf m (two .one);
           other = indexOf m (two .other);
-          one-below = index-below m n (two .one) (two .one-given);
-          other-below = index-below m n (two .other) (two .other-given);
+          one-below = index-of-below m n (two .one) (two .one-given);
+          other-below = index-of-below m n (two .other) (two .other-given);
           elsewhere = λ j j< apart. own (two .one) (two .one-given) j j< ∙ two .elsewhere j j< apart ∙ sym (own (two .other) (two .other-given) j j<);
           inks = two .inks;
         },
@@ -149,4 +145,5 @@ module _ (t : Table) (kept : TableRules t) where
           leaf-is m n pos f i i<
           ∙ mem-any (eqb i)
           (Memᴰ·append-right (mattering m n f)
-          (first-those idleTest 0 n spare i j less (mem-those idleTest i (range 0 n) (mem-range 0 n i (omega arith) (omega arith)) (ap not own)) among)) (eq-eqb i i refl)
+          (first-those idleTest 0 n spare i j less (mem-those idleTest i (range 0 n) (mem-range 0 n i (omega arith) (omega arith)) (ap not own))
+          among)) (eq-eqb i i refl)

@@ -1,7 +1,7 @@
 -- Document 02, K12: "A table is refused for want of a tree exactly when none stands on those leaves". A tree on some leaves computes the table exactly when one
--- on just the table's leaves does, and exactly when one on all inputs does, "each input at just one leaf" (demand 3): so making refuses with 16 exactly when there is
--- none on these, none on those, and none at all (`make-refuses`). The same of every group of two or more inputs with all that matter. Over gate lists,
--- accepted net sheets and Section I's trees.
+-- on just the table's leaves does, and exactly when one on all inputs does, "each input at just one leaf" (demand 3): so making refuses with 16
+-- exactly when there is none on these, none on those, and none at all (`make-refuses`). The same of every group of two or more inputs with all that
+-- matter. Over gate lists, accepted net sheets and Section I's trees.
 -- Assumes nothing.
 use Prim.Native.Nat.{ℕ, zero, suc, _^_, _≤_, _<_}
 use mathlib.Core.Path.{_≡_, sym, _∙_}
@@ -33,7 +33,7 @@ use Rattle.trees.specs.Trees.Existence.{filled-computes, filled-leaves}
 use Rattle.trees.specs.Trees.TreeExistence.{tree-is-net, net-is-gate-tree}
 use Rattle.trees.specs.Trees.NetTables.{levels-pos, inputs-several}
 use Rattle.demands.specs.Sheets.FullSheets.{FullTableRules, full-accepted}
-use Rattle.demands.specs.Settling.Makes.{leavesOfTable, HasTree, two-tree, netWith, gates-sheet, sheet-gates, make-refuses}
+use Rattle.demands.specs.Settling.Makes.{TableLetters, tableLetters, leavesOfTable, HasTree, two-tree, netWith, gates-sheet, sheet-gates, make-refuses}
 use Rattle.demands.specs.Settling.TreeClause.{TreeFor, TreeAgrees, agrees-all}
 
 -- some gate list that uses just the inputs of group g, whatever its wiring and digits, is a net of the table's levels and inputs and computes its inks
@@ -62,14 +62,7 @@ some-member n zero h = absurd (omega (arith, size-zero n))
 some-member n (suc g) h = omega arith
 
 module _ (t : Table) (kept : FullTableRules t) where
-  abbrev m : ℕ
-  m = t .header .levels
-
-  abbrev n : ℕ
-  n = t .header .inputs
-
-  abbrev f : ℕ → ℕ
-  f = inkIn (t .inks)
+  open TableLetters (tableLetters t) using (m, n, f)
 
   pos : 0 < m
   pos = levels-pos m (kept .header .levels)

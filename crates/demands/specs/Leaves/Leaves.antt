@@ -1,7 +1,7 @@
--- Document 02, K12: "Panel makers now charge extra for a gate that ignores an input. .. A settled tree now has just the inputs that matter as leaves; if fewer than
--- two do, the first-listed others make up two. .. The families, shallow trees and the finishing of jobs use the same leaves". Of every sheet that a call writes
--- from a table, whatever the buffers: which inputs it uses, that every leaf matters where two or more inputs do, that it has no gate more than its leaves need,
--- and that nothing with that table has fewer gates.
+-- Document 02, K12: "Panel makers now charge extra for a gate that ignores an input. .. A settled tree now has just the inputs that matter as leaves;
+-- if fewer than two do, the first-listed others make up two. .. The families, shallow trees and the finishing of jobs use the same leaves". Of every
+-- sheet that a call writes from a table, whatever the buffers: which inputs it uses, that every leaf matters where two or more inputs do, that it has
+-- no gate more than its leaves need, and that nothing with that table has fewer gates.
 -- Assumes nothing.
 use Prim.Native.Nat.{ℕ, suc, _≤_, _<_, max}
 use mathlib.Core.Path.{_≡_, sym, ap, _∙_, subst}
@@ -28,7 +28,7 @@ use Rattle.rules.specs.Calls.FamilyCalls.{familyNet, familyTreeCall}
 use Rattle.rules.specs.Calls.Jobs.{Finished, Move, afterMoves, openJob, finishJob}
 use Rattle.laws.specs.Calls.Answers.{accepted-inj, not-refused}
 use Rattle.laws.specs.Calls.Settling.{WholeTwo, settle-accepted, make-accepted}
-use Rattle.laws.specs.Calls.ShallowSettling.{settle-shallow-accepted, make-shallow-accepted}
+use Rattle.laws.specs.Calls.ShallowSettling.{plain-into, settle-shallow-accepted, make-shallow-accepted}
 use Rattle.readback.specs.Sheets.ReadBack.{net-accepted, net-read-back}
 use Rattle.rules.specs.Nets.Trees.{Tree, wiringIn, Computes, UsesJust}
 use Rattle.trees.specs.Trees.NetTree.{net-group, net-uses}
@@ -42,10 +42,9 @@ use Rattle.trees.specs.Trees.Uniqueness.{table-at}
 use Rattle.trees.specs.Trees.NetTables.{levels-pos, inputs-several}
 use Rattle.demands.specs.Settling.Settles.{sheetIn, sheetOf}
 use Rattle.demands.specs.Sheets.FullSheets.{FullTableRules, full-keeps, net-kept, full-accepted}
-use Rattle.demands.specs.Settling.Makes.{leavesOfTable, made-kept, sheet-gates, into-accepted}
+use Rattle.demands.specs.Settling.Makes.{TableLetters, tableLetters, leavesOfTable, made-kept, sheet-gates, into-accepted}
 use Rattle.demands.specs.Settling.TreeClause.{TreeFor, TreeAgrees, agrees-all}
 use Rattle.demands.specs.Leaves.LeafInputs.{leaf-count, leaf-first}
-use Rattle.demands.specs.Shallow.ShallowRefusals.{plain-into}
 use Rattle.demands.specs.Shallow.ShallowSettles.{shallowSheetOf}
 use Rattle.demands.specs.Jobs.JobMoves.{stepsIn}
 use Rattle.demands.specs.Jobs.Jobs.{groups, finishes, finish-22}
@@ -75,14 +74,7 @@ pub record OnLeaves (t : Table) (net : Net) : Type 0 where
   pub fewest-trees : (tree : Tree) → TreeFor t tree → TreeAgrees tree t → length (net .gates) ≤ gatesIn (wiringIn tree)
 
 module _ (t : Table) (kept : FullTableRules t) where
-  abbrev m : ℕ
-  m = t .header .levels
-
-  abbrev n : ℕ
-  n = t .header .inputs
-
-  abbrev f : ℕ → ℕ
-  f = inkIn (t .inks)
+  open TableLetters (tableLetters t) using (m, n, f)
 
   pos : 0 < m
   pos = levels-pos m (kept .header .levels)
@@ -104,7 +96,8 @@ module _ (t : Table) (kept : FullTableRules t) where
         gates = count ∙ leaf-count t (full-keeps t kept);
         fewest = least;
         fewest-sheets = λ r other reads table. let (is-net, has) = sheet-gates t r other reads table in least (other .gates) is-net has;
-        fewest-trees = λ tree tree-is agrees. omega (arith, tree-gates-least m n pos several f tree tree-is (agrees-all t (kept .header) tree tree-is .1 agrees));
+        fewest-trees = λ tree tree-is agrees. omega
+            (arith, tree-gates-least m n pos several f tree tree-is (agrees-all t (kept .header) tree tree-is .1 agrees));
       }
 
   -- the settled net, ..
@@ -131,7 +124,8 @@ module _ (t : Table) (kept : FullTableRules t) where
   shallow-written : (cells marks output sheet : List ℕ) → shallowSheetOf (layeredInto shallowNet t cells marks output) ≡ accepted sheet
       → (net : Net) → readNet sheet ≡ accepted net → OnLeaves t net
   shallow-written cells marks output sheet e =
-      written-on shallowNet (shallow-kept t (full-keeps t kept) (kept .below)) shallow-on cells marks output sheet (sym (ap sheetOf (plain-into shallowNet t cells marks output)) ∙ e)
+      written-on shallowNet (shallow-kept t (full-keeps t kept) (kept .below)) shallow-on cells marks output sheet
+      (sym (ap sheetOf (plain-into shallowNet t cells marks output)) ∙ e)
 
 -- ---- from a sheet of a full table
 

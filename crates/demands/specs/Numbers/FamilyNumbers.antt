@@ -12,7 +12,8 @@ use Rattle.laws.specs.Calls.Answers.{not-refused}
 use Rattle.laws.specs.Lists.Distinct.{In, wider}
 use Rattle.demands.specs.Numbers.Numbers.{Gives, not-given, refuses}
 use Rattle.demands.specs.Numbers.SettlingNumbers.{sheet-numbers}
-use Rattle.demands.specs.Families.FamilyOutcomes.{made-answer, counted-answer, judgedNumbers, SheetJudged, turned-back, goes-on, judge, NumberJudged, refuses-all, no-number, has-tree, numbered}
+use Rattle.demands.specs.Families.FamilyOutcomes.{made-answer, counted-answer, judgedNumbers, SheetJudged, turned-back, goes-on, judge}
+use Rattle.demands.specs.Families.FamilyOutcomes.{NumberJudged, refuses-all, no-number, has-tree, judge-number}
 
 -- those, 17 and 15
 abbrev pub familyTreeNumbers : List ℕ
@@ -39,7 +40,7 @@ module _ (s : List ℕ) (r : ℕ) (cells marks output : List ℕ) where
   -- the tree of a number: besides 17 and 15
   pub family-tree-numbers : Gives familyTreeNumbers (familyTreeCall s r cells marks output .answer)
   unfolding any all
-  family-tree-numbers number place e = go (numbered s r cells marks output)
+  family-tree-numbers number place e = go (judge-number s r cells marks output)
     where
       answer : (made : Made) → familyTreeCall s r cells marks output ≡ made → made .answer ≡ refused number place
       answer made d = sym (made-answer d) ∙ e

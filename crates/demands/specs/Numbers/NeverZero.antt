@@ -60,7 +60,8 @@ pub never-0 : (place : ℕ)
     × ((job : Job) (g : ℕ) → askJob job g .answer ≡ refused 0 place → ⊥)
     × ((job : Job) (cells marks output : List ℕ) → finishJob job cells marks output .made .answer ≡ refused 0 place → ⊥)
     × ((s r cells output : List ℕ) (named : Named) → keepCall s r cells output .answer ≡ turnedAway named 0 place → ⊥)
-    × ((s : List ℕ) (width height : ℕ) (picture : List ℕ) (offsets : List ℤ) (output : List ℕ) → glyphCall s width height picture offsets output .answer ≡ refused 0 place → ⊥)
+    × ((s : List ℕ) (width height : ℕ) (picture : List ℕ) (offsets : List ℤ) (output : List ℕ)
+    → glyphCall s width height picture offsets output .answer ≡ refused 0 place → ⊥)
 unfolding any
 never-0 place = (
   λ m n cells g. not-given multiplicityNumbers _ (multiplicity-numbers m n cells g) 0 place refl,

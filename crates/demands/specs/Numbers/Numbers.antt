@@ -3,7 +3,7 @@
 -- Assumes nothing.
 use Prim.Native.Nat.{ℕ, _^_}
 use mathlib.Core.Path.{_≡_, refl, sym, _∙_, subst}
-use mathlib.Core.Bool.{_&&_, true≢false}
+use mathlib.Core.Bool.{Bool, true, false, _&&_, true≢false}
 use mathlib.Core.List.{List}
 use lib.ListN.{length}
 use lib.Dec.{eqb, leb}
@@ -36,7 +36,13 @@ pub by-answer : {A X : Type 0} (P : X → Type 0) (a : Answer A) (f : A → X) (
 by-answer P (accepted x) f g h k = h x refl
 by-answer P (refused number place) f g h k = k number place refl
 
-pub by-onward : {A B : Type 0} (numbers : List ℕ) (a : Answer A) (next : A → Answer B) → Gives numbers a → ((x : A) → Gives numbers (next x)) → Gives numbers (onward a next)
+-- what holds in each arm of a test, by what the test found
+pub by-tested : {X : Type 0} (P : X → Type 0) (t : Bool) (a b : X) → (t ≡ true → P a) → (t ≡ false → P b) → P (elim t [ true ↦ a | false ↦ b ])
+by-tested P true a b h k = h refl
+by-tested P false a b h k = k refl
+
+pub by-onward : {A B : Type 0} (numbers : List ℕ) (a : Answer A) (next : A → Answer B) → Gives numbers a → ((x : A) → Gives numbers (next x))
+    → Gives numbers (onward a next)
 unfolding onward
 by-onward numbers (accepted x) next h k = k x
 by-onward numbers (refused number place) next h k = refuses numbers number place (h number place refl)

@@ -12,7 +12,7 @@ use Rattle.rules.specs.Groups.Marks.{marksLength}
 use Rattle.rules.specs.Calls.Answers.{refused}
 use Rattle.rules.specs.Sheets.Reading.{readNet, tableOfNet}
 use Rattle.rules.specs.Calls.OpenCells.{readFull}
-use Rattle.rules.specs.Calls.Settling.{Made, settledNet, writtenSheet, afterMarks, roomFor, madeInto, settleCall, makeCall}
+use Rattle.rules.specs.Calls.Settling.{Made, settledNet, writtenSheet, afterMarks, roomFor, inRoom, madeInto, settleCall, makeCall}
 use Rattle.laws.specs.Lists.Distinct.{In, wider}
 use Rattle.laws.specs.Calls.Settling.{WholeTwo, marked-16, marked-tree}
 use Rattle.readback.specs.Readers.Numbers.{netNumbers, net-refusal}
@@ -43,13 +43,18 @@ room-numbers t cells marks numbers h13 h14 =
     by-test (Gives numbers) (ltb (length cells) (t .header .levels ^ t .header .inputs)) _ _ (refuses numbers 13 _ h13)
     (by-test (Gives numbers) (ltb (length marks) (marksLength (t .header .inputs))) _ _ (refuses numbers 14 _ h14) (accepts numbers tt))
 
+pub in-room-numbers : (numbers : List ℕ) → In 13 numbers → In 14 numbers → (t : Table) (cells marks output : List ℕ) (rest : Made)
+    → Gives numbers (rest .answer)
+    → Gives numbers (inRoom t cells marks output rest .answer)
+unfolding inRoom
+in-room-numbers numbers h13 h14 t cells marks output rest h =
+    by-answer (MadeGives numbers) (roomFor t cells marks) _ _ (λ _ _. h)
+    (λ number place e. refuses numbers number place (room-numbers t cells marks numbers h13 h14 number place e))
+
 -- 13, 14, 15, and 16 where the whole group has another mark than 2
 pub into-numbers : (netFor : Table → Net) (numbers : List ℕ) → In 13 numbers → In 14 numbers → In 15 numbers → (t : Table) → ((WholeTwo t → ⊥) → In 16 numbers)
     → (cells marks output : List ℕ) → Gives numbers (madeInto netFor t cells marks output .answer)
-unfolding madeInto
-into-numbers netFor numbers h13 h14 h15 t h16 cells marks output =
-    by-answer (MadeGives numbers) (roomFor t cells marks) _ _ (λ _ _. marked (ℕ-discrete _ 2))
-    (λ number place e. refuses numbers number place (room-numbers t cells marks numbers h13 h14 number place e))
+into-numbers netFor numbers h13 h14 h15 t h16 cells marks output = in-room-numbers numbers h13 h14 t cells marks output _ (marked (ℕ-discrete _ 2))
   where
     marked : Dec (WholeTwo t) → Gives numbers (afterMarks netFor t cells marks output .answer)
     marked (yes two) = subst⁻¹ (MadeGives numbers) (marked-tree netFor t cells marks output two) (sheet-numbers numbers h15 _ _ _ output)
@@ -61,7 +66,8 @@ module _ (s cells marks output : List ℕ) where
   unfolding settleCall any all
   settle-numbers =
       by-answer (MadeGives settleNumbers) (readNet s) _ _
-      (λ net e. into-numbers settledNet settleNumbers refl refl refl (tableOfNet net) (λ other. absurd (other (net-whole-two net (net-accepted s net e .1)))) cells marks output)
+      (λ net e. into-numbers settledNet settleNumbers refl refl refl (tableOfNet net)
+      (λ other. absurd (other (net-whole-two net (net-accepted s net e .1)))) cells marks output)
       (λ number place e. refuses settleNumbers number place (wider netNumbers settleNumbers refl number (net-refusal s number place e)))
 
   pub make-numbers : Gives makeNumbers (makeCall s cells marks output .answer)

@@ -98,11 +98,13 @@ module _ (net : Net) (arrivals : List Arrival) (delay : ℕ) where
   -- the ends in those units
   earliest-scaled : (k : ℕ) → settledAt k (scaled k (map earliestOf arrivals)) ≡ earliestSettling net arrivals delay * k
   unfolding earliestSettling
-  earliest-scaled k = settles-scaled inputs (net .gates) delay k (map earliestOf arrivals) (scaled k (map earliestOf arrivals)) (λ i _. scaled-at k (map earliestOf arrivals) i)
+  earliest-scaled k = settles-scaled inputs (net .gates) delay k (map earliestOf arrivals) (scaled k (map earliestOf arrivals))
+      (λ i _. scaled-at k (map earliestOf arrivals) i)
 
   latest-scaled : (k : ℕ) → settledAt k (scaled k (map latestOf arrivals)) ≡ latestSettling net arrivals delay * k
   unfolding latestSettling
-  latest-scaled k = settles-scaled inputs (net .gates) delay k (map latestOf arrivals) (scaled k (map latestOf arrivals)) (λ i _. scaled-at k (map latestOf arrivals) i)
+  latest-scaled k = settles-scaled inputs (net .gates) delay k (map latestOf arrivals) (scaled k (map latestOf arrivals))
+      (λ i _. scaled-at k (map latestOf arrivals) i)
 
   -- times that are the same at the used inputs settle at the same time
   pub used-alone : (k : ℕ) (times others : List ℕ) → ((i : ℕ) → Used net i → getD times i 0 ≡ getD others i 0) → settledAt k times ≡ settledAt k others
@@ -146,7 +148,8 @@ module _ (net : Net) (arrivals : List Arrival) (delay : ℕ) where
 
 -- ---- the answer
 
-module _ (s r : List ℕ) (net : Net) (arrivals : List Arrival) (reads : readNet s ≡ accepted net) (arrive : readArrivals (net .header .names) r ≡ accepted arrivals) where
+module _ (s r : List ℕ) (net : Net) (arrivals : List Arrival) (reads : readNet s ≡ accepted net)
+    (arrive : readArrivals (net .header .names) r ≡ accepted arrivals) where
   kept-net : NetRules net
   kept-net = net-accepted s net reads .1
 
@@ -172,7 +175,8 @@ module _ (s r : List ℕ) (net : Net) (arrivals : List Arrival) (reads : readNet
     -- "as floats, and it is exact": each end is a quarter of the whole number that the definition gives
     pub earliest-exact : HasValue (endsOf net arrivals delay .earliest) false (earliestSettling net arrivals delay) 4
     unfolding endsOf earliestSettling
-    earliest-exact = quarter-exact _ (settling-small earliestOf refl (λ i. let order = each-order arrivals (arrivals-kept .each) i in omega (arith, order .0, order .1)))
+    earliest-exact = quarter-exact _
+        (settling-small earliestOf refl (λ i. let order = each-order arrivals (arrivals-kept .each) i in omega (arith, order .0, order .1)))
 
     pub latest-exact : HasValue (endsOf net arrivals delay .latest) false (latestSettling net arrivals delay) 4
     unfolding endsOf latestSettling
@@ -191,9 +195,12 @@ pub record Promised (s r : List ℕ) (delay : ℕ) (ends : Ends) : Type 0 where
   pub earliest-value : HasValue (ends .earliest) false earliest 4
   pub latest-value : HasValue (ends .latest) false latest 4
   pub within : (k : ℕ) (times : List ℕ) → Inside (Used net) arrivals k times
-      → (earliest * k ≤ settlingTime (net .header .inputs) (net .gates) (delay * k) times) × (settlingTime (net .header .inputs) (net .gates) (delay * k) times ≤ latest * k)
-  pub earliest-met : (k : ℕ) → (times : List ℕ) × Inside (ArrivalsListed net) arrivals k times × (settlingTime (net .header .inputs) (net .gates) (delay * k) times ≡ earliest * k)
-  pub latest-met : (k : ℕ) → (times : List ℕ) × Inside (ArrivalsListed net) arrivals k times × (settlingTime (net .header .inputs) (net .gates) (delay * k) times ≡ latest * k)
+      → (earliest * k ≤ settlingTime (net .header .inputs) (net .gates) (delay * k) times)
+      × (settlingTime (net .header .inputs) (net .gates) (delay * k) times ≤ latest * k)
+  pub earliest-met : (k : ℕ) → (times : List ℕ) × Inside (ArrivalsListed net) arrivals k times
+      × (settlingTime (net .header .inputs) (net .gates) (delay * k) times ≡ earliest * k)
+  pub latest-met : (k : ℕ) → (times : List ℕ) × Inside (ArrivalsListed net) arrivals k times
+      × (settlingTime (net .header .inputs) (net .gates) (delay * k) times ≡ latest * k)
 
 pub arrivals-hold : (s r : List ℕ) (delay : ℕ) → delay ≤ mostDelay → (ends : Ends) → arrivalsCall s r delay ≡ settles ends → Promised s r delay ends
 arrivals-hold s r delay byte ends e =

@@ -2,28 +2,24 @@
 -- assignment", now of "the assignments that aren't open" (document 02, K13); the table sheet written from a net sheet is accepted, and checks against it.
 -- Assumes nothing.
 use Prim.Native.Nat.{ℕ, _^_, _≤_, _<_}
-use mathlib.Core.Path.{_≡_, refl, sym, ap, _∙_, ap₂, subst, subst⁻¹}
+use mathlib.Core.Path.{_≡_, refl, sym, ap, _∙_, subst, subst⁻¹}
 use mathlib.Core.Logic.{_↔_}
-use mathlib.Core.Bool.{Bool, true, false, _&&_, and-eq-true-iff, false≢true}
-use mathlib.Core.List.{List, [], _∷_}
+use mathlib.Core.Bool.{Bool, true, false}
+use mathlib.Core.List.{List}
 use native.Mathlib.Nat.{lt-of-not-le}
 use native.Mathlib.Decide.{decLe}
 use native.Mathlib.Omega.{arith}
 use lib.ListN.{length, getD}
-use lib.Dec.{eqb}
-use borrow.Author.Tests.{eq-eqb}
 use Rattle.rules.specs.Lists.{same}
 use Rattle.rules.specs.Sheets.Sheets.{Header, Net, Table}
 use Rattle.rules.specs.Sheets.Printed.{printedTable}
 use Rattle.rules.specs.Nets.Value.{value}
 use Rattle.rules.specs.Calls.Answers.{Answer, accepted, refused, Named, netNamed, tableNamed, neither, inkIn, written}
-use Rattle.rules.specs.Calls.Checking.{Verdict, agree, differ, turnedDown, Checked, sameNames, sameHeader, compared, checkedInto, checkCall}
+use Rattle.rules.specs.Calls.Checking.{Verdict, agree, differ, turnedDown, Checked, sameHeader, compared, checkedInto, checkCall}
 use Rattle.rules.specs.Sheets.Reading.{readNet, readTable, tableOfNet}
 use Rattle.rules.specs.Calls.TableWriting.{Written, writeTableCall}
-use Rattle.laws.specs.Calls.Checking.{check-net-refused, check-table-refused, check-accepted, check-12, check-13, check-compared}
+use Rattle.laws.specs.Calls.Checking.{same-header, header-same, check-net-refused, check-table-refused, check-accepted, check-12, check-13, check-compared}
 use Rattle.laws.specs.Calls.TableWriting.{table-15, table-written}
-use Rattle.laws.specs.Lists.Same.{same-refl, same-true}
-use Rattle.laws.specs.Lists.Tests.{both-eqb}
 use Rattle.readback.specs.Sheets.ReadBack.{net-accepted, table-accepted, table-read-back}
 use Rattle.trees.specs.Trees.Uniqueness.{table-at, net-table-length}
 use Rattle.demands.specs.Settling.Settles.{sheetIn}
@@ -39,33 +35,8 @@ agree-differ k e = let z : _≡_ {A = ℕ} 0 1 = cc in omega arith
 differ-same : (j k : ℕ) → _≡_ {A = Verdict} (differ j) (differ k) → j ≡ k
 differ-same j k e = cc
 
-same-names : (ws : List (List ℕ)) → sameNames ws ws ≡ true
-unfolding sameNames
-same-names [] = refl
-same-names (w ∷ ws) = rw (same-refl w, same-names ws)
-
-pub same-header : (h k : Header) → h ≡ k → sameHeader h k ≡ true
-unfolding sameHeader
-same-header h k e = subst (λ (l : Header). sameHeader h l ≡ true) e (rw (eq-eqb (h .levels) (h .levels) refl, eq-eqb (h .inputs) (h .inputs) refl, same-names (h .names)))
-
-names-same : (vs ws : List (List ℕ)) → sameNames vs ws ≡ true → vs ≡ ws
-unfolding sameNames
-names-same [] [] e = refl
-names-same [] (w ∷ ws) e = absurd (false≢true e)
-names-same (v ∷ vs) [] e = absurd (false≢true e)
-names-same (v ∷ vs) (w ∷ ws) e =
-    let (first, others) = and-eq-true-iff (same v w) (sameNames vs ws) .0 e in
-    ap₂ _∷_ (same-true v w first) (names-same vs ws others)
-
-pub header-same : (h k : Header) → sameHeader h k ≡ true → h ≡ k
-unfolding sameHeader
-header-same h k e =
-    let (sizes, names) = and-eq-true-iff (eqb (h .levels) (k .levels) && eqb (h .inputs) (k .inputs)) (sameNames (h .names) (k .names)) .0 e in
-    let (levels, inputs) = both-eqb (h .levels) (k .levels) (h .inputs) (k .inputs) .0 sizes in
-    let same-names = names-same (h .names) (k .names) names in
-    λ i. record { levels = levels i; inputs = inputs i; names = same-names i }
-
-module _ (s r : List ℕ) (net : Net) (t : Table) (reads-net : readNet s ≡ accepted net) (reads-table : readTable r ≡ accepted t) (header : net .header ≡ t .header)
+module _ (s r : List ℕ) (net : Net) (t : Table) (reads-net : readNet s ≡ accepted net) (reads-table : readTable r ≡ accepted t)
+    (header : net .header ≡ t .header)
     (cells : List ℕ) (long : t .header .levels ^ t .header .inputs ≤ length cells) where
   -- the inks are compared, and stand in the cells buffer whether they agree or not
   pub checked : checkCall s r cells ≡ record { answer = compared (t .header .levels) (tableOfNet net .inks) (t .inks); cells = written cells (t .inks) }
@@ -125,7 +96,8 @@ module _ (s r : List ℕ) (net : Net) (t : Table) (reads-net : readNet s ≡ acc
           let same : j ≡ k = differ-same j k (sym e ∙ sym answer-is ∙ d) in (
             omega (arith, inks-length),
             subst (λ (i : ℕ). inkIn (t .inks) i ≡ t .header .levels → ⊥) same shut,
-            subst (λ (i : ℕ). value (net .header .levels) (net .header .inputs) (net .gates) i ≡ inkIn (t .inks) i → ⊥) same (λ q. unlike (sym (value-at j l) ∙ q)),
+            subst (λ (i : ℕ). value (net .header .levels) (net .header .inputs) (net .gates) i ≡ inkIn (t .inks) i → ⊥) same
+                (λ q. unlike (sym (value-at j l) ∙ q)),
             λ p b shut. let c : p < j = omega arith in value-at p (omega arith) ∙ earlier p c shut,
           )
 
@@ -158,7 +130,8 @@ module _ (s r cells : List ℕ) where
     where
       go : checkCall s r cells .answer ≡ agree → (a : Answer Net) → readNet s ≡ a → (b : Answer Table) → readTable r ≡ b → Agreeing s r cells
       go answer (refused number place) d b e = absurd (not-agree netNamed number place _ (check-net-refused s r cells number place d) refl answer)
-      go answer (accepted net) d (refused number place) e = absurd (not-agree tableNamed number place _ (check-table-refused s r cells net d number place e) refl answer)
+      go answer (accepted net) d (refused number place) e =
+          absurd (not-agree tableNamed number place _ (check-table-refused s r cells net d number place e) refl answer)
       go answer (accepted net) d (accepted t) e = judged (sameHeader (net .header) (t .header)) refl (decLe (length (t .inks)) (length cells))
         where
           both : checkCall s r cells ≡ checkedInto net t cells
@@ -192,7 +165,8 @@ module _ (s : List ℕ) (net : Net) (reads : readNet s ≡ accepted net) where
   printed-accepted = table-read-back (tableOfNet net) (kept-table net (net-accepted s net reads .1))
 
   -- .. and checks against it
-  printed-checks : (cells : List ℕ) → net .header .levels ^ net .header .inputs ≤ length cells → checkCall s (printedTable (tableOfNet net)) cells .answer ≡ agree
+  printed-checks : (cells : List ℕ) → net .header .levels ^ net .header .inputs ≤ length cells
+      → checkCall s (printedTable (tableOfNet net)) cells .answer ≡ agree
   unfolding tableOfNet
   printed-checks cells long =
       check-agrees s (printedTable (tableOfNet net)) net (tableOfNet net) reads printed-accepted refl cells long .1
@@ -220,4 +194,5 @@ module _ (s : List ℕ) (net : Net) (reads : readNet s ≡ accepted net) where
   -- .. and checks against the net sheet.
   pub written-checks : (output sheet : List ℕ) → tableSheetOf (writeTableCall s output) ≡ accepted sheet
       → (cells : List ℕ) → net .header .levels ^ net .header .inputs ≤ length cells → checkCall s sheet cells .answer ≡ agree
-  written-checks output sheet e cells long = subst (λ (r : List ℕ). checkCall s r cells .answer ≡ agree) (writes-only output sheet e) (printed-checks cells long)
+  written-checks output sheet e cells long =
+      subst (λ (r : List ℕ). checkCall s r cells .answer ≡ agree) (writes-only output sheet e) (printed-checks cells long)

@@ -37,8 +37,11 @@ module _ (m n : ℕ) (cells : List ℕ) (g k : ℕ) where
       tested b false h e =
           let is : multiplicity m n (inkIn cells) g ≡ k = accepted-inj _ _ e in
           let size = sized m n (cells-sized m n cells b .0) in
-          let below : g < 2 ^ n = leb-false (2 ^ n) g (or-false-iff (eqb g 0) (leb (2 ^ n) g) .0 h .1) in
-          (is, λ j. subst (λ (c : ℕ). SimpleBy j m n (inkIn cells) g ↔ (c ≤ j)) is (values-needed j m n (omega (arith, size .levels-least)) (inkIn cells) g below))
+          let below : g < 2 ^ n = leb-false (2 ^ n) g (or-false-iff (eqb g 0) (leb (2 ^ n) g) .0 h .1) in (
+            is,
+            λ j. subst (λ (c : ℕ). SimpleBy j m n (inkIn cells) g ↔ (c ≤ j)) is
+                (values-needed j m n (omega (arith, size .levels-least)) (inkIn cells) g below),
+          )
 
       judged : (a : Answer (Unit {0})) → fullCells m n cells ≡ a → onward a (λ _. group (eqb g 0 || leb (2 ^ n) g)) ≡ accepted k
           → (multiplicity m n (inkIn cells) g ≡ k) × FewestValues

@@ -20,7 +20,7 @@ use Rattle.rules.specs.Calls.TableWriting.{Written}
 use Rattle.rules.specs.Calls.Glyphs.{across, down, levelAt, levelsRead, newCell, glyph, pictureFits, glyphJudged, glyphInto, glyphCall}
 use Rattle.rules.specs.Nets.Value.{valueWith}
 use Rattle.laws.specs.Calls.Answers.{not-refused}
-use Rattle.laws.specs.Numbers.Assignments.{indexOf, index-below}
+use Rattle.laws.specs.Numbers.Assignments.{indexOf, index-of-below}
 use Rattle.laws.specs.Lists.Concat.{concat-same, map-same}
 use Rattle.laws.specs.Calls.Glyphs.{IsPicture, AreOffsets, picture-fits, offsets-fit, glyph-read, glyph-printed}
 use Rattle.laws.specs.Nets.Pictures.{glyph-length, glyph-at, value-index, level-in, picture-levels-given}
@@ -40,7 +40,8 @@ pub record Prints (net : Net) (width height : ℕ) (picture : List ℕ) (offsets
   pub same : length (made .output) ≡ length output
 
 written-prints : (net : Net) (width height : ℕ) (picture : List ℕ) (offsets : List ℤ) (output : List ℕ) → width * height ≤ length output
-    → Prints net width height picture offsets output (record { answer = accepted (width * height); output = written output (glyph net width height picture offsets) })
+    → Prints net width height picture offsets output
+    (record { answer = accepted (width * height); output = written output (glyph net width height picture offsets) })
 unfolding written
 written-prints net width height picture offsets output long =
     let new = glyph net width height picture offsets in
@@ -51,7 +52,8 @@ written-prints net width height picture offsets output long =
           List·getD-append new (drop (length new) output) 0 (y * width + x) (rw (cells, mul-comm width height) (digits-lt k h))
           ∙ glyph-at net width height picture offsets x y h k;
       further =
-          ap (λ (k : ℕ). drop k (new ++ drop (length new) output)) (sym cells) ∙ drop-append-seam new (drop (length new) output) ∙ ap (λ (k : ℕ). drop k output) cells;
+          ap (λ (k : ℕ). drop k (new ++ drop (length new) output)) (sym cells) ∙ drop-append-seam new (drop (length new) output)
+          ∙ ap (λ (k : ℕ). drop k output) cells;
       same = omega (arith, length-append new (drop (length new) output), length-drop (length new) output, cells);
     }
 
@@ -60,7 +62,8 @@ pub glyph-prints : (s : List ℕ) (net : Net) → readNet s ≡ accepted net →
     → IsPicture (net .header .levels) width height picture → AreOffsets (net .header .inputs) offsets → width * height ≤ length output
     → Prints net width height picture offsets output (glyphCall s width height picture offsets output)
 glyph-prints s net reads width height picture offsets output is are long =
-    rw (glyph-printed s width height picture offsets output net reads (picture-fits (net .header .levels) width height picture .1 is) (offsets-fit (net .header .inputs) offsets .1 are) long)
+    rw (glyph-printed s width height picture offsets output net reads (picture-fits (net .header .levels) width height picture .1 is)
+    (offsets-fit (net .header .inputs) offsets .1 are) long)
     (written-prints net width height picture offsets output long)
 
 -- ---- the glyph is decided by the net's table
@@ -83,10 +86,12 @@ judgedInto judged count new output =
 -- all that the call does after the sheet is read, from a table
 abbrev intoFrom : Table → ℕ → ℕ → List ℕ → List ℤ → List ℕ → Written
 intoFrom t width height picture offsets output =
-    judgedInto (glyphJudged (t .header .levels) (t .header .inputs) width height picture offsets output) (width * height) (glyphFrom t width height picture offsets) output
+    judgedInto (glyphJudged (t .header .levels) (t .header .inputs) width height picture offsets output) (width * height)
+    (glyphFrom t width height picture offsets) output
 
 -- where 24 is not given, the picture is one
-judged-picture : (m n width height : ℕ) (picture : List ℕ) (offsets : List ℤ) (output : List ℕ) → glyphJudged m n width height picture offsets output ≡ accepted tt
+judged-picture : (m n width height : ℕ) (picture : List ℕ) (offsets : List ℤ) (output : List ℕ)
+    → glyphJudged m n width height picture offsets output ≡ accepted tt
     → IsPicture m width height picture
 judged-picture m n width height picture offsets output e = picture-fits m width height picture .0 (go (pictureFits m width height picture) refl)
   where
@@ -115,7 +120,7 @@ module _ (net : Net) (kept : NetRules net) where
       below table =
           let read = levelsRead (net .header .inputs) width height picture offsets x y in
           table .below (indexOf (net .header .levels) read)
-          (rw (table .count) (index-below (net .header .levels) (net .header .inputs) read
+          (rw (table .count) (index-of-below (net .header .levels) (net .header .inputs) read
           (picture-levels-given (net .header .levels) width height picture is levels-some (net .header .inputs) offsets x y)))
 
   into-from : (width height : ℕ) (picture : List ℕ) (offsets : List ℤ) (output : List ℕ)
@@ -123,11 +128,13 @@ module _ (net : Net) (kept : NetRules net) where
   unfolding glyphInto tableOfNet
   into-from width height picture offsets output = go (glyphJudged (net .header .levels) (net .header .inputs) width height picture offsets output) refl
     where
-      same : IsPicture (net .header .levels) width height picture → glyph net width height picture offsets ≡ glyphFrom (tableOfNet net) width height picture offsets
+      same : IsPicture (net .header .levels) width height picture
+          → glyph net width height picture offsets ≡ glyphFrom (tableOfNet net) width height picture offsets
       same is = unfold glyph in concat-same _ _ (λ y. map-same _ _ (λ x. cell-from width height picture offsets is x y) (range 0 width)) (range 0 height)
 
       go : (j : Answer (Unit {0})) → glyphJudged (net .header .levels) (net .header .inputs) width height picture offsets output ≡ j
-          → judgedInto j (width * height) (glyph net width height picture offsets) output ≡ judgedInto j (width * height) (glyphFrom (tableOfNet net) width height picture offsets) output
+          → judgedInto j (width * height) (glyph net width height picture offsets) output
+          ≡ judgedInto j (width * height) (glyphFrom (tableOfNet net) width height picture offsets) output
       go (refused number place) e = refl
       go (accepted fits) e =
           λ i. record {
@@ -143,7 +150,8 @@ same-table-glyph s r net other reads reads-other same width height picture offse
     glyph-read s width height picture offsets output net reads
     ∙ into-from net (net-accepted s net reads .1) width height picture offsets output
     ∙ ap (λ (t : Table). intoFrom t width height picture offsets output) same
-    ∙ sym (glyph-read r width height picture offsets output other reads-other ∙ into-from other (net-accepted r other reads-other .1) width height picture offsets output)
+    ∙ sym (glyph-read r width height picture offsets output other reads-other
+    ∙ into-from other (net-accepted r other reads-other .1) width height picture offsets output)
 
 -- ---- "Two nets that settle alike must print the same glyph from the same picture and offsets."
 
@@ -169,16 +177,19 @@ settled-prints s sheet cells marks output e =
 module _ (net : Net) (width height : ℕ) (offsets : List ℤ) (still : (k : ℕ) → getD offsets k (pos 0) ≡ pos 0) (x y : ℕ) (h : x < width) (k : y < height) where
   -- each input has the cell's own old level, ..
   pub own-level : (picture : List ℕ)
-      → newCell net width height picture offsets x y ≡ valueWith (net .header .levels) (net .header .inputs) (net .gates) (replicate (net .header .inputs) (getD picture (y * width + x) 0))
+      → newCell net width height picture offsets x y ≡ valueWith (net .header .levels) (net .header .inputs) (net .gates)
+      (replicate (net .header .inputs) (getD picture (y * width + x) 0))
   unfolding newCell levelsRead across down
   own-level picture =
       ap (valueWith (net .header .levels) (net .header .inputs) (net .gates))
       (map-range-same _ (λ _. getD picture (y * width + x) 0) 0 (net .header .inputs)
-      (λ i _ _. (λ j. levelAt width height picture (pos x +ℤ still (2 * i) j) (pos y +ℤ still (2 * i + 1) j)) ∙ rw (add-zero, add-zero) (level-in width height picture x y h k))
+      (λ i _ _. (λ j. levelAt width height picture (pos x +ℤ still (2 * i) j) (pos y +ℤ still (2 * i + 1) j))
+      ∙ rw (add-zero, add-zero) (level-in width height picture x y h k))
       ∙ map-range-all (getD picture (y * width + x) 0) 0 (net .header .inputs))
 
   -- .. so the new cell depends on that alone
   pub own-alone : (picture other : List ℕ) → getD picture (y * width + x) 0 ≡ getD other (y * width + x) 0
       → newCell net width height picture offsets x y ≡ newCell net width height other offsets x y
   own-alone picture other e =
-      own-level picture ∙ ap (λ (l : ℕ). valueWith (net .header .levels) (net .header .inputs) (net .gates) (replicate (net .header .inputs) l)) e ∙ sym (own-level other)
+      own-level picture ∙ ap (λ (l : ℕ). valueWith (net .header .levels) (net .header .inputs) (net .gates) (replicate (net .header .inputs) l)) e
+      ∙ sym (own-level other)

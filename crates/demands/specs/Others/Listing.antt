@@ -2,7 +2,7 @@
 -- last line .. none is left". On an accepted sheet there are as many turns as gates, "from 1 to n − 1" (document 02, K12): the lines given at
 -- them, each with its line feed, are what stands after the first four lines, and every later turn gives none.
 -- Assumes nothing.
-use Prim.Native.Nat.{ℕ, zero, suc, _+_, _-_, _≤_, _<_}
+use Prim.Native.Nat.{ℕ, zero, suc, _+_, _≤_, _<_}
 use mathlib.Core.Path.{_≡_, refl, sym, ap, ap₂, _∙_}
 use mathlib.Core.List.{List, [], _∷_, _++_}
 use native.Mathlib.Nat.{zero-add, add-zero, add-suc, suc-add}
@@ -19,14 +19,14 @@ use Rattle.rules.specs.Sheets.Reading.{readNet}
 use Rattle.rules.specs.Calls.Lister.{Turn, gateAt, noneLeft, turnOf, listing}
 use Rattle.laws.specs.Lists.Concat.{concat-append}
 use Rattle.readback.specs.Sheets.ReadBack.{net-accepted}
-use Rattle.readback.specs.Sheets.Lines.{fed, linesOf, lines-first, headLines, fourLines, four-fed, four-unbroken, netLines}
+use Rattle.readback.specs.Sheets.Lines.{fed, linesUpTo, lines-first, headLines, fourLines, four-fed, four-unbroken, netLines}
 use Rattle.readback.specs.Nets.GateLines.{partOf, lineAt, sheet-lines, gate-count, gate-bytes}
 
 -- what a turn gives of the sheet, with its line feed
-unfoldable pub givenBy : List ℕ → Answer Turn → List ℕ
-givenBy s (accepted (gateAt p)) = fed (partOf s p)
-givenBy s (accepted noneLeft) = []
-givenBy s (refused number place) = []
+unfoldable pub lineGiven : List ℕ → Answer Turn → List ℕ
+lineGiven s (accepted (gateAt p)) = fed (partOf s p)
+lineGiven s (accepted noneLeft) = []
+lineGiven s (refused number place) = []
 
 -- a list from an element for each of its places
 places : {A B : Type 0} (f : ℕ → List B) (h : A → List B) (d : A) (from : ℕ) (xs : List A)
@@ -58,21 +58,21 @@ module _ (s : List ℕ) (net : Net) (reads : readNet s ≡ accepted net) where
   unfolding listing onward turnOf
   turn-none k h = rw (reads, listing, le-ltb k (length (net .gates)) h, turnOf)
 
-  given : (k : ℕ) (d : Gate) → k < length (net .gates) → givenBy s (listing s k) ≡ printedGate names (getD (net .gates) k d)
-  unfolding givenBy
+  given : (k : ℕ) (d : Gate) → k < length (net .gates) → lineGiven s (listing s k) ≡ printedGate names (getD (net .gates) k d)
+  unfolding lineGiven
   given k d h = rw (turn-line k h) (gate-bytes s net reads k d h)
 
-  first-four : linesOf 4 s ≡ firstLines (net .header) names ++ line (text "left" ∷ text "right" ∷ text "table" ∷ [])
+  first-four : linesUpTo 4 s ≡ firstLines (net .header) names ++ line (text "left" ∷ text "right" ∷ text "table" ∷ [])
   unfolding netLines fourLines headLines
   first-four =
       rw (four-fed (net .header), sheet-lines s net reads, concat-append fed (fourLines (net .header)))
       (lines-first (fourLines (net .header)) _ (four-unbroken (net .header) (kept .header)))
 
   -- the first four lines and all lines given, each with its line feed, are the sheet
-  pub listed-whole : linesOf 4 s ++ concatMap (λ k. givenBy s (listing s k)) (range 0 (length (net .gates))) ≡ s
+  pub listed-whole : linesUpTo 4 s ++ concatMap (λ k. lineGiven s (listing s k)) (range 0 (length (net .gates))) ≡ s
   unfolding printedNet
   listed-whole =
       ap₂ _++_ first-four
-      (places (λ k. givenBy s (listing s k)) (printedGate names) (record { left = 0; right = 0; digits = [] }) 0 (net .gates)
-      (λ k h. ap (λ (k : ℕ). givenBy s (listing s k)) (zero-add k) ∙ given k _ h))
+      (places (λ k. lineGiven s (listing s k)) (printedGate names) (record { left = 0; right = 0; digits = [] }) 0 (net .gates)
+      (λ k h. ap (λ (k : ℕ). lineGiven s (listing s k)) (zero-add k) ∙ given k _ h))
       ∙ sym (net-accepted s net reads .0)

@@ -1,5 +1,5 @@
--- Document 02, K13: "Everything that counts classes, marks groups or fills gates needs a full table". Each such call refuses with 27 exactly when some cell is open, at the
--- lowest such index, where what is judged before it is passed; and it then leaves every buffer as it was.
+-- Document 02, K13: "Everything that counts classes, marks groups or fills gates needs a full table". Each such call refuses with 27 exactly when
+-- some cell is open, at the lowest such index, where what is judged before it is passed; and it then leaves every buffer as it was.
 -- Assumes nothing.
 use Prim.Native.Nat.{ℕ, _^_, _≤_, _<_}
 use mathlib.Core.Path.{_≡_, refl, sym, ap, _∙_, subst}
@@ -20,7 +20,7 @@ use Rattle.rules.specs.Calls.BareCells.{bareCells}
 use Rattle.rules.specs.Calls.OpenCells.{full, fullCells, fullTable, readFull}
 use Rattle.rules.specs.Calls.Multiplicity.{multiplicityCall}
 use Rattle.rules.specs.Calls.Marking.{Marked, markingCall}
-use Rattle.rules.specs.Calls.Settling.{Made, settledNet, roomFor, makeCall}
+use Rattle.rules.specs.Calls.Settling.{Made, settledNet, makeCall}
 use Rattle.rules.specs.Calls.ShallowSettling.{makeShallowCall}
 use Rattle.rules.specs.Calls.FamilyCalls.{countOfTable, familyCountCall, numberedInto, afterCount, familyTreeCall}
 use Rattle.rules.specs.Calls.Checking.{sameHeader}
@@ -30,7 +30,8 @@ use Rattle.rules.specs.Calls.Jobs.{Job, emptyJob, Opened, openJob, mayFinish}
 use Rattle.laws.specs.Calls.Answers.{not-refused}
 use Rattle.laws.specs.Lists.Distinct.{In}
 use Rattle.laws.specs.Lists.Tests.{by-test}
-use Rattle.laws.specs.Calls.OpenCells.{Fullness, all-shut, lowest-open, fullness, some-open, cells-refused, cells-judged, FullRead, turned-back, left-open, whole, full-read, read-27}
+use Rattle.laws.specs.Calls.OpenCells.{Fullness, all-shut, lowest-open, fullness, some-open, cells-refused, cells-judged, FullRead, turned-back}
+use Rattle.laws.specs.Calls.OpenCells.{left-open, whole, full-read, read-27}
 use Rattle.laws.specs.Calls.Settling.{make-refused, make-accepted}
 use Rattle.laws.specs.Calls.ShallowSettling.{make-shallow-refused}
 use Rattle.laws.specs.Calls.FamilyCalls.{family-count-refused, family-tree-refused, family-tree-accepted}
@@ -38,11 +39,11 @@ use Rattle.laws.specs.Calls.Jobs.{open-refused, open-accepted, may-refused}
 use Rattle.laws.specs.Calls.Multiplicity.{groupAnswer, multiplicity-refused, multiplicity-judged}
 use Rattle.laws.specs.Calls.Keeping.{keep-net-refused, keep-table-refused, keep-accepted, keep-12, keep-27, keep-13, keep-23-0, keep-23, keep-15, keep-written}
 use Rattle.readback.specs.Readers.Numbers.{netNumbers, tableNumbers, net-refusal, table-refusal}
-use Rattle.demands.specs.Numbers.Numbers.{Gives, accepts, by-answer, bare-numbers, not-given, refuses}
-use Rattle.demands.specs.Numbers.SettlingNumbers.{sheet-numbers, room-numbers, into-numbers}
+use Rattle.demands.specs.Numbers.Numbers.{Gives, accepts, bare-numbers, not-given, refuses}
+use Rattle.demands.specs.Numbers.SettlingNumbers.{sheet-numbers, in-room-numbers, into-numbers}
 use Rattle.demands.specs.Shallow.ShallowRefusals.{make-shallow-refuses}
 use Rattle.demands.specs.Families.FamilyCounting.{count-refuses}
-use Rattle.demands.specs.Others.Checks.{same-header, header-same}
+use Rattle.laws.specs.Calls.Checking.{same-header, header-same}
 
 -- ---- the lowest open index
 
@@ -107,8 +108,10 @@ module _ (s : List ℕ) (k : ℕ) where
     pub make-27 : (makeCall s cells marks output .answer ≡ refused 27 k) ↔ OpenSheet s k
     unfolding any
     make-27 =
-        exactly s k (makeCall s cells marks output .answer) (λ number place e. ap (λ (made : Made). made .answer) (make-refused s cells marks output number place e))
-        (λ t e answer. not-given (13 ∷ 14 ∷ 16 ∷ 15 ∷ []) _ (into-numbers settledNet (13 ∷ 14 ∷ 16 ∷ 15 ∷ []) refl refl refl t (λ _. refl) cells marks output) 27 k refl
+        exactly s k (makeCall s cells marks output .answer)
+        (λ number place e. ap (λ (made : Made). made .answer) (make-refused s cells marks output number place e))
+        (λ t e answer. not-given (13 ∷ 14 ∷ 16 ∷ 15 ∷ []) _
+        (into-numbers settledNet (13 ∷ 14 ∷ 16 ∷ 15 ∷ []) refl refl refl t (λ _. refl) cells marks output) 27 k refl
         (sym (ap (λ (made : Made). made .answer) (make-accepted s cells marks output t e)) ∙ answer))
 
     -- .. which leaves its buffers, ..
@@ -119,23 +122,24 @@ module _ (s : List ℕ) (k : ℕ) where
     pub make-shallow-27 : (makeShallowCall s cells marks output .answer ≡ refused 27 k) ↔ OpenSheet s k
     make-shallow-27 = Iff·trans (make-shallow-refuses s cells marks output 27 k) make-27
 
-    pub make-shallow-27-leaves : OpenSheet s k → makeShallowCall s cells marks output ≡ record { answer = refused 27 k; cells = cells; marks = marks; output = output }
+    pub make-shallow-27-leaves : OpenSheet s k → makeShallowCall s cells marks output
+        ≡ record { answer = refused 27 k; cells = cells; marks = marks; output = output }
     make-shallow-27-leaves o = make-shallow-refused s cells marks output 27 k (sheet-exactly s k .1 o)
 
     -- .. the tree of a number, ..
     module _ (order : ℕ) where
       after-numbers : (t : Table) → Gives (13 ∷ 14 ∷ 17 ∷ 15 ∷ []) (numberedInto order t cells marks output .answer)
-      unfolding numberedInto afterCount any
+      unfolding afterCount any
       after-numbers t =
           let ns : List ℕ = 13 ∷ 14 ∷ 17 ∷ 15 ∷ [] in
-          by-answer (λ (made : Made). Gives ns (made .answer)) (roomFor t cells marks) _ _
-          (λ _ _. by-test (λ (made : Made). Gives ns (made .answer)) (ltb order (countOfTable t)) _ _ (sheet-numbers ns refl _ _ _ output) (refuses ns 17 order refl))
-          (λ number place e. refuses ns number place (room-numbers t cells marks ns refl refl number place e))
+          in-room-numbers ns refl refl t cells marks output _
+          (by-test (λ (made : Made). Gives ns (made .answer)) (ltb order (countOfTable t)) _ _ (sheet-numbers ns refl _ _ _ output) (refuses ns 17 order refl))
 
       pub family-tree-27 : (familyTreeCall s order cells marks output .answer ≡ refused 27 k) ↔ OpenSheet s k
       unfolding any
       family-tree-27 =
-          exactly s k (familyTreeCall s order cells marks output .answer) (λ number place e. ap (λ (made : Made). made .answer) (family-tree-refused s order cells marks output number place e))
+          exactly s k (familyTreeCall s order cells marks output .answer)
+          (λ number place e. ap (λ (made : Made). made .answer) (family-tree-refused s order cells marks output number place e))
           (λ t e answer. not-given (13 ∷ 14 ∷ 17 ∷ 15 ∷ []) _ (after-numbers t) 27 k refl
           (sym (ap (λ (made : Made). made .answer) (family-tree-accepted s order cells marks output t e)) ∙ answer))
 
@@ -190,21 +194,26 @@ module _ (s r : List ℕ) (k : ℕ) (cells output : List ℕ) where
       answered : {a b : KeptWiring} → a ≡ b → a .answer ≡ b .answer
       answered e = ap (λ (w : KeptWiring). w .answer) e
 
-      number-of : (named named' : Named) (number place : ℕ) → _≡_ {A = Keeping} (turnedAway named number place) (turnedAway named' 27 k) → (number ≡ 27) × (place ≡ k)
+      number-of : (named named' : Named) (number place : ℕ) → _≡_ {A = Keeping} (turnedAway named number place) (turnedAway named' 27 k)
+          → (number ≡ 27) × (place ≡ k)
       number-of named named' number place e = (cc, cc)
 
       -- past 27 other numbers follow
       past : (named : Named) (net : Net) (t : Table) → sameHeader (net .header) (t .header) ≡ true → fullTable t ≡ accepted tt
           → keptInto net t cells output .answer ≡ turnedAway named 27 k → ⊥
       past named net t same on e =
-          rest (decLe (length (t .inks)) (length cells)) (leavesOut net t) refl (decLe (length (net .gates)) (roomyBefore net t)) (decLe (length (printedNet (keptNet net t))) (length output))
+          rest (decLe (length (t .inks)) (length cells)) (leavesOut net t) refl (decLe (length (net .gates)) (roomyBefore net t))
+          (decLe (length (printedNet (keptNet net t))) (length output))
         where
           rest : Dec (length (t .inks) ≤ length cells) → (out : Bool) → leavesOut net t ≡ out → Dec (length (net .gates) ≤ roomyBefore net t)
               → Dec (length (printedNet (keptNet net t)) ≤ length output) → ⊥
-          rest (no short) _ _ _ _ = omega (arith, number-of neither named 13 _ (sym (answered (keep-13 net t cells output same on (lt-of-not-le short))) ∙ e) .0)
+          rest (no short) _ _ _ _ =
+              omega (arith, number-of neither named 13 _ (sym (answered (keep-13 net t cells output same on (lt-of-not-le short))) ∙ e) .0)
           rest (yes long) true out _ _ = omega (arith, number-of neither named 23 0 (sym (answered (keep-23-0 net t cells output same on long out)) ∙ e) .0)
-          rest (yes long) false takes (no crowded) _ = omega (arith, number-of neither named 23 _ (sym (answered (keep-23 net t cells output same on long takes (lt-of-not-le crowded))) ∙ e) .0)
-          rest (yes long) false takes (yes roomy) (no short) = omega (arith, number-of neither named 15 _ (sym (answered (keep-15 net t cells output same on long takes roomy (lt-of-not-le short))) ∙ e) .0)
+          rest (yes long) false takes (no crowded) _ =
+              omega (arith, number-of neither named 23 _ (sym (answered (keep-23 net t cells output same on long takes (lt-of-not-le crowded))) ∙ e) .0)
+          rest (yes long) false takes (yes roomy) (no short) =
+              omega (arith, number-of neither named 15 _ (sym (answered (keep-15 net t cells output same on long takes roomy (lt-of-not-le short))) ∙ e) .0)
           rest (yes long) false takes (yes roomy) (yes fits) =
               let made = sym (answered (keep-written net t cells output same on long takes roomy fits)) ∙ e in
               let z : _≡_ {A = ℕ} 0 1 = cc in
@@ -213,9 +222,14 @@ module _ (s r : List ℕ) (k : ℕ) (cells output : List ℕ) where
       go : (named : Named) → keepCall s r cells output .answer ≡ turnedAway named 27 k
           → (a : Answer Net) → readNet s ≡ a → (b : Answer Table) → readTable r ≡ b → OpenWiring s r k
       go named e (refused number place) d b f =
-          absurd (true≢false (sym (subst (λ (j : ℕ). In j netNumbers) (number-of netNamed named number place (sym (answered (keep-net-refused s r cells output number place d)) ∙ e) .0) (net-refusal s number place d))))
+          absurd (true≢false (sym
+          (subst (λ (j : ℕ). In j netNumbers)
+          (number-of netNamed named number place (sym (answered (keep-net-refused s r cells output number place d)) ∙ e) .0) (net-refusal s number place d))))
       go named e (accepted net) d (refused number place) f =
-          absurd (true≢false (sym (subst (λ (j : ℕ). In j tableNumbers) (number-of tableNamed named number place (sym (answered (keep-table-refused s r cells output net d number place f)) ∙ e) .0) (table-refusal r number place f))))
+          absurd (true≢false (sym
+          (subst (λ (j : ℕ). In j tableNumbers)
+          (number-of tableNamed named number place (sym (answered (keep-table-refused s r cells output net d number place f)) ∙ e) .0)
+          (table-refusal r number place f))))
       go named e (accepted net) d (accepted t) f = headers (sameHeader (net .header) (t .header)) refl (fullTable t) refl
         where
           on : keepCall s r cells output ≡ keptInto net t cells output
@@ -226,7 +240,15 @@ module _ (s r : List ℕ) (k : ℕ) (cells output : List ℕ) where
           headers true h (refused number place) o =
               let (number-is, place-is) = number-of tableNamed named number place (sym (answered (on ∙ keep-27 net t cells output h number place o)) ∙ e) in
               let back : fullTable t ≡ refused 27 k = o ∙ (λ i. refused (number-is i) (place-is i)) in
-              record { net = net; table = t; reads-net = d; reads-table = f; header = header-same (net .header) (t .header) h; lowest = full-exactly _ _ k .0 back }
+              record {
+                net = net;
+                table = t;
+                reads-net = d;
+                reads-table = f;
+                header = header-same (net .header) (t .header) h;
+                lowest =
+                    full-exactly _ _ k .0 back;
+              }
           headers true h (accepted _) o = absurd (past named net t h o (sym (answered on) ∙ e))
 
 -- ---- bare cells
@@ -270,7 +292,8 @@ module _ (m n : ℕ) (cells : List ℕ) (k : ℕ) where
 
   -- .. and marking, which leaves its buffer
   module _ (marks : List ℕ) where
-    by-refusal : (number place : ℕ) → fullCells m n cells ≡ refused number place → markingCall m n cells marks ≡ record { answer = refused number place; marks = marks }
+    by-refusal : (number place : ℕ) → fullCells m n cells ≡ refused number place
+        → markingCall m n cells marks ≡ record { answer = refused number place; marks = marks }
     unfolding markingCall
     by-refusal number place e = rw (e, markingCall)
 
@@ -282,7 +305,8 @@ module _ (m n : ℕ) (cells : List ℕ) (k : ℕ) where
         marked d e =
             unfold markingCall any in
             not-given (14 ∷ []) _
-            (by-test (λ (made : Marked). Gives (14 ∷ []) (made .answer)) (ltb (length marks) (marksLength n)) _ _ (refuses (14 ∷ []) 14 _ refl) (accepts (14 ∷ []) _)) 27 k refl (rw (d, markingCall) at e)
+            (by-test (λ (made : Marked). Gives (14 ∷ []) (made .answer)) (ltb (length marks) (marksLength n)) _ _ (refuses (14 ∷ []) 14 _ refl)
+            (accepts (14 ∷ []) _)) 27 k refl (rw (d, markingCall) at e)
 
     pub marking-27-leaves : OpenCells m n cells k → markingCall m n cells marks ≡ record { answer = refused 27 k; marks = marks }
     marking-27-leaves o = by-refusal 27 k (cells-exactly .1 o)

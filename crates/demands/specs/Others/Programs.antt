@@ -4,18 +4,17 @@
 -- Assumes nothing.
 use Prim.Native.Nat.{ℕ, _≤_}
 use mathlib.Core.Path.{_≡_, sym, ap}
-use mathlib.Core.List.{List, [], _∷_, _++_}
+use mathlib.Core.List.{List}
 use lib.ListN.{length, take, length-replicate}
-use Rattle.rules.specs.Text.{text, decimal}
 use Rattle.rules.specs.Limits.{mostInputs, mostCells, mostSettled, mostRead}
 use Rattle.rules.specs.Sheets.Sheets.{Net, Table}
-use Rattle.rules.specs.Sheets.Printed.{line, printedNet}
+use Rattle.rules.specs.Sheets.Printed.{printedNet}
 use Rattle.rules.specs.Groups.Marks.{marksLength, noTreePlace}
 use Rattle.rules.specs.Calls.Answers.{Answer, accepted, refused}
 use Rattle.rules.specs.Calls.Settling.{Made, settledNet, settleCall, makeCall}
 use Rattle.rules.specs.Sheets.Reading.{readNet, tableOfNet}
 use Rattle.rules.specs.Calls.OpenCells.{readFull}
-use Rattle.rules.specs.Calls.Programs.{programOutput, zeros, settleProgram, makeProgram}
+use Rattle.rules.specs.Calls.Programs.{refusalLines, programOutput, zeros, settleProgram, makeProgram}
 use Rattle.laws.specs.Calls.Settling.{marksOfTable, settle-refused, make-refused}
 use Rattle.readback.specs.Readers.Numbers.{netNumbers}
 use Rattle.demands.specs.Settling.Settles.{sheetIn, sheetOf, settles}
@@ -25,22 +24,20 @@ use Rattle.demands.specs.Settling.Makes.{HasTree, Making, no-tree, some-
 use Rattle.demands.specs.Sheets.Lengths.{mostMarks, Ample, tableOrTree, settle-ample, make-ample, settle-ample-numbers, make-ample-numbers}
 use native.Mathlib.Nat.{le-of-eq}
 
--- the two lines of a refusal
-abbrev pub refusalLines : ℕ → ℕ → List ℕ
-refusalLines number place = line (text "number" ∷ text "place" ∷ []) ++ line (decimal number ∷ decimal place ∷ [])
-
 -- ---- what is printed of a call
 
-prints-sheet : (made : Made) (sheet : List ℕ) → sheetOf made ≡ accepted sheet → programOutput made ≡ sheet
+abbrev printed : Made → List ℕ
+printed made = programOutput (made .answer) (made .output)
+
+prints-sheet : (made : Made) (sheet : List ℕ) → sheetOf made ≡ accepted sheet → printed made ≡ sheet
 unfolding sheetIn programOutput
 prints-sheet made sheet = go (made .answer)
   where
-    go : (a : Answer ℕ) → sheetIn a (made .output) ≡ accepted sheet
-        → _≡_ {A = List ℕ} (elim a [ accepted count ↦ take count (made .output) | refused number place ↦ refusalLines number place ]) sheet
+    go : (a : Answer ℕ) → sheetIn a (made .output) ≡ accepted sheet → programOutput a (made .output) ≡ sheet
     go (accepted count) e = accepted-inj _ sheet e
     go (refused number place) e = absurd (not-refused sheet number place (sym e))
 
-prints-refusal : (made : Made) (number place : ℕ) → made .answer ≡ refused number place → programOutput made ≡ refusalLines number place
+prints-refusal : (made : Made) (number place : ℕ) → made .answer ≡ refused number place → printed made ≡ refusalLines number place
 unfolding programOutput
 prints-refusal made number place e = rw (e, programOutput)
 
@@ -64,19 +61,21 @@ module _ (input : List ℕ) where
   -- the settling program prints the settled sheet of an accepted net sheet, ..
   pub program-settles : (net : Net) → readNet (take mostRead input) ≡ accepted net → settleProgram input ≡ printedNet (settledNet (tableOfNet net))
   unfolding settleProgram
-  program-settles net reads = prints-sheet (settleRun input) _ (settles (take mostRead input) net reads _ _ _ (settle-ample (take mostRead input) _ _ _ zeros-ample net reads))
+  program-settles net reads =
+      prints-sheet (settleRun input) _ (settles (take mostRead input) net reads _ _ _ (settle-ample (take mostRead input) _ _ _ zeros-ample net reads))
 
   -- .. and the refusal of any other
   pub program-settle-refused : (number place : ℕ) → readNet (take mostRead input) ≡ refused number place → settleProgram input ≡ refusalLines number place
   unfolding settleProgram
-  program-settle-refused number place e = prints-refusal (settleRun input) number place (ap (λ (made : Made). made .answer) (settle-refused (take mostRead input) _ _ _ number place e))
+  program-settle-refused number place e =
+      prints-refusal (settleRun input) number place (ap (λ (made : Made). made .answer) (settle-refused (take mostRead input) _ _ _ number place e))
 
   -- the making program prints the settled sheet of an accepted sheet of a full table with a tree, ..
   pub program-makes : (t : Table) → readFull (take mostRead input) ≡ accepted t → HasTree t → makeProgram input ≡ printedNet (settledNet t)
   unfolding makeProgram
   program-makes t reads tree = go (make-ample (take mostRead input) _ _ _ zeros-ample t reads)
     where
-      go : Making t (makeRun input) → programOutput (makeRun input) ≡ printedNet (settledNet t)
+      go : Making t (makeRun input) → printed (makeRun input) ≡ printedNet (settledNet t)
       go (no-tree none answer) = absurd (none tree)
       go (some-tree has sheet) = prints-sheet (makeRun input) _ sheet
 
@@ -86,14 +85,15 @@ module _ (input : List ℕ) where
   unfolding makeProgram
   program-no-tree t reads none = go (make-ample (take mostRead input) _ _ _ zeros-ample t reads)
     where
-      go : Making t (makeRun input) → programOutput (makeRun input) ≡ refusalLines 16 (noTreePlace (t .header .inputs) (marksOfTable t))
+      go : Making t (makeRun input) → printed (makeRun input) ≡ refusalLines 16 (noTreePlace (t .header .inputs) (marksOfTable t))
       go (no-tree _ answer) = prints-refusal (makeRun input) 16 _ answer
       go (some-tree has sheet) = absurd (none has)
 
   -- .. and the refusal of any other sheet
   pub program-make-refused : (number place : ℕ) → readFull (take mostRead input) ≡ refused number place → makeProgram input ≡ refusalLines number place
   unfolding makeProgram
-  program-make-refused number place e = prints-refusal (makeRun input) number place (ap (λ (made : Made). made .answer) (make-refused (take mostRead input) _ _ _ number place e))
+  program-make-refused number place e =
+      prints-refusal (makeRun input) number place (ap (λ (made : Made). made .answer) (make-refused (take mostRead input) _ _ _ number place e))
 
   -- So a program never prints 13, 14 or 15: its call gives the numbers of its sheet alone, and making 16.
   pub program-settle-numbers : Gives netNumbers (settleRun input .answer)

@@ -2,39 +2,71 @@
 -- accepted loose sheets with the same first three lines, spaces aside, tidy to equal bytes exactly when they give every assignment the same ink."
 -- Assumes nothing.
 use Prim.Native.Nat.{ℕ, _^_, _≤_, _<_}
-use mathlib.Core.Path.{_≡_, refl, sym, ap, _∙_, subst}
+use mathlib.Core.Path.{_≡_, refl, sym, ap, _∙_, subst, subst⁻¹}
 use mathlib.Core.Logic.{_↔_}
 use mathlib.Core.List.{List, [], _∷_, _++_, map}
-use native.Mathlib.Nat.{zero-add}
+use native.Mathlib.Nat.{zero-add, lt-of-not-le}
+use native.Mathlib.Decide.{decLe}
 use native.Mathlib.Omega.{arith}
 use lib.ListN.{length, getD, take, length-append}
 use lib.Seq.{take-at}
+use lib.Dec.{ltb}
 use Rattle.rules.specs.Text.{text, decimal}
 use Rattle.rules.specs.Lists.{range}
 use Rattle.rules.specs.Sheets.Sheets.{Header, Table, levelsAt}
 use Rattle.rules.specs.Sheets.Printed.{printedTable}
-use Rattle.rules.specs.Calls.Answers.{Answer, accepted, written}
+use Rattle.rules.specs.Calls.Answers.{Answer, accepted, refused, written}
 use Rattle.rules.specs.Sheets.Reading.{readTable}
 use Rattle.rules.specs.Sheets.LooseSheet.{Row, LooseTable, readLoose, inkNamed, tableOfLoose, looseFields, LooseRules}
-use Rattle.rules.specs.Calls.Tidying.{Tidied, tidyCall}
-use Rattle.laws.specs.Calls.Answers.{accepted-inj, written-front}
-use Rattle.laws.specs.Numbers.Assignments.{Assignment, indexOf, index-below, levels-index}
+use Rattle.rules.specs.Calls.Tidying.{Tidied, tidiedSheet, tidiedInto, tidyCall}
+use Rattle.laws.specs.Calls.Answers.{accepted-inj, not-refused, written-front}
+use Rattle.laws.specs.Numbers.Assignments.{Assignment, indexOf, index-of-below, levels-index}
 use Rattle.laws.specs.Lists.Ranges.{map-range-same}
-use Rattle.laws.specs.Calls.Tidying.{tidy-accepted, tidied-sheet, tidied-written}
+use Rattle.laws.specs.Lists.Tests.{by-test}
+use Rattle.laws.specs.Calls.Tidying.{tidy-accepted, tidied-sheet, tidied-15, tidied-written}
 use Rattle.readback.specs.Readers.Decimals.{decimal-injective}
 use Rattle.readback.specs.Sheets.ReadBack.{table-accepted, table-read-back}
 use Rattle.readback.specs.Tables.LooseSheets.{loose-sheets}
 use Rattle.readback.specs.Tables.LooseTables.{ink-of-row, row-of, all-named, ink-at, index-named, loose-kept, inOrder, strict-read, strict-same}
+use Rattle.demands.specs.Numbers.Numbers.{by-answer}
 use Rattle.demands.specs.Settling.Settles.{sheetIn}
 
 -- the sheet that tidying wrote: "A call that writes a sheet answers its length, and the sheet is that many bytes from the front of the output."
-abbrev pub tidiedOf : Tidied → Answer (List ℕ)
-tidiedOf tidied = sheetIn (tidied .answer) (tidied .output)
+abbrev pub tidiedText : Tidied → Answer (List ℕ)
+tidiedText tidied = sheetIn (tidied .answer) (tidied .output)
 
 -- buffers as long as a table needs
 pub record LongTable (t : Table) (cells output : List ℕ) : Type 0 where
   pub cells-fit : t .header .levels ^ t .header .inputs ≤ length cells
   pub output-fits : length (printedTable t) ≤ length output
+
+-- ---- every call
+
+-- the sheet that is accepted is within the output
+module _ (output : List ℕ) where
+  abbrev Within : Tidied → Type 0
+  Within tidied = (k : ℕ) → tidied .answer ≡ accepted k → k ≤ length output
+
+  none-within : (number place : ℕ) (cells : List ℕ) → Within (record { answer = refused number place; cells = cells; output = output })
+  none-within number place cells k e = absurd (not-refused k number place (sym e))
+
+  sheet-within : (sheet cells : List ℕ) → Within (tidiedSheet sheet cells output)
+  sheet-within sheet cells = go (decLe (length sheet) (length output))
+    where
+      go : Dec (length sheet ≤ length output) → Within (tidiedSheet sheet cells output)
+      go (yes h) = subst⁻¹ Within (tidied-written sheet cells output h) (λ k e. let same : length sheet ≡ k = cc in omega arith)
+      go (no h) = subst⁻¹ Within (tidied-15 sheet cells output (lt-of-not-le h)) (none-within 15 _ cells)
+
+  into-within : (t : Table) (cells : List ℕ) → Within (tidiedInto t cells output)
+  unfolding tidiedInto
+  into-within t cells =
+      by-test Within (ltb (length cells) (t .header .levels ^ t .header .inputs)) _ _ (none-within 13 _ cells)
+      (sheet-within (printedTable t) (written cells (t .inks)))
+
+  pub tidy-within : (s cells : List ℕ) → Within (tidyCall s cells output)
+  unfolding tidyCall
+  tidy-within s cells =
+      by-answer Within (readLoose s) _ _ (λ t _. into-within (tableOfLoose t) cells) (λ number place _. none-within number place cells)
 
 -- ---- strict sheets
 
@@ -57,7 +89,12 @@ module _ (s : List ℕ) (t : LooseTable) (reads : readLoose s ≡ accepted t) wh
   -- the call writes the sheet of the table, ..
   pub tidies : (cells output : List ℕ) → LongTable (tableOfLoose t) cells output
       → tidyCall s cells output
-      ≡ record { answer = accepted (length (printedTable (tableOfLoose t))); cells = written cells (tableOfLoose t .inks); output = written output (printedTable (tableOfLoose t)) }
+      ≡ record {
+        answer = accepted (length (printedTable (tableOfLoose t)));
+        cells = written cells (tableOfLoose t .inks);
+        output =
+            written output (printedTable (tableOfLoose t));
+      }
   tidies cells output long =
       tidy-accepted s cells output t reads
       ∙ tidied-sheet (tableOfLoose t) cells output (long .cells-fit)
@@ -65,11 +102,11 @@ module _ (s : List ℕ) (t : LooseTable) (reads : readLoose s ≡ accepted t) wh
 
   -- .. which is an accepted table sheet
   pub tidied-accepted : (cells output : List ℕ) → LongTable (tableOfLoose t) cells output
-      → (tidiedOf (tidyCall s cells output) ≡ accepted (printedTable (tableOfLoose t)))
+      → (tidiedText (tidyCall s cells output) ≡ accepted (printedTable (tableOfLoose t)))
       × (readTable (printedTable (tableOfLoose t)) ≡ accepted (tableOfLoose t))
   unfolding sheetIn
   tidied-accepted cells output long = (
-    ap tidiedOf (tidies cells output long) ∙ ap accepted (written-front output (printedTable (tableOfLoose t))),
+    ap tidiedText (tidies cells output long) ∙ ap accepted (written-front output (printedTable (tableOfLoose t))),
     table-read-back (tableOfLoose t) (loose-kept t kept-loose),
   )
 
@@ -79,7 +116,7 @@ module _ (s : List ℕ) (t : LooseTable) (reads : readLoose s ≡ accepted t) wh
   each-named ls given d =
       let m = t .header .levels in
       let n = t .header .inputs in
-      let (k, h, e) = row-of (t .rows) (indexOf m ls) (all-named t kept-loose (indexOf m ls) (index-below m n ls given)) d in
+      let (k, h, e) = row-of (t .rows) (indexOf m ls) (all-named t kept-loose (indexOf m ls) (index-of-below m n ls given)) d in
       (k, h, ap (levelsAt m n) e ∙ levels-index m n ls given)
 
   -- .. and whatever row names it, the table has that row's ink there
@@ -128,7 +165,8 @@ module _ (s r : List ℕ) (t u : LooseTable) (reads : readLoose s ≡ accepted t
   same-inks : SameNamedInks → tableOfLoose t ≡ tableOfLoose u
   unfolding tableOfLoose
   same-inks each =
-      let inks : map (inkNamed (t .rows)) (range 0 (t .header .levels ^ t .header .inputs)) ≡ map (inkNamed (u .rows)) (range 0 (u .header .levels ^ u .header .inputs)) =
+      let inks : map (inkNamed (t .rows)) (range 0 (t .header .levels ^ t .header .inputs))
+      ≡ map (inkNamed (u .rows)) (range 0 (u .header .levels ^ u .header .inputs)) =
       map-range-same (inkNamed (t .rows)) (inkNamed (u .rows)) 0 (t .header .levels ^ t .header .inputs) (λ p _ h. each p (rw zero-add at h))
       ∙ ap (λ (x : Header). map (inkNamed (u .rows)) (range 0 (x .levels ^ x .inputs))) headers in
       (λ q. record { header = headers q; inks = inks q })
@@ -142,7 +180,7 @@ module _ (s r : List ℕ) (t u : LooseTable) (reads : readLoose s ≡ accepted t
       ∙ table-read-back (tableOfLoose u) (loose-kept u (kept-loose r u reads')))
 
   pub tidied-equal : (cells output cells' output' : List ℕ) → LongTable (tableOfLoose t) cells output → LongTable (tableOfLoose u) cells' output'
-      → (tidiedOf (tidyCall s cells output) ≡ tidiedOf (tidyCall r cells' output')) ↔ SameNamedInks
+      → (tidiedText (tidyCall s cells output) ≡ tidiedText (tidyCall r cells' output')) ↔ SameNamedInks
   tidied-equal cells output cells' output' long long' =
       let first = tidied-accepted s t reads cells output long .0 in
       let second = tidied-accepted r u reads' cells' output' long' .0 in (

@@ -13,8 +13,8 @@ use Rattle.rules.specs.Groups.Marks.{marksLength, storedMarks}
 use Rattle.rules.specs.Calls.Answers.{accepted, inkIn}
 use Rattle.rules.specs.Calls.Settling.{settledNet}
 use Rattle.rules.specs.Calls.FamilyCalls.{Counted, countOfTable, familyNet, familyCountCall, familyTreeCall, afterCount}
-use Rattle.laws.specs.Calls.Settling.{marksOfTable}
-use Rattle.laws.specs.Calls.FamilyCalls.{counted-marked, family-count-accepted, numbered-marked, count-17, count-tree, family-tree-accepted}
+use Rattle.laws.specs.Calls.Settling.{marksOfTable, into-marked}
+use Rattle.laws.specs.Calls.FamilyCalls.{counted-marked, family-count-accepted, count-17, count-tree, family-tree-accepted}
 use Rattle.trees.specs.Trees.NetTables.{inputs-several}
 use Rattle.trees.specs.Renaming.RenamedWirings.{count-renamed}
 use Rattle.trees.specs.Renaming.RenamedNets.{family-renamed}
@@ -22,7 +22,8 @@ use Rattle.demands.specs.Sheets.FullSheets.{FullTableRules}
 use Rattle.demands.specs.Settling.Makes.{two-tree}
 use Rattle.demands.specs.Families.FamilyTables.{some-two, family-as-long}
 use Rattle.demands.specs.Families.FamilySheets.{tree-accepted}
-use Rattle.demands.specs.Renaming.RenamedSheets.{RenamedTables, renamedTable, kept-one, positive, is-renamed, reads-renamed, kept-other, renamed-inks-below, inks-renamed, same-inks, same-marks, RenamedNets, nets-renamed}
+use Rattle.demands.specs.Renaming.RenamedSheets.{Letters, lettersOf, RenamedTables, kept-one, positive, is-renamed, reads-renamed, kept-other}
+use Rattle.demands.specs.Renaming.RenamedSheets.{renamed-inks-below, inks-renamed, same-inks, same-marks, RenamedNets, nets-renamed}
 use Rattle.demands.specs.Renaming.Renaming.{Enough, AlikeMade, left-marks, alike-refused, alike-written, stored-count}
 
 -- what the two count calls come to: the same answer and the same marks
@@ -37,17 +38,7 @@ number-fits t kept number less cells marks output enough =
     rw (family-as-long t kept number less) (enough .output-fits (two-tree t kept .1 (some-two t kept (omega arith))))
 
 module _ (r : ℕ → ℕ) (s other : List ℕ) (both : RenamedTables r s other) where
-  abbrev t : Table
-  t = both .table
-
-  abbrev u : Table
-  u = renamedTable r t
-
-  abbrev m : ℕ
-  m = t .header .levels
-
-  abbrev n : ℕ
-  n = t .header .inputs
+  open Letters (lettersOf r s other both) using (t, u, m, n)
 
   -- as many trees
   same-count : countOfTable t ≡ countOfTable u
@@ -55,7 +46,8 @@ module _ (r : ℕ → ℕ) (s other : List ℕ) (both : RenamedTables r s other)
   same-count = count-renamed m n (positive r s other both) (inkIn (t .inks)) (inkIn (u .inks)) (same-inks r s other both)
 
   -- "answers the count of the trees": the same count
-  pub counts-renamed : (cells marks cells' marks' : List ℕ) → m ^ n ≤ length cells → marksLength n ≤ length marks → m ^ n ≤ length cells' → marksLength n ≤ length marks'
+  pub counts-renamed : (cells marks cells' marks' : List ℕ) → m ^ n ≤ length cells → marksLength n ≤ length marks → m ^ n ≤ length cells'
+      → marksLength n ≤ length marks'
       → AlikeCounted n (familyCountCall s cells marks) (familyCountCall other cells' marks')
   counts-renamed cells marks cells' marks' cells-fit marks-fit cells-fit' marks-fit' =
       rw (
@@ -76,19 +68,20 @@ module _ (r : ℕ → ℕ) (s other : List ℕ) (both : RenamedTables r s other)
 
   -- "writes the tree of that number": both are refused, or both made, in buffers that are long enough for making
   pub numbers-renamed : (number : ℕ) (cells marks output cells' marks' output' : List ℕ) → Enough settledNet t cells marks output
-      → Enough settledNet (both .renamed) cells' marks' output' → AlikeMade r n (familyTreeCall s number cells marks output) (familyTreeCall other number cells' marks' output')
+      → Enough settledNet (both .renamed) cells' marks' output'
+      → AlikeMade r n (familyTreeCall s number cells marks output) (familyTreeCall other number cells' marks' output')
   numbers-renamed number cells marks output cells' marks' output' enough enough-other = go (decLt number (countOfTable t))
     where
       enough' : Enough settledNet u cells' marks' output'
       enough' = subst (λ (v : Table). Enough settledNet v cells' marks' output') (is-renamed r s other both) enough-other
 
       judged : familyTreeCall s number cells marks output ≡ afterCount number t cells marks output
-      judged = family-tree-accepted s number cells marks output t (both .reads) ∙ numbered-marked number t cells marks output (enough .cells-fit) (enough .marks-fit)
+      judged = family-tree-accepted s number cells marks output t (both .reads) ∙ into-marked t cells marks output _ (enough .cells-fit) (enough .marks-fit)
 
       judged' : familyTreeCall other number cells' marks' output' ≡ afterCount number u cells' marks' output'
       judged' =
           family-tree-accepted other number cells' marks' output' u (reads-renamed r s other both)
-          ∙ numbered-marked number u cells' marks' output' (enough' .cells-fit) (enough' .marks-fit)
+          ∙ into-marked u cells' marks' output' _ (enough' .cells-fit) (enough' .marks-fit)
 
       go : Dec (number < countOfTable t) → AlikeMade r n (familyTreeCall s number cells marks output) (familyTreeCall other number cells' marks' output')
       go (no large) =

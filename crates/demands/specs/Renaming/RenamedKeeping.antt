@@ -1,6 +1,6 @@
--- Document 02, K14, of a wiring that is kept: for two full table sheets of which one is a renaming of the other's inks a net sheet is refused with the same number
--- and place, or kept for both. Then the two sheets differ by the renaming in the last table alone, and the sets of the gates that changed agree but for the
--- last gate.
+-- Document 02, K14, of a wiring that is kept: for two full table sheets of which one is a renaming of the other's inks a net sheet is refused with
+-- the same number and place, or kept for both. Then the two sheets differ by the renaming in the last table alone, and the sets of the gates that
+-- changed agree but for the last gate.
 -- Assumes nothing.
 use Prim.Native.Nat.{ℕ, suc, _^_, _≤_, _<_}
 use mathlib.Core.Path.{_≡_, refl, sym, ap, _∙_, subst, subst⁻¹}
@@ -31,10 +31,11 @@ use Rattle.trees.specs.Renaming.RenamedNets.{kept-renamed}
 use Rattle.trees.specs.Keeping.KeptLinks.{kept-length}
 use Rattle.trees.specs.Keeping.KeptWirings.{all-roomy}
 use Rattle.readback.specs.Sheets.ReadBack.{net-accepted}
-use Rattle.demands.specs.Others.Checks.{same-header, header-same}
+use Rattle.laws.specs.Calls.Checking.{same-header, header-same}
 use Rattle.demands.specs.Keeping.KeptNets.{Roomy}
 use Rattle.demands.specs.Keeping.Keeping.{Past, kept-accepted, kept-as-long}
-use Rattle.demands.specs.Renaming.RenamedSheets.{RenamedTables, renamedTable, kept-one, kept-other, reads-renamed, renamed-inks-below, inks-renamed, RenamedNets, renamed-long, nets-renamed}
+use Rattle.demands.specs.Renaming.RenamedSheets.{RenamedTables, renamedTable, kept-one, kept-other, reads-renamed, renamed-inks-below}
+use Rattle.demands.specs.Renaming.RenamedSheets.{inks-renamed, RenamedNets, renamed-long, nets-renamed}
 
 -- What the two calls come to on the net sheet q.
 pub data AlikeKept (r : ℕ → ℕ) (q : List ℕ) (made other : KeptWiring) : Type 0 where
@@ -148,28 +149,39 @@ module _ (r : ℕ → ℕ) (s other : List ℕ) (both : RenamedTables r s other)
       unfolding past past'
       kept-alike = go (leavesOut net t) refl (decLe (length (net .gates)) (roomyBefore net t))
         where
-          made : (takes : leavesOut net t ≡ false) (roomy : length (net .gates) ≤ roomyBefore net t) → AlikeKept r q (keepCall q s cells output) (keepCall q other cells' output')
+          made : (takes : leavesOut net t ≡ false) (roomy : length (net .gates) ≤ roomyBefore net t)
+              → AlikeKept r q (keepCall q s cells output) (keepCall q other cells' output')
           made takes roomy =
               let nets = sheets takes roomy in
               let (takes', roomy') = room' takes roomy in
               let as-long = renamed-long r _ _ nets in
               rw (
                 judged ∙ keep-written net t cells output alike (read-one .1) long takes roomy (rw (kept-as-long q s cells past (room takes roomy)) fits),
-                judged' ∙ keep-written net u cells' output' alike (read-other .1) long' takes' roomy' (rw (kept-as-long q other cells' past' (room' takes roomy)) fits'),
+                judged' ∙ keep-written net u cells' output' alike (read-other .1) long' takes' roomy'
+                    (rw (kept-as-long q other cells' past' (room' takes roomy)) fits'),
               )
-              (both-kept (length (printedNet (keptNet net t))) _ _ net refl (ap (λ (k : ℕ). rewritten k (changedGates (net .gates) (keptNet net u .gates))) (sym as-long))
-              (subst⁻¹ (λ (b : List ℕ). RenamedNets r b (take (length (printedNet (keptNet net t))) (written output' (printedNet (keptNet net u))))) (written-front output (printedNet (keptNet net t)))
-              (subst⁻¹ (RenamedNets r (printedNet (keptNet net t))) (ap (λ (k : ℕ). take k (written output' (printedNet (keptNet net u)))) as-long ∙ written-front output' (printedNet (keptNet net u))) nets))
+              (both-kept (length (printedNet (keptNet net t))) _ _ net refl
+              (ap (λ (k : ℕ). rewritten k (changedGates (net .gates) (keptNet net u .gates))) (sym as-long))
+              (subst⁻¹ (λ (b : List ℕ). RenamedNets r b (take (length (printedNet (keptNet net t))) (written output' (printedNet (keptNet net u)))))
+              (written-front output (printedNet (keptNet net t)))
+              (subst⁻¹ (RenamedNets r (printedNet (keptNet net t)))
+              (ap (λ (k : ℕ). take k (written output' (printedNet (keptNet net u)))) as-long ∙ written-front output' (printedNet (keptNet net u))) nets))
               reads (sets takes roomy))
 
-          go : (out : Bool) → leavesOut net t ≡ out → Dec (length (net .gates) ≤ roomyBefore net t) → AlikeKept r q (keepCall q s cells output) (keepCall q other cells' output')
+          go : (out : Bool) → leavesOut net t ≡ out → Dec (length (net .gates) ≤ roomyBefore net t)
+              → AlikeKept r q (keepCall q s cells output) (keepCall q other cells' output')
           go true out _ =
-              rw (judged ∙ keep-23-0 net t cells output alike (read-one .1) long out, judged' ∙ keep-23-0 net u cells' output' alike (read-other .1) long' (sym same-out ∙ out))
+              rw (
+                judged ∙ keep-23-0 net t cells output alike (read-one .1) long out,
+                judged'
+                    ∙ keep-23-0 net u cells' output' alike (read-other .1) long' (sym same-out ∙ out),
+              )
               (both-refused neither 23 0 refl refl)
           go false takes (no crowded) =
               rw (
                 judged ∙ keep-23 net t cells output alike (read-one .1) long takes (lt-of-not-le crowded),
-                judged' ∙ keep-23 net u cells' output' alike (read-other .1) long' (sym same-out ∙ takes) (subst (λ (k : ℕ). k < length (net .gates)) same-roomy (lt-of-not-le crowded)),
+                judged' ∙ keep-23 net u cells' output' alike (read-other .1) long' (sym same-out ∙ takes)
+                    (subst (λ (k : ℕ). k < length (net .gates)) same-roomy (lt-of-not-le crowded)),
               )
               (both-refused neither 23 (suc (roomyBefore net t)) refl (ap (λ (k : ℕ). turnedAway neither 23 (suc k)) (sym same-roomy)))
           go false takes (yes roomy) = made takes roomy
@@ -183,7 +195,8 @@ module _ (r : ℕ → ℕ) (s other : List ℕ) (both : RenamedTables r s other)
     where
       go : (a : Answer Net) → readNet q ≡ a → AlikeKept r q (keepCall q s cells output) (keepCall q other cells' output')
       go (refused number place) e =
-          rw (keep-net-refused q s cells output number place e, keep-net-refused q other cells' output' number place e) (both-refused netNamed number place refl refl)
+          rw (keep-net-refused q s cells output number place e, keep-net-refused q other cells' output' number place e)
+          (both-refused netNamed number place refl refl)
       go (accepted net) e = of (sameHeader (net .header) (t .header)) refl
         where
           of : (b : Bool) → sameHeader (net .header) (t .header) ≡ b → AlikeKept r q (keepCall q s cells output) (keepCall q other cells' output')

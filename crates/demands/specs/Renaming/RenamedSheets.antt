@@ -43,18 +43,20 @@ pub record RenamedTables (r : ℕ → ℕ) (s other : List ℕ) : Type 0 where
 abbrev pub renamedTable : (ℕ → ℕ) → Table → Table
 renamedTable r t = record { header = t .header; inks = map r (t .inks) }
 
+-- the tables of two such sheets, and their levels and inputs, by one letter each
+pub record Letters : Type 0 where
+  pub t : Table
+  pub u : Table
+  pub m : ℕ
+  pub n : ℕ
+
+abbrev pub lettersOf : (r : ℕ → ℕ) (s other : List ℕ) → RenamedTables r s other → Letters
+lettersOf r s other both =
+    let t = both .table in
+    record { t = t; u = renamedTable r t; m = t .header .levels; n = t .header .inputs }
+
 module _ (r : ℕ → ℕ) (s other : List ℕ) (both : RenamedTables r s other) where
-  abbrev t : Table
-  t = both .table
-
-  abbrev u : Table
-  u = renamedTable r t
-
-  abbrev m : ℕ
-  m = t .header .levels
-
-  abbrev n : ℕ
-  n = t .header .inputs
+  open Letters (lettersOf r s other both) using (t, u, m, n)
 
   pub kept-one : FullTableRules t
   kept-one = full-accepted s t (both .reads) .1

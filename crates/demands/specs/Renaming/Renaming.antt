@@ -28,7 +28,9 @@ use Rattle.trees.specs.Shallow.ShallowTables.{shallow-kept}
 use Rattle.readback.specs.Sheets.ReadBack.{net-read-back}
 use Rattle.demands.specs.Sheets.FullSheets.{full-keeps}
 use Rattle.demands.specs.Settling.Makes.{HasTree, two-tree, made-accepted}
-use Rattle.demands.specs.Renaming.RenamedSheets.{RenamedTables, renamedTable, kept-one, positive, is-renamed, reads-renamed, kept-other, renamed-inks-below, inks-renamed, same-inks, same-marks, RenamedNets, renamed-long, nets-renamed}
+use Rattle.demands.specs.Renaming.RenamedSheets.{Letters, lettersOf, RenamedTables, kept-one, positive, is-renamed, reads-renamed, kept-other}
+use Rattle.demands.specs.Renaming.RenamedSheets.{renamed-inks-below, inks-renamed, same-inks, same-marks, RenamedNets, renamed-long}
+use Rattle.demands.specs.Renaming.RenamedSheets.{nets-renamed}
 
 -- "given long enough buffers": for the cells, for the marks, and, where there is a tree, for the sheet of the net that is made
 pub record Enough (netFor : Table → Net) (t : Table) (cells marks output : List ℕ) : Type 0 where
@@ -58,7 +60,8 @@ module _ (r : ℕ → ℕ) (n : ℕ) (stored : List ℕ) (count : length stored 
       record { answers = refl; marks = left-marks; sheets = λ count e. absurd (not-refused count number place (sym e)) }
 
   -- both made
-  pub alike-written : (sheet other cells cells' output output' : List ℕ) → RenamedNets r sheet other → length sheet ≤ length output → length other ≤ length output'
+  pub alike-written : (sheet other cells cells' output output' : List ℕ) → RenamedNets r sheet other → length sheet ≤ length output
+      → length other ≤ length output'
       → AlikeMade r n (writtenSheet sheet cells (written marks stored) output) (writtenSheet other cells' (written marks' stored) output')
   alike-written sheet other cells cells' output output' nets fits fits' =
       rw (sheet-written sheet cells (written marks stored) output fits, sheet-written other cells' (written marks' stored) output' fits')
@@ -68,7 +71,8 @@ module _ (r : ℕ → ℕ) (n : ℕ) (stored : List ℕ) (count : length stored 
         sheets = λ count e.
             let own : length sheet ≡ count = accepted-inj _ count e in
             let its : length other ≡ count = sym (renamed-long r sheet other nets) ∙ own in
-            subst⁻¹ (λ (b : List ℕ). RenamedNets r b (take count (written output' other))) (ap (λ (k : ℕ). take k (written output sheet)) (sym own) ∙ written-front output sheet)
+            subst⁻¹ (λ (b : List ℕ). RenamedNets r b (take count (written output' other)))
+            (ap (λ (k : ℕ). take k (written output sheet)) (sym own) ∙ written-front output sheet)
             (subst⁻¹ (RenamedNets r sheet) (ap (λ (k : ℕ). take k (written output' other)) (sym its) ∙ written-front output' other) nets);
       })
 
@@ -90,17 +94,7 @@ alike-layered r n count made other alike =
 -- ---- the calls
 
 module _ (r : ℕ → ℕ) (s other : List ℕ) (both : RenamedTables r s other) where
-  abbrev t : Table
-  t = both .table
-
-  abbrev u : Table
-  u = renamedTable r t
-
-  abbrev m : ℕ
-  m = t .header .levels
-
-  abbrev n : ℕ
-  n = t .header .inputs
+  open Letters (lettersOf r s other both) using (t, u, m, n)
 
   several : 1 < n
   several = inputs-several n (kept-one r s other both .header .inputs)
@@ -124,10 +118,10 @@ module _ (r : ℕ → ℕ) (s other : List ℕ) (both : RenamedTables r s other)
   into-alike netFor nets cells marks output cells' marks' output' enough enough' = go (ℕ-discrete _ 2)
     where
       judged : madeInto netFor t cells marks output ≡ afterMarks netFor t cells marks output
-      judged = into-marked netFor t cells marks output (enough .cells-fit) (enough .marks-fit)
+      judged = into-marked t cells marks output _ (enough .cells-fit) (enough .marks-fit)
 
       judged' : madeInto netFor u cells' marks' output' ≡ afterMarks netFor u cells' marks' output'
-      judged' = into-marked netFor u cells' marks' output' (enough' .cells-fit) (enough' .marks-fit)
+      judged' = into-marked u cells' marks' output' _ (enough' .cells-fit) (enough' .marks-fit)
 
       go : Dec (WholeTwo t) → AlikeMade r n (madeInto netFor t cells marks output) (madeInto netFor u cells' marks' output')
       go (no none) =
@@ -153,15 +147,18 @@ module _ (r : ℕ → ℕ) (s other : List ℕ) (both : RenamedTables r s other)
   settled-sheets two =
       nets-renamed r (t .header) _ _ (made-accepted s t (both .reads) (two-tree t (kept-one r s other both) .1 two))
       (made-accepted other u (reads-renamed r s other both) (two-tree u (kept-other r s other both) .1 (two-renamed two)))
-      (settled-renamed m n (positive r s other both) r (inkIn (t .inks)) (inkIn (u .inks)) (renamed-inks-below r s other both) (inks-renamed r s other both) several two)
+      (settled-renamed m n (positive r s other both) r (inkIn (t .inks)) (inkIn (u .inks)) (renamed-inks-below r s other both)
+      (inks-renamed r s other both) several two)
 
   -- and the two shallow ones
   shallow-sheets : WholeTwo t → RenamedNets r (printedNet (shallowNet t)) (printedNet (shallowNet u))
   unfolding shallowNet
   shallow-sheets two =
-      nets-renamed r (t .header) _ _ (net-read-back (shallowNet t) (shallow-kept t (full-keeps t (kept-one r s other both)) (kept-one r s other both .below) two))
+      nets-renamed r (t .header) _ _
+      (net-read-back (shallowNet t) (shallow-kept t (full-keeps t (kept-one r s other both)) (kept-one r s other both .below) two))
       (net-read-back (shallowNet u) (shallow-kept u (full-keeps u (kept-other r s other both)) (kept-other r s other both .below) (two-renamed two)))
-      (shallow-renamed m n (positive r s other both) r (inkIn (t .inks)) (inkIn (u .inks)) (renamed-inks-below r s other both) (inks-renamed r s other both) several two)
+      (shallow-renamed m n (positive r s other both) r (inkIn (t .inks)) (inkIn (u .inks)) (renamed-inks-below r s other both)
+      (inks-renamed r s other both) several two)
 
   module _ (cells marks output cells' marks' output' : List ℕ) where
     -- of the calls' own sheets
@@ -182,6 +179,10 @@ module _ (r : ℕ → ℕ) (s other : List ℕ) (both : RenamedTables r s other)
     shallow-makes-renamed enough enough' =
         let count : netLayers (shallowNet t) ≡ netLayers (shallowNet u) =
         shallow-layers-renamed m n (positive r s other both) (inkIn (t .inks)) (inkIn (u .inks)) (same-inks r s other both) in
-        rw (make-shallow-accepted s cells marks output t (both .reads), make-shallow-accepted other cells' marks' output' u (reads-renamed r s other both), ← count)
+        rw (
+          make-shallow-accepted s cells marks output t (both .reads),
+          make-shallow-accepted other cells' marks' output' u (reads-renamed r s other both),
+          ← count,
+        )
         (alike-layered r n (netLayers (shallowNet t)) _ _
         (into-alike shallowNet shallow-sheets cells marks output cells' marks' output' enough (enough-renamed shallowNet enough')))

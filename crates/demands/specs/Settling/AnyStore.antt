@@ -20,11 +20,11 @@ use Rattle.rules.specs.Calls.Answers.{Answer, accepted, inkIn, onward, refused,
 use Rattle.rules.specs.Sheets.Reading.{readNet, tableOfNet}
 use Rattle.rules.specs.Calls.OpenCells.{fullCells, readFull}
 use Rattle.rules.specs.Calls.Marking.{Marked, markingCall}
-use Rattle.rules.specs.Calls.Settling.{Made, settledNet, writtenSheet, afterMarks, madeInto, settleCall, makeCall}
+use Rattle.rules.specs.Calls.Settling.{Made, settledNet, writtenSheet, afterMarks, inRoom, madeInto, settleCall, makeCall}
 use Rattle.rules.specs.Calls.ShallowSettling.{LayeredMade, layered, layeredInto, netLayers, shallowNet, withLayers, settleShallowCall, makeShallowCall}
 use Rattle.rules.specs.Calls.FamilyCalls.{Counted, countOfTable, familyNet, countedInto, familyCountCall, afterCount, numberedInto, familyTreeCall}
 use Rattle.laws.specs.Calls.Settling.{marksOfTable, into-13, into-14, into-marked}
-use Rattle.laws.specs.Calls.FamilyCalls.{counted-13, counted-14, counted-marked, numbered-13, numbered-14, numbered-marked}
+use Rattle.laws.specs.Calls.FamilyCalls.{counted-13, counted-14, counted-marked}
 
 -- ---- ways to store marks
 
@@ -137,7 +137,8 @@ MarksUnread rest = (t : Table) (cells marks other output : List ℕ) → SameOut
 sheet-alike : (sheet cells marks other output : List ℕ) → SameOutcome (writtenSheet sheet cells marks output) (writtenSheet sheet cells other output)
 unfolding writtenSheet
 sheet-alike sheet cells marks other output =
-    test-alike (ltb (length output) (length sheet)) _ _ _ _ (record { answer = refl; cells = refl; output = refl }) (record { answer = refl; cells = refl; output = refl })
+    test-alike (ltb (length output) (length sheet)) _ _ _ _ (record { answer = refl; cells = refl; output = refl })
+    (record { answer = refl; cells = refl; output = refl })
 
 pub make-any-store : (netFor : Table → Net) → MarksUnread (makes-any-store netFor)
 unfolding makes-any-store
@@ -168,29 +169,32 @@ stores-alike s s' rest unread (refused number place) cells marks other output lo
 stores-alike s s' rest unread (accepted t) cells marks other output long = go (decLe (t .header .levels ^ t .header .inputs) (length cells))
   where
     go : Dec (t .header .levels ^ t .header .inputs ≤ length cells) → SameOutcome (intoBy s rest t cells marks output) (intoBy s' rest t cells other output)
-    go (no h) = subst₂ SameOutcome (sym (by-13 s rest t cells marks output (lt-of-not-le h))) (sym (by-13 s' rest t cells other output (lt-of-not-le h))) (record { answer = refl; cells = refl; output = refl })
+    go (no h) = subst₂ SameOutcome (sym (by-13 s rest t cells marks output (lt-of-not-le h)))
+        (sym (by-13 s' rest t cells other output (lt-of-not-le h))) (record { answer = refl; cells = refl; output = refl })
     go (yes h) =
-        subst₂ SameOutcome (sym (by-rest s rest t cells marks output h (long .first t refl))) (sym (by-rest s' rest t cells other output h (long .second t refl)))
+        subst₂ SameOutcome (sym (by-rest s rest t cells marks output h (long .first t refl)))
+        (sym (by-rest s' rest t cells other output h (long .second t refl)))
         (unread t _ _ _ output)
 
 -- ---- the calls are of this kind
 
-module _ (netFor : Table → Net) (t : Table) (cells marks output : List ℕ) where
-  makes-after : afterMarks netFor t cells marks output ≡ makes-any-store netFor t (written cells (t .inks)) (written marks (storedMarks (marksOfTable t))) output
-  unfolding afterMarks makes-any-store
-  makes-after = refl
-
-  pub into-is : madeInto netFor t cells marks output ≡ intoBy fourToByte (makes-any-store netFor) t cells marks output
-  into-is = go (decLe (t .header .levels ^ t .header .inputs) (length cells)) (decLe (marksLength (t .header .inputs)) (length marks))
+module _ (t : Table) (cells marks output : List ℕ) where
+  -- a call that first asks for the room
+  room-is : (rest : Rest)
+      → inRoom t cells marks output (rest t (written cells (t .inks)) (written marks (storedMarks (marksOfTable t))) output)
+      ≡ intoBy fourToByte rest t cells marks output
+  room-is rest = go (decLe (t .header .levels ^ t .header .inputs) (length cells)) (decLe (marksLength (t .header .inputs)) (length marks))
     where
       go : Dec (t .header .levels ^ t .header .inputs ≤ length cells) → Dec (marksLength (t .header .inputs) ≤ length marks)
-          → madeInto netFor t cells marks output ≡ intoBy fourToByte (makes-any-store netFor) t cells marks output
-      go (no h) _ = into-13 netFor t cells marks output (lt-of-not-le h) ∙ sym (by-13 fourToByte (makes-any-store netFor) t cells marks output (lt-of-not-le h))
-      go (yes h) (no k) = into-14 netFor t cells marks output h (lt-of-not-le k) ∙ sym (by-14 fourToByte (makes-any-store netFor) t cells marks output h (lt-of-not-le k))
-      go (yes h) (yes k) =
-          into-marked netFor t cells marks output h k
-          ∙ makes-after
-          ∙ sym (by-rest fourToByte (makes-any-store netFor) t cells marks output h k)
+          → inRoom t cells marks output (rest t (written cells (t .inks)) (written marks (storedMarks (marksOfTable t))) output)
+          ≡ intoBy fourToByte rest t cells marks output
+      go (no h) _ = into-13 t cells marks output _ (lt-of-not-le h) ∙ sym (by-13 fourToByte rest t cells marks output (lt-of-not-le h))
+      go (yes h) (no k) = into-14 t cells marks output _ h (lt-of-not-le k) ∙ sym (by-14 fourToByte rest t cells marks output h (lt-of-not-le k))
+      go (yes h) (yes k) = into-marked t cells marks output _ h k ∙ sym (by-rest fourToByte rest t cells marks output h k)
+
+  pub into-is : (netFor : Table → Net) → madeInto netFor t cells marks output ≡ intoBy fourToByte (makes-any-store netFor) t cells marks output
+  unfolding afterMarks makes-any-store
+  into-is netFor = room-is (makes-any-store netFor)
 
 module _ (sheet cells marks output : List ℕ) where
   pub make-is : makeCall sheet cells marks output ≡ callBy fourToByte (makes-any-store settledNet) (readFull sheet) cells marks output
@@ -202,7 +206,7 @@ module _ (sheet cells marks output : List ℕ) where
         | accepted t ↦ madeInto settledNet t cells marks output
       ] ≡ callBy fourToByte (makes-any-store settledNet) a cells marks output
       go (refused number place) = refl
-      go (accepted t) = into-is settledNet t cells marks output
+      go (accepted t) = into-is t cells marks output settledNet
 
   pub settle-is : settleCall sheet cells marks output ≡ callBy fourToByte (makes-any-store settledNet) (readAsTable sheet) cells marks output
   unfolding settleCall callBy onward
@@ -213,10 +217,11 @@ module _ (sheet cells marks output : List ℕ) where
         | accepted net ↦ madeInto settledNet (tableOfNet net) cells marks output
       ] ≡ callBy fourToByte (makes-any-store settledNet) (onward a (λ net. accepted (tableOfNet net))) cells marks output
       go (refused number place) = refl
-      go (accepted net) = into-is settledNet (tableOfNet net) cells marks output
+      go (accepted net) = into-is (tableOfNet net) cells marks output settledNet
 
   -- the shallow ones carry the layers of the net besides, which do not depend on marks in a buffer at all
-  pub make-shallow-is : makeShallowCall sheet cells marks output ≡ withShallow (readFull sheet) (callBy fourToByte (makes-any-store shallowNet) (readFull sheet) cells marks output)
+  pub make-shallow-is : makeShallowCall sheet cells marks output
+      ≡ withShallow (readFull sheet) (callBy fourToByte (makes-any-store shallowNet) (readFull sheet) cells marks output)
   unfolding makeShallowCall callBy withShallow withLayers layered onward layeredInto
   make-shallow-is = go (readFull sheet)
     where
@@ -225,9 +230,10 @@ module _ (sheet cells marks output : List ℕ) where
         | accepted t ↦ layeredInto shallowNet t cells marks output
       ] ≡ withShallow a (callBy fourToByte (makes-any-store shallowNet) a cells marks output)
       go (refused number place) = refl
-      go (accepted t) = ap (withLayers (netLayers (shallowNet t))) (into-is shallowNet t cells marks output)
+      go (accepted t) = ap (withLayers (netLayers (shallowNet t))) (into-is t cells marks output shallowNet)
 
-  pub settle-shallow-is : settleShallowCall sheet cells marks output ≡ withShallow (readAsTable sheet) (callBy fourToByte (makes-any-store shallowNet) (readAsTable sheet) cells marks output)
+  pub settle-shallow-is : settleShallowCall sheet cells marks output
+      ≡ withShallow (readAsTable sheet) (callBy fourToByte (makes-any-store shallowNet) (readAsTable sheet) cells marks output)
   unfolding settleShallowCall callBy withShallow withLayers layered onward layeredInto
   settle-shallow-is = go (readNet sheet)
     where
@@ -237,32 +243,19 @@ module _ (sheet cells marks output : List ℕ) where
       ] ≡ withShallow (onward a (λ net. accepted (tableOfNet net)))
           (callBy fourToByte (makes-any-store shallowNet) (onward a (λ net. accepted (tableOfNet net))) cells marks output)
       go (refused number place) = refl
-      go (accepted net) = ap (withLayers (netLayers (shallowNet (tableOfNet net)))) (into-is shallowNet (tableOfNet net) cells marks output)
+      go (accepted net) = ap (withLayers (netLayers (shallowNet (tableOfNet net)))) (into-is (tableOfNet net) cells marks output shallowNet)
 
   -- the family's
   pub family-tree-is : (number : ℕ) → familyTreeCall sheet number cells marks output ≡ callBy fourToByte (numbers number) (readFull sheet) cells marks output
   unfolding familyTreeCall callBy afterCount numbers
   family-tree-is number = go (readFull sheet)
     where
-      after : (t : Table) → afterCount number t cells marks output ≡ numbers number t (written cells (t .inks)) (written marks (storedMarks (marksOfTable t))) output
-      after t = refl
-
-      into : (t : Table) → Dec (t .header .levels ^ t .header .inputs ≤ length cells) → Dec (marksLength (t .header .inputs) ≤ length marks)
-          → numberedInto number t cells marks output ≡ intoBy fourToByte (numbers number) t cells marks output
-      into t (no h) _ = numbered-13 number t cells marks output (lt-of-not-le h) ∙ sym (by-13 fourToByte (numbers number) t cells marks output (lt-of-not-le h))
-      into t (yes h) (no k) =
-          numbered-14 number t cells marks output h (lt-of-not-le k) ∙ sym (by-14 fourToByte (numbers number) t cells marks output h (lt-of-not-le k))
-      into t (yes h) (yes k) =
-          numbered-marked number t cells marks output h k
-          ∙ after t
-          ∙ sym (by-rest fourToByte (numbers number) t cells marks output h k)
-
       go : (a : Answer Table) → elim a as (λ _. Made) [
         | refused refusal place ↦ record { answer = refused refusal place; cells = cells; marks = marks; output = output }
         | accepted t ↦ numberedInto number t cells marks output
       ] ≡ callBy fourToByte (numbers number) a cells marks output
       go (refused refusal place) = refl
-      go (accepted t) = into t (decLe _ _) (decLe _ _)
+      go (accepted t) = room-is t cells marks output (numbers number)
 
 -- the count call has no output
 module _ (sheet cells marks : List ℕ) where
@@ -291,13 +284,15 @@ module _ (sheet cells marks other output : List ℕ) where
   pub make-as-before : BothLong fourToByte byteEach (readFull sheet) marks other
       → SameOutcome (makeCall sheet cells marks output) (callBy byteEach (makes-any-store settledNet) (readFull sheet) cells other output)
   make-as-before long =
-      subst⁻¹ (λ (made : Made). SameOutcome made (callBy byteEach (makes-any-store settledNet) (readFull sheet) cells other output)) (make-is sheet cells marks output)
+      subst⁻¹ (λ (made : Made). SameOutcome made (callBy byteEach (makes-any-store settledNet) (readFull sheet) cells other output))
+      (make-is sheet cells marks output)
       (stores-alike fourToByte byteEach (makes-any-store settledNet) (make-any-store settledNet) (readFull sheet) cells marks other output long)
 
   pub settle-as-before : BothLong fourToByte byteEach (readAsTable sheet) marks other
       → SameOutcome (settleCall sheet cells marks output) (callBy byteEach (makes-any-store settledNet) (readAsTable sheet) cells other output)
   settle-as-before long =
-      subst⁻¹ (λ (made : Made). SameOutcome made (callBy byteEach (makes-any-store settledNet) (readAsTable sheet) cells other output)) (settle-is sheet cells marks output)
+      subst⁻¹ (λ (made : Made). SameOutcome made (callBy byteEach (makes-any-store settledNet) (readAsTable sheet) cells other output))
+      (settle-is sheet cells marks output)
       (stores-alike fourToByte byteEach (makes-any-store settledNet) (make-any-store settledNet) (readAsTable sheet) cells marks other output long)
 
 -- ---- marking, which has bare cells
@@ -322,7 +317,8 @@ module _ (m n : ℕ) (cells buffer : List ℕ) where
 
 -- what it comes to
 module _ (s : Store) (m n : ℕ) (cells buffer : List ℕ) where
-  by-bare : (number place : ℕ) → fullCells m n cells ≡ refused number place → markingBy s m n cells buffer ≡ record { answer = refused number place; marks = buffer }
+  by-bare : (number place : ℕ) → fullCells m n cells ≡ refused number place
+      → markingBy s m n cells buffer ≡ record { answer = refused number place; marks = buffer }
   unfolding markingBy
   by-bare number place e = rw (e, markingBy)
 

@@ -61,7 +61,8 @@ abbrev pub AgreesWhereShut : List Gate → Table → Type 0
 AgreesWhereShut gates t =
     (ls : List ℕ) → LevelsGiven (t .header) ls → (inkAt t ls ≡ t .header .levels → ⊥) → valueAt (t .header .levels) (t .header .inputs) gates ls ≡ inkAt t ls
 
--- Demand 2, "the check of a net against a table says yes exactly when they agree on every assignment", now of "the assignments that aren't open" (document 02, K13)
+-- Demand 2, "the check of a net against a table says yes exactly when they agree on every assignment", now of "the assignments that aren't open"
+-- (document 02, K13)
 pub check-agrees-assignments : (s r : List ℕ) (net : Net) (t : Table) → readNet s ≡ accepted net → readTable r ≡ accepted t
     → net .header ≡ t .header → (cells : List ℕ) → t .header .levels ^ t .header .inputs ≤ length cells
     → (checkCall s r cells .answer ≡ agree) ↔ AgreesWhereShut (net .gates) t
@@ -69,7 +70,8 @@ unfolding valueAt inkAt value valueWith
 check-agrees-assignments s r net t reads-net reads-table header cells long =
     Iff·trans
     (subst (λ (h : Header). (checkCall s r cells .answer ≡ agree)
-    ↔ ((p : ℕ) → p < t .header .levels ^ t .header .inputs → (inkIn (t .inks) p ≡ t .header .levels → ⊥) → value (h .levels) (h .inputs) (net .gates) p ≡ inkIn (t .inks) p))
+    ↔ ((p : ℕ) → p < t .header .levels ^ t .header .inputs → (inkIn (t .inks) p ≡ t .header .levels → ⊥)
+    → value (h .levels) (h .inputs) (net .gates) p ≡ inkIn (t .inks) p))
     header (check-agrees s r net t reads-net reads-table header cells long))
     (each-assignment (t .header .levels) (t .header .inputs) (levels-pos (t .header .levels) (table-accepted r t reads-table .1 .header .levels))
     (λ ls p. (inkIn (t .inks) p ≡ t .header .levels → ⊥) → valueAt (t .header .levels) (t .header .inputs) (net .gates) ls ≡ inkIn (t .inks) p))

@@ -18,7 +18,7 @@ use Rattle.rules.specs.Groups.Marks.{marksLength, storedMarks, noTreePlace}
 use Rattle.rules.specs.Nets.Leaves.{leavesOf}
 use Rattle.rules.specs.Sheets.SheetRules.{IsNet, NetRules}
 use Rattle.rules.specs.Calls.Answers.{accepted, refused, inkIn, written}
-use Rattle.rules.specs.Calls.Settling.{Made, settledNet, writtenSheet, afterMarks, roomFor, madeInto, settleCall, makeCall}
+use Rattle.rules.specs.Calls.Settling.{Made, settledNet, writtenSheet, afterMarks, roomFor, inRoom, madeInto, settleCall, makeCall}
 use Rattle.rules.specs.Sheets.Reading.{readNet, tableOfNet}
 use Rattle.laws.specs.Calls.Settling.{WholeTwo, marksOfTable, make-accepted, into-marked, marked-16, marked-tree}
 use Rattle.rules.specs.Nets.Trees.{Computes, TreeExists}
@@ -34,6 +34,15 @@ use Rattle.laws.specs.Lists.Tests.{by-test}
 use Rattle.demands.specs.Numbers.SettlingNumbers.{sheet-numbers}
 use Rattle.rules.specs.Calls.OpenCells.{readFull}
 use Rattle.demands.specs.Sheets.FullSheets.{FullTableRules, full-accepted}
+
+-- a table's levels, inputs and inks, by one letter each
+pub record TableLetters : Type 0 where
+  pub m : ℕ
+  pub n : ℕ
+  pub f : ℕ → ℕ
+
+abbrev pub tableLetters : Table → TableLetters
+tableLetters t = record { m = t .header .levels; n = t .header .inputs; f = inkIn (t .inks) }
 
 -- "just the inputs that matter .. if fewer than two do, the first-listed others make up two" (document 02, K12): a table's leaves, as a group
 abbrev pub leavesOfTable : Table → ℕ
@@ -98,7 +107,8 @@ pub sheet-gates : (t : Table) (r : List ℕ) (net : Net) → readNet r ≡ accep
     → IsNet (t .header .levels) (t .header .inputs) (net .gates) × Computes (t .header .levels) (t .header .inputs) (net .gates) (inkIn (t .inks))
 unfolding tableOfNet
 sheet-gates t r net reads table =
-    subst (λ (u : Table). IsNet (u .header .levels) (u .header .inputs) (net .gates) × Computes (u .header .levels) (u .header .inputs) (net .gates) (inkIn (u .inks)))
+    subst (λ (u : Table). IsNet (u .header .levels) (u .header .inputs) (net .gates)
+    × Computes (u .header .levels) (u .header .inputs) (net .gates) (inkIn (u .inks)))
     table (net-accepted r net reads .1 .gates, λ p h. sym (table-at (net .header .levels) (net .header .inputs) (net .gates) p h))
 
 pub sheet-tree : (t : Table) → HasSheet t → HasTree t
@@ -109,7 +119,7 @@ sheet-tree t has = let (net, computes) = sheet-gates t (has .0) (has .1) (has .2
 -- whatever the buffers, a sheet that is written is that of the net made of the table, and the whole group has mark 2
 pub into-accepted : (netFor : Table → Net) (t : Table) (cells marks output sheet : List ℕ) → sheetOf (madeInto netFor t cells marks output) ≡ accepted sheet
     → WholeTwo t × (printedNet (netFor t) ≡ sheet)
-unfolding madeInto sheetIn writtenSheet
+unfolding inRoom sheetIn writtenSheet
 into-accepted netFor t cells marks output sheet =
     by-answer Wrote (roomFor t cells marks) _ _ (λ _ _. marked (ℕ-discrete _ 2)) (λ number place _ e. absurd (not-refused sheet number place (sym e)))
   where
@@ -138,14 +148,20 @@ module _ (s : List ℕ) (t : Table) (reads : readFull s ≡ accepted t) where
       → ((place : ℕ) × (makeCall s cells marks output .answer ≡ refused 16 place)) ↔ (HasTree t → ⊥)
   unfolding any
   make-refuses cells marks output cells-fit marks-fit =
-      let marked = make-accepted s cells marks output t reads ∙ into-marked settledNet t cells marks output cells-fit marks-fit in (
-        λ r tree. not-given (15 ∷ []) _ (sheet-numbers (15 ∷ []) refl (printedNet (settledNet t)) (written cells (t .inks)) (written marks (storedMarks (marksOfTable t))) output) 16 (r .0) refl
+      let marked = make-accepted s cells marks output t reads ∙ into-marked t cells marks output _ cells-fit marks-fit in (
+        λ r tree. not-given (15 ∷ []) _
+            (sheet-numbers (15 ∷ []) refl (printedNet (settledNet t)) (written cells (t .inks)) (written marks (storedMarks (marksOfTable t))) output)
+            16 (r .0) refl
             (sym (ap (λ (made : Made). made .answer) (marked ∙ marked-tree settledNet t cells marks output (two-tree t kept .0 tree))) ∙ r .1),
-        λ none. (noTreePlace (t .header .inputs) (marksOfTable t), ap (λ (made : Made). made .answer) (marked ∙ marked-16 settledNet t cells marks output (λ two. none (two-tree t kept .1 two)))),
+        λ none. (
+          noTreePlace (t .header .inputs) (marksOfTable t),
+          ap (λ (made : Made). made .answer) (marked ∙ marked-16 settledNet t cells marks output (λ two. none (two-tree t kept .1 two))),
+        ),
       )
 
   -- .. and so exactly when no accepted net sheet of those levels and names has that table.
-  pub make-refuses-sheets : (cells marks output : List ℕ) → t .header .levels ^ t .header .inputs ≤ length cells → marksLength (t .header .inputs) ≤ length marks
+  pub make-refuses-sheets : (cells marks output : List ℕ) → t .header .levels ^ t .header .inputs ≤ length cells
+      → marksLength (t .header .inputs) ≤ length marks
       → ((place : ℕ) × (makeCall s cells marks output .answer ≡ refused 16 place)) ↔ (HasSheet t → ⊥)
   make-refuses-sheets cells marks output cells-fit marks-fit =
       let iff = make-refuses cells marks output cells-fit marks-fit in
@@ -183,7 +199,9 @@ module _ (s : List ℕ) (t : Table) (reads : readFull s ≡ accepted t) where
       go : Dec (WholeTwo t) → Making t (makeCall s cells marks output)
       go (no other) =
           no-tree (λ tree. other (two-tree t kept .0 tree))
-          (ap (λ (made : Made). made .answer) (make-accepted s cells marks output t reads ∙ into-marked settledNet t cells marks output cells-fit marks-fit ∙ marked-16 settledNet t cells marks output other))
+          (ap (λ (made : Made). made .answer)
+          (make-accepted s cells marks output t reads ∙ into-marked t cells marks output _ cells-fit marks-fit
+          ∙ marked-16 settledNet t cells marks output other))
       go (yes two) =
           let tree = two-tree t kept .1 two in
           some-tree tree (makes cells marks output tree (record { cells-fit = cells-fit; marks-fit = marks-fit; output-fits = output-fits tree }))

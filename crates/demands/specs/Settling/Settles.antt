@@ -18,7 +18,8 @@ use Rattle.rules.specs.Sheets.SheetRules.{NetRules}
 use Rattle.rules.specs.Calls.Answers.{Answer, accepted, refused, written}
 use Rattle.rules.specs.Calls.Settling.{Made, settledNet, madeInto, settleCall}
 use Rattle.rules.specs.Sheets.Reading.{readNet, tableOfNet}
-use Rattle.laws.specs.Calls.Settling.{WholeTwo, marksOfTable, settle-accepted, into-marked, marked-tree, sheet-written, settle-refused, into-13, into-14, sheet-15}
+use Rattle.laws.specs.Calls.Settling.{WholeTwo, marksOfTable, settle-accepted, into-marked, marked-tree, sheet-written, settle-refused, into-13}
+use Rattle.laws.specs.Calls.Settling.{into-14, sheet-15}
 use Rattle.demands.specs.Sheets.FirstLines.{threeLines, three-lines, same-lines}
 use Rattle.readback.specs.Sheets.ReadBack.{net-read-back, net-accepted}
 use Rattle.readback.specs.Sheets.Length.{net-length}
@@ -34,7 +35,8 @@ sheetIn (refused number place) output = refused number place
 abbrev pub sheetOf : Made → Answer (List ℕ)
 sheetOf made = sheetIn (made .answer) (made .output)
 
--- "Needed: m to the n bytes, .. and the settled sheet's length", of marks "2 to the n, divided by 4" (document 02, K7): for any net that may be made of a table, ..
+-- "Needed: m to the n bytes, .. and the settled sheet's length", of marks "2 to the n, divided by 4" (document 02, K7): for any net that may be made
+-- of a table, ..
 pub record LongFor (netFor : Table → Net) (t : Table) (cells marks output : List ℕ) : Type 0 where
   pub cells-fit : t .header .levels ^ t .header .inputs ≤ length cells
   pub marks-fit : marksLength (t .header .inputs) ≤ length marks
@@ -50,7 +52,7 @@ pub net-written : (netFor : Table → Net) (t : Table) (cells marks output : Lis
 unfolding sheetIn
 net-written netFor t cells marks output two long =
     ap sheetOf
-    (into-marked netFor t cells marks output (long .cells-fit) (long .marks-fit)
+    (into-marked t cells marks output _ (long .cells-fit) (long .marks-fit)
     ∙ marked-tree netFor t cells marks output two
     ∙ sheet-written (printedNet (netFor t)) (written cells (t .inks)) (written marks (storedMarks (marksOfTable t))) output (long .output-fits))
     ∙ ap accepted (written-front output (printedNet (netFor t)))
@@ -91,8 +93,10 @@ pub table-path : (t u : Table) → t .header ≡ u .header → t .inks ≡ u .in
 table-path t u h e = λ i. record { header = h i; inks = e i }
 
 -- Two accepted net sheets with the same first three lines settle to the same bytes exactly when they compute the same table.
-module _ (s r : List ℕ) (net other : Net) (reads : readNet s ≡ accepted net) (reads-other : readNet r ≡ accepted other) (lines : threeLines s ≡ threeLines r) where
-  pub settled-alike : (cells marks output cells' marks' output' : List ℕ) → Long (tableOfNet net) cells marks output → Long (tableOfNet other) cells' marks' output'
+module _ (s r : List ℕ) (net other : Net) (reads : readNet s ≡ accepted net) (reads-other : readNet r ≡ accepted other)
+    (lines : threeLines s ≡ threeLines r) where
+  pub settled-alike : (cells marks output cells' marks' output' : List ℕ) → Long (tableOfNet net) cells marks output
+      → Long (tableOfNet other) cells' marks' output'
       → (sheetOf (settleCall s cells marks output) ≡ sheetOf (settleCall r cells' marks' output')) ↔ (tableOfNet net .inks ≡ tableOfNet other .inks)
   unfolding tableOfNet
   settled-alike cells marks output cells' marks' output' long long' =
@@ -106,7 +110,8 @@ module _ (s r : List ℕ) (net other : Net) (reads : readNet s ≡ accepted net)
             ∙ ap readNet (accepted-inj (printedNet (settledNet (tableOfNet net))) (printedNet (settledNet (tableOfNet other))) (sym first ∙ e ∙ second))
             ∙ settled-accepted r other reads-other))
             ∙ settled-own-table r other reads-other),
-        λ e. first ∙ ap (λ (t : Table). accepted (printedNet (settledNet t))) (table-path (tableOfNet net) (tableOfNet other) (same-lines s r net other reads reads-other .0 lines) e) ∙ sym second,
+        λ e. first ∙ ap (λ (t : Table). accepted (printedNet (settledNet t)))
+            (table-path (tableOfNet net) (tableOfNet other) (same-lines s r net other reads reads-other .0 lines) e) ∙ sym second,
       )
 
 -- ---- whatever the buffers
@@ -124,17 +129,19 @@ settled-is s cells marks output sheet e = by-read (readNet s) refl
         → Dec (marksLength (tableOfNet net .header .inputs) ≤ length marks) → Dec (length (printedNet (settledNet (tableOfNet net))) ≤ length output)
         → sheet ≡ printedNet (settledNet (tableOfNet net))
     written-is net reads (no short) m o =
-        absurd (not-given 13 _ (ap sheetOf (settle-accepted s cells marks output net reads ∙ into-13 settledNet (tableOfNet net) cells marks output (omega arith))))
+        absurd (not-given 13 _ (ap sheetOf (settle-accepted s cells marks output net reads ∙ into-13 (tableOfNet net) cells marks output _ (omega arith))))
     written-is net reads (yes c) (no short) o =
-        absurd (not-given 14 _ (ap sheetOf (settle-accepted s cells marks output net reads ∙ into-14 settledNet (tableOfNet net) cells marks output c (omega arith))))
+        absurd (not-given 14 _ (ap sheetOf (settle-accepted s cells marks output net reads ∙ into-14 (tableOfNet net) cells marks output _ c (omega arith))))
     written-is net reads (yes c) (yes m) (no short) =
         absurd (not-given 15 _ (ap sheetOf
         (settle-accepted s cells marks output net reads
-        ∙ into-marked settledNet (tableOfNet net) cells marks output c m
+        ∙ into-marked (tableOfNet net) cells marks output _ c m
         ∙ marked-tree settledNet (tableOfNet net) cells marks output (net-whole-two net (net-accepted s net reads .1))
-        ∙ sheet-15 (printedNet (settledNet (tableOfNet net))) (written cells (tableOfNet net .inks)) (written marks (storedMarks (marksOfTable (tableOfNet net)))) output (omega arith))))
+        ∙ sheet-15 (printedNet (settledNet (tableOfNet net))) (written cells (tableOfNet net .inks))
+        (written marks (storedMarks (marksOfTable (tableOfNet net)))) output (omega arith))))
     written-is net reads (yes c) (yes m) (yes o) =
-        accepted-inj sheet (printedNet (settledNet (tableOfNet net))) (sym e ∙ settles s net reads cells marks output (record { cells-fit = c; marks-fit = m; output-fits = o }))
+        accepted-inj sheet (printedNet (settledNet (tableOfNet net)))
+        (sym e ∙ settles s net reads cells marks output (record { cells-fit = c; marks-fit = m; output-fits = o }))
 
     by-read : (a : Answer Net) → readNet s ≡ a → (net : Net) × (readNet s ≡ accepted net) × (sheet ≡ printedNet (settledNet (tableOfNet net)))
     by-read (refused number place) reads = absurd (not-given number place (ap sheetOf (settle-refused s cells marks output number place reads)))
@@ -150,8 +157,8 @@ pub record SameNets (s r : List ℕ) : Type 0 where
   pub header : net .header ≡ other .header
   pub table : tableOfNet net ≡ tableOfNet other
 
--- Two accepted settlings that wrote the same sheet, whatever the buffers, come from nets with the same header and the same table. ("equal settling still means equal tables,
--- unused inputs included", document 02, K12)
+-- Two accepted settlings that wrote the same sheet, whatever the buffers, come from nets with the same header and the same table. ("equal settling
+-- still means equal tables, unused inputs included", document 02, K12)
 pub same-settled : (s r sheet : List ℕ) (cells marks output cells' marks' output' : List ℕ)
     → sheetOf (settleCall s cells marks output) ≡ accepted sheet → sheetOf (settleCall r cells' marks' output') ≡ accepted sheet → SameNets s r
 unfolding tableOfNet

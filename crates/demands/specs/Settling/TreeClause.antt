@@ -41,7 +41,8 @@ agrees-all t kept tree is =
     (each-assignment (t .header .levels) (t .header .inputs) (levels-pos (t .header .levels) (kept .levels))
     (λ ls p. treeValueAt (t .header .levels) tree ls ≡ inkIn (t .inks) p))
   where
-    at : (p : ℕ) → treeValueAt (t .header .levels) tree (levelsAt (t .header .levels) (t .header .inputs) p) ≡ treeValue (t .header .levels) (t .header .inputs) tree p
+    at : (p : ℕ) → treeValueAt (t .header .levels) tree (levelsAt (t .header .levels) (t .header .inputs) p)
+        ≡ treeValue (t .header .levels) (t .header .inputs) tree p
     at = tree-at-levels (t .header .levels) (t .header .inputs) tree (is .once)
 
 -- some tree, whatever its leaves, its wiring and its digits, computes the table

@@ -44,7 +44,7 @@ module _ (netFor : Table → Net) (t : Table) (cells marks output : List ℕ) wh
   unfolding layeredInto withLayers layered onward
   layered-written two long =
       rw (
-        into-marked netFor t cells marks output (long .cells-fit) (long .marks-fit),
+        into-marked t cells marks output _ (long .cells-fit) (long .marks-fit),
         marked-tree netFor t cells marks output two,
         sheet-written (printedNet (netFor t)) (written cells (t .inks)) (written marks (storedMarks (marksOfTable t))) output (long .output-fits),
       )
@@ -63,13 +63,13 @@ module _ (netFor : Table → Net) (t : Table) (cells marks output : List ℕ) wh
 
       go : Dec (length cells < t .header .levels ^ t .header .inputs) → Dec (length marks < marksLength (t .header .inputs)) → Dec (WholeTwo t)
           → Dec (length output < length (printedNet (netFor t))) → WholeTwo t × LongFor netFor t cells marks output
-      go (yes short) _ _ _ = absurd (not-so _ 13 _ (into-13 netFor t cells marks output short) refl)
-      go (no room) (yes short) _ _ = absurd (not-so _ 14 _ (into-14 netFor t cells marks output (omega arith) short) refl)
+      go (yes short) _ _ _ = absurd (not-so _ 13 _ (into-13 t cells marks output _ short) refl)
+      go (no room) (yes short) _ _ = absurd (not-so _ 14 _ (into-14 t cells marks output _ (omega arith) short) refl)
       go (no room) (no marks-room) (no none) _ =
-          absurd (not-so _ 16 _ (into-marked netFor t cells marks output (omega arith) (omega arith) ∙ marked-16 netFor t cells marks output none) refl)
+          absurd (not-so _ 16 _ (into-marked t cells marks output _ (omega arith) (omega arith) ∙ marked-16 netFor t cells marks output none) refl)
       go (no room) (no marks-room) (yes two) (yes short) =
           absurd (not-so _ 15 _
-          (into-marked netFor t cells marks output (omega arith) (omega arith) ∙ marked-tree netFor t cells marks output two
+          (into-marked t cells marks output _ (omega arith) (omega arith) ∙ marked-tree netFor t cells marks output two
           ∙ sheet-15 (printedNet (netFor t)) (written cells (t .inks)) (written marks (storedMarks (marksOfTable t))) output short) refl)
       go (no room) (no marks-room) (yes two) (no output-room) =
           (two, record { cells-fit = omega arith; marks-fit = omega arith; output-fits = omega arith })

@@ -9,11 +9,12 @@ use mathlib.Core.List.{List}
 use Rattle.rules.specs.Sheets.Sheets.{Net, Table}
 use Rattle.rules.specs.Calls.Answers.{Answer, accepted, refused, onward}
 use Rattle.rules.specs.Sheets.Reading.{readNet, tableOfNet}
-use Rattle.rules.specs.Calls.Settling.{Made, settledNet, madeInto, settleCall, makeCall}
-use Rattle.rules.specs.Calls.ShallowSettling.{Layered, LayeredMade, withLayers, layeredInto, shallowNet, netLayers, settleShallowCall, makeShallowCall}
+use Rattle.rules.specs.Calls.Settling.{settledNet, madeInto, settleCall, makeCall}
+use Rattle.rules.specs.Calls.ShallowSettling.{Layered, layeredInto, shallowNet, settleShallowCall, makeShallowCall}
 use Rattle.laws.specs.Calls.Answers.{not-refused}
 use Rattle.laws.specs.Calls.Settling.{settle-refused, settle-accepted, make-refused, make-accepted}
-use Rattle.laws.specs.Calls.ShallowSettling.{plainAnswer, plain-layered, settle-shallow-refused, settle-shallow-accepted, make-shallow-refused, make-shallow-accepted}
+use Rattle.laws.specs.Calls.ShallowSettling.{plainAnswer, plainMade, plain-into, settle-shallow-refused, settle-shallow-accepted}
+use Rattle.laws.specs.Calls.ShallowSettling.{make-shallow-refused, make-shallow-accepted}
 use Rattle.laws.specs.Calls.ButSheet.{ButSheet, but-none, into-but}
 use Rattle.readback.specs.Sheets.ReadBack.{net-accepted}
 use Rattle.trees.specs.Shallow.ShallowTables.{shallow-as-long}
@@ -22,21 +23,7 @@ use Rattle.demands.specs.Numbers.SettlingNumbers.{settleNumbers, makeNum
 use Rattle.rules.specs.Calls.OpenCells.{readFull}
 use Rattle.demands.specs.Sheets.FullSheets.{FullTableRules, full-accepted, net-kept, full-keeps}
 
--- what a call came to, without the count of layers
-unfoldable pub plainMade : LayeredMade → Made
-plainMade made = record { answer = plainAnswer (made .answer); cells = made .cells; marks = made .marks; output = made .output }
-
--- is what it came to before it had one
-pub plain-made : (count : ℕ) (made : Made) → plainMade (withLayers count made) ≡ made
-unfolding plainMade withLayers
-plain-made count made = λ i. record { answer = plain-layered count (made .answer) i; cells = made .cells; marks = made .marks; output = made .output }
-
-pub plain-into : (netFor : Table → Net) (t : Table) (cells marks output : List ℕ)
-    → plainMade (layeredInto netFor t cells marks output) ≡ madeInto netFor t cells marks output
-unfolding layeredInto
-plain-into netFor t cells marks output = plain-made (netLayers (netFor t)) (madeInto netFor t cells marks output)
-
--- it refuses exactly when it did
+-- an answer without its count of layers refuses exactly when it did
 plain-refuses : (answer : Answer Layered) (number place : ℕ) → (answer ≡ refused number place) ↔ (plainAnswer answer ≡ refused number place)
 unfolding plainAnswer onward
 plain-refuses (accepted a) number place = (λ e. absurd (not-refused a number place e), λ e. absurd (not-refused (a .length) number place e))

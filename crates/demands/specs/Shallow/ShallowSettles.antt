@@ -29,7 +29,7 @@ use Rattle.demands.specs.Settling.Settles.{sheetOf, LongFor, net-written
 use Rattle.demands.specs.Sheets.FullSheets.{full-accepted, net-kept}
 use Rattle.demands.specs.Settling.Makes.{two-tree, sheet-tree}
 use Rattle.demands.specs.Settling.TreeClause.{TreeFor, TreeAgrees, agrees-all}
-use Rattle.demands.specs.Shallow.ShallowRefusals.{plainMade, plain-into}
+use Rattle.laws.specs.Calls.ShallowSettling.{plainMade, plain-into}
 use Rattle.demands.specs.Shallow.ShallowMakes.{ShallowOf, shallow-into, shallow-accepted, answered-layers}
 
 -- the sheet that shallow settling or making wrote, as many bytes from the front of the output as it answers
@@ -58,20 +58,23 @@ module _ (s : List ℕ) (net : Net) (reads : readNet s ≡ accepted net) where
 
   -- .. never over 512 bytes, ..
   pub shallow-short : length (printedNet (shallowNet (tableOfNet net))) ≤ mostSettled
-  shallow-short = net-length (shallowNet (tableOfNet net)) (shallow-kept (tableOfNet net) (kept-table net kept-net) (net-full net kept-net) (net-whole-two net kept-net))
+  shallow-short = net-length (shallowNet (tableOfNet net))
+      (shallow-kept (tableOfNet net) (kept-table net kept-net) (net-full net kept-net) (net-whole-two net kept-net))
 
   -- .. and, whatever the buffers, wherever it is accepted
   module _ (cells marks output : List ℕ) (a : Layered) (answers : settleShallowCall s cells marks output .answer ≡ accepted a) where
     pub settled-shallow : ShallowOf (tableOfNet net) (settleShallowCall s cells marks output)
     settled-shallow =
         let same = settle-shallow-accepted s cells marks output net reads in
-        rw same (shallow-accepted (tableOfNet net) (net-kept net kept-net) cells marks output a (sym (ap (λ (made : LayeredMade). made .answer) same) ∙ answers) .1)
+        rw same (shallow-accepted (tableOfNet net) (net-kept net kept-net) cells marks output a
+        (sym (ap (λ (made : LayeredMade). made .answer) same) ∙ answers) .1)
 
     count : a .layers ≡ netLayers (shallowNet (tableOfNet net))
     count = answered-layers (tableOfNet net) (settleShallowCall s cells marks output) settled-shallow a answers
 
     -- "Every other tree computing that table has at least as many layers": every accepted net sheet with the same header and table, ..
-    pub settled-shallowest : (r : List ℕ) (other : Net) → readNet r ≡ accepted other → other .header ≡ net .header → tableOfNet other .inks ≡ tableOfNet net .inks
+    pub settled-shallowest : (r : List ℕ) (other : Net) → readNet r ≡ accepted other → other .header ≡ net .header
+        → tableOfNet other .inks ≡ tableOfNet net .inks
         → a .layers ≤ netLayers other
     unfolding tableOfNet
     settled-shallowest r other reads-other header inks =
@@ -111,12 +114,14 @@ says-table net kept other kept' e =
     (accepted-inj (shallowNet (tableOfNet net)) (shallowNet (tableOfNet other))
     (sym (net-read-back (shallowNet (tableOfNet net)) (shallow-kept (tableOfNet net) (kept-table net kept) (net-full net kept) (net-whole-two net kept)))
     ∙ ap readNet e
-    ∙ net-read-back (shallowNet (tableOfNet other)) (shallow-kept (tableOfNet other) (kept-table other kept') (net-full other kept') (net-whole-two other kept'))))
+    ∙ net-read-back (shallowNet (tableOfNet other))
+    (shallow-kept (tableOfNet other) (kept-table other kept') (net-full other kept') (net-whole-two other kept'))))
     ∙ shallow-has-table (tableOfNet other) (kept-table other kept') (net-full other kept') (net-whole-two other kept')
 
 -- Two accepted net sheets have the same shallow sheet exactly when their first three lines and their tables are the same.
 pub shallow-alike : (s r : List ℕ) (net other : Net) → readNet s ≡ accepted net → readNet r ≡ accepted other
-    → (cells marks output cells' marks' output' : List ℕ) → LongFor shallowNet (tableOfNet net) cells marks output → LongFor shallowNet (tableOfNet other) cells' marks' output'
+    → (cells marks output cells' marks' output' : List ℕ) → LongFor shallowNet (tableOfNet net) cells marks output
+    → LongFor shallowNet (tableOfNet other) cells' marks' output'
     → (shallowSheetOf (settleShallowCall s cells marks output) ≡ shallowSheetOf (settleShallowCall r cells' marks' output'))
     ↔ ((threeLines s ≡ threeLines r) × (tableOfNet net .inks ≡ tableOfNet other .inks))
 unfolding tableOfNet

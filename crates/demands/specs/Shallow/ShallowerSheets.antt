@@ -48,21 +48,25 @@ module _ (first second : List ℕ) where
     second-shallower h = both ∙ rw (lt-ltb (netLayers other) (netLayers net) h, whichBy)
 
     -- what is handed back is a sheet with no more layers than either
-    pub handed-shallower : (chosen : Net) × (readNet (shallowerCall first second) ≡ accepted chosen) × (netLayers chosen ≤ netLayers net) × (netLayers chosen ≤ netLayers other)
+    pub handed-shallower : (chosen : Net) × (readNet (shallowerCall first second) ≡ accepted chosen) × (netLayers chosen ≤ netLayers net)
+        × (netLayers chosen ≤ netLayers other)
     handed-shallower = go (decLt (netLayers other) (netLayers net))
       where
         go : Dec (netLayers other < netLayers net)
-            → (chosen : Net) × (readNet (shallowerCall first second) ≡ accepted chosen) × (netLayers chosen ≤ netLayers net) × (netLayers chosen ≤ netLayers other)
+            → (chosen : Net) × (readNet (shallowerCall first second) ≡ accepted chosen) × (netLayers chosen ≤ netLayers net)
+            × (netLayers chosen ≤ netLayers other)
         go (yes less) = (other, ap readNet (handed-back secondSheet (second-shallower less)) ∙ reads-other, omega arith, omega arith)
         go (no more) = (net, ap readNet (handed-back firstSheet (first-shallower (omega arith))) ∙ reads, omega arith, omega arith)
 
   -- ---- "An unreadable sheet loses to a readable one"
 
-  pub first-readable : (net : Net) → readNet first ≡ accepted net → (number place : ℕ) → readNet second ≡ refused number place → whichOf first second ≡ firstSheet
+  pub first-readable : (net : Net) → readNet first ≡ accepted net → (number place : ℕ) → readNet second ≡ refused number place
+      → whichOf first second ≡ firstSheet
   unfolding whichOf whichBy
   first-readable net e number place d = rw (layers-read first net e, layers-unread second number place d)
 
-  pub second-readable : (number place : ℕ) → readNet first ≡ refused number place → (net : Net) → readNet second ≡ accepted net → whichOf first second ≡ secondSheet
+  pub second-readable : (number place : ℕ) → readNet first ≡ refused number place → (net : Net) → readNet second ≡ accepted net
+      → whichOf first second ≡ secondSheet
   unfolding whichOf whichBy
   second-readable number place e net d = rw (layers-unread first number place e, layers-read second net d)
 

@@ -16,12 +16,12 @@ use Rattle.rules.specs.Sheets.Reading.{readNet}
 use Rattle.trees.specs.Trees.NetTables.{inputs-several}
 use Rattle.readback.specs.Readers.Fields.{parts-newline}
 use Rattle.readback.specs.Sheets.Header.{headText, spells-header}
-use Rattle.readback.specs.Sheets.Lines.{linesOf, lines-first, headLines, head-fed, head-unbroken}
+use Rattle.readback.specs.Sheets.Lines.{linesUpTo, lines-first, headLines, head-fed, head-unbroken}
 use Rattle.readback.specs.Nets.NetSheets.{line-ended}
 use Rattle.readback.specs.Sheets.ReadBack.{net-accepted}
 
 unfoldable pub threeLines : List ℕ → List ℕ
-threeLines s = linesOf 3 s
+threeLines s = linesUpTo 3 s
 
 head-line : (h : Header) → HeaderRules h → firstLines h (h .names) ≡ headText newline h
 unfolding firstLines headText

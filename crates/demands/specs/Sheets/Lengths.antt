@@ -8,10 +8,9 @@ use mathlib.Core.List.{List, [], _∷_}
 use native.Mathlib.Nat.{le-trans}
 use native.Mathlib.Omega.{arith}
 use lib.ListN.{length}
-use lib.Dec.{leb}
-use borrow.Author.Tests.{leb-true, le-ltb}
+use borrow.Author.Tests.{le-ltb}
 use Rattle.rules.specs.Lists.{range, all, any}
-use Rattle.rules.specs.Limits.{mostCells, mostSettled, mostTableSheet}
+use Rattle.rules.specs.Limits.{cellsFit, mostCells, mostSettled, mostTableSheet}
 use Rattle.rules.specs.Sheets.Sheets.{Header, Net, Table}
 use Rattle.rules.specs.Sheets.Printed.{printedTable}
 use Rattle.rules.specs.Groups.Marks.{markIn, marksOf, marksLength, storedMarks}
@@ -25,9 +24,10 @@ use Rattle.rules.specs.Calls.Settling.{Made, settleCall, makeCall}
 use Rattle.rules.specs.Calls.Checking.{turnedDown, sameHeader, compared, Checked, checkedInto, checkCall}
 use Rattle.rules.specs.Calls.TableWriting.{Written, writeTableCall}
 use Rattle.laws.specs.Lists.Distinct.{In, wider}
-use Rattle.laws.specs.Numbers.Sizes.{Size, sized, kept-size, everySize, at-size}
+use Rattle.laws.specs.Numbers.Sizes.{Size, sized, kept-size, everySize, bounded-at}
 use Rattle.laws.specs.Calls.Settling.{settle-refused, make-refused}
-use Rattle.laws.specs.Calls.Checking.{check-net-refused, check-table-refused, check-accepted, check-12, check-compared, Compared, all-agree, first-differs, comparison}
+use Rattle.laws.specs.Calls.Checking.{check-net-refused, check-table-refused, check-accepted, check-12, check-compared, Compared, all-agree}
+use Rattle.laws.specs.Calls.Checking.{first-differs, comparison}
 use Rattle.laws.specs.Calls.TableWriting.{table-refused, table-written}
 use Rattle.readback.specs.Readers.Numbers.{netNumbers, tableNumbers, net-refusal, table-refusal}
 use Rattle.readback.specs.Sheets.ReadBack.{net-accepted, table-accepted}
@@ -47,17 +47,10 @@ use Rattle.laws.specs.Calls.OpenCells.{cells-sized}
 abbrev pub mostMarks : ℕ
 mostMarks = 1_024
 
-marksTest : ℕ → ℕ → Bool
-marksTest m n = leb (marksLength n) mostMarks
-
-marks-tested : everySize marksTest ≡ true
-unfolding everySize all range marksTest marksLength
-marks-tested = refl
-
 -- enough marks at every size that a sheet, or bare cells, may have
 pub size-marks : (m n : ℕ) → Size m n → marksLength n ≤ mostMarks
-unfolding marksTest
-size-marks m n size = leb-true (marksLength n) mostMarks (at-size marksTest marks-tested m n size)
+unfolding everySize all range cellsFit marksLength
+size-marks = bounded-at (λ _ n. marksLength n) mostMarks refl
 
 -- "Needed: m to the n bytes", and of marks "2 to the n, divided by 4" (document 02, K7): enough cells and marks for each accepted sheet
 module _ (h : Header) (kept : HeaderRules h) where
@@ -116,7 +109,8 @@ module _ (s cells marks output : List ℕ) (ample : Ample cells marks output) wh
   pub make-ample : (t : Table) → readFull s ≡ accepted t → Making t (makeCall s cells marks output)
   make-ample t reads =
       let kept = full-accepted s t reads .1 .header in
-      make-either s t reads cells marks output (le-trans (kept-cells (t .header) kept) (ample .cells-most)) (le-trans (kept-marks (t .header) kept) (ample .marks-most))
+      make-either s t reads cells marks output (le-trans (kept-cells (t .header) kept) (ample .cells-most))
+      (le-trans (kept-marks (t .header) kept) (ample .marks-most))
       (λ tree. le-trans (made-short s t reads tree) (ample .output-most))
 
   -- settling refuses with the numbers of its sheet alone, ..
@@ -166,14 +160,16 @@ checkAmpleNumbers neither = 12 ∷ []
 
 module _ (s r cells : List ℕ) (ample : mostCells ≤ length cells) where
   -- checking refuses with the numbers of its two sheets and 12
-  pub check-ample-numbers : (named : Named) (number place : ℕ) → checkCall s r cells .answer ≡ turnedDown named number place → In number (checkAmpleNumbers named)
+  pub check-ample-numbers : (named : Named) (number place : ℕ) → checkCall s r cells .answer ≡ turnedDown named number place
+      → In number (checkAmpleNumbers named)
   unfolding any
   check-ample-numbers named number place e = go (readNet s) refl (readTable r) refl
     where
       answer : (made : Checked) → checkCall s r cells ≡ made → made .answer ≡ turnedDown named number place
       answer made d = sym (ap (λ (c : Checked). c .answer) d) ∙ e
 
-      turned : (named' : Named) (k at : ℕ) → In k (checkAmpleNumbers named') → turnedDown named' k at ≡ turnedDown named number place → In number (checkAmpleNumbers named)
+      turned : (named' : Named) (k at : ℕ) → In k (checkAmpleNumbers named') → turnedDown named' k at ≡ turnedDown named number place
+          → In number (checkAmpleNumbers named)
       turned named' k at h d =
           subst₂ (λ (w : Named) (j : ℕ). In j (checkAmpleNumbers w)) (let z : named' ≡ named = cc in z) (let z : k ≡ number = cc in z) h
 
@@ -222,4 +218,6 @@ module _ (m n : ℕ) (cells marks : List ℕ) (ample : mostMarks ≤ length mark
     where
       go : (a : Answer (Unit {0})) → fullCells m n cells ≡ a → In number bareNumbers
       go (accepted _) d = absurd (not-refused _ number place (sym (ap (λ (made : Marked). made .answer) (marks-written d)) ∙ e))
-      go (refused k at) d = refuses bareNumbers k at (cells-numbers m n cells bareNumbers refl refl refl k at d) number place (sym (ap (λ (made : Marked). made .answer) (marks-refused k at d)) ∙ e)
+      go (refused k at) d =
+          refuses bareNumbers k at (cells-numbers m n cells bareNumbers refl refl refl k at d) number place
+          (sym (ap (λ (made : Marked). made .answer) (marks-refused k at d)) ∙ e)

@@ -14,7 +14,7 @@ use Rattle.rules.specs.Calls.Answers.{accepted, refused}
 use Rattle.rules.specs.Calls.Settling.{makeCall}
 use Rattle.rules.specs.Sheets.SheetRules.{FullTable}
 use Rattle.rules.specs.Sheets.Reading.{readNet, readTable}
-use Rattle.rules.specs.Calls.Programs.{settleProgram, makeProgram}
+use Rattle.rules.specs.Calls.Programs.{refusalLines, settleProgram, makeProgram}
 use Rattle.laws.specs.Calls.OpenCells.{read-refused}
 use Rattle.readback.specs.Sheets.ReadBack.{table-accepted}
 use Rattle.readback.specs.Tables.TableLength.{table-longer, table-within}
@@ -22,13 +22,14 @@ use Rattle.readback.specs.Sheets.CutSheets.{table-cut, net-cut, not-ended, acce
 use Rattle.demands.specs.Sheets.FullSheets.{full-sheet}
 use Rattle.demands.specs.Settling.Makes.{Making}
 use Rattle.demands.specs.Sheets.Lengths.{Ample, make-ample}
-use Rattle.demands.specs.Others.Programs.{refusalLines, program-settle-refused, program-make-refused}
+use Rattle.demands.specs.Others.Programs.{program-settle-refused, program-make-refused}
 
 module _ (input : List ℕ) where
   -- "a sheet without an earlier fault that hasn't ended by then": of a table sheet, ..
   pub make-unended : mostRead ≤ length input → ((number place : ℕ) → readTable input ≡ refused number place → mostRead ≤ place)
       → ((t : Table) → readTable (take mostRead input) ≡ accepted t → ⊥) → makeProgram input ≡ refusalLines 1 mostRead
-  make-unended within faultless going = program-make-refused input 1 mostRead (read-refused _ 1 mostRead (not-ended table-cut input mostRead (omega arith) within faultless going))
+  make-unended within faultless going =
+      program-make-refused input 1 mostRead (read-refused _ 1 mostRead (not-ended table-cut input mostRead (omega arith) within faultless going))
 
   -- .. and of a net sheet
   pub settle-unended : mostRead ≤ length input → ((number place : ℕ) → readNet input ≡ refused number place → mostRead ≤ place)
@@ -38,7 +39,8 @@ module _ (input : List ℕ) where
   module _ (t : Table) (reads : readTable input ≡ accepted t) where
     -- an accepted sheet that is longer is refused so, ..
     pub make-longer : mostRead < length input → makeProgram input ≡ refusalLines 1 mostRead
-    make-longer longer = program-make-refused input 1 mostRead (read-refused _ 1 mostRead (accepted-longer table-cut input mostRead (omega arith) longer t reads))
+    make-longer longer = program-make-refused input 1 mostRead
+        (read-refused _ 1 mostRead (accepted-longer table-cut input mostRead (omega arith) longer t reads))
 
     -- .. "the library takes it": every accepted sheet of a full table of 2 with 12, with buffers of the lengths that always suffice, ..
     pub long-sheet : FullTable t → t .header .levels ≡ 2 → t .header .inputs ≡ 12 → (cells marks output : List ℕ) → Ample cells marks output

@@ -6,7 +6,7 @@ ghost use Rattle.evaluation.specs.Inputs.Starts.{StartsOf};
 use crate::inputs::limits::MOST_BLOCK;
 use nets::forms::MOST_WIRES;
 
-// Returns how many of the last of n inputs vary within a block: as many as it has room for.
+// Returns how many of the last of n inputs vary within a block, which has room for all their assignments.
 pub fn block_inputs(m: usize, n: usize) -> usize
     requires { ⌜ (m ≤ mostLevels) × (n ≤ mostInputs) ⌝ }
     ensures { λ r. ⌜ (r ≤ n) × (m ^ r ≤ mostBlock) ⌝ }

@@ -1,5 +1,5 @@
 // The cells of a block, and room for what a net's wires hold there.
-use radix::limits::MOST_GATES;
+use crate::values::MOST_COLUMNS;
 use radix::limits::MOST_INPUTS;
 
 // A block's columns are to stay in the processor's nearest memory.
@@ -8,4 +8,4 @@ pub const MOST_BLOCK: usize = 512;
 // The columns of the inputs, and with them those of the gates.
 pub const INPUT_CELLS: usize = MOST_INPUTS * MOST_BLOCK;
 
-pub const BLOCK_CELLS: usize = INPUT_CELLS + MOST_GATES * MOST_BLOCK;
+pub const BLOCK_CELLS: usize = INPUT_CELLS + MOST_COLUMNS * MOST_BLOCK;

@@ -15,7 +15,8 @@ module _ (s r : List ℕ) (delay : ℕ) where
   arrivals-net-refused number place e = rw (e, arrivalsCall)
 
   module _ (net : Net) (reads : readNet s ≡ accepted net) where
-    pub arrivals-refused : (number place : ℕ) → readArrivals (net .header .names) r ≡ refused number place → arrivalsCall s r delay ≡ arrivalsRefused number place
+    pub arrivals-refused : (number place : ℕ) → readArrivals (net .header .names) r ≡ refused number place
+        → arrivalsCall s r delay ≡ arrivalsRefused number place
     unfolding arrivalsCall
     arrivals-refused number place e = rw (reads, e, arrivalsCall)
 

@@ -33,7 +33,8 @@ module _ (m n : ℕ) (cells : List ℕ) where
     pub bare-cell : k < length cells → answers.refused 10 k ≡ bareCells m n cells
     unfolding bareCells
     bare-cell h =
-        rw (fits, eq-eqb (length cells) (m ^ n) count, all-place (λ c. leb c m) cells, ← over, lt-ltb k (length cells) h, bareCells) (ap (answers.refused 10) over)
+        rw (fits, eq-eqb (length cells) (m ^ n) count, all-place (λ c. leb c m) cells, ← over, lt-ltb k (length cells) h, bareCells)
+        (ap (answers.refused 10) over)
 
     pub bare-good : length cells ≤ k → answers.accepted tt ≡ bareCells m n cells
     unfolding bareCells
@@ -66,7 +67,8 @@ module _ (m n : ℕ) (cells : List ℕ) where
       go true h = h
       go false h =
           let (fits, count) = bare-accepted e in
-          let back : bareCells m n cells ≡ answers.refused 10 (firstPlace (λ c. not (leb c m)) cells) = rw (fits, eq-eqb (length cells) (m ^ n) count, h, bareCells) in
+          let back : bareCells m n cells ≡ answers.refused 10 (firstPlace (λ c. not (leb c m)) cells) =
+          rw (fits, eq-eqb (length cells) (m ^ n) count, h, bareCells) in
           absurd (not-refused tt 10 _ (e ∙ back))
 
 -- the inks of a table that keeps the rules are bare cells that are accepted

@@ -1,6 +1,6 @@
 -- Two nets made of one table, with sheets that are equally long: the calls that make them come to the same but for the sheet in the output.
 -- Assumes nothing.
-use Prim.Native.Nat.{ℕ, _^_, _<_}
+use Prim.Native.Nat.{ℕ, _<_}
 use mathlib.Core.Path.{_≡_, refl, ap}
 use mathlib.Core.List.{List}
 use native.Mathlib.Omega.{arith}
@@ -8,11 +8,11 @@ use native.Mathlib.Decide.{decLt, ℕ-discrete}
 use lib.ListN.{length}
 use Rattle.rules.specs.Sheets.Sheets.{Net, Table}
 use Rattle.rules.specs.Sheets.Printed.{printedNet}
-use Rattle.rules.specs.Groups.Marks.{marksLength, storedMarks}
-use Rattle.rules.specs.Calls.Answers.{accepted, refused, written}
-use Rattle.rules.specs.Calls.Settling.{Made, writtenSheet, madeInto}
+use Rattle.rules.specs.Groups.Marks.{storedMarks}
+use Rattle.rules.specs.Calls.Answers.{Answer, accepted, refused, written}
+use Rattle.rules.specs.Calls.Settling.{Made, writtenSheet, roomFor, madeInto}
 use Rattle.laws.specs.Calls.Answers.{not-refused}
-use Rattle.laws.specs.Calls.Settling.{WholeTwo, marksOfTable, into-13, into-14, into-marked, marked-16, marked-tree, sheet-15, sheet-written}
+use Rattle.laws.specs.Calls.Settling.{WholeTwo, marksOfTable, into-refused, into-room, marked-16, marked-tree, sheet-15, sheet-written}
 
 -- the same answer, cells and marks; and the same output where they refuse
 pub record ButSheet (first second : Made) : Type 0 where
@@ -40,26 +40,23 @@ module _ (netFor other : Table → Net) (t : Table) (cells marks output : List �
   -- where there is a tree the two sheets have one length
   pub into-but : (WholeTwo t → length (printedNet (netFor t)) ≡ length (printedNet (other t)))
       → ButSheet (madeInto netFor t cells marks output) (madeInto other t cells marks output)
-  into-but long =
-      go (decLt (length cells) (t .header .levels ^ t .header .inputs)) (decLt (length marks) (marksLength (t .header .inputs))) (ℕ-discrete _ 2)
+  into-but long = go (roomFor t cells marks) refl (ℕ-discrete _ 2)
     where
-      go : Dec (length cells < t .header .levels ^ t .header .inputs) → Dec (length marks < marksLength (t .header .inputs)) → Dec (WholeTwo t)
+      go : (a : Answer (Unit {0})) → roomFor t cells marks ≡ a → Dec (WholeTwo t)
           → ButSheet (madeInto netFor t cells marks output) (madeInto other t cells marks output)
-      go (yes short) _ _ = rw (into-13 netFor t cells marks output short, into-13 other t cells marks output short) (but-none _)
-      go (no room) (yes short) _ =
-          rw (into-14 netFor t cells marks output (omega arith) short, into-14 other t cells marks output (omega arith) short) (but-none _)
-      go (no room) (no marks-room) (no none) =
+      go (refused number place) e _ = rw (into-refused t cells marks output _ number place e, into-refused t cells marks output _ number place e) (but-none _)
+      go (accepted tt) e (no none) =
           rw (
-            into-marked netFor t cells marks output (omega arith) (omega arith),
-            into-marked other t cells marks output (omega arith) (omega arith),
+            into-room t cells marks output _ e,
+            into-room t cells marks output _ e,
             marked-16 netFor t cells marks output none,
             marked-16 other t cells marks output none,
           )
           (but-none _)
-      go (no room) (no marks-room) (yes two) =
+      go (accepted tt) e (yes two) =
           rw (
-            into-marked netFor t cells marks output (omega arith) (omega arith),
-            into-marked other t cells marks output (omega arith) (omega arith),
+            into-room t cells marks output _ e,
+            into-room t cells marks output _ e,
             marked-tree netFor t cells marks output two,
             marked-tree other t cells marks output two,
           )

@@ -1,24 +1,57 @@
 -- What checking comes to, one law for each outcome, and how a comparison of two lists of inks ends.
 -- Assumes nothing.
 use Prim.Native.Nat.{ℕ, _≤_, _<_}
-use mathlib.Core.Path.{_≡_, _∙_, subst, subst⁻¹}
-use mathlib.Core.List.{List}
-use mathlib.Core.Bool.{true, false, Bool, not, _&&_, and-eq-true-iff}
+use mathlib.Core.Path.{_≡_, refl, ap₂, _∙_, subst, subst⁻¹}
+use mathlib.Core.List.{List, [], _∷_}
+use mathlib.Core.Bool.{true, false, Bool, not, _&&_, and-eq-true-iff, false≢true}
 use lib.ListN.{length, getD}
-use borrow.Author.Tests.{lt-ltb, le-ltb, eqb-true, eqb-false, not-false, not-true}
-use Rattle.rules.specs.Sheets.Sheets.{Net, Table}
+use borrow.Author.Tests.{lt-ltb, le-ltb, eq-eqb, eqb-true, eqb-false, not-false, not-true}
+use Rattle.rules.specs.Sheets.Sheets.{Header, Net, Table}
 use Rattle.rules.specs.Calls.Answers.{accepted, refused, written, netNamed, tableNamed, neither}
 use Rattle.rules.specs.Sheets.Reading.{readNet, readTable, tableOfNet}
 use Rattle.rules.specs.Calls.OpenCells.{isOpen}
-use Rattle.rules.specs.Calls.Checking.{turnedDown, checkCall, sameHeader, compared, checkedInto, agree, differ}
+use Rattle.rules.specs.Calls.Checking.{turnedDown, checkCall, sameNames, sameHeader, compared, checkedInto, agree, differ}
 use native.Mathlib.Nat.{zero-add}
 use native.Mathlib.Decide.{decLt}
 use native.Mathlib.Omega.{arith}
 use lib.Dec.{eqb}
-use Rattle.rules.specs.Lists.{range, firstPlace}
+use Rattle.rules.specs.Lists.{range, firstPlace, same}
 use Rattle.laws.specs.Calls.OpenCells.{not-open, shut-ink}
 use Rattle.laws.specs.Lists.FirstPlaces.{before-first, at-first}
 use Rattle.laws.specs.Lists.Ranges.{range-length, range-at}
+use Rattle.laws.specs.Lists.Same.{same-refl, same-true}
+use Rattle.laws.specs.Lists.Tests.{both-eqb}
+
+-- ---- the same header
+
+same-names : (ws : List (List ℕ)) → sameNames ws ws ≡ true
+unfolding sameNames
+same-names [] = refl
+same-names (w ∷ ws) = rw (same-refl w, same-names ws)
+
+pub same-header : (h k : Header) → h ≡ k → sameHeader h k ≡ true
+unfolding sameHeader
+same-header h k e =
+    subst (λ (l : Header). sameHeader h l ≡ true) e (rw (eq-eqb (h .levels) (h .levels) refl, eq-eqb (h .inputs) (h .inputs) refl, same-names (h .names)))
+
+names-same : (vs ws : List (List ℕ)) → sameNames vs ws ≡ true → vs ≡ ws
+unfolding sameNames
+names-same [] [] e = refl
+names-same [] (w ∷ ws) e = absurd (false≢true e)
+names-same (v ∷ vs) [] e = absurd (false≢true e)
+names-same (v ∷ vs) (w ∷ ws) e =
+    let (first, others) = and-eq-true-iff (same v w) (sameNames vs ws) .0 e in
+    ap₂ _∷_ (same-true v w first) (names-same vs ws others)
+
+pub header-same : (h k : Header) → sameHeader h k ≡ true → h ≡ k
+unfolding sameHeader
+header-same h k e =
+    let (sizes, names) = and-eq-true-iff (eqb (h .levels) (k .levels) && eqb (h .inputs) (k .inputs)) (sameNames (h .names) (k .names)) .0 e in
+    let (levels, inputs) = both-eqb (h .levels) (k .levels) (h .inputs) (k .inputs) .0 sizes in
+    let same-names = names-same (h .names) (k .names) names in
+    λ i. record { levels = levels i; inputs = inputs i; names = same-names i }
+
+-- ---- the outcomes
 
 module _ (s r cells : List ℕ) where
   pub check-net-refused : (number place : ℕ) → readNet s ≡ refused number place

@@ -42,33 +42,9 @@ module _ (t : Table) (cells marks : List ℕ) where
       ≡ record { answer = accepted (countOfTable t); cells = written cells (t .inks); marks = written marks (storedMarks (marksOfTable t)) }
   counted-marked h k = counted-room (room-both t cells marks h k)
 
--- ---- the tree of a number
+-- ---- the tree of a number, where there is room
 
 module _ (number : ℕ) (t : Table) (cells marks output : List ℕ) where
-  -- by the room alone
-  pub numbered-refused : (refusal place : ℕ) → roomFor t cells marks ≡ refused refusal place
-      → numberedInto number t cells marks output ≡ record { answer = refused refusal place; cells = cells; marks = marks; output = output }
-  unfolding numberedInto
-  numbered-refused refusal place e = rw (e, numberedInto)
-
-  pub numbered-room : roomFor t cells marks ≡ accepted tt → numberedInto number t cells marks output ≡ afterCount number t cells marks output
-  unfolding numberedInto
-  numbered-room e = rw (e, numberedInto)
-
-  pub numbered-13 : length cells < t .header .levels ^ t .header .inputs
-      → numberedInto number t cells marks output
-      ≡ record { answer = refused 13 (t .header .levels ^ t .header .inputs); cells = cells; marks = marks; output = output }
-  numbered-13 h = numbered-refused 13 _ (room-13 t cells marks h)
-
-  pub numbered-14 : t .header .levels ^ t .header .inputs ≤ length cells → length marks < marksLength (t .header .inputs)
-      → numberedInto number t cells marks output
-      ≡ record { answer = refused 14 (marksLength (t .header .inputs)); cells = cells; marks = marks; output = output }
-  numbered-14 h k = numbered-refused 14 _ (room-14 t cells marks h k)
-
-  pub numbered-marked : t .header .levels ^ t .header .inputs ≤ length cells → marksLength (t .header .inputs) ≤ length marks
-      → numberedInto number t cells marks output ≡ afterCount number t cells marks output
-  numbered-marked h k = numbered-room (room-both t cells marks h k)
-
   pub count-17 : countOfTable t ≤ number
       → afterCount number t cells marks output
       ≡ record {

@@ -55,7 +55,8 @@ module _ (net : Net) (t : Table) (cells output : List ℕ) where
 
         module _ (takes : leavesOut net t ≡ false) where
           pub keep-23 : roomyBefore net t < length (net .gates)
-              → keptInto net t cells output ≡ record { answer = turnedAway neither 23 (suc (roomyBefore net t)); cells = written cells (t .inks); output = output }
+              → keptInto net t cells output
+              ≡ record { answer = turnedAway neither 23 (suc (roomyBefore net t)); cells = written cells (t .inks); output = output }
           unfolding keptInto
           keep-23 h = rw (same, whole, le-ltb _ _ long, takes, lt-ltb _ _ h, keptInto)
 

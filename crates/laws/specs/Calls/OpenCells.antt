@@ -1,5 +1,5 @@
--- What a table without open cells comes to, wherever it is asked for: 27 at the lowest open index, or no cell is open. One law for each outcome of a list of cells,
--- of bare cells and of a table sheet.
+-- What a table without open cells comes to, wherever it is asked for: 27 at the lowest open index, or no cell is open. One law for each outcome of a
+-- list of cells, of bare cells and of a table sheet.
 -- Assumes nothing.
 use Prim.Native.Nat.{ℕ, _^_, _≤_, _<_}
 use mathlib.Core.Path.{_≡_, refl, sym, _∙_}

@@ -14,7 +14,7 @@ use Rattle.rules.specs.Groups.Marks.{markIn, marksOf, marksLength, storedMarks,
 use Rattle.rules.specs.Calls.Answers.{accepted, refused, inkIn, written}
 use Rattle.rules.specs.Sheets.Reading.{readNet, tableOfNet}
 use Rattle.rules.specs.Calls.OpenCells.{readFull}
-use Rattle.rules.specs.Calls.Settling.{settledNet, writtenSheet, afterMarks, roomFor, madeInto, settleCall, makeCall}
+use Rattle.rules.specs.Calls.Settling.{Made, settledNet, writtenSheet, afterMarks, roomFor, inRoom, madeInto, settleCall, makeCall}
 use Rattle.laws.specs.Calls.Answers.{not-refused}
 
 -- the marks of a table
@@ -42,7 +42,8 @@ module _ (t : Table) (cells marks : List ℕ) where
   room-both h k = rw (le-ltb _ _ h, le-ltb _ _ k, roomFor)
 
   -- where there is room, both lengths suffice
-  pub room-fits : roomFor t cells marks ≡ accepted tt → (t .header .levels ^ t .header .inputs ≤ length cells) × (marksLength (t .header .inputs) ≤ length marks)
+  pub room-fits : roomFor t cells marks ≡ accepted tt → (t .header .levels ^ t .header .inputs ≤ length cells)
+      × (marksLength (t .header .inputs) ≤ length marks)
   room-fits e = go (decLe (t .header .levels ^ t .header .inputs) (length cells)) (decLe (marksLength (t .header .inputs)) (length marks))
     where
       go : Dec (t .header .levels ^ t .header .inputs ≤ length cells) → Dec (marksLength (t .header .inputs) ≤ length marks)
@@ -51,31 +52,33 @@ module _ (t : Table) (cells marks : List ℕ) where
       go (yes h) (no k) = absurd (not-refused tt 14 _ (sym e ∙ room-14 h (lt-of-not-le k)))
       go (no h) _ = absurd (not-refused tt 13 _ (sym e ∙ room-13 (lt-of-not-le h)))
 
-module _ (netFor : Table → Net) (t : Table) (cells marks output : List ℕ) where
+-- a call that first asks for this room, whatever the rest of it
+module _ (t : Table) (cells marks output : List ℕ) (rest : Made) where
   -- by the room alone
   pub into-refused : (number place : ℕ) → roomFor t cells marks ≡ refused number place
-      → madeInto netFor t cells marks output ≡ record { answer = refused number place; cells = cells; marks = marks; output = output }
-  unfolding madeInto
-  into-refused number place e = rw (e, madeInto)
+      → inRoom t cells marks output rest ≡ record { answer = refused number place; cells = cells; marks = marks; output = output }
+  unfolding inRoom
+  into-refused number place e = rw (e, inRoom)
 
-  pub into-room : roomFor t cells marks ≡ accepted tt → madeInto netFor t cells marks output ≡ afterMarks netFor t cells marks output
-  unfolding madeInto
-  into-room e = rw (e, madeInto)
+  pub into-room : roomFor t cells marks ≡ accepted tt → inRoom t cells marks output rest ≡ rest
+  unfolding inRoom
+  into-room e = rw (e, inRoom)
 
   pub into-13 : length cells < t .header .levels ^ t .header .inputs
-      → madeInto netFor t cells marks output
+      → inRoom t cells marks output rest
       ≡ record { answer = refused 13 (t .header .levels ^ t .header .inputs); cells = cells; marks = marks; output = output }
   into-13 h = into-refused 13 _ (room-13 t cells marks h)
 
   pub into-14 : t .header .levels ^ t .header .inputs ≤ length cells → length marks < marksLength (t .header .inputs)
-      → madeInto netFor t cells marks output
+      → inRoom t cells marks output rest
       ≡ record { answer = refused 14 (marksLength (t .header .inputs)); cells = cells; marks = marks; output = output }
   into-14 h k = into-refused 14 _ (room-14 t cells marks h k)
 
   pub into-marked : t .header .levels ^ t .header .inputs ≤ length cells → marksLength (t .header .inputs) ≤ length marks
-      → madeInto netFor t cells marks output ≡ afterMarks netFor t cells marks output
+      → inRoom t cells marks output rest ≡ rest
   into-marked h k = into-room (room-both t cells marks h k)
 
+module _ (netFor : Table → Net) (t : Table) (cells marks output : List ℕ) where
   pub marked-16 : (WholeTwo t → ⊥)
       → afterMarks netFor t cells marks output
       ≡ record {

@@ -7,7 +7,8 @@ use Rattle.rules.specs.Sheets.Sheets.{Net, Table}
 use Rattle.rules.specs.Calls.Answers.{Answer, accepted, refused, onward}
 use Rattle.rules.specs.Sheets.Reading.{readNet, tableOfNet}
 use Rattle.rules.specs.Calls.OpenCells.{readFull}
-use Rattle.rules.specs.Calls.ShallowSettling.{Layered, layered, layeredInto, settleShallowCall, makeShallowCall, shallowNet}
+use Rattle.rules.specs.Calls.Settling.{Made, madeInto}
+use Rattle.rules.specs.Calls.ShallowSettling.{Layered, LayeredMade, layered, withLayers, layeredInto, settleShallowCall, makeShallowCall, shallowNet}
 
 -- an answer without its count of layers
 unfoldable pub plainAnswer : Answer Layered → Answer ℕ
@@ -18,6 +19,19 @@ pub plain-layered : (count : ℕ) (answer : Answer ℕ) → plainAnswer (layered
 unfolding plainAnswer layered onward
 plain-layered count (accepted length) = refl
 plain-layered count (refused number place) = refl
+
+-- the same with the buffers
+unfoldable pub plainMade : LayeredMade → Made
+plainMade made = record { answer = plainAnswer (made .answer); cells = made .cells; marks = made .marks; output = made .output }
+
+pub plain-made : (count : ℕ) (made : Made) → plainMade (withLayers count made) ≡ made
+unfolding plainMade withLayers
+plain-made count made = λ i. record { answer = plain-layered count (made .answer) i; cells = made .cells; marks = made .marks; output = made .output }
+
+pub plain-into : (netFor : Table → Net) (t : Table) (cells marks output : List ℕ)
+    → plainMade (layeredInto netFor t cells marks output) ≡ madeInto netFor t cells marks output
+unfolding layeredInto
+plain-into netFor t cells marks output = plain-made _ _
 
 -- a sheet that is turned back, and one that is accepted
 module _ (s cells marks output : List ℕ) where

@@ -17,7 +17,8 @@ use native.Mathlib.Nat.{zero-add, add-zero, suc-add}
 -- by the first element's test
 pub first-cons : {A : Type 0} (test : A → Bool) (x : A) (xs : List A) → firstPlace test (x ∷ xs) ≡ cond (test x) zero (suc (firstPlace test xs))
 unfolding firstPlace
-first-cons test x xs = elim (test x) as (λ t. elim t [ true ↦ zero | false ↦ suc (firstPlace test xs) ] ≡ cond t zero (suc (firstPlace test xs))) [ true ↦ refl | false ↦ refl ]
+first-cons test x xs =
+    elim (test x) as (λ t. elim t [ true ↦ zero | false ↦ suc (firstPlace test xs) ] ≡ cond t zero (suc (firstPlace test xs))) [ true ↦ refl | false ↦ refl ]
 
 first-none : {A : Type 0} (test : A → Bool) → firstPlace test [] ≡ 0
 unfolding firstPlace

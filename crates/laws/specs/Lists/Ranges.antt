@@ -57,10 +57,12 @@ map-range a from zero = refl
 map-range a from (suc count) = rw (map-range a (suc from) count, add-suc)
 
 -- two functions that agree on a range
-pub map-range-same : {A : Type 0} (f h : ℕ → A) (from count : ℕ) → ((i : ℕ) → from ≤ i → i < from + count → f i ≡ h i) → map f (range from count) ≡ map h (range from count)
+pub map-range-same : {A : Type 0} (f h : ℕ → A) (from count : ℕ) → ((i : ℕ) → from ≤ i → i < from + count → f i ≡ h i)
+    → map f (range from count) ≡ map h (range from count)
 unfolding range
 map-range-same f h from zero e = refl
-map-range-same f h from (suc count) e = λ i. e from (omega arith) (omega arith) i ∷ map-range-same f h (suc from) count (λ k l u. e k (omega arith) (omega arith)) i
+map-range-same f h from (suc count) e =
+    λ i. e from (omega arith) (omega arith) i ∷ map-range-same f h (suc from) count (λ k l u. e k (omega arith) (omega arith)) i
 
 -- one value for the whole range
 pub map-range-all : {A : Type 0} (a : A) (from count : ℕ) → map (λ _. a) (range from count) ≡ replicate count a

@@ -1,6 +1,6 @@
 -- Laws of `run` and `past`, and of the spaces at the front.
 -- Assumes nothing.
-use Prim.Native.Nat.{ℕ, suc, _≤_}
+use Prim.Native.Nat.{ℕ, suc, _+_, _≤_}
 use mathlib.Core.Path.{_≡_, refl, sym, ap, _∙_}
 use mathlib.Core.Bool.{Bool, true, false}
 use mathlib.Core.List.{List, [], _∷_, _++_}
@@ -10,6 +10,10 @@ use lib.Seq.{take-append-seam, drop-append-seam}
 use lib.Dec.{eqb}
 use Rattle.rules.specs.Text.{space}
 use Rattle.rules.specs.Sheets.Fields.{isSeparator, run, past, pastSpaces, spacesIn}
+
+-- where the field at a place ends: the place of the byte after it
+unfoldable pub fieldEnd : List ℕ → ℕ → ℕ
+fieldEnd s at = at + length (run (drop at s))
 
 -- a separator in front: no field
 pub at-separator : (b : ℕ) (s : List ℕ) → isSeparator b ≡ true → (run (b ∷ s) ≡ []) × (past (b ∷ s) ≡ b ∷ s)

@@ -52,7 +52,8 @@ unfolding same
 same-length [] [] h = absurd (h refl)
 same-length [] (y ∷ b) h = refl
 same-length (x ∷ a) [] h = refl
-same-length (x ∷ a) (y ∷ b) h = elim (eqb x y) as (λ t. elim t as (λ _. Bool) [ true ↦ same a b | false ↦ false ] ≡ false) [ true ↦ same-length a b (λ e. h (ap suc e)) | false ↦ refl ]
+same-length (x ∷ a) (y ∷ b) h =
+    elim (eqb x y) as (λ t. elim t as (λ _. Bool) [ true ↦ same a b | false ↦ false ] ≡ false) [ true ↦ same-length a b (λ e. h (ap suc e)) | false ↦ refl ]
 
 module _ (a b : List ℕ) (i : ℕ) (ha : i < length a) (hb : i < length b) where
   pub same-next : getD a i 0 ≡ getD b i 0 → same (drop i a) (drop i b) ≡ same (drop (i + 1) a) (drop (i + 1) b)

@@ -54,7 +54,11 @@ total-sum f h test (suc k) most =
     let sum : total (map f (those test (range 1 (suc k)))) ≡ total (map f (those test (range 1 k))) + total (map f (those test (suc k ∷ []))) =
     ap (λ (l : List ℕ). total (map f l)) parts ∙ total-parts f (those test (range 1 k)) (those test (suc k ∷ [])) in
     subst⁻¹ (λ (s : ℕ). s ≤ sumTo h (suc (suc k))) sum
-    (omega (arith, total-sum f h test k (λ a is. most a (rw parts (Memᴰ·append-left _ is))), last (λ is. most (suc k) (rw parts (Memᴰ·append-right (those test (range 1 k)) is)))))
+    (omega (
+      arith,
+      total-sum f h test k (λ a is. most a (rw parts (Memᴰ·append-left _ is))),
+      last (λ is. most (suc k) (rw parts (Memᴰ·append-right (those test (range 1 k)) is))),
+    ))
   where
     parts : those test (range 1 (suc k)) ≡ those test (range 1 k) ++ those test (suc k ∷ [])
     parts =

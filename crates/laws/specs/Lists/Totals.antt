@@ -58,7 +58,8 @@ unfolding those
 those-append test [] ys = refl
 those-append test (x ∷ xs) ys = rw (those-cons test x (xs ++ ys), those-cons test x xs, those-append test xs ys) (go (test x))
   where
-    go : (t : Bool) → cond t (x ∷ (those test xs ++ those test ys)) (those test xs ++ those test ys) ≡ cond t (x ∷ those test xs) (those test xs) ++ those test ys
+    go : (t : Bool) → cond t (x ∷ (those test xs ++ those test ys)) (those test xs ++ those test ys)
+        ≡ cond t (x ∷ those test xs) (those test xs) ++ those test ys
     go true = refl
     go false = refl
 
@@ -70,7 +71,8 @@ those-skip test a zero more none = rw (zero-add, add-zero)
 those-skip test a (suc count) more none =
     let here : test a ≡ false = none a (omega arith) (omega arith) in
     let end : a + suc count ≡ suc a + count = omega arith in
-    rw (end, suc-add, those-cons test a (range (suc a) (count + more)), here) (those-skip test (suc a) count more (λ u low high. none u (omega arith) (omega arith)))
+    rw (end, suc-add, those-cons test a (range (suc a) (count + more)), here)
+    (those-skip test (suc a) count more (λ u low high. none u (omega arith) (omega arith)))
 
 -- so those below c may be taken from b on
 pub those-past : (test : ℕ → Bool) (a b c : ℕ) → a ≤ b → b ≤ c → ((u : ℕ) → a ≤ u → u < b → test u ≡ false)
@@ -109,7 +111,8 @@ those-range-distinct test from (suc count) =
             let between = range-mem (suc from) count from (those-mem test (range (suc from) count) from (any-mem from _ e)) in
             absurd (omega arith)
 
-    go : (t : Bool) → Distinct (those test (range (suc from) count)) → Distinct (cond t (from ∷ those test (range (suc from) count)) (those test (range (suc from) count)))
+    go : (t : Bool) → Distinct (those test (range (suc from) count))
+        → Distinct (cond t (from ∷ those test (range (suc from) count)) (those test (range (suc from) count)))
     go true rest = (later, rest)
     go false rest = rest
 
@@ -130,7 +133,8 @@ module _ (count : ℕ → ℕ) where
       → numberedAt count (x ∷ xs) r ≡ cond (ltb r (count x)) (record { part = x; number = r }) (numberedAt count xs (r - count x))
   unfolding numberedAt
   numbered-cons x xs r =
-      elim (ltb r (count x)) as (λ t. elim t as (λ _. Numbered) [ true ↦ record { part = x; number = r } | false ↦ numberedAt count xs (r - count x) ] ≡ cond t (record { part = x; number = r }) (numberedAt count xs (r - count x))) [
+      elim (ltb r (count x)) as (λ t. elim t as (λ _. Numbered) [ true ↦ record { part = x; number = r } | false ↦ numberedAt count xs (r - count x) ]
+      ≡ cond t (record { part = x; number = r }) (numberedAt count xs (r - count x))) [
         | true ↦ refl
         | false ↦ refl
       ]
@@ -214,7 +218,8 @@ module _ (count : ℕ → ℕ) where
   numbered-first test from zero some positive = absurd (false≢true some)
   numbered-first test from (suc k) some positive =
       rw (those-cons test from (range (suc from) k), first-cons test from (range (suc from) k))
-      (go (test from) refl (sym (any-cons test from (range (suc from) k)) ∙ some) (rw (those-cons test from (range (suc from) k)) at positive) (numbered-first test (suc from) k))
+      (go (test from) refl (sym (any-cons test from (range (suc from) k)) ∙ some) (rw (those-cons test from (range (suc from) k)) at positive)
+      (numbered-first test (suc from) k))
     where
       go : (t : Bool) → test from ≡ t → (t || any test (range (suc from) k)) ≡ true
           → ((a : ℕ) → List·Memᴰ a (cond t (from ∷ those test (range (suc from) k)) (those test (range (suc from) k))) → 0 < count a)

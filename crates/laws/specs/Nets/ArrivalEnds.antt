@@ -53,7 +53,8 @@ kept-order (between from to) kept = (omega arith, kept .1)
 abbrev pub arrivalAt : List Arrival → ℕ → Arrival
 arrivalAt arrivals i = getD arrivals i (fixed 0)
 
-pub each-order : (arrivals : List Arrival) → EachArrivalRules arrivals → (i : ℕ) → (earliestOf (arrivalAt arrivals i) ≤ latestOf (arrivalAt arrivals i)) × (latestOf (arrivalAt arrivals i) ≤ mostTime)
+pub each-order : (arrivals : List Arrival) → EachArrivalRules arrivals → (i : ℕ)
+    → (earliestOf (arrivalAt arrivals i) ≤ latestOf (arrivalAt arrivals i)) × (latestOf (arrivalAt arrivals i) ≤ mostTime)
 each-order [] kept i = (omega arith, omega arith)
 each-order (a ∷ arrivals) kept zero = kept-order a (kept .0)
 each-order (a ∷ arrivals) kept (suc i) = each-order arrivals (kept .1) i

@@ -1,12 +1,11 @@
--- The layers of a gate list by one number for each reference: none at an input, at a gate one more than the deeper of the two that it joins.
+-- The layers of a gate list are its settling time where every input arrives at 0 and each gate takes 1.
 -- Assumes nothing.
 use Prim.Native.Nat.{ℕ, zero, suc, _+_, _-_, _<_, max}
 use mathlib.Core.Path.{_≡_, refl, sym, ap, ap₂, _∙_}
 use mathlib.Core.List.{List, [], _∷_, _++_, map}
-use native.Mathlib.Nat.{add-zero}
 use native.Mathlib.Omega.{arith}
 use lib.ListN.{length, getD, length-append, length-map, replicate}
-use Rattle.rules.specs.Lists.{range}
+use Rattle.rules.specs.Lists.{range, withEach}
 use Rattle.rules.specs.Sheets.Sheets.{Gate}
 use Rattle.rules.specs.Sheets.SheetRules.{RefersBack}
 use Rattle.rules.specs.Nets.Layers.{gateWays, withWays, waysOf, most, layers}
@@ -14,21 +13,8 @@ use Rattle.laws.specs.Lists.Concat.{map-append}
 use Rattle.laws.specs.Lists.Extremes.{most-append, most-suc}
 use Rattle.laws.specs.Lists.Places.{each-snoc, length-snoc, map-at}
 use Rattle.laws.specs.Lists.Ranges.{map-range-all, map-range-at, map-range-length}
-
--- the layers down to a gate, from those down to every reference so far
-unfoldable pub gateDepth : List ℕ → Gate → ℕ
-gateDepth depths g = 1 + max (getD depths (g .left) 0) (getD depths (g .right) 0)
-
--- down to all references: those that are given, then the gates', in order
-unfoldable pub withDepths : List ℕ → List Gate → List ℕ
-withDepths depths [] = depths
-withDepths depths (g ∷ gates) = withDepths (depths ++ (gateDepth depths g ∷ [])) gates
-
-pub depths-snoc : (depths : List ℕ) (gates : List Gate) (g : Gate)
-    → withDepths depths (gates ++ (g ∷ [])) ≡ withDepths depths gates ++ (gateDepth (withDepths depths gates) g ∷ [])
-unfolding withDepths
-depths-snoc depths [] g = refl
-depths-snoc depths (x ∷ gates) g = depths-snoc (depths ++ (gateDepth depths x ∷ [])) gates g
+use Rattle.laws.specs.Lists.WithEach.{with-each-length}
+use Rattle.laws.specs.Nets.Times.{gateTime, withTimes}
 
 -- ---- they are the most gates on a way
 
@@ -42,8 +28,8 @@ module _ (ways : List (List ℕ)) (reached : Reached ways) (g : Gate) (left : g 
   unfolding gateWays
   gate-reached = rw (length-map, length-append) (omega (arith, reached (g .left) left))
 
-  gate-depth : most (gateWays ways g) ≡ gateDepth (map most ways) g
-  unfolding gateWays gateDepth
+  gate-depth : most (gateWays ways g) ≡ gateTime 1 (map most ways) g
+  unfolding gateWays gateTime
   gate-depth =
       let both = getD ways (g .left) [] ++ getD ways (g .right) [] in
       most-suc both (rw length-append (omega (arith, reached (g .left) left)))
@@ -52,23 +38,18 @@ module _ (ways : List (List ℕ)) (reached : Reached ways) (g : Gate) (left : g 
       ∙ omega arith
 
 pub ways-depths : (ways : List (List ℕ)) (gates : List Gate) → Reached ways → RefersBack (length ways) gates
-    → map most (withWays ways gates) ≡ withDepths (map most ways) gates
-unfolding withWays withDepths
+    → map most (withWays ways gates) ≡ withTimes 1 (map most ways) gates
+unfolding withEach
 ways-depths ways [] reached back = refl
 ways-depths ways (g ∷ gates) reached back =
     let more = ways ++ (gateWays ways g ∷ []) in
     ways-depths more gates
     (each-snoc (λ (way : List ℕ). 0 < length way) [] ways (gateWays ways g) reached (gate-reached ways reached g (back .0) (back .1)))
     (rw length-snoc (back .2))
-    ∙ ap (λ (depths : List ℕ). withDepths depths gates)
+    ∙ ap (λ (depths : List ℕ). withTimes 1 depths gates)
     (map-append most ways (gateWays ways g ∷ []) ∙ ap (λ (d : ℕ). map most ways ++ (d ∷ [])) (gate-depth ways reached g (back .0) (back .1)))
 
 -- ---- the layers of a gate list
-
-ways-many : (ways : List (List ℕ)) (gs : List Gate) → length (withWays ways gs) ≡ length ways + length gs
-unfolding withWays
-ways-many ways [] = sym (add-zero (length ways))
-ways-many ways (g ∷ gs) = ways-many (ways ++ (gateWays ways g ∷ [])) gs ∙ omega (arith, length-snoc ways (gateWays ways g))
 
 module _ (n : ℕ) (gates : List Gate) (some : 0 < length gates) (back : RefersBack n gates) where
   abbrev inputWays : List (List ℕ)
@@ -90,10 +71,10 @@ module _ (n : ℕ) (gates : List Gate) (some : 0 < length gates) (back : RefersB
       zeros (suc k) = ap {B = List ℕ} (λ ds. 0 ∷ ds) (zeros k)
 
   -- those down to the last gate
-  pub layers-depth : layers n gates ≡ getD (withDepths (replicate n 0) gates) (n + length gates - 1) 0
+  pub layers-depth : layers n gates ≡ getD (withTimes 1 (replicate n 0) gates) (n + length gates - 1) 0
   unfolding layers waysOf
   layers-depth =
       let all = withWays inputWays gates in
-      sym (map-at most all (n + length gates - 1) [] 0 (omega (arith, ways-many inputWays gates, inputs-many)))
+      sym (map-at most all (n + length gates - 1) [] 0 (omega (arith, with-each-length gateWays inputWays gates, inputs-many)))
       ∙ ap (λ (ds : List ℕ). getD ds (n + length gates - 1) 0)
-      (ways-depths inputWays gates inputs-reached (rw inputs-many back) ∙ ap (λ (ds : List ℕ). withDepths ds gates) inputs-depth)
+      (ways-depths inputWays gates inputs-reached (rw inputs-many back) ∙ ap (λ (ds : List ℕ). withTimes 1 ds gates) inputs-depth)

@@ -16,7 +16,7 @@ use Rattle.rules.specs.Nets.Value.{value, tableOf, valueWith}
 use Rattle.rules.specs.Calls.Glyphs.{levelAt, across, down, levelsRead, newCell, glyph}
 use Rattle.laws.specs.Lists.Ranges.{map-range-length, map-range-at, range-length, range-at}
 use Rattle.laws.specs.Lists.Concat.{concat-length, concat-at}
-use Rattle.laws.specs.Numbers.Assignments.{Assignment, indexOf, index-below, levels-index}
+use Rattle.laws.specs.Numbers.Assignments.{Assignment, indexOf, index-of-below, levels-index}
 use Rattle.laws.specs.Calls.Glyphs.{IsPicture}
 
 -- the new picture has as many cells as the old one
@@ -72,7 +72,7 @@ module _ (m n : ℕ) (gates : List Gate) (ls : List ℕ) (given : Assignment m n
   value-index =
       ap (valueWith m n gates) (sym (levels-index m n ls given)) ∙ sym (value-levels m n (indexOf m ls) gates)
       ∙ ap (value m n gates) (sym (zero-add _))
-      ∙ sym (map-range-at (value m n gates) 0 (m ^ n) (indexOf m ls) 0 (index-below m n ls given))
+      ∙ sym (map-range-at (value m n gates) 0 (m ^ n) (indexOf m ls) 0 (index-of-below m n ls given))
 
 module _ (m width height : ℕ) (picture : List ℕ) (is : IsPicture m width height picture) (pos-m : 0 < m) where
   -- a cell within the picture

@@ -115,6 +115,7 @@ pub mark-written : (before marks : List ℕ) (k : ℕ) → length marks ≡ 4 * 
     → markStored (written before (storedMarks marks)) g ≡ markIn marks g
 unfolding written markStored
 mark-written before marks k e small g h =
-    ap (λ (v : ℕ). v / 4 ^ (g % 4) % 4) (List·getD-append (storedMarks marks) (drop (length (storedMarks marks)) before) 0 (g / 4) (omega (arith, stored-length marks)))
+    ap (λ (v : ℕ). v / 4 ^ (g % 4) % 4)
+    (List·getD-append (storedMarks marks) (drop (length (storedMarks marks)) before) 0 (g / 4) (omega (arith, stored-length marks)))
     ∙ mark-unpacked (storedMarks marks) g
     ∙ ap (λ (l : List ℕ). markIn l g) (unpacked-stored marks k e small)

@@ -1,34 +1,20 @@
 -- When each reference of a gate list settles, by one number for each: an input when it arrives, a gate one delay after the later of the two that it joins.
 -- Assumes nothing.
 use Prim.Native.Nat.{ℕ, zero, suc, _+_, _*_, _≤_, max}
-use mathlib.Core.Path.{_≡_, refl, sym, _∙_}
 use mathlib.Core.List.{List, [], _∷_, _++_}
-use native.Mathlib.Nat.{add-zero, mul-suc}
+use native.Mathlib.Nat.{mul-suc}
 use native.Mathlib.Omega.{arith}
 use lib.ListN.{length, getD}
+use Rattle.rules.specs.Lists.{withEach}
 use Rattle.rules.specs.Sheets.Sheets.{Gate}
-use Rattle.laws.specs.Lists.Places.{length-snoc}
 
 -- a gate's, from those of every reference so far
 unfoldable pub gateTime : ℕ → List ℕ → Gate → ℕ
 gateTime delay times g = max (getD times (g .left) 0) (getD times (g .right) 0) + delay
 
 -- those of all references: the ones that are given, then the gates', in order
-unfoldable pub withTimes : ℕ → List ℕ → List Gate → List ℕ
-withTimes delay times [] = times
-withTimes delay times (g ∷ gates) = withTimes delay (times ++ (gateTime delay times g ∷ [])) gates
-
-pub times-snoc : (delay : ℕ) (times : List ℕ) (gates : List Gate) (g : Gate)
-    → withTimes delay times (gates ++ (g ∷ [])) ≡ withTimes delay times gates ++ (gateTime delay (withTimes delay times gates) g ∷ [])
-unfolding withTimes
-times-snoc delay times [] g = refl
-times-snoc delay times (x ∷ gates) g = times-snoc delay (times ++ (gateTime delay times x ∷ [])) gates g
-
-pub times-length : (delay : ℕ) (times : List ℕ) (gates : List Gate) → length (withTimes delay times gates) ≡ length times + length gates
-unfolding withTimes
-times-length delay times [] = sym (add-zero (length times))
-times-length delay times (g ∷ gates) =
-    times-length delay (times ++ (gateTime delay times g ∷ [])) gates ∙ omega (arith, length-snoc times (gateTime delay times g))
+abbrev pub withTimes : ℕ → List ℕ → List Gate → List ℕ
+withTimes delay times gates = withEach (gateTime delay) times gates
 
 -- ---- no time is later than the latest arrival and one delay for each gate
 
@@ -40,7 +26,7 @@ most-snoc b (y ∷ xs) x each last (suc i) = most-snoc b xs x (λ j. each (suc j
 
 pub times-most : (delay b : ℕ) (times : List ℕ) (gates : List Gate) → ((i : ℕ) → getD times i 0 ≤ b)
     → (i : ℕ) → getD (withTimes delay times gates) i 0 ≤ b + delay * length gates
-unfolding withTimes gateTime
+unfolding withEach gateTime
 times-most delay b times [] each i = omega (arith, each i)
 times-most delay b times (g ∷ gates) each i =
     let more = times-most delay (b + delay) (times ++ (gateTime delay times g ∷ [])) gates

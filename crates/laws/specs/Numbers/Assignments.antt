@@ -70,9 +70,9 @@ module _ (m n : ℕ) (ls : List ℕ) (given : Assignment m n ls) where
   below i h = given .below i (omega (arith, given .count))
 
   -- the index of an assignment is one of the table's, ..
-  pub index-below : indexOf m ls < m ^ n
+  pub index-of-below : indexOf m ls < m ^ n
   unfolding indexOf
-  index-below = rw (add-zero, given .count) at (from-below m 0 0 ls (rw pow-zero (omega arith)) below)
+  index-of-below = rw (add-zero, given .count) at (from-below m 0 0 ls (rw pow-zero (omega arith)) below)
 
   -- .. and its levels are the assignment
   pub levels-index : levelsAt m n (indexOf m ls) ≡ ls
@@ -88,7 +88,7 @@ pub one-index : (m n : ℕ) → 0 < m → (ls : List ℕ) → Assignment m n ls
     → (p : ℕ) × (p < m ^ n) × (levelsAt m n p ≡ ls) × ((q : ℕ) → q < m ^ n → levelsAt m n q ≡ ls → q ≡ p)
 one-index m n pos ls given = (
   indexOf m ls,
-  index-below m n ls given,
+  index-of-below m n ls given,
   levels-index m n ls given,
   λ q h e. sym (index-levels m n q pos h) ∙ ap (indexOf m) e,
 )
@@ -97,6 +97,6 @@ one-index m n pos ls given = (
 pub each-assignment : (m n : ℕ) → 0 < m → (P : List ℕ → ℕ → Type 0)
     → ((p : ℕ) → p < m ^ n → P (levelsAt m n p) p) ↔ ((ls : List ℕ) → Assignment m n ls → P ls (indexOf m ls))
 each-assignment m n pos P = (
-  λ each ls given. subst (λ (l : List ℕ). P l (indexOf m ls)) (levels-index m n ls given) (each (indexOf m ls) (index-below m n ls given)),
+  λ each ls given. subst (λ (l : List ℕ). P l (indexOf m ls)) (levels-index m n ls given) (each (indexOf m ls) (index-of-below m n ls given)),
   λ each p h. subst (λ (q : ℕ). P (levelsAt m n p) q) (index-levels m n p pos h) (each (levelsAt m n p) (levels-given m n p pos)),
 )

@@ -93,7 +93,8 @@ digits-decimal (b ∷ c ∷ w) some digits first =
     let (is, others) = all-iff (isDigit 10) b (c ∷ w) .0 digits in
     let (low, high) = digit-iff 10 b .0 is in
     let byte : 48 + (0 * 10 + (b - 48)) ≡ b = omega arith in
-    rw (digits-behind (0 * 10 + (b - 48)) (omega (arith, first (omega arith))) (c ∷ w) others, decimal-one (0 * 10 + (b - 48)) (omega arith), byte) (same-refl (b ∷ c ∷ w))
+    rw (digits-behind (0 * 10 + (b - 48)) (omega (arith, first (omega arith))) (c ∷ w) others, decimal-one (0 * 10 + (b - 48)) (omega arith), byte)
+    (same-refl (b ∷ c ∷ w))
 
 module _ (w : List ℕ) where
   -- what no decimal value has

@@ -3,7 +3,9 @@
 use Prim.Native.Nat.{ℕ, _+_, _*_, _^_, _≤_, _<_, max}
 use mathlib.Core.Path.{_≡_, refl, sym, ap, ap₂, _∙_, subst}
 use mathlib.Core.Bool.{true, false, cond, true≢false}
-use native.Mathlib.Nat.{mul-assoc, mul-comm, mul-right-comm, add-mul, mul-pos, mul-lt-mul-of-pos-right, mul-le-mul-right, lt-of-mul-lt-mul-right, le-of-mul-le-mul-right, eq-of-mul-eq-mul-right, le-max-left, le-max-right, max-eq-right, max-eq-left, le-of-lt, lt-of-le-of-lt, lt-of-lt-of-le}
+use native.Mathlib.Nat.{mul-assoc, mul-comm, mul-right-comm, add-mul, mul-pos, mul-lt-mul-of-pos-right, mul-le-mul-right, lt-of-mul-lt-mul-right}
+use native.Mathlib.Nat.{le-of-mul-le-mul-right, eq-of-mul-eq-mul-right, le-max-left, le-max-right, max-eq-right, max-eq-left, le-of-lt}
+use native.Mathlib.Nat.{lt-of-le-of-lt, lt-of-lt-of-le}
 use native.Mathlib.Decide.{decLt}
 use native.Mathlib.Omega.{arith}
 use borrow.Author.Tests.{lt-ltb, le-ltb}
@@ -25,7 +27,8 @@ exactBelow = 2 ^ 53
 pub quarter-exact : (q : ℕ) → q < exactBelow → HasValue (quarter q) false q 4
 unfolding quarter
 quarter-exact q h =
-    round-exact binary64 false q 4 q 1072 (lit< tt) h (lt-of-lt-of-le (shl-lt 53 1072 h) (pow-mono {i = 1125} {j = 2098} (lit≤ tt))) (sym (mul-assoc q (2 ^ 1072) 4))
+    round-exact binary64 false q 4 q 1072 (lit< tt) h (lt-of-lt-of-le (shl-lt 53 1072 h) (pow-mono {i = 1125} {j = 2098} (lit≤ tt)))
+    (sym (mul-assoc q (2 ^ 1072) 4))
 
 -- ---- sums
 
@@ -69,7 +72,8 @@ order-exact c some (fin false m e) (fin true n d) a b v w = absurd (true≢false
 order-exact c some (fin false m e) (fin false n d) a b v w =
     cross (m * up e * down d) (n * up d * down e) a b c (down e * down d) some (mul-pos (down-pos e) (down-pos d))
     (mul-right-comm (m * up e) (down d) c ∙ ap (λ (x : ℕ). x * down d) (v .1) ∙ mul-assoc a (down e) (down d))
-    (mul-right-comm (n * up d) (down e) c ∙ ap (λ (x : ℕ). x * down e) (w .1) ∙ mul-assoc b (down d) (down e) ∙ ap (λ (x : ℕ). b * x) (mul-comm (down d) (down e)))
+    (mul-right-comm (n * up d) (down e) c ∙ ap (λ (x : ℕ). x * down e) (w .1) ∙ mul-assoc b (down d) (down e)
+    ∙ ap (λ (x : ℕ). b * x) (mul-comm (down d) (down e)))
 
 pub quarter-order : (p q : ℕ) → p < exactBelow → q < exactBelow → lt (quarter p) (quarter q) ≡ ltb p q
 quarter-order p q hp hq = order-exact 4 (lit< tt) (quarter p) (quarter q) p q (quarter-exact p hp) (quarter-exact q hq)
@@ -110,4 +114,5 @@ quarter-later p q hp hq = rw (quarter-order p q hp hq) (go (decLt p q))
 -- .. and one delay more
 pub quarter-joined : (p q d : ℕ) → max p q < exactBelow → d < exactBelow → add binary64 (laterOf (quarter p) (quarter q)) (quarter d) ≡ quarter (max p q + d)
 quarter-joined p q d h k =
-    ap (λ (x : Float). add binary64 x (quarter d)) (quarter-later p q (lt-of-le-of-lt (le-max-left p q) h) (lt-of-le-of-lt (le-max-right p q) h)) ∙ quarter-sum (max p q) d h k
+    ap (λ (x : Float). add binary64 x (quarter d)) (quarter-later p q (lt-of-le-of-lt (le-max-left p q) h) (lt-of-le-of-lt (le-max-right p q) h))
+    ∙ quarter-sum (max p q) d h k

@@ -3,9 +3,10 @@
 use Prim.Native.Nat.{ℕ, _+_, _-_, _^_, _≤_}
 use mathlib.Core.Path.{_≡_}
 use mathlib.Core.Logic.{_↔_}
-use mathlib.Core.Bool.{Bool, true, _&&_, and-eq-true-iff}
+use mathlib.Core.Bool.{Bool, true, not, _&&_, _||_, and-eq-true-iff}
 use native.Mathlib.Omega.{arith}
-use borrow.Author.Tests.{leb-true}
+use lib.Dec.{leb}
+use borrow.Author.Tests.{leb-true, le-leb}
 use Rattle.rules.specs.Lists.{range, all}
 use Rattle.rules.specs.Limits.{fewestLevels, mostLevels, fewestInputs, mostInputs, mostCells, levelsFit, inputsFit, cellsFit, sizeFits}
 use Rattle.rules.specs.Sheets.Sheets.{Header}
@@ -53,15 +54,23 @@ kept-fits h kept =
 pub kept-size : (h : Header) → HeaderRules h → Size (h .levels) (h .inputs)
 kept-size h kept = sized (h .levels) (h .inputs) (kept-fits h kept)
 
--- ---- one test over all sizes within the bounds of levels and inputs
+-- ---- one test over all sizes that a sheet, or bare cells, may have
 
 unfoldable pub everySize : (ℕ → ℕ → Bool) → Bool
-everySize test = all (λ m. all (test m) (range fewestInputs (mostInputs + 1 - fewestInputs))) (range fewestLevels (mostLevels + 1 - fewestLevels))
+everySize test =
+    all (λ m. all (λ n. not (cellsFit m n) || test m n) (range fewestInputs (mostInputs + 1 - fewestInputs)))
+    (range fewestLevels (mostLevels + 1 - fewestLevels))
 
 -- what it finds holds at each
 pub at-size : (test : ℕ → ℕ → Bool) → everySize test ≡ true → (m n : ℕ) → Size m n → test m n ≡ true
-unfolding everySize
+unfolding everySize cellsFit
 at-size test every m n size =
-    let row = all-mem (λ k. all (test k) (range fewestInputs (mostInputs + 1 - fewestInputs)))
+    let row = all-mem (λ k. all (λ n. not (cellsFit k n) || test k n) (range fewestInputs (mostInputs + 1 - fewestInputs)))
     (mem-range fewestLevels (mostLevels + 1 - fewestLevels) m (size .levels-least) (omega (arith, size .levels-most))) every in
-    all-mem (test m) (mem-range fewestInputs (mostInputs + 1 - fewestInputs) n (size .inputs-least) (omega (arith, size .inputs-most))) row
+    rw (le-leb _ _ (size .cells-most)) at
+    (all-mem (λ n. not (cellsFit m n) || test m n)
+    (mem-range fewestInputs (mostInputs + 1 - fewestInputs) n (size .inputs-least) (omega (arith, size .inputs-most))) row)
+
+-- a bound on what depends on the size alone
+pub bounded-at : (bound : ℕ → ℕ → ℕ) (most : ℕ) → everySize (λ m n. leb (bound m n) most) ≡ true → (m n : ℕ) → Size m n → bound m n ≤ most
+bounded-at bound most every m n size = leb-true (bound m n) most (at-size (λ m n. leb (bound m n) most) every m n size)

@@ -8,22 +8,11 @@ ghost use Rattle.rules.specs.Sheets.Fields.{fieldIn, loose};
 ghost use Rattle.rules.specs.Sheets.Sheets.{inkField};
 ghost use Rattle.fields.specs.Steps.{stepAs, itself};
 use crate::fast::plain::plain_digit;
-use fields::ends::after_field_in;
 use fields::runs::NEWLINE;
-use fields::runs::field_at;
 use fields::steps::Found;
 use fields::steps::Layout;
 use fields::steps::Step;
-use table_reader::inks::judge_ink;
-
-// Reads an ink field by its run of bytes.
-pub fn judged_ink(s: &[u8], at: usize, m: usize) -> Step
-    ensures { λ r. ⌜ stepAs itself (now (s .entry)) r ≡ fieldIn loose (inkField m) newlineByte (drop at (now (s .entry))) at ⌝ }
-{
-    let w = field_at(s, at);
-    let verdict = judge_ink(w, m);
-    after_field_in(s, at, w, verdict, NEWLINE, Layout::Loose)
-}
+use table_reader::inks;
 
 // Reads an ink field; a digit and a line feed are recognised in one step.
 pub fn ink_field(s: &[u8], at: usize, m: usize) -> Step
@@ -31,7 +20,7 @@ pub fn ink_field(s: &[u8], at: usize, m: usize) -> Step
     ensures { λ r. ⌜ stepAs itself (now (s .entry)) r ≡ fieldIn loose (inkField m) newlineByte (drop at (now (s .entry))) at ⌝ }
 {
     match plain_digit(s, at, m, NEWLINE) {
-        Found::Nowhere => judged_ink(s, at, m),
+        Found::Nowhere => inks::ink_field(s, at, m, Layout::Loose),
         Found::At(value) => Step::On {
             value,
             next: at + 2,

@@ -6,41 +6,23 @@ ghost use Rattle.rules.specs.Limits.{mostLevels};
 ghost use Rattle.rules.specs.Text.{spaceByte};
 ghost use Rattle.rules.specs.Sheets.Fields.{fieldIn, loose};
 ghost use Rattle.rules.specs.Sheets.LooseSheet.{anyLevel};
-ghost use Rattle.fields.specs.Steps.{judgedAs, stepAs, itself};
+ghost use Rattle.fields.specs.Steps.{stepAs, itself};
 use crate::fast::plain::plain_digit;
 use fields::ends::after_field_in;
 use fields::runs::SPACE;
-use fields::runs::ZERO;
 use fields::runs::field_at;
 use fields::runs::spaces_end;
 use fields::steps::Found;
 use fields::steps::Layout;
 use fields::steps::Step;
-use fields::steps::Verdict;
-
-// Judges a level: one digit below m.
-pub fn judge_level(w: &[u8], m: usize) -> Verdict
-    ensures { λ r. ⌜ judgedAs itself r ≡ anyLevel m (now (w .entry)) ⌝ }
-{
-    if w.len() != 1 {
-        return Verdict::Bad(5);
-    }
-    let b = w[0] as usize;
-    if b < ZERO {
-        return Verdict::Bad(5);
-    }
-    if m <= b - ZERO {
-        return Verdict::Bad(5);
-    }
-    Verdict::Good(b - ZERO)
-}
+use table_reader::digits::judge_digit;
 
 // Reads a level field by its run of bytes.
 pub fn judged_level(s: &[u8], at: usize, m: usize) -> Step
     ensures { λ r. ⌜ stepAs itself (now (s .entry)) r ≡ fieldIn loose (anyLevel m) spaceByte (drop at (now (s .entry))) at ⌝ }
 {
     let w = field_at(s, at);
-    let verdict = judge_level(w, m);
+    let verdict = judge_digit(w, m, 5);
     after_field_in(s, at, w, verdict, SPACE, Layout::Loose)
 }
 

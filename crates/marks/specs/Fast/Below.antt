@@ -1,20 +1,32 @@
 -- The mark of a group from what is kept of it, and what is known afterwards.
 -- Assumes nothing.
 use Prim.Native.Nat.{ℕ, _+_, _-_, _*_, _^_, _≤_, _<_}
-use mathlib.Core.Path.{_≡_, ap, _∙_, subst⁻¹}
+use mathlib.Core.Path.{_≡_, sym, ap, _∙_, subst, subst⁻¹}
+use mathlib.Core.Bool.{cond}
 use mathlib.Core.List.{List}
 use native.Mathlib.Decide.{decLt}
 use native.Mathlib.Nat.{mul-le-mul}
 use native.Mathlib.Omega.{arith}
+use lib.Bits.{bitAnd, and-le-l}
+use lib.Dec.{eqb}
+use lib.ListN.{getD}
 use lib.Pow.{pow-pos, pow-mono}
 use Rattle.rules.specs.Limits.{mostLevels, mostInputs, mostCells}
 use Rattle.rules.specs.Groups.Groups.{wholeGroup, multiplicity}
-use Rattle.rules.specs.Groups.Marks.{markOf}
+use Rattle.rules.specs.Groups.Marks.{markIn, markOf, marksOf}
+use Rattle.rules.specs.Nets.Trees.{Apart}
 use Rattle.laws.specs.Numbers.Sizes.{Size}
 use Rattle.trees.specs.Groups.Covers.{whole-few}
+use Rattle.trees.specs.Groups.Members.{member-ext, member-zero}
+use Rattle.trees.specs.Groups.MarkRule.{marked, mark-rule, mark-agree}
+use Rattle.trees.specs.Leaves.CutWirings.{Idle}
+use Rattle.trees.specs.Leaves.IdleMarks.{mattering-mark}
+use Rattle.radix.specs.Parts.{member-and, without-apart}
 use Rattle.representatives.specs.Known.{Known, Found, found-few, found-many}
-use Rattle.representatives.specs.Steps.{places-fit}
+use Rattle.representatives.specs.Steps.{places-fit, AllIdle, Near, NextStep}
+use Rattle.representatives.specs.Working.{without-idle}
 use Rattle.marks.specs.GroupRule.{fewMark, mark-empty, many-mark, few-mark}
+use Rattle.marks.specs.Marking.{Below, below-marked}
 
 -- the mark of a group of which `count` assignments are kept
 pub record MarkBy (marks : List ℕ) (g count mark : ℕ) : Type 0 where
@@ -22,10 +34,62 @@ pub record MarkBy (marks : List ℕ) (g count mark : ℕ) : Type 0 where
   pub many : count ≡ 0 → mark ≡ 0
   pub few : 0 < g → 0 < count → (n : ℕ) → g < 2 ^ n → mark ≡ fewMark n marks g
 
--- the mark of group g, with it known
-pub record GroupMarked (m n : ℕ) (f : ℕ → ℕ) (marks : List ℕ) (g mark : ℕ) (counts kept : List ℕ) : Type 0 where
+-- g is the next group, those below it are marked, and those of them that have no member in `idle` are known
+pub record NextMark (m n : ℕ) (f : ℕ → ℕ) (counts kept marks : List ℕ) (idle g past : ℕ) : Type 0 where
+  pub all-idle : AllIdle m n f idle
+  pub group : g < 2 ^ n
+  pub known : (h : ℕ) → h < g → Apart n h idle → Known m n f counts kept h
+  pub near : (Near n g past) × (g < past)
+  pub written : Below m n f marks g marks
+
+-- the mark of group g, and the groups to g known
+pub record GroupMarked (m n : ℕ) (f : ℕ → ℕ) (marks : List ℕ) (idle g mark : ℕ) (counts kept : List ℕ) : Type 0 where
   pub is : mark ≡ markOf m n f marks g
-  pub known : (h : ℕ) → h < g + 1 → Known m n f counts kept h
+  pub known : (h : ℕ) → h < g + 1 → Apart n h idle → Known m n f counts kept h
+
+-- the idle inputs that are known: as before, or with the members of a group that has one class
+pub data MoreIdle (counts : List ℕ) (g idle more : ℕ) : Type 0 where
+  as-before : more ≡ idle → MoreIdle counts g idle more
+  with-group : getD counts g 0 ≡ 1 → bitAnd g idle ≡ 0 → more ≡ idle + g → MoreIdle counts g idle more
+
+module _ {m n : ℕ} {f : ℕ → ℕ} {counts kept marks : List ℕ} {idle g past rest : ℕ} (next : NextMark m n f counts kept marks idle g past)
+    (is-rest : rest ≡ g - bitAnd g idle) where
+  -- a group with idle members has the mark of the rest, ..
+  pub skipped-mark : 0 < m → rest < g → cond (eqb rest 0) 2 (markIn marks rest) ≡ markOf m n f marks g
+  skipped-mark pos less =
+      ap (cond (eqb rest 0) 2) (stored rest less)
+      ∙ sym (mattering-mark m n pos f rest g (omega arith) (omega (arith, next .group)) (next .group)
+      (subst⁻¹ (λ (k : ℕ). Idle m n pos f k g) is-rest (without-idle m n pos f g idle (next .group) (next .all-idle))))
+      ∙ mark-rule m n pos f g (next .group)
+      ∙ mark-agree m n f (marksOf m n f) marks g (λ a a<. sym (stored a a<))
+    where
+      stored : (a : ℕ) → a < g → markIn marks a ≡ marked m n pos f a
+      stored = below-marked m n pos f marks g marks (next .written)
+
+  -- .. and need not be known
+  pub skipped-known : rest < g → (h : ℕ) → h < g + 1 → Apart n h idle → Known m n f counts kept h
+  skipped-known less h h< free = go (decLt h g)
+    where
+      go : Dec (h < g) → Known m n f counts kept h
+      go (yes lower) = next .known h lower free
+      go (no last) =
+          let same : h ≡ g = omega arith in
+          let none : bitAnd g idle ≡ 0 =
+          member-ext n (bitAnd g idle) 0 (omega (arith, and-le-l g idle, next .group)) (pow-pos n)
+          (λ i i<. member-and i g idle ∙ subst (λ (k : ℕ). Apart n k idle) same free i i< ∙ sym (member-zero i)) in
+          absurd (omega (arith, none, is-rest))
+
+  -- any other is the next whose classes are counted
+  pub next-counted : g ≤ rest → NextStep m n f counts kept idle g past
+  next-counted all =
+      record {
+        all-idle = next .all-idle;
+        group = next .group;
+        apart = subst (λ (k : ℕ). Apart n k idle) (omega (arith, is-rest)) (without-apart n g idle (next .group));
+        known = next .known;
+        near = next .near .0;
+        above = next .near .1;
+      }
 
 -- what is found of a group gives its mark
 pub found-mark : {m n : ℕ} {f : ℕ → ℕ} {counts kept marks : List ℕ} {g count mark : ℕ} → 0 < m → g < 2 ^ n → Found m n f counts kept g count → MarkBy marks g count mark

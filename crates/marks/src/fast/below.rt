@@ -1,15 +1,20 @@
-// Every group's mark but the whole group's, by rising number. Whether a group has few classes comes from what is kept of the groups below it.
+// Every group's mark but the whole group's, by rising number. Whether a group has few classes comes from what is kept of the groups below it. A group with an
+// idle member takes the mark of the rest, and nothing is kept of it.
 ghost use mathlib.Core.Path.{_≡_};
+ghost use mathlib.Core.Bool.{cond};
 ghost use Prim.Native.Nat.{_-_, _^_, _≤_, _<_};
+ghost use lib.Dec.{eqb};
 ghost use lib.ListN.{length};
 ghost use Rattle.rules.specs.Limits.{mostLevels};
+ghost use Rattle.rules.specs.Groups.Marks.{markIn};
 ghost use Rattle.rules.specs.Calls.Answers.{inkIn};
 ghost use Rattle.radix.specs.Widths.{groupsEnd};
-ghost use Rattle.representatives.specs.Steps.{Work, NextStep};
+ghost use Rattle.representatives.specs.Steps.{Work};
 ghost use Rattle.marks.specs.Marking.{Below};
-ghost use Rattle.marks.specs.Fast.Below.{MarkBy, GroupMarked};
+ghost use Rattle.marks.specs.Fast.Below.{MarkBy, NextMark, GroupMarked, MoreIdle};
 use crate::group_mark;
 use crate::own;
+use radix::members;
 use radix::powers;
 use representatives::group;
 
@@ -27,12 +32,38 @@ fn mark_by(marks: &[u8], g: usize, count: usize) -> u8
     group_mark::few_mark(marks, g)
 }
 
+// Returns the mark of a group with idle members. `rest` is the group of its other members.
+fn idle_mark(marks: &[u8], rest: usize) -> u8
+    requires { ⌜ rest < length (now marks) ⌝ }
+    ensures { λ r. ⌜ r ≡ cond (eqb rest 0) 2 (markIn (now (marks .entry)) rest) ⌝ }
+{
+    if rest == 0 {
+        return 2;
+    }
+    own::mark_at(marks, rest)
+}
+
+// Returns `idle` with the members of group g, if g has one class. Nothing is known of a group that has a member in `idle`.
+fn more_idle(counts: &[u8], g: usize, idle: usize) -> usize
+    requires { ⌜ (g < length (now counts)) × (g < groupsEnd) × (idle < groupsEnd) ⌝ }
+    ensures { λ r. ⌜ MoreIdle (now (counts .entry)) g idle r ⌝ }
+{
+    if counts[g] != 1 {
+        return idle;
+    }
+    if g & idle != 0 {
+        return idle;
+    }
+    idle + g
+}
+
 // The mark of group g, with what is kept of it.
 fn mark_next(
     m: usize,
     n: usize,
     cells: &[u8],
     weights: &[u16],
+    idle: usize,
     g: usize,
     past: usize,
     counts: &mut [u8],
@@ -43,10 +74,27 @@ fn mark_next(
     marks: &[u8],
 ) -> u8
     requires { ⌜ (Work m n (now cells) (now weights) (now counts) (now kept) (now xs) (now ys) (now firsts))
-        × (NextStep m n (inkIn (now cells)) (now counts) (now kept) g past) × (m ≤ mostLevels) × (2 ^ n ≤ length (now marks)) ⌝ }
-    ensures { λ r. ⌜ GroupMarked m n (inkIn (now (cells .entry))) (now (marks .entry)) g r (now (counts .exit)) (now (kept .exit)) ⌝ }
+        × (NextMark m n (inkIn (now cells)) (now counts) (now kept) (now marks) idle g past) × (m ≤ mostLevels) × (2 ^ n ≤ length (now marks)) ⌝ }
+    ensures { λ r. ⌜ GroupMarked m n (inkIn (now (cells .entry))) (now (marks .entry)) idle g r (now (counts .exit)) (now (kept .exit)) ⌝ }
 {
-    let count = group::keep_group(m, n, cells, weights, g, past, counts, kept, xs, ys, firsts);
+    let rest = members::without(g, idle);
+    if rest < g {
+        return idle_mark(marks, rest);
+    }
+    let count = group::keep_group(
+        m,
+        n,
+        cells,
+        weights,
+        idle,
+        g,
+        past,
+        counts,
+        kept,
+        xs,
+        ys,
+        firsts,
+    );
     counts[g] = count as u8;
     mark_by(marks, g, count)
 }
@@ -69,6 +117,7 @@ pub fn mark_below(
     ensures { λ _. ⌜ Below m n (inkIn (now (cells .entry))) (now (marks .entry)) (2 ^ n - 1) (now (marks .exit)) ⌝ }
 {
     let end = powers::power(2, n) - 1;
+    let mut idle: usize = 0;
     let mut past: usize = 1;
     let mut g: usize = 0;
     while g < end {
@@ -78,6 +127,7 @@ pub fn mark_below(
             n,
             cells,
             weights,
+            idle,
             g,
             past,
             counts,
@@ -88,6 +138,7 @@ pub fn mark_below(
             marks,
         );
         own::put_mark(marks, g, mark);
+        idle = more_idle(counts, g, idle);
         g += 1;
     }
 }

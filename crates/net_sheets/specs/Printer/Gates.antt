@@ -24,11 +24,11 @@ abbrev pub referenceIn : List ℕ → Header → ℕ → List ℕ
 referenceIn s h r = referenceText (namesIn s h) r
 
 -- the line of the gate with k gates before it, and all gate lines
-abbrev pub gateLine : List ℕ → Header → Net → ℕ → List ℕ
-gateLine s h net k = printedGate (namesIn s h) (gateOf net k)
+abbrev pub printedGateAt : List ℕ → Header → Net → ℕ → List ℕ
+printedGateAt s h net k = printedGate (namesIn s h) (gateOf net k)
 
-abbrev pub gateLines : List ℕ → Header → Net → List ℕ
-gateLines s h net = concatMap (printedGate (namesIn s h)) (gatesOf net)
+abbrev pub printedGates : List ℕ → Header → Net → List ℕ
+printedGates s h net = concatMap (printedGate (namesIn s h)) (gatesOf net)
 
 -- no more gates than the form has room for, and each digit is one digit
 pub record GatesInside (net : Net) : Type 0 where
@@ -41,11 +41,11 @@ unfoldable pub linesFrom : List ℕ → Header → Net → ℕ → List ℕ
 linesFrom s h net k = concatMap (printedGate (namesIn s h)) (map (gateOf net) (range k (net .gates - k)))
 
 module _ (s : List ℕ) (h : Header) (net : Net) where
-  pub lines-all : linesFrom s h net 0 ≡ gateLines s h net
+  pub lines-all : linesFrom s h net 0 ≡ printedGates s h net
   unfolding linesFrom gatesOf
   lines-all = rw sub-zero
 
-  pub lines-next : (k : ℕ) → k < net .gates → linesFrom s h net k ≡ gateLine s h net k ++ linesFrom s h net (k + 1)
+  pub lines-next : (k : ℕ) → k < net .gates → linesFrom s h net k ≡ printedGateAt s h net k ++ linesFrom s h net (k + 1)
   unfolding linesFrom concatMap
   lines-next k l = ap (λ (r : List ℕ). concatMap (printedGate (namesIn s h)) (map (gateOf net) r)) (range-next k (net .gates) l)
 

@@ -8,7 +8,7 @@ use lib.ListN.{length, take}
 use Rattle.rules.specs.Calls.Settling.{writtenSheet}
 use Rattle.rules.specs.Calls.Answers.{accepted, refused, written}
 use Rattle.laws.specs.Calls.Settling.{sheet-15, sheet-written}
-use Rattle.radix.specs.Fronts.{front}
+use Rattle.radix.specs.Fronts.{front-from-0}
 use Rattle.net_sheets.specs.Text.Put.{Put, NetWrote, put-wrote}
 use Rattle.laws.specs.Calls.Answers.{written-front}
 
@@ -17,7 +17,7 @@ use Rattle.laws.specs.Calls.Answers.{written-front}
 module _ (sheet own buffer output : List ℕ) (count : ℕ) (did : NetWrote own sheet buffer count) where
   -- the sheet stands at its front
   printed-front : take (count - 0) buffer ≡ sheet
-  printed-front = front count buffer sheet ((λ i. take (did .length i) (did .text i)) ∙ written-front own sheet)
+  printed-front = front-from-0 count buffer sheet ((λ i. take (did .length i) (did .text i)) ∙ written-front own sheet)
 
   pub sheet-short : length output < count → (cells marks : List ℕ)
       → record { answer = refused 15 count; cells = cells; marks = marks; output = output } ≡ writtenSheet sheet cells marks output

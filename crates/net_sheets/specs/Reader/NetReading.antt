@@ -7,8 +7,8 @@ use mathlib.Core.List.{List, []}
 use native.Mathlib.Omega.{arith}
 use lib.ListN.{length, drop}
 use Rattle.rules.specs.Limits.{mostInputs}
-use Rattle.rules.specs.Text.{space, newline, text, spaceByte, newlineByte}
-use Rattle.rules.specs.Sheets.Fields.{Reader, then, _>>=_, give, field, theWord, closed}
+use Rattle.rules.specs.Text.{space, newline, text}
+use Rattle.rules.specs.Sheets.Fields.{Reader, then, _>>=_, give, theWord, closed}
 use Rattle.rules.specs.Sheets.Sheets as sheets
 use Rattle.rules.specs.Sheets.Sheets.{headerLines, gateLines, earlierUsed, allUsed, netSheet}
 use Rattle.rules.specs.Sheets.Reading.{answered, readNet}
@@ -17,11 +17,11 @@ use Rattle.nets.specs.Forms.{headerOf, namesIn, gatesOf, netIn}
 use Rattle.nets.specs.Room.{mostGates}
 use Rattle.nets.specs.declared.forms.Header.{Header}
 use Rattle.nets.specs.declared.forms.Net.{Net}
-use Rattle.fields.specs.Chained.{chained-back, chained-on, Answers, answers-back, answers-on, answers-more, answers-ended, field-then-then}
+use Rattle.fields.specs.Chained.{Answers, answers-back, answers-on, answers-more, answers-ended}
 use Rattle.fields.specs.Header.FirstLines.{HeaderHeld, HeaderRest}
 use Rattle.fields.specs.Steps.{stepAs, nothing, spelled}
 use Rattle.answers.specs.AnswerMaps.{outcomeAs}
-use Rattle.fields.specs.Words.{twoWords, twoWordsIn}
+use Rattle.fields.specs.Words.{threeWords, three-words-then}
 use Rattle.fields.specs.declared.header.name_line.HeaderRead.{HeaderRead}
 use Rattle.answers.specs.declared.outcome.Outcome.{Outcome}
 use Rattle.answers.specs.declared.outcome.Outcome.the-variants.{Accepted, Refused}
@@ -45,8 +45,9 @@ pub record NetReads (s : List ℕ) (r : NetRead) : Type 0 where
 abbrev pub NetRest : List ℕ → ℕ → Reader sheets.Net → NetRead → Type 0
 NetRest s at reader r = Answers s at reader (netIn s (r .header) (r .net)) (NetHeld s r) (r .outcome)
 
-unfoldable pub headingLine : Reader (Unit {0})
-headingLine = field (theWord "left") space >>= λ _. field (theWord "right") space >>= λ _. field (theWord "table") newline
+-- line 4
+abbrev pub headingLine : Reader (Unit {0})
+headingLine = threeWords (text "left") (text "right") (text "table")
 
 -- what is judged last
 unfoldable pub lastJudged : sheets.Header → List sheets.Gate → Reader sheets.Net
@@ -58,19 +59,6 @@ fromGates h =
 
 unfoldable pub fromHeading : sheets.Header → Reader sheets.Net
 fromHeading h = headingLine >>= λ _. fromGates h
-
--- ---- line 4: a word, then two more
-
-module _ (s : List ℕ) (at : ℕ) (step : Step) (reads : stepAs nothing s step ≡ field (spelled (text "left")) spaceByte (drop at s) at) (r : Step) where
-  pub net-reading-left-back : (number place : ℕ) → step ≡ Back number place → r ≡ Back number place → stepAs nothing s r ≡ headingLine (drop at s) at
-  unfolding headingLine spelled theWord space
-  net-reading-left-back number place e q = chained-back nothing (field (theWord "left") spaceByte) _ s at step reads nothing r number place e q
-
-  pub net-reading-left-on : (value next : ℕ) → step ≡ On value next → stepAs nothing s r ≡ twoWords (text "right") (text "table") (drop next s) next
-      → stepAs nothing s r ≡ headingLine (drop at s) at
-  unfolding headingLine twoWordsIn spelled theWord space newline
-  net-reading-left-on value next e onward =
-      chained-on nothing (field (theWord "left") spaceByte) (λ _. field (theWord "right") spaceByte >>= λ _. field (theWord "table") newlineByte) s at step reads nothing r value next e onward
 
 -- ---- at the sheet's end
 
@@ -142,15 +130,8 @@ module _ (s : List ℕ) (at : ℕ) (h : Header) (step : Step) (reads : stepAs no
 
 -- the whole sheet is its header, and the rest
 sheet-split : (s : List ℕ) → (headerLines newline >>= fromHeading) s 0 ≡ netSheet s 0
-unfolding netSheet fromHeading fromGates lastJudged headingLine
-sheet-split s = ap (then (headerLines newline s 0)) (λ i h t at. words h t at i)
-  where
-    words : (h : sheets.Header) (t : List ℕ) (at : ℕ)
-        → then (headingLine t at) (λ _. fromGates h)
-        ≡ (field (theWord "left") space >>= λ _. field (theWord "right") space >>= λ _. field (theWord "table") newline >>= λ _. fromGates h) t at
-    words h t at =
-        field-then-then (field (theWord "left") space t at) _ _
-        ∙ ap (then (field (theWord "left") space t at)) (λ i _ u p. field-then-then (field (theWord "right") space u p) (λ _. field (theWord "table") newline) (λ _. fromGates h) i)
+unfolding netSheet fromHeading fromGates lastJudged spelled theWord space newline
+sheet-split s = ap (then (headerLines newline s 0)) (λ i h t at. three-words-then (text "left") (text "right") (text "table") (fromGates h) t at i)
 
 module _ (s : List ℕ) (r : HeaderRead) (header : HeaderRest s 0 (headerLines newline) r) where
   whole : (out : NetRead) → NetRest s 0 (headerLines newline >>= fromHeading) out → NetReads s out

@@ -7,7 +7,7 @@ ghost use Rattle.rules.specs.Sheets.Printed.{printedNet};
 ghost use Rattle.nets.specs.Forms.{gateOf, netIn};
 ghost use Rattle.net_sheets.specs.Text.Put.{Put, PutRoom, NetWrote};
 ghost use Rattle.net_sheets.specs.Text.Names.{NamesInside};
-ghost use Rattle.net_sheets.specs.Printer.Gates.{referenceIn, GatesInside, gateLine, gateLines};
+ghost use Rattle.net_sheets.specs.Printer.Gates.{referenceIn, GatesInside, printedGateAt, printedGates};
 use crate::text::decimals::print_decimal;
 use crate::text::header::print_name;
 use crate::text::header::print_names_line;
@@ -68,8 +68,8 @@ fn print_gate_table(net: Net, k: usize, out: &mut [u8], at: usize) -> usize
 
 // The line of the gate with k gates before it.
 fn print_gate(s: &[u8], h: Header, net: Net, k: usize, out: &mut [u8], at: usize) -> usize
-    requires { ⌜ NamesInside (now s) h × GatesInside net × (k < net .gates) × PutRoom (now out) at (gateLine (now s) h net k) ⌝ }
-    ensures { λ r. ⌜ Put (now (out .entry)) at (gateLine (now (s .entry)) h net k) (now (out .exit)) r ⌝ }
+    requires { ⌜ NamesInside (now s) h × GatesInside net × (k < net .gates) × PutRoom (now out) at (printedGateAt (now s) h net k) ⌝ }
+    ensures { λ r. ⌜ Put (now (out .entry)) at (printedGateAt (now (s .entry)) h net k) (now (out .exit)) r ⌝ }
 {
     let left = net.left;
     let right = net.right;
@@ -81,8 +81,8 @@ fn print_gate(s: &[u8], h: Header, net: Net, k: usize, out: &mut [u8], at: usize
 
 // The lines of all gates.
 fn print_gates(s: &[u8], h: Header, net: Net, out: &mut [u8], at: usize) -> usize
-    requires { ⌜ NamesInside (now s) h × GatesInside net × PutRoom (now out) at (gateLines (now s) h net) ⌝ }
-    ensures { λ r. ⌜ Put (now (out .entry)) at (gateLines (now (s .entry)) h net) (now (out .exit)) r ⌝ }
+    requires { ⌜ NamesInside (now s) h × GatesInside net × PutRoom (now out) at (printedGates (now s) h net) ⌝ }
+    ensures { λ r. ⌜ Put (now (out .entry)) at (printedGates (now (s .entry)) h net) (now (out .exit)) r ⌝ }
 {
     let gates = net.gates;
     let mut k: usize = 0;

@@ -1,19 +1,14 @@
 // A whole net sheet.
-ghost use mathlib.Core.Path.{_≡_};
-ghost use lib.ListN.{drop};
 ghost use Rattle.nets.specs.Forms.{headerOf};
 ghost use Rattle.fields.specs.Header.FirstLines.{HeaderHeld};
-ghost use Rattle.fields.specs.Steps.{stepAs, nothing};
-ghost use Rattle.net_sheets.specs.Reader.NetReading.{NetReads, NetRest, headingLine, fromHeading, fromGates};
+ghost use Rattle.net_sheets.specs.Reader.NetReading.{NetReads, NetRest, fromHeading, fromGates};
 use crate::reader::gates::gate_lines;
 use crate::reader::references::earlier_used;
 use answers::outcome::Outcome;
 use fields::header::first_lines::header_lines;
 use fields::runs::NEWLINE;
-use fields::runs::SPACE;
 use fields::steps::Step;
-use fields::words::two_words;
-use fields::words::word_field;
+use fields::words::three_words;
 use nets::forms::Header;
 use nets::forms::Net;
 use nets::forms::no_gates;
@@ -23,16 +18,6 @@ pub struct NetRead {
     pub outcome: Outcome,
     pub header: Header,
     pub net: Net,
-}
-
-// Reads line 4.
-pub fn heading_line(s: &[u8], at: usize) -> Step
-    ensures { λ r. ⌜ stepAs nothing (now (s .entry)) r ≡ headingLine (drop at (now (s .entry))) at ⌝ }
-{
-    match word_field(s, at, b"left", SPACE) {
-        Step::Back { number, place } => Step::Back { number, place },
-        Step::On { value: _, next } => two_words(s, next, b"right", b"table"),
-    }
 }
 
 // Reads a net sheet from its first gate line on.
@@ -84,7 +69,7 @@ pub fn from_heading(s: &[u8], at: usize, header: Header) -> NetRead
     requires { ⌜ HeaderHeld (now s) header ⌝ }
     ensures { λ r. ⌜ NetRest (now (s .entry)) at (fromHeading (headerOf (now (s .entry)) header)) r ⌝ }
 {
-    match heading_line(s, at) {
+    match three_words(s, at, b"left", b"right", b"table") {
         Step::Back { number, place } => NetRead {
             outcome: Outcome::Refused { number, place },
             header,

@@ -14,7 +14,7 @@ use Rattle.laws.specs.Lists.Distinct.{In}
 use Rattle.readback.specs.Readers.Among.{Among, AmongJudge, Refuses, test-bad, among-word, among-closed, among-answer}
 use Rattle.readback.specs.Readers.Fronts.{FromFront, front-closed}
 use Rattle.readback.specs.Readers.Walks.{among-composes, front-composes, arrivals-walk}
-use Rattle.readback.specs.Readers.Refused.{PlacesWithin, JudgesFront, JudgesField, places-within, judges-front, judges-field}
+use Rattle.readback.specs.Readers.Refused.{JudgedFromFront, judged-from-front}
 
 -- ---- the numbers: 1, 18 and 19
 
@@ -33,7 +33,8 @@ module _ (one : In 1 arrivalNumbers) (eighteen : In 18 arrivalNumbers) (nineteen
       test-bad arrivalNumbers one (isDecimal w && leb time mostTime && leb least time) time 19 k nineteen e
 
   among-arrivals : (names : List (List ℕ)) → Among arrivalNumbers (arrivalSheet names)
-  among-arrivals = arrivals-walk (among-composes arrivalNumbers one strict) (among-word arrivalNumbers one) among-next among-time (among-closed arrivalNumbers one)
+  among-arrivals = arrivals-walk (among-composes arrivalNumbers one strict) (among-word arrivalNumbers one) among-next among-time
+      (among-closed arrivalNumbers one)
 
 pub arrivals-refusal : (names : List (List ℕ)) → Refuses arrivalNumbers (readArrivals names)
 unfolding readArrivals any
@@ -44,17 +45,6 @@ arrivals-refusal names = among-answer arrivalNumbers (arrivalSheet names) (among
 front-arrivals : (names : List (List ℕ)) → FromFront (arrivalSheet names)
 front-arrivals = arrivals-walk front-composes (λ _. tt) (λ _. tt) (λ _. tt) front-closed
 
-module _ (names : List (List ℕ)) where
-  -- the place is at most the sheet's length, ..
-  pub arrivals-place : PlacesWithin (readArrivals names)
-  unfolding readArrivals
-  arrivals-place = places-within (front-arrivals names)
-
-  -- .. and what stands behind the field refused and the byte after it has no say; nor has that byte, where the field is bad
-  pub arrivals-front : JudgesFront (readArrivals names)
-  unfolding readArrivals
-  arrivals-front = judges-front (front-arrivals names)
-
-  pub arrivals-field : JudgesField (readArrivals names)
-  unfolding readArrivals
-  arrivals-field = judges-field (front-arrivals names)
+pub arrivals-judged : (names : List (List ℕ)) → JudgedFromFront (readArrivals names)
+unfolding readArrivals
+arrivals-judged names = judged-from-front (front-arrivals names)

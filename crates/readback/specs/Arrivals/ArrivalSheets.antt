@@ -16,7 +16,9 @@ use Rattle.rules.specs.Sheets.Fields.{good, isSeparator}
 use Rattle.rules.specs.Sheets.Printed.{line}
 use Rattle.rules.specs.Sheets.SheetRules.{GoodNames}
 use Rattle.rules.specs.Calls.Answers.{accepted}
-use Rattle.rules.specs.Sheets.ArrivalSheet.{Arrival, arrivalOf, earliestOf, latestOf, nextName, timeField, arrivalLine, arrivalLines, arrivalSheet, readArrivals, printedArrival, printedArrivals, printedArrivalSheet, ArrivalRules, EachArrivalRules, ArrivalSheetRules}
+use Rattle.rules.specs.Sheets.ArrivalSheet.{Arrival, arrivalOf, earliestOf, latestOf, nextName, timeField, arrivalLine, arrivalLines, arrivalSheet}
+use Rattle.rules.specs.Sheets.ArrivalSheet.{readArrivals, printedArrival, printedArrivals, printedArrivalSheet, ArrivalRules, EachArrivalRules}
+use Rattle.rules.specs.Sheets.ArrivalSheet.{ArrivalSheetRules}
 use Rattle.laws.specs.Lists.Same.{same-refl, same-true}
 use Rattle.laws.specs.Nets.ArrivalEnds.{earliest-of, latest-of, kept-of, arrival-again, kept-order}
 use Rattle.laws.specs.Numbers.Digits.{decimal-value, decimal-is, is-decimal}
@@ -25,7 +27,7 @@ use Rattle.readback.specs.Readers.Collects.{Collects, collects-none, col
 use Rattle.readback.specs.Readers.Fields.{plain, isWord, Judges, judged-good, parts-space, parts-newline, spells-field, judges-word, Ended, spells-end}
 use Rattle.readback.specs.Readers.Decimals.{decimal-word}
 use Rattle.readback.specs.Readers.Judges.{name-word}
-use Rattle.readback.specs.Sheets.ReadBack.{whole-back, whole-only}
+use Rattle.readback.specs.Sheets.ReadBack.{whole-back, whole-kept, whole-sheets}
 
 -- ---- the fields
 
@@ -71,8 +73,11 @@ spells-line name word = spells-as
     (λ (_, ((from, _, _), ((to, h, k), _))).
     ((arrivalOf from to, kept-of from to k h), refl, line-text name from to (arrivalOf from to) (earliest-of from to) (latest-of from to)))
     (λ (a, kept).
-    let (k, h) = kept-order a kept in
-    ((tt, ((earliestOf a, omega arith, omega arith), ((latestOf a, h, k), tt))), sym (arrival-again a kept), sym (line-text name (earliestOf a) (latestOf a) a refl refl)))
+    let (k, h) = kept-order a kept in (
+      (tt, ((earliestOf a, omega arith, omega arith), ((latestOf a, h, k), tt))),
+      sym (arrival-again a kept),
+      sym (line-text name (earliestOf a) (latestOf a) a refl refl),
+    ))
 
 -- ---- all lines, and the sheet
 
@@ -81,8 +86,10 @@ spells-lines : (names : List (List ℕ)) → GoodNames names → (earlier : List
 unfolding arrivalLines printedArrivals
 spells-lines [] names-good earlier = collects-none earlier EachArrivalRules (printedArrivals []) tt refl
 spells-lines (name ∷ names) names-good earlier =
-    collects-more _ earlier (length names) ArrivalRules (λ _. EachArrivalRules) EachArrivalRules (printedArrival name) (printedArrivals names) (printedArrivals (name ∷ names))
-    (spells-line name (name-word name (names-good .0))) (λ a. spells-lines names (names-good .2) (earlier ++ (a ∷ []))) (λ a others. (λ h. h, λ h. h)) (λ a others l. refl)
+    collects-more _ earlier (length names) ArrivalRules (λ _. EachArrivalRules) EachArrivalRules (printedArrival name) (printedArrivals names)
+    (printedArrivals (name ∷ names))
+    (spells-line name (name-word name (names-good .0))) (λ a. spells-lines names (names-good .2) (earlier ++ (a ∷ []))) (λ a others. (λ h. h, λ h. h))
+    (λ a others l. refl)
 
 sheet-text : (names : List (List ℕ)) (arrivals : List Arrival)
     → text "name" ++ space ∷ [] ++ (text "from" ++ space ∷ [] ++ (text "to" ++ newline ∷ [] ++ (printedArrivals names arrivals ++ [])))
@@ -92,7 +99,8 @@ sheet-text names arrivals = simp (append-assoc, append-nil)
 
 module _ (names : List (List ℕ)) (names-good : GoodNames names) where
   -- the reader of arrival sheets spells the arrivals that keep the rules
-  spells-arrivals : SpellsTo Ended (arrivalSheet names) ((arrivals : List Arrival) × ArrivalSheetRules names arrivals) (λ x. x .0) (λ x. printedArrivalSheet names (x .0))
+  spells-arrivals : SpellsTo Ended (arrivalSheet names) ((arrivals : List Arrival) × ArrivalSheetRules names arrivals) (λ x. x .0)
+      (λ x. printedArrivalSheet names (x .0))
   unfolding arrivalSheet plain isWord all text isSeparator space newline
   spells-arrivals = spells-as
       (spells-then _ (spells-field space refl (judges-word "name" refl)) (λ _.
@@ -103,7 +111,8 @@ module _ (names : List (List ℕ)) (names-good : GoodNames names) where
       (λ (arrivals, kept). ((tt, (tt, (tt, ((arrivals, kept .count, kept .each), tt)))), refl, sym (sheet-text names arrivals)))
 
   -- printed arrivals are read back
-  pub arrivals-read-back : (arrivals : List Arrival) → ArrivalSheetRules names arrivals → readArrivals names (printedArrivalSheet names arrivals) ≡ accepted arrivals
+  pub arrivals-read-back : (arrivals : List Arrival) → ArrivalSheetRules names arrivals
+      → readArrivals names (printedArrivalSheet names arrivals) ≡ accepted arrivals
   unfolding readArrivals
   arrivals-read-back arrivals kept = whole-back spells-arrivals (arrivals, kept)
 
@@ -111,16 +120,11 @@ module _ (names : List (List ℕ)) (names-good : GoodNames names) where
   pub arrivals-accepted : (s : List ℕ) (arrivals : List Arrival) → readArrivals names s ≡ accepted arrivals
       → (s ≡ printedArrivalSheet names arrivals) × ArrivalSheetRules names arrivals
   unfolding readArrivals
-  arrivals-accepted s arrivals e =
-      let ((own, k), q, d) = whole-only spells-arrivals s arrivals e in
-      rw q (d, k)
+  arrivals-accepted = whole-kept (printedArrivalSheet names) spells-arrivals
 
   -- an arrival sheet is accepted exactly when it is the print of arrivals that keep the rules, one for each input
   pub arrival-sheets : (s : List ℕ)
-      → ((arrivals : List Arrival) × (readArrivals names s ≡ accepted arrivals)) ↔ ((arrivals : List Arrival) × ArrivalSheetRules names arrivals × (s ≡ printedArrivalSheet names arrivals))
-  arrival-sheets s = (
-    λ (arrivals, e).
-        let (d, k) = arrivals-accepted s arrivals e in
-        (arrivals, k, d),
-    λ (arrivals, k, d). (arrivals, rw d (arrivals-read-back arrivals k)),
-  )
+      → ((arrivals : List Arrival) × (readArrivals names s ≡ accepted arrivals))
+      ↔ ((arrivals : List Arrival) × ArrivalSheetRules names arrivals × (s ≡ printedArrivalSheet names arrivals))
+  unfolding readArrivals
+  arrival-sheets = whole-sheets (printedArrivalSheet names) spells-arrivals

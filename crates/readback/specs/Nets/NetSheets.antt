@@ -61,7 +61,8 @@ gates-to : (h : Header) (gs : List Gate) → HeaderRules h → GatesAfter (h .le
 gates-to h gs k b = record { back = rw (add-zero (length (h .names)), k .count) at (b .back); once = b .once; tables = b .tables }
 
 -- and the other way
-gates-from : (h : Header) (gs : List Gate) → HeaderRules h → GateRules (h .levels) (h .inputs) gs → GatesAfter (h .levels) (length (h .names) + 0) (usedBy []) gs
+gates-from : (h : Header) (gs : List Gate) → HeaderRules h → GateRules (h .levels) (h .inputs) gs
+    → GatesAfter (h .levels) (length (h .names) + 0) (usedBy []) gs
 unfolding usedBy
 gates-from h gs k rules = record {
   back = rw (add-zero (length (h .names)), k .count) (rules .back);
@@ -126,11 +127,17 @@ spells-to-end = spells-as
     spells-then _ (spells-field newline refl (judges-word "table" refl)) (λ _.
     spells-onto _ (spells-gates (h .levels) (omega (arith, kept-size h k)) (h .names) (k .names) (h .inputs - 1) (omega (arith, kept-size h k)))
     (λ gs. spells-end (record { header = h; gates = gs .0 })) (λ _ _ rest h. h))))))
-    (λ ((h, k), (_, (_, (_, ((gs, (some, (few, b))), _))))).
-    ((record { header = h; gates = gs }, record { header = k; some = some; count = omega (arith, kept-size h k); rules = gates-to h gs k b }), refl, net-text h gs k))
+    (λ ((h, k), (_, (_, (_, ((gs, (some, (few, b))), _))))). (
+      (record { header = h; gates = gs }, record { header = k; some = some; count = omega (arith, kept-size h k); rules = gates-to h gs k b }),
+      refl,
+      net-text h gs k,
+    ))
     (λ (net, k).
-    let h = net .header in
-    (((h, k .header), (tt, (tt, (tt, ((net .gates, (k .some, (omega (arith, k .count), gates-from h (net .gates) (k .header) (k .rules)))), tt))))), refl, sym (net-text h (net .gates) (k .header))))
+    let h = net .header in (
+      ((h, k .header), (tt, (tt, (tt, ((net .gates, (k .some, (omega (arith, k .count), gates-from h (net .gates) (k .header) (k .rules)))), tt))))),
+      refl,
+      sym (net-text h (net .gates) (k .header)),
+    ))
 
 -- what is judged last reads nothing, and passes a net whose earlier gates are used, ..
 last-back : (net : Net) → EarlierUsed (net .header .inputs) (net .gates) → (rest : List ℕ) (at : ℕ) → judgedLast net rest at ≡ read net rest at
@@ -155,7 +162,8 @@ pub spells-net : SpellsTo Ended netSheet ((net : Net) × NetRules net) (λ x. x 
 unfolding then
 spells-net = record { back = back; only = only }
   where
-    back : (x : (net : Net) × NetRules net) (rest : List ℕ) (at : ℕ) → Ended rest → (place : ℕ) × (netSheet (printedNet (x .0) ++ rest) at ≡ read (x .0) rest place)
+    back : (x : (net : Net) × NetRules net) (rest : List ℕ) (at : ℕ) → Ended rest
+        → (place : ℕ) × (netSheet (printedNet (x .0) ++ rest) at ≡ read (x .0) rest place)
     back (net, kept) rest at h =
         let (place, e) = spells-to-end .back (net, kept-ruled net kept) rest at h in
         (place, net-last (printedNet net ++ rest) at ∙ rw e (last-back net (kept .gates .used) rest place))

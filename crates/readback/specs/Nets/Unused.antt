@@ -19,7 +19,7 @@ use Rattle.readback.specs.Readers.Ends.{used-turned}
 use Rattle.readback.specs.Nets.NetSheets.{RuledNet, netToEnd, judgedLast, net-last, spells-to-end}
 use Rattle.readback.specs.Readers.Fronts.{read-place}
 use Rattle.readback.specs.Readers.Numbers.{among-to-end}
-use Rattle.readback.specs.Readers.Refused.{front-to-end, front-net, turned}
+use Rattle.readback.specs.Readers.Refused.{front-to-end, front-net, refusal-turned}
 
 -- some earlier gate of the net is never used
 abbrev pub Unused : Net → Type 0
@@ -35,7 +35,8 @@ last-turned : (net : Net) (s : List ℕ) (at number place : ℕ) → judgedLast 
 unfolding judgedLast then
 last-turned net s at number place e = go (allUsed (net .header .inputs) (net .gates) s at) refl e
   where
-    go : (u : Read (Unit {0})) → allUsed (net .header .inputs) (net .gates) s at ≡ u → then u (λ _. give net) ≡ turnedBack number place → Unused net × (place ≡ at)
+    go : (u : Read (Unit {0})) → allUsed (net .header .inputs) (net .gates) s at ≡ u → then u (λ _. give net) ≡ turnedBack number place
+        → Unused net × (place ≡ at)
     go (read v r p) d e = absurd (not-read number place net r p (sym e))
     go (turnedBack k p) d e =
         let (unused, _, here) = used-turned (net .header .inputs) (net .gates) s at k p d in
@@ -60,16 +61,22 @@ unused-refused net ruled unused =
     rw (net-last s 0, d, last-unused net unused [] place) (ap (refused 26) here)
 
 -- .. and no other
-pub refused-unused : (s : List ℕ) (place : ℕ) → readNet s ≡ refused 26 place → (net : Net) × RuledNet net × Unused net × (s ≡ printedNet net) × (place ≡ length s)
+pub refused-unused : (s : List ℕ) (place : ℕ) → readNet s ≡ refused 26 place
+    → (net : Net) × RuledNet net × Unused net × (s ≡ printedNet net) × (place ≡ length s)
 unfolding readNet then
-refused-unused s place e = go (netToEnd s 0) refl (sym (net-last s 0) ∙ turned front-net s 26 place e)
+refused-unused s place e = go (netToEnd s 0) refl (sym (net-last s 0) ∙ refusal-turned front-net s 26 place e)
   where
     go : (u : Read Net) → netToEnd s 0 ≡ u → then u judgedLast ≡ turnedBack 26 place
         → (net : Net) × RuledNet net × Unused net × (s ≡ printedNet net) × (place ≡ length s)
     go (read b r p) d e =
         let ((net, ruled), is, text, end) = spells-to-end .only s 0 b r p d in
-        let (unused, here) = last-turned b r p 26 place e in
-        (net, ruled, subst Unused is unused, text ∙ ap (λ t. printedNet net ++ t) end ∙ append-nil (printedNet net), omega (arith, here, read-place front-to-end s 0 b r p d, ap length end))
+        let (unused, here) = last-turned b r p 26 place e in (
+          net,
+          ruled,
+          subst Unused is unused,
+          text ∙ ap (λ t. printedNet net ++ t) end ∙ append-nil (printedNet net),
+          omega (arith, here, read-place front-to-end s 0 b r p d, ap length end),
+        )
     go (turnedBack k p) d e = absurd (not-before s place (d ∙ let z : _≡_ {A = Read Net} (turnedBack k p) (turnedBack 26 place) = cc in z))
 
 pub net-26 : (s : List ℕ) (place : ℕ) → (readNet s ≡ refused 26 place) ↔ ((net : Net) × RuledNet net × Unused net × (s ≡ printedNet net) × (place ≡ length s))

@@ -9,7 +9,9 @@ use native.Mathlib.Omega.{arith}
 use lib.Dec.{eqb}
 use Rattle.rules.specs.Lists.{same}
 use Rattle.rules.specs.Text.{space, text}
-use Rattle.rules.specs.Sheets.Fields.{Read, read, turnedBack, Reader, then, _>>=_, give, Judged, good, bad, Judge, judged, run, past, separator, pastSpaces, spacesIn, spaces, strict, loose, Layout, looseSeparator, separatorIn, afterFieldIn, fieldOfIn, field, fieldIn, theWord, closed}
+use Rattle.rules.specs.Sheets.Fields.{Read, read, turnedBack, Reader, then, _>>=_, give, Judged, good, bad, Judge, judged, run, past, separator}
+use Rattle.rules.specs.Sheets.Fields.{pastSpaces, spacesIn, spaces, strict, loose, Layout, looseSeparator, separatorIn, afterFieldIn, fieldOfIn}
+use Rattle.rules.specs.Sheets.Fields.{field, fieldIn, theWord, closed}
 use Rattle.rules.specs.Calls.Answers.{Answer, refused}
 use Rattle.rules.specs.Sheets.Reading.{answered}
 use Rattle.laws.specs.Lists.Distinct.{In}
@@ -66,11 +68,13 @@ module _ (numbers : List ℕ) (one : In 1 numbers) where
       after (read b rest p) h e = absurd (not-read k place b (pastSpaces rest) (p + spacesIn rest) (sym e))
       after (turnedBack j p) h e = named-turned j p k place (h j p refl) e
 
-      go : (t : Bool) → _≡_ {A = Read A} (elim t [ true ↦ then (separator a due s at) spaces | false ↦ then (spaces a s at) (λ a. separator a due) ]) (turnedBack k place) → In k numbers
+      go : (t : Bool) → _≡_ {A = Read A} (elim t [ true ↦ then (separator a due s at) spaces | false ↦ then (spaces a s at) (λ a. separator a due) ])
+          (turnedBack k place) → In k numbers
       go true e = after (separator a due s at) (λ j p d. among-separator a due s at j p d) e
       go false e = among-separator a due (pastSpaces s) (at + spacesIn s) k place e
 
-  among-separator-in : (layout : Layout) {A : Type 0} (a : A) (due : ℕ) (s : List ℕ) (at k place : ℕ) → separatorIn layout a due s at ≡ turnedBack k place → In k numbers
+  among-separator-in : (layout : Layout) {A : Type 0} (a : A) (due : ℕ) (s : List ℕ) (at k place : ℕ)
+      → separatorIn layout a due s at ≡ turnedBack k place → In k numbers
   among-separator-in strict a due s at k place e = among-separator a due s at k place e
   among-separator-in loose a due s at k place e = among-loose a due s at k place e
 

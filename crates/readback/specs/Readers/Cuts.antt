@@ -1,6 +1,6 @@
 -- A text that is cut, and one that goes on. What a reader has read stays read when bytes are added behind it. What turns it back at the text's end is
--- 1, or, of a short text, the number that is judged last. What turns it back before the end stays, however the text goes on, once the text is so long that no field which might yet become good
--- reaches its end. Said once for readers; the laws here put such readers together.
+-- 1, or, of a short text, the number that is judged last. What turns it back before the end stays, however the text goes on, once the text is so long
+-- that no field which might yet become good reaches its end. Said once for readers; the laws here put such readers together.
 -- Assumes nothing.
 use Prim.Native.Nat.{ℕ, suc, _+_, _≤_, _<_}
 use mathlib.Core.Path.{_≡_, refl, sym, _∙_, ap}
@@ -10,7 +10,8 @@ use native.Mathlib.Nat.{le-trans, lt-of-not-le}
 use native.Mathlib.Omega.{arith}
 use lib.ListN.{length, length-append}
 use lib.Dec.{eqb}
-use Rattle.rules.specs.Sheets.Fields.{Read, read, turnedBack, Reader, then, _>>=_, give, Judged, good, bad, Judge, run, past, separator, afterField, afterFieldIn, fieldOf, fieldOfIn, field, fieldIn, closed}
+use Rattle.rules.specs.Sheets.Fields.{Read, read, turnedBack, Reader, then, _>>=_, give, Judged, good, bad, Judge, run, past, separator, afterField}
+use Rattle.rules.specs.Sheets.Fields.{afterFieldIn, fieldOf, fieldOfIn, field, fieldIn, closed}
 use Rattle.laws.specs.Lists.Runs.{run-past, run-more, run-through}
 use Rattle.readback.specs.Readers.Spells.{not-read}
 use Rattle.readback.specs.Readers.Fronts.{separator-turned, field-read}
@@ -25,8 +26,8 @@ pub record Went {A : Type 0} (r : Reader A) (s : List ℕ) (at : ℕ) (a : A) (r
 abbrev pub Goes : {A : Type 0} → Reader A → Type 0
 Goes {A} r = (s : List ℕ) (at : ℕ) (a : A) (rest : List ℕ) (place : ℕ) → r s at ≡ read a rest place → Went r s at a rest place
 
--- what was turned back: with 1 at the end, or, of a text of fewer than `b` bytes, with `late` there; or before it, and then alike however a text of `b` bytes or
--- more goes on
+-- what was turned back: with 1 at the end, or, of a text of fewer than `b` bytes, with `late` there; or before it, and then alike however a text of
+-- `b` bytes or more goes on
 pub data Stopped {A : Type 0} (late : ℕ) (r : Reader A) (b : ℕ) (s : List ℕ) (at number place : ℕ) : Type 0 where
   at-end : number ≡ 1 → place ≡ at + length s → Stopped late r b s at number place
   late-end : number ≡ late → length s < b → place ≡ at + length s → Stopped late r b s at number place
@@ -242,7 +243,8 @@ module _ {A : Type 0} (judge : Judge A) (due : ℕ) where
       verdict c w d (bad k) j p f e = refused c w d k j e p f
       verdict c w d (good a) j p f e = after c w d a j p f e
 
-      go : (w : List ℕ) → run s ≡ w → (p : List ℕ) → past s ≡ p → fieldOf judge due w p at ≡ turnedBack number place → Stopped late (field judge due) b s at number place
+      go : (w : List ℕ) → run s ≡ w → (p : List ℕ) → past s ≡ p → fieldOf judge due w p at ≡ turnedBack number place
+          → Stopped late (field judge due) b s at number place
       go [] d p f e = none d p f e
       go (c ∷ w) d p f e = verdict c w d (judge (c ∷ w)) refl p f e
 

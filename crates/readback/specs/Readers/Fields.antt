@@ -11,7 +11,8 @@ use lib.Dec.{eqb}
 use borrow.Author.Tests.{eqb-true, eq-eqb, not-true}
 use Rattle.rules.specs.Lists.{all, same}
 use Rattle.rules.specs.Text.{space, newline, text}
-use Rattle.rules.specs.Sheets.Fields.{Read, read, turnedBack, then, _>>=_, give, Judged, good, bad, Judge, judged, isSeparator, run, past, separator, strict, Layout, separatorIn, afterFieldIn, fieldOfIn, field, fieldIn, theWord, closed}
+use Rattle.rules.specs.Sheets.Fields.{Read, read, turnedBack, then, _>>=_, give, Judged, good, bad, Judge, judged, isSeparator, run, past, separator}
+use Rattle.rules.specs.Sheets.Fields.{strict, Layout, separatorIn, afterFieldIn, fieldOfIn, field, fieldIn, theWord, closed}
 use Rattle.laws.specs.Lists.Tests.{all-iff}
 use Rattle.laws.specs.Lists.Same.{same-refl, same-true}
 use Rattle.laws.specs.Lists.Runs.{run-past}

@@ -13,8 +13,9 @@ use lib.ListN.{length, take, drop, length-append}
 use lib.Seq.{append-snoc, drop-at, take-append-add}
 use lib.Dec.{eqb}
 use borrow.Author.Tests.{eqb-true, eq-eqb}
-use Rattle.rules.specs.Sheets.Fields.{Read, read, turnedBack, Reader, then, _>>=_, give, Judged, good, bad, Judge, isSeparator, run, past, separator, afterField, afterFieldIn, fieldOf, fieldOfIn, field, fieldIn, closed}
-use Rattle.laws.specs.Lists.Runs.{at-separator, at-plain, run-past}
+use Rattle.rules.specs.Sheets.Fields.{Read, read, turnedBack, Reader, then, _>>=_, give, Judged, good, bad, Judge, isSeparator, run, past, separator}
+use Rattle.rules.specs.Sheets.Fields.{afterField, afterFieldIn, fieldOf, fieldOfIn, field, fieldIn, closed}
+use Rattle.laws.specs.Lists.Runs.{fieldEnd, at-separator, at-plain, run-past}
 use Rattle.readback.specs.Readers.Spells.{not-read}
 
 -- ---- texts that begin alike
@@ -114,7 +115,8 @@ module _ {A B : Type 0} {r : Reader A} (next : A → Reader B) (first : FromFron
   unfolding then
   then-reads s at b rest place e = go (r s at) refl e
     where
-      both : (a : A) (middle : List ℕ) (p : ℕ) → ReadFront r s at a middle p → ReadFront (next a) middle p b rest place → ReadFront (r >>= next) s at b rest place
+      both : (a : A) (middle : List ℕ) (p : ℕ) → ReadFront r s at a middle p → ReadFront (next a) middle p b rest place
+          → ReadFront (r >>= next) s at b rest place
       both a middle p f g = record {
         bytes = f .bytes ++ g .bytes;
         whole = f .whole ∙ ap (λ t. f .bytes ++ t) (g .whole) ∙ sym (append-assoc (f .bytes) (g .bytes) rest);
@@ -132,7 +134,8 @@ module _ {A B : Type 0} {r : Reader A} (next : A → Reader B) (first : FromFron
   unfolding then
   then-turns s at number place e = go (r s at) refl e
     where
-      second : (a : A) (middle : List ℕ) (p : ℕ) → ReadFront r s at a middle p → TurnedFront (next a) middle p number place → TurnedFront (r >>= next) s at number place
+      second : (a : A) (middle : List ℕ) (p : ℕ) → ReadFront r s at a middle p → TurnedFront (next a) middle p number place
+          → TurnedFront (r >>= next) s at number place
       second a middle p f g = record {
         before = f .bytes ++ g .before;
         rest = g .rest;
@@ -197,7 +200,8 @@ module _ {A : Type 0} (judge : Judge A) (due : ℕ) where
       go (good c) e = separator-read c due s (at + suc (length w)) a rest place e
       go (bad number) e = absurd (not-read number at a rest place e)
 
-  reads-field : (s : List ℕ) (at : ℕ) (a : A) (rest : List ℕ) (place : ℕ) → field judge due s at ≡ read a rest place → ReadFront (field judge due) s at a rest place
+  reads-field : (s : List ℕ) (at : ℕ) (a : A) (rest : List ℕ) (place : ℕ) → field judge due s at ≡ read a rest place
+      → ReadFront (field judge due) s at a rest place
   unfolding fieldIn
   reads-field s at a rest place e =
       let (i, j, k) = field-read (run s) (past s) at a rest place e in
@@ -238,7 +242,8 @@ module _ {A : Type 0} (judge : Judge A) (due : ℕ) where
             rw (l, m) (f t i);
       }
 
-      verdict : (b : ℕ) (w : List ℕ) → run s ≡ b ∷ w → (u : Judged A) → judge (b ∷ w) ≡ u → afterField u due (past s) at (at + suc (length w)) ≡ turnedBack number place
+      verdict : (b : ℕ) (w : List ℕ) → run s ≡ b ∷ w → (u : Judged A) → judge (b ∷ w) ≡ u
+          → afterField u due (past s) at (at + suc (length w)) ≡ turnedBack number place
           → TurnedFront (field judge due) s at number place
       verdict b w d (bad k) j e = here (cc) (λ q. rw (d, j) e)
       verdict b w d (good a) j e =
@@ -306,10 +311,6 @@ front-parts (b ∷ w) (c ∷ t) rest k h =
     let e = rw (suc-add (length w) k) at h in
     let (u, i, j) = front-parts w t rest k (let z : take (length w + k) t ≡ w ++ take k rest = cc in z) in
     (u, ap₂ _∷_ (let z : c ≡ b = cc in z) i, j)
-
--- where the field that stands at a place ends: the place of the byte after it
-unfoldable pub fieldEnd : List ℕ → ℕ → ℕ
-fieldEnd s place = place + length (run (drop place s))
 
 module _ {A : Type 0} {r : Reader A} (s t : List ℕ) (number place : ℕ) (f : TurnedFront r s 0 number place) where
   before-length : length (f .before) ≡ place

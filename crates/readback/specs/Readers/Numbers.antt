@@ -11,13 +11,15 @@ use Rattle.rules.specs.Lists.{all, any, same}
 use Rattle.rules.specs.Text.{space, newline, digitByte, isDigit}
 use Rattle.rules.specs.Limits.{levelsFit, cellsFit}
 use Rattle.rules.specs.Sheets.Fields.{Read, read, turnedBack, Judged, bad, judged, strict, loose, Layout, theWord}
-use Rattle.rules.specs.Sheets.Sheets.{levelsField, inputsOf, inputsField, isName, nameField, referenceOf, referenceField, digitsField, netSheet, levelField, inkField, tableSheet}
+use Rattle.rules.specs.Sheets.Sheets.{levelsField, inputsOf, inputsField, isName, nameField, referenceOf, referenceField, digitsField, netSheet}
+use Rattle.rules.specs.Sheets.Sheets.{levelField, inkField, tableSheet}
 use Rattle.rules.specs.Sheets.LooseSheet.{Row, anyLevel, indexFields, isOf, notGiven, rowFrom, looseRows, looseSheet, readLoose}
 use Rattle.rules.specs.Sheets.Reading.{readNet, readTable}
 use Rattle.readback.specs.Readers.Spells.{not-read}
 use Rattle.laws.specs.Lists.Distinct.{In}
 use Rattle.laws.specs.Nets.Inks.{field-bad}
-use Rattle.readback.specs.Readers.Among.{Among, AmongJudge, Refuses, named-bad, named-turned, test-bad, among-give, among-then, among-field-in, among-word, among-closed, among-answer}
+use Rattle.readback.specs.Readers.Among.{Among, AmongJudge, Refuses, named-bad, named-turned, test-bad, among-give, among-then, among-field-in}
+use Rattle.readback.specs.Readers.Among.{among-word, among-closed, among-answer}
 use Rattle.readback.specs.Readers.Ends.{among-or-end, among-used}
 use Rattle.readback.specs.Nets.NetSheets.{netToEnd}
 use Rattle.readback.specs.Readers.Walks.{Compositional, FirstJudges, among-composes, header-walk, to-end-walk, net-walk, table-walk}
@@ -86,11 +88,13 @@ module _ (numbers : List ℕ) (one : In 1 numbers) (two : In 2 numbers) (three :
   -- a net sheet to its end, and with what is judged there
   module _ (seven : In 7 numbers) (eight : In 8 numbers) where
     pub among-to-end : Among numbers netToEnd
-    among-to-end = to-end-walk (composes strict) (among-reference seven eight) among-digits first-judges (among-closed numbers one) (λ A a more h. among-or-end a more numbers h)
+    among-to-end = to-end-walk (composes strict) (among-reference seven eight) among-digits first-judges (among-closed numbers one)
+        (λ A a more h. among-or-end a more numbers h)
 
     among-net : In 26 numbers → Among numbers netSheet
     among-net late =
-        net-walk (composes strict) (among-reference seven eight) among-digits first-judges (among-closed numbers one) (λ A a more h. among-or-end a more numbers h)
+        net-walk (composes strict) (among-reference seven eight) among-digits first-judges (among-closed numbers one)
+        (λ A a more h. among-or-end a more numbers h)
         (λ n gates. among-used n gates numbers late)
 
   among-table : In 5 numbers → Among numbers tableSheet
@@ -106,7 +110,8 @@ module _ (numbers : List ℕ) (one : In 1 numbers) (two : In 2 numbers) (three :
   among-index : In 5 numbers → (m count before : ℕ) → Among numbers (indexFields m count before)
   unfolding indexFields
   among-index five m zero before = among-give numbers one before
-  among-index five m (suc count) before = among-then numbers one _ _ (among-field-in numbers one loose (anyLevel m) space (among-any-level five m)) (λ l. among-index five m count (before * m + l))
+  among-index five m (suc count) before =
+      among-then numbers one _ _ (among-field-in numbers one loose (anyLevel m) space (among-any-level five m)) (λ l. among-index five m count (before * m + l))
 
   among-not-given : In 20 numbers → (first : ℕ) (earlier : List Row) (p : ℕ) → Among numbers (notGiven first earlier p)
   unfolding notGiven
@@ -127,7 +132,8 @@ module _ (numbers : List ℕ) (one : In 1 numbers) (two : In 2 numbers) (three :
   unfolding looseRows
   among-loose-rows five twenty m n zero earlier = among-give numbers one earlier
   among-loose-rows five twenty m n (suc count) earlier =
-      among-then numbers one (λ s at. rowFrom m n earlier at s at) _ (λ s at. among-loose-row five twenty m n earlier at s at) (λ row. among-loose-rows five twenty m n count (earlier ++ (row ∷ [])))
+      among-then numbers one (λ s at. rowFrom m n earlier at s at) _ (λ s at. among-loose-row five twenty m n earlier at s at)
+      (λ row. among-loose-rows five twenty m n count (earlier ++ (row ∷ [])))
 
   among-loose-sheet : In 5 numbers → In 20 numbers → Among numbers looseSheet
   unfolding looseSheet

@@ -11,7 +11,8 @@ use Rattle.rules.specs.Sheets.Fields.{Read, read, turnedBack, Reader, run}
 use Rattle.rules.specs.Sheets.Sheets.{netSheet, tableSheet}
 use Rattle.rules.specs.Calls.Answers.{Answer, refused}
 use Rattle.rules.specs.Sheets.Reading.{answered, readNet, readTable}
-use Rattle.readback.specs.Readers.Fronts.{FromFront, front-closed, turned-place, fieldEnd, turned-alike, turned-through}
+use Rattle.laws.specs.Lists.Runs.{fieldEnd}
+use Rattle.readback.specs.Readers.Fronts.{FromFront, front-closed, turned-place, turned-alike, turned-through}
 use Rattle.readback.specs.Readers.Ends.{front-or-end, front-used}
 use Rattle.readback.specs.Nets.NetSheets.{netToEnd}
 use Rattle.readback.specs.Readers.Walks.{front-composes, any-first, to-end-walk, net-walk, table-walk}
@@ -33,62 +34,40 @@ front-table = table-walk front-composes (λ _. tt) (λ _. tt) any-first front-cl
 abbrev pub PlacesWithin : {A : Type 0} → (List ℕ → Answer A) → Type 0
 PlacesWithin call = (s : List ℕ) (number place : ℕ) → call s ≡ refused number place → place ≤ length s
 
--- A sheet with the same bytes up to the end of the field refused, and the same byte after it, or its end there too, is refused alike.
-abbrev pub JudgesFront : {A : Type 0} → (List ℕ → Answer A) → Type 0
-JudgesFront call =
-    (s t : List ℕ) (number place : ℕ) → call s ≡ refused number place
-    → take (suc (fieldEnd s place)) t ≡ take (suc (fieldEnd s place)) s → call t ≡ refused number place
-
--- Nor has the byte after that field a say, where there is such a field: a sheet with the same bytes before the place, and there the same
--- byte, or its end too, and the same field, is refused alike.
-abbrev pub JudgesField : {A : Type 0} → (List ℕ → Answer A) → Type 0
-JudgesField call =
-    (s t : List ℕ) (number place : ℕ) → call s ≡ refused number place
-    → take (suc place) t ≡ take (suc place) s → run (drop place t) ≡ run (drop place s) → call t ≡ refused number place
+-- How a call judges a sheet.
+pub record JudgedFromFront {A : Type 0} (call : List ℕ → Answer A) : Type 0 where
+  pub places-within : PlacesWithin call
+  -- A sheet with the same bytes up to the end of the field refused, and the same byte after it, or its end there too, is refused alike.
+  pub front : (s t : List ℕ) (number place : ℕ) → call s ≡ refused number place → take (suc (fieldEnd s place)) t ≡ take (suc (fieldEnd s place)) s
+      → call t ≡ refused number place
+  -- The byte after that field does not matter either, where there is such a field: a sheet with the same bytes before the place, and there the same
+  -- byte, or its end too, and the same field, is refused alike.
+  pub field : (s t : List ℕ) (number place : ℕ) → call s ≡ refused number place → take (suc place) t ≡ take (suc place) s
+      → run (drop place t) ≡ run (drop place s) → call t ≡ refused number place
 
 module _ {A : Type 0} {r : Reader A} (front : FromFront r) where
   -- a refusal is the reader's
-  pub turned : (s : List ℕ) (number place : ℕ) → answered (r s 0) ≡ refused number place → r s 0 ≡ turnedBack number place
+  pub refusal-turned : (s : List ℕ) (number place : ℕ) → answered (r s 0) ≡ refused number place → r s 0 ≡ turnedBack number place
   unfolding answered
-  turned s number place e = go (r s 0) refl e
+  refusal-turned s number place e = go (r s 0) refl e
     where
       go : (u : Read A) → r s 0 ≡ u → answered u ≡ refused number place → r s 0 ≡ turnedBack number place
       go (read a rest p) d e = absurd (let z : _≡_ {A = ℕ} 0 1 = cc in omega arith)
       go (turnedBack k p) d e = rw d (cc)
 
-  pub places-within : PlacesWithin (λ s. answered (r s 0))
-  places-within s number place e = rw (zero-add (length s)) at (turned-place front s 0 number place (turned s number place e))
-
-  pub judges-front : JudgesFront (λ s. answered (r s 0))
+  pub judged-from-front : JudgedFromFront (λ s. answered (r s 0))
   unfolding answered
-  judges-front s t number place e h = ap answered (turned-through front s t number place (turned s number place e) h)
+  judged-from-front =
+      record {
+        places-within = λ s number place e. rw (zero-add (length s)) at (turned-place front s 0 number place (refusal-turned s number place e));
+        front = λ s t number place e h. ap answered (turned-through front s t number place (refusal-turned s number place e) h);
+        field = λ s t number place e h k. ap answered (turned-alike front s t number place (refusal-turned s number place e) h k);
+      }
 
-  pub judges-field : JudgesField (λ s. answered (r s 0))
-  unfolding answered
-  judges-field s t number place e h k = ap answered (turned-alike front s t number place (turned s number place e) h k)
-
--- net sheets
-pub net-place : PlacesWithin readNet
+pub net-judged : JudgedFromFront readNet
 unfolding readNet
-net-place = places-within front-net
+net-judged = judged-from-front front-net
 
-pub net-front : JudgesFront readNet
-unfolding readNet
-net-front = judges-front front-net
-
-pub net-field : JudgesField readNet
-unfolding readNet
-net-field = judges-field front-net
-
--- table sheets
-pub table-place : PlacesWithin readTable
+pub table-judged : JudgedFromFront readTable
 unfolding readTable
-table-place = places-within front-table
-
-pub table-front : JudgesFront readTable
-unfolding readTable
-table-front = judges-front front-table
-
-pub table-field : JudgesField readTable
-unfolding readTable
-table-field = judges-field front-table
+table-judged = judged-from-front front-table

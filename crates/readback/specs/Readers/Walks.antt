@@ -1,5 +1,5 @@
--- One walk over the readers of every sheet. A property of readers that giving a value, putting two readers together and reading a field keep holds of the reader of a sheet, since
--- that is put together from these. `Among`, `FromFront` and `Goes` are such properties.
+-- One walk over the readers of every sheet. A property of readers that giving a value, putting two readers together and reading a field keep holds of
+-- the reader of a sheet, since that is put together from these. `Among`, `FromFront` and `Goes` are such properties.
 -- Assumes nothing.
 use Prim.Native.Nat.{ℕ, zero, suc, _-_, _^_}
 use Prim.Native.String.{String}
@@ -7,7 +7,9 @@ use mathlib.Core.List.{List, [], _∷_, _++_}
 use lib.ListN.{length}
 use Rattle.rules.specs.Text.{space, newline}
 use Rattle.rules.specs.Sheets.Fields.{Reader, _>>=_, give, Judge, Layout, strict, fieldIn, theWord, closed}
-use Rattle.rules.specs.Sheets.Sheets.{Gate, levelsField, inputsField, nameField, nameFieldsIn, headerLinesIn, referenceField, digitsField, usedBy, gateLine, orEnd, gateLines, allUsed, netSheet, levelsAt, levelField, inkField, levelFields, rowLines, tableSheet}
+use Rattle.rules.specs.Sheets.Sheets.{Gate, levelsField, inputsField, nameField, nameFieldsIn, headerLinesIn, referenceField, digitsField, usedBy}
+use Rattle.rules.specs.Sheets.Sheets.{gateLine, orEnd, gateLines, allUsed, netSheet, levelsAt, levelField, inkField, levelFields, rowLines}
+use Rattle.rules.specs.Sheets.Sheets.{tableSheet}
 use Rattle.rules.specs.Sheets.ArrivalSheet.{Arrival, nextName, timeField, arrivalLine, arrivalLines, arrivalSheet}
 use Rattle.laws.specs.Lists.Distinct.{In}
 use Rattle.readback.specs.Readers.Among.{AmongJudge, Among, among-give, among-then, among-field-in}
@@ -62,7 +64,8 @@ module _ {layout : Layout} {J : OfJudges} {P : OfReaders} (comp : Compositional 
   unfolding nameFieldsIn
   names-walk last zero earlier = comp .gives earlier
   names-walk last (suc zero) earlier = comp .joins _ _ (comp .fields _ last (judges .name earlier)) (λ w. comp .gives (earlier ++ (w ∷ [])))
-  names-walk last (suc (suc count)) earlier = comp .joins _ _ (comp .fields _ space (judges .name earlier)) (λ w. names-walk last (suc count) (earlier ++ (w ∷ [])))
+  names-walk last (suc (suc count)) earlier =
+      comp .joins _ _ (comp .fields _ space (judges .name earlier)) (λ w. names-walk last (suc count) (earlier ++ (w ∷ [])))
 
   pub header-walk : (last : ℕ) → P _ (headerLinesIn layout last)
   unfolding headerLinesIn
@@ -132,7 +135,8 @@ module _ {J : OfJudges} {P : OfReaders} (comp : Compositional strict J P) (level
 
 -- ---- an arrival sheet
 
-module _ {J : OfJudges} {P : OfReaders} (comp : Compositional strict J P) (word : (word : String) → J _ (theWord word)) (name : (name : List ℕ) → J _ (nextName name))
+module _ {J : OfJudges} {P : OfReaders} (comp : Compositional strict J P) (word : (word : String) → J _ (theWord word))
+    (name : (name : List ℕ) → J _ (nextName name))
     (time : (least : ℕ) → J _ (timeField least)) where
   arrivals-lines-walk : (names : List (List ℕ)) (earlier : List Arrival) → P _ (arrivalLines names earlier)
   unfolding arrivalLines arrivalLine

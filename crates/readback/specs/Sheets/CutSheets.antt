@@ -1,7 +1,7 @@
 -- A sheet that is cut at some byte. Its refusal at the cut is 1, or 26 where a net sheet is cut after one of its gate lines. Past the first lines every earlier
--- fault of the part is a fault of the sheet too, and a part that is accepted has ended there: a net sheet's, if it has all n − 1 gate lines. A part with fewer says
--- nothing of the sheet, which may be accepted too, and be another net. So "a sheet without an earlier fault that hasn't ended by then" (document 02, K6), cut there, is refused with 1 at
--- the cut: whatever the sheet, and wherever the cut past the first lines.
+-- fault of the part is a fault of the sheet too, and a part that is accepted has ended there: a net sheet's, if it has all n − 1 gate lines. A part
+-- with fewer says nothing of the sheet, which may be accepted too, and be another net. So "a sheet without an earlier fault that hasn't ended by
+-- then" (document 02, K6), cut there, is refused with 1 at the cut: whatever the sheet, and wherever the cut past the first lines.
 -- Assumes nothing.
 use Prim.Native.Nat.{ℕ, zero, suc, _+_, _-_, _*_, _^_, _≤_, _<_}
 use Prim.Native.String.{String}
@@ -19,7 +19,9 @@ use Rattle.rules.specs.Lists.{all, any, same}
 use Rattle.rules.specs.Text.{space, newline, text, digitByte, isDigit}
 use Rattle.rules.specs.Limits.{cellsFit, mostLevels, mostInputs}
 use Rattle.rules.specs.Sheets.Fields.{Read, read, turnedBack, Reader, then, _>>=_, give, Judged, good, bad, judged, strict, run, field, theWord, closed}
-use Rattle.rules.specs.Sheets.Sheets.{Header, Gate, Net, levelsField, inputsOf, inputsField, isName, nameField, nameFields, nameFieldsIn, headerLines, headerLinesIn, referenceText, referenceOf, referenceField, digitsField, usedBy, gateLine, orEnd, gateLines, allUsed, netSheet, levelsAt, levelField, inkField, levelFields, rowLines, tableSheet}
+use Rattle.rules.specs.Sheets.Sheets.{Header, Gate, Net, levelsField, inputsOf, inputsField, isName, nameField, nameFields, nameFieldsIn}
+use Rattle.rules.specs.Sheets.Sheets.{headerLines, headerLinesIn, referenceText, referenceOf, referenceField, digitsField, usedBy, gateLine, orEnd}
+use Rattle.rules.specs.Sheets.Sheets.{gateLines, allUsed, netSheet, levelsAt, levelField, inkField, levelFields, rowLines, tableSheet}
 use Rattle.rules.specs.Sheets.SheetRules.{GoodNames, HeaderRules}
 use Rattle.rules.specs.Calls.Answers.{Answer, accepted, refused}
 use Rattle.rules.specs.Sheets.Reading.{answered, readNet, readTable}
@@ -38,7 +40,9 @@ use Rattle.readback.specs.Readers.Collects.{then-then}
 use Rattle.readback.specs.Readers.Ends.{used-read, used-turned}
 use Rattle.readback.specs.Sheets.Length.{reference-length}
 use Rattle.readback.specs.Readers.Walks.{Compositional, AnyJudge, any-first, names-walk, header-walk, levels-walk, rows-walk, gate-walk}
-use Rattle.readback.specs.Readers.Cuts.{Goes, Stopped, at-end, late-end, before, Firm, Shuts, Takes, goes-give, firm-give, takes-give, goes-then, firm-then, takes-then, shuts-then, takes-more, firm-more, Stays, Narrow, goes-field, field-good, firm-field, firm-step, takes-step, firm-end, shuts-end}
+use Rattle.readback.specs.Readers.Cuts.{Goes, Stopped, at-end, late-end, before, Firm, Shuts, Takes, goes-give, firm-give, takes-give}
+use Rattle.readback.specs.Readers.Cuts.{goes-then, firm-then, takes-then, shuts-then, takes-more, firm-more, Stays, Narrow, goes-field}
+use Rattle.readback.specs.Readers.Cuts.{field-good, firm-field, firm-step, takes-step, firm-end, shuts-end}
 
 -- ---- the judges
 
@@ -239,7 +243,8 @@ unfolding tableSheet text
 firm-table =
     firm-then _ tableFirst 4 (goes-header space) (firm-more headBytes tableFirst (omega arith) (firm-header space)) (λ s at h rest place e. (
       firm-step (theWord "ink") newline 3 (narrow-word "ink") 0 _ (λ _ _ _ _ _ _.
-          firm-then _ 0 0 (goes-rows (h .levels) (h .inputs) 0 (h .levels ^ h .inputs) []) (firm-rows (h .levels) (h .inputs) 0 (h .levels ^ h .inputs) []) (λ _ _ inks _ _ _.
+          firm-then _ 0 0 (goes-rows (h .levels) (h .inputs) 0 (h .levels ^ h .inputs) [])
+          (firm-rows (h .levels) (h .inputs) 0 (h .levels ^ h .inputs) []) (λ _ _ inks _ _ _.
           (firm-end _, λ _. omega arith))),
       λ long. omega (arith, takes-header space s at h rest place e),
     ))
@@ -324,7 +329,8 @@ module _ (h : Header) where
   firm-after gates (b ∷ s) at number place e = before (let here : place ≡ at = cc in omega arith) (λ long t. e)
 
   -- the sheet ends after these gates, or there are more
-  firm-or-end : (gates : List Gate) (more : Reader (List Gate)) (b : ℕ) → 0 < b → Firm 26 b (more >>= afterGates h) → Firm 26 b (orEnd gates more >>= afterGates h)
+  firm-or-end : (gates : List Gate) (more : Reader (List Gate)) (b : ℕ) → 0 < b → Firm 26 b (more >>= afterGates h)
+      → Firm 26 b (orEnd gates more >>= afterGates h)
   unfolding orEnd then
   firm-or-end gates more b positive firm [] at number place e =
       let (late, here) = end-turned gates at number place e in
@@ -424,8 +430,8 @@ shuts-net =
 
 -- ---- the laws
 
--- What the part before a cut at `k` comes to: it is a whole sheet, or it has an earlier fault, or it has not ended by then, or, of fewer than `first` bytes, it is
--- refused there with what is judged last.
+-- What the part before a cut at `k` comes to: it is a whole sheet, or it has an earlier fault, or it has not ended by then, or, of fewer than `first`
+-- bytes, it is refused there with what is judged last.
 pub data Cut {A : Type 0} (first late : ℕ) (answer : Answer A) (k : ℕ) : Type 0 where
   ended : (a : A) → answer ≡ accepted a → Cut first late answer k
   faulty : (number place : ℕ) → answer ≡ refused number place → place < k → Cut first late answer k
@@ -437,7 +443,8 @@ pub record Cutting {A : Type 0} (call : List ℕ → Answer A) (first late : ℕ
   -- one of the four
   pub cases : (s : List ℕ) (k : ℕ) → k ≤ length s → Cut first late (call (take k s)) k
   -- a fault before the cut is the sheet's own
-  pub fault : (s : List ℕ) (k : ℕ) → k ≤ length s → first ≤ k → (number place : ℕ) → call (take k s) ≡ refused number place → place < k → call s ≡ refused number place
+  pub fault : (s : List ℕ) (k : ℕ) → k ≤ length s → first ≤ k → (number place : ℕ) → call (take k s) ≡ refused number place → place < k
+      → call s ≡ refused number place
   -- where the part is accepted, the sheet has bytes after its last line
   pub more : (s : List ℕ) (k : ℕ) → k < length s → (a : A) → call (take k s) ≡ accepted a → Whole a → call s ≡ refused 1 k
 
@@ -449,7 +456,8 @@ module _ {A : Type 0} {r : Reader A} {first late : ℕ} {Whole : A → Type 0} (
       part : length (take k s) ≡ k
       part = length-take-le k s within
 
-      turned : (number place : ℕ) → r (take k s) 0 ≡ turnedBack number place → Stopped late r first (take k s) 0 number place → Cut first late (answered (r (take k s) 0)) k
+      turned : (number place : ℕ) → r (take k s) 0 ≡ turnedBack number place → Stopped late r first (take k s) 0 number place
+          → Cut first late (answered (r (take k s) 0)) k
       turned number place d (at-end one end) = unended (rw d (ap₂ refused one (end ∙ zero-add (length (take k s)) ∙ part)))
       turned number place d (late-end is short end) = lately (omega (arith, part)) (rw d (ap₂ refused is (end ∙ zero-add (length (take k s)) ∙ part)))
       turned number place d (before early _) = faulty number place (rw d refl) (omega (arith, part))
@@ -490,7 +498,8 @@ module _ {A : Type 0} {r : Reader A} {first late : ℕ} {Whole : A → Type 0} (
       go (read b rest p) d e [] f = absurd (omega (arith, left, ap length f))
       go (read b rest p) d e (c ∷ t) f =
           let whole : s ≡ take k s ++ c ∷ t = sym (take-append-drop k s) ∙ ap (λ u. take k s ++ u) f in
-          ap answered (ap (λ u. r u 0) whole ∙ shuts (take k s) 0 b rest p d (let same : a ≡ b = cc in rw same at is) .after c t) ∙ ap (refused 1) (zero-add (length (take k s)) ∙ part)
+          ap answered (ap (λ u. r u 0) whole ∙ shuts (take k s) 0 b rest p d (let same : a ≡ b = cc in rw same at is) .after c t)
+          ∙ ap (refused 1) (zero-add (length (take k s)) ∙ part)
 
   cutting : Cutting (λ s. answered (r s 0)) first late Whole
   cutting = record { cases = part-cases; fault = part-fault; more = part-more }

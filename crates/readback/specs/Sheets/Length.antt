@@ -1,14 +1,11 @@
 -- "the settled sheet's length, which is never over 512": nor is any accepted net sheet's.
 -- Assumes nothing.
 use Prim.Native.Nat.{ℕ, suc, _+_, _-_, _*_, _≤_, _<_}
-use mathlib.Core.Path.{_≡_, refl}
-use mathlib.Core.Bool.{Bool, true, not, _||_}
+use mathlib.Core.Path.{refl}
 use mathlib.Core.List.{List, [], _∷_}
 use native.Mathlib.Nat.{le-trans, mul-le-mul-right}
 use native.Mathlib.Omega.{arith}
 use lib.ListN.{length, length-append, length-map, getD}
-use lib.Dec.{leb}
-use borrow.Author.Tests.{leb-true}
 use Rattle.rules.specs.Lists.{range, all, concatMap}
 use Rattle.rules.specs.Text.{text}
 use Rattle.rules.specs.Limits.{cellsFit, mostSettled}
@@ -19,7 +16,7 @@ use Rattle.laws.specs.Numbers.Decimals.{decimal-length}
 use Rattle.readback.specs.Readers.Judges.{name-parts}
 use Rattle.readback.specs.Readers.Names.{good-name}
 use Rattle.readback.specs.Nets.References.{Refers, toInput, toGate, refers}
-use Rattle.laws.specs.Numbers.Sizes.{Size, kept-size, everySize, at-size}
+use Rattle.laws.specs.Numbers.Sizes.{kept-size, everySize, bounded-at}
 
 -- ---- the parts of a sheet
 
@@ -79,24 +76,11 @@ sheet-length net k =
     let c = names-length (h .names) (k .header .names) (omega arith) in
     let d = gates-length (h .names) (k .header .names) (h .levels) (h .inputs) (net .gates)
     (k .gates .rules .back) (omega arith) (k .gates .rules .tables) in
-    let e : length (net .gates) * (19 + h .levels * h .levels) ≤ (h .inputs - 1) * (19 + h .levels * h .levels) = mul-le-mul-right (19 + h .levels * h .levels) (omega (arith, k .gates .count)) in
+    let e : length (net .gates) * (19 + h .levels * h .levels) ≤ (h .inputs - 1) * (19 + h .levels * h .levels) =
+    mul-le-mul-right (19 + h .levels * h .levels) (omega (arith, k .gates .count)) in
     simp length-append (omega arith)
-
--- there are too many cells, or the bound is small
-boundTest : ℕ → ℕ → Bool
-boundTest m n = not (cellsFit m n) || leb (bound m n) mostSettled
-
-bound-tested : everySize boundTest ≡ true
-unfolding everySize all range boundTest bound cellsFit
-bound-tested = refl
-
--- so the bound is small for all sizes that a sheet may have
-size-bound : (m n : ℕ) → Size m n → cellsFit m n ≡ true → bound m n ≤ mostSettled
-unfolding boundTest
-size-bound m n size fits = leb-true (bound m n) mostSettled (rw fits at (at-size boundTest bound-tested m n size))
 
 -- no net sheet is longer than 512 bytes
 pub net-length : (net : Net) → NetRules net → length (printedNet net) ≤ mostSettled
-net-length net kept =
-    let h = net .header in
-    le-trans (sheet-length net kept) (size-bound (h .levels) (h .inputs) (kept-size h (kept .header)) (kept .header .cells))
+unfolding everySize all range bound cellsFit
+net-length net kept = le-trans (sheet-length net kept) (bounded-at bound mostSettled refl _ _ (kept-size (net .header) (kept .header)))

@@ -40,25 +40,25 @@ Unbroken [] = Unit {0}
 Unbroken (w ∷ ws) = (all inLine w ≡ true) × Unbroken ws
 
 -- the bytes up to and with the k-th line feed
-unfoldable pub linesOf : ℕ → List ℕ → List ℕ
-linesOf zero s = []
-linesOf (suc k) [] = []
-linesOf (suc k) (b ∷ s) = elim (eqb b newline) [ true ↦ b ∷ linesOf k s | false ↦ b ∷ linesOf (suc k) s ]
+unfoldable pub linesUpTo : ℕ → List ℕ → List ℕ
+linesUpTo zero s = []
+linesUpTo (suc k) [] = []
+linesUpTo (suc k) (b ∷ s) = elim (eqb b newline) [ true ↦ b ∷ linesUpTo k s | false ↦ b ∷ linesUpTo (suc k) s ]
 
 -- one line is passed
-lines-one : (k : ℕ) (w rest : List ℕ) → all inLine w ≡ true → linesOf (suc k) (w ++ newline ∷ rest) ≡ w ++ newline ∷ linesOf k rest
-unfolding linesOf inLine newline
+lines-one : (k : ℕ) (w rest : List ℕ) → all inLine w ≡ true → linesUpTo (suc k) (w ++ newline ∷ rest) ≡ w ++ newline ∷ linesUpTo k rest
+unfolding linesUpTo inLine newline
 lines-one k [] rest h = refl
 lines-one k (b ∷ w) rest h =
     let (first, more) = all-iff inLine b w .0 h in
-    rw (not-true (eqb b 10) first, linesOf, lines-one k w rest more)
+    rw (not-true (eqb b 10) first, linesUpTo, lines-one k w rest more)
 
 -- the first lines of a sheet, whatever follows
-pub lines-first : (ws : List (List ℕ)) (rest : List ℕ) → Unbroken ws → linesOf (length ws) (concatMap fed ws ++ rest) ≡ concatMap fed ws
-unfolding linesOf concatMap fed
+pub lines-first : (ws : List (List ℕ)) (rest : List ℕ) → Unbroken ws → linesUpTo (length ws) (concatMap fed ws ++ rest) ≡ concatMap fed ws
+unfolding linesUpTo concatMap fed
 lines-first [] rest h = refl
 lines-first (w ∷ ws) rest h =
-    ap (linesOf (suc (length ws))) (append-assoc (fed w) (concatMap fed ws) rest ∙ append-snoc w newline (concatMap fed ws ++ rest))
+    ap (linesUpTo (suc (length ws))) (append-assoc (fed w) (concatMap fed ws) rest ∙ append-snoc w newline (concatMap fed ws ++ rest))
     ∙ lines-one (length ws) w (concatMap fed ws ++ rest) (h .0)
     ∙ ap (λ (t : List ℕ). w ++ newline ∷ t) (lines-first ws rest (h .1))
     ∙ sym (append-snoc w newline (concatMap fed ws))
@@ -189,5 +189,6 @@ pub net-unbroken : (net : Net) → NetRules net → Unbroken (netLines net)
 unfolding netLines
 net-unbroken net kept =
     unbroken-append (fourLines (net .header)) (map (gateBody (net .header .names)) (net .gates)) (four-unbroken (net .header) (kept .header))
-    (gates-unbroken (net .header .names) (kept .header .names) (net .header .levels) (omega (arith, levels-fit (net .header .levels) .0 (kept .header .levels) .0)) (net .gates)
+    (gates-unbroken (net .header .names) (kept .header .names) (net .header .levels)
+    (omega (arith, levels-fit (net .header .levels) .0 (kept .header .levels) .0)) (net .gates)
     (kept .gates .rules .tables))

@@ -41,44 +41,40 @@ module _ {A : Type 0} {r : Reader A} {X : Type 0} {f : X → A} {p : X → List 
           let (x, i, j, h) = spells .only s 0 b rest place d in
           (x, (cc), j ∙ ap (λ t. p x ++ t) h ∙ append-nil (p x))
 
--- a printed net is read back
+-- .. and that has every value that keeps the rules
+module _ {A : Type 0} {r : Reader A} {Rules : A → Type 0} (p : A → List ℕ) (spells : SpellsTo Ended r ((a : A) × Rules a) (λ x. x .0) (λ x. p (x .0))) where
+  -- what is accepted is the print of its value, which keeps the rules
+  pub whole-kept : (s : List ℕ) (a : A) → answered (r s 0) ≡ accepted a → (s ≡ p a) × Rules a
+  whole-kept s a e =
+      let ((b, k), q, d) = whole-only spells s a e in
+      rw q (d, k)
+
+  -- "A sheet that keeps every rule of this section, with nothing after its last line, is accepted.", said without the reader
+  pub whole-sheets : (s : List ℕ) → ((a : A) × (answered (r s 0) ≡ accepted a)) ↔ ((a : A) × Rules a × (s ≡ p a))
+  whole-sheets s = (λ (a, e). let (d, k) = whole-kept s a e in (a, k, d), λ (a, k, d). (a, rw d (whole-back spells (a, k))))
+
+-- net sheets
 pub net-read-back : (net : Net) → NetRules net → readNet (printedNet net) ≡ accepted net
 unfolding readNet
 net-read-back net kept = whole-back spells-net (net, kept)
 
--- an accepted net sheet is the print of its net, which keeps the rules
 pub net-accepted : (s : List ℕ) (net : Net) → readNet s ≡ accepted net → (s ≡ printedNet net) × NetRules net
 unfolding readNet
-net-accepted s net e =
-    let ((n, k), q, d) = whole-only spells-net s net e in
-    rw q (d, k)
+net-accepted = whole-kept printedNet spells-net
 
--- a printed table is read back
+pub net-sheets : (s : List ℕ) → ((net : Net) × (readNet s ≡ accepted net)) ↔ ((net : Net) × NetRules net × (s ≡ printedNet net))
+unfolding readNet
+net-sheets = whole-sheets printedNet spells-net
+
+-- table sheets
 pub table-read-back : (t : Table) → TableRules t → readTable (printedTable t) ≡ accepted t
 unfolding readTable
 table-read-back t kept = whole-back spells-table (t, kept)
 
--- an accepted table sheet is the print of its table, which keeps the rules
 pub table-accepted : (s : List ℕ) (t : Table) → readTable s ≡ accepted t → (s ≡ printedTable t) × TableRules t
 unfolding readTable
-table-accepted s t e =
-    let ((u, k), q, d) = whole-only spells-table s t e in
-    rw q (d, k)
+table-accepted = whole-kept printedTable spells-table
 
--- "A sheet that keeps every rule of this section, with nothing after its last line, is accepted.", said without the reader
-pub net-sheets : (s : List ℕ) → ((net : Net) × (readNet s ≡ accepted net)) ↔ ((net : Net) × NetRules net × (s ≡ printedNet net))
-net-sheets s = (
-  λ (net, e).
-      let (d, k) = net-accepted s net e in
-      (net, k, d),
-  λ (net, k, d). (net, rw d (net-read-back net k)),
-)
-
--- the same for table sheets
 pub table-sheets : (s : List ℕ) → ((t : Table) × (readTable s ≡ accepted t)) ↔ ((t : Table) × TableRules t × (s ≡ printedTable t))
-table-sheets s = (
-  λ (t, e).
-      let (d, k) = table-accepted s t e in
-      (t, k, d),
-  λ (t, k, d). (t, rw d (table-read-back t k)),
-)
+unfolding readTable
+table-sheets = whole-sheets printedTable spells-table

@@ -90,8 +90,12 @@ loose-newline : {A : Type 0} (a : A) → Spells (λ s at. looseSeparator a newli
 unfolding looseSeparator separator spacesIn then spaces space newline
 loose-newline {A} a = record { back = back; only = only }
   where
-    back : (count : ℕ) (rest : List ℕ) (at : ℕ) → Unit {0} → (place : ℕ) × (looseSeparator a newline (blanks count ++ newline ∷ [] ++ rest) at ≡ read a rest place)
-    back count rest at _ = (suc (at + spacesIn (blanks count ++ newline ∷ [] ++ rest)), rw (append-assoc (blanks count) (newline ∷ []) rest, blanks-passed count (newline ∷ rest) refl) refl)
+    back : (count : ℕ) (rest : List ℕ) (at : ℕ) → Unit {0} → (place : ℕ)
+        × (looseSeparator a newline (blanks count ++ newline ∷ [] ++ rest) at ≡ read a rest place)
+    back count rest at _ = (
+      suc (at + spacesIn (blanks count ++ newline ∷ [] ++ rest)),
+      rw (append-assoc (blanks count) (newline ∷ []) rest, blanks-passed count (newline ∷ rest) refl) refl,
+    )
 
     only : (s : List ℕ) (at : ℕ) (b : A) (rest : List ℕ) (place : ℕ) → looseSeparator a newline s at ≡ read b rest place
         → (count : ℕ) × (b ≡ a) × (s ≡ blanks count ++ newline ∷ [] ++ rest) × Unit {0}

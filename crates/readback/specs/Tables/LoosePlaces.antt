@@ -10,7 +10,8 @@ use lib.ListN.{length, length-append}
 use lib.Dec.{eqb}
 use Rattle.rules.specs.Lists.{any}
 use Rattle.rules.specs.Text.{space, newline}
-use Rattle.rules.specs.Sheets.Fields.{Read, read, turnedBack, Reader, then, _>>=_, give, Judged, good, bad, Judge, run, past, separator, pastSpaces, spacesIn, spaces, loose, looseSeparator, afterFieldIn, fieldOfIn, fieldIn, theWord, closed}
+use Rattle.rules.specs.Sheets.Fields.{Read, read, turnedBack, Reader, then, _>>=_, give, Judged, good, bad, Judge, run, past, separator, pastSpaces}
+use Rattle.rules.specs.Sheets.Fields.{spacesIn, spaces, loose, looseSeparator, afterFieldIn, fieldOfIn, fieldIn, theWord, closed}
 use Rattle.rules.specs.Sheets.Sheets.{levelsField, inputsField, nameField, nameFieldsIn, headerLinesIn, inkField}
 use Rattle.rules.specs.Calls.Answers.{refused}
 use Rattle.rules.specs.Sheets.Reading.{answered}
@@ -75,7 +76,8 @@ module _ (first : ℕ) where
   unfolding looseSeparator
   within-loose {A} a due = record { stops = λ s at h. go s at h (eqb due space) }
     where
-      go : (s : List ℕ) (at : ℕ) → first ≤ at → (t : Bool) → Stops {A = A} at (at + length s) (elim t [ true ↦ then (separator a due s at) spaces | false ↦ then (spaces a s at) (λ a. separator a due) ])
+      go : (s : List ℕ) (at : ℕ) → first ≤ at → (t : Bool) → Stops {A = A} at (at + length s)
+          (elim t [ true ↦ then (separator a due s at) spaces | false ↦ then (spaces a s at) (λ a. separator a due) ])
       go s at h true = within-then spaces (within-separator a due) within-spaces .stops s at h
       go s at h false = within-then (λ a. separator a due) (within-spaces a) (λ a. within-separator a due) .stops s at h
 
@@ -87,14 +89,16 @@ module _ (first : ℕ) where
       behind (read b rest place) end from to l (i, j) = (omega arith, j)
       behind (turnedBack number place) end from to l i = i
 
-      verdict : (s : List ℕ) (at : ℕ) → first ≤ at → (w : List ℕ) (u : Judged A) → length s ≡ length w + length (past s) → Stops at (at + length s) (afterFieldIn loose u due (past s) at (at + length w))
+      verdict : (s : List ℕ) (at : ℕ) → first ≤ at → (w : List ℕ) (u : Judged A) → length s ≡ length w + length (past s)
+          → Stops at (at + length s) (afterFieldIn loose u due (past s) at (at + length w))
       verdict s at h w (bad number) l = omega arith
       verdict s at h w (good a) l =
           let ends : at + length w + length (past s) ≡ at + length s = omega arith in
           behind (looseSeparator a due (past s) (at + length w)) (at + length s) at (at + length w) (omega arith)
           (rw ends at (within-loose a due .stops (past s) (at + length w) (omega arith)))
 
-      go : (s : List ℕ) (at : ℕ) → first ≤ at → (w : List ℕ) → length s ≡ length w + length (past s) → Stops at (at + length s) (fieldOfIn loose judge due w (past s) at)
+      go : (s : List ℕ) (at : ℕ) → first ≤ at → (w : List ℕ) → length s ≡ length w + length (past s)
+          → Stops at (at + length s) (fieldOfIn loose judge due w (past s) at)
       go s at h [] l = omega arith
       go s at h (b ∷ w) l = verdict s at h (b ∷ w) (judge (b ∷ w)) l
 
@@ -104,7 +108,8 @@ module _ (first : ℕ) where
   unfolding nameFieldsIn
   within-names last zero earlier = within-give earlier
   within-names last (suc zero) earlier = within-then _ (within-field (nameField earlier) last) (λ w. within-give (earlier ++ (w ∷ [])))
-  within-names last (suc (suc count)) earlier = within-then _ (within-field (nameField earlier) space) (λ w. within-names last (suc count) (earlier ++ (w ∷ [])))
+  within-names last (suc (suc count)) earlier =
+      within-then _ (within-field (nameField earlier) space) (λ w. within-names last (suc count) (earlier ++ (w ∷ [])))
 
   within-header : (last : ℕ) → Within first (headerLinesIn loose last)
   unfolding headerLinesIn
@@ -124,7 +129,8 @@ module _ (first : ℕ) where
   unfolding notGiven
   within-not-given earlier p = record { stops = λ s at h. go s at h (any (isOf p) earlier) }
     where
-      go : (s : List ℕ) (at : ℕ) → first ≤ at → (t : Bool) → Stops {A = Unit {0}} at (at + length s) (elim t [ true ↦ turnedBack 20 first | false ↦ read tt s at ])
+      go : (s : List ℕ) (at : ℕ) → first ≤ at → (t : Bool) → Stops {A = Unit {0}} at (at + length s)
+          (elim t [ true ↦ turnedBack 20 first | false ↦ read tt s at ])
       go s at h true = omega arith
       go s at h false = (omega arith, refl)
 
@@ -139,7 +145,8 @@ within-rows : (m n count : ℕ) (earlier : List Row) → Within 0 (looseRows m n
 unfolding looseRows
 within-rows m n zero earlier = within-give 0 earlier
 within-rows m n (suc count) earlier =
-    within-then 0 {r = λ s at. rowFrom m n earlier at s at} _ (record { stops = λ s at h. within-row at m n earlier .stops s at (omega arith) }) (λ row. within-rows m n count (earlier ++ (row ∷ [])))
+    within-then 0 {r = λ s at. rowFrom m n earlier at s at} _ (record { stops = λ s at h. within-row at m n earlier .stops s at (omega arith) })
+    (λ row. within-rows m n count (earlier ++ (row ∷ [])))
 
 within-closed : Within 0 closed
 unfolding closed

@@ -14,7 +14,8 @@ use Rattle.rules.specs.Text.{space, newline, text, digitByte, decimal}
 use Rattle.rules.specs.Sheets.Fields.{Read, Reader, read, turnedBack, _>>=_, give, isSeparator, loose, fieldIn}
 use Rattle.rules.specs.Sheets.Sheets.{Header, isName, nameField, nameFieldsIn, headerLinesIn, inkByte, levelsAt}
 use Rattle.rules.specs.Sheets.SheetRules.{GoodNames, Distinct, HeaderRules}
-use Rattle.rules.specs.Sheets.LooseSheet.{Row, LooseTable, indexFields, isOf, notGiven, rowFrom, looseRows, looseSheet, blanks, LooseLine, LooseLines, rowFields, looseFields, EachRow, IsLoose}
+use Rattle.rules.specs.Sheets.LooseSheet.{Row, LooseTable, indexFields, isOf, notGiven, rowFrom, looseRows, looseSheet, blanks, LooseLine}
+use Rattle.rules.specs.Sheets.LooseSheet.{LooseLines, rowFields, looseFields, EachRow, IsLoose}
 use Rattle.rules.specs.Sheets.LooseSheet.{readLoose}
 use Rattle.rules.specs.Calls.Answers.{accepted}
 use Rattle.readback.specs.Sheets.ReadBack.{whole-back, whole-only}
@@ -24,7 +25,7 @@ use Rattle.laws.specs.Lists.Tests.{any-same, any-map}
 use Rattle.laws.specs.Lists.Distinct.{Unlike}
 use Rattle.laws.specs.Numbers.Sizes.{levels-fit}
 use Rattle.laws.specs.Lists.Bounds.{Below, below-at, at-below}
-use Rattle.laws.specs.Numbers.Assignments.{Assignment, indexFrom, indexOf, index-levels, index-below, levels-index, levels-given}
+use Rattle.laws.specs.Numbers.Assignments.{Assignment, indexFrom, indexOf, index-levels, index-of-below, levels-index, levels-given}
 use Rattle.readback.specs.Readers.Spells.{SpellsBetween, SpellsTo, Spells, Any, spells-give, spells-before, spells-onto, spells-then, spells-as, not-read}
 use Rattle.readback.specs.Readers.Fields.{plain, isWord, judges-word, Ended, spells-end}
 use Rattle.readback.specs.Readers.Judges.{judges-levels, judges-inputs, judges-name, judges-ink, judges-any-level, name-word, digit-word, ink-word}
@@ -98,7 +99,8 @@ name-more earlier count k next = spells-as
     ))
     from
   where
-    from : (y : NamesIn earlier (suc count)) → (x : (z : ((w : List ℕ) × ((isName w ≡ true) × (any (same w) earlier ≡ false))) × ℕ) × NamesIn (earlier ++ (z .0 .0 ∷ [])) count)
+    from : (y : NamesIn earlier (suc count))
+        → (x : (z : ((w : List ℕ) × ((isName w ≡ true) × (any (same w) earlier ≡ false))) × ℕ) × NamesIn (earlier ++ (z .0 .0 ∷ [])) count)
         × (earlier ++ y .0 ≡ earlier ++ (x .0 .0 .0 ∷ []) ++ x .1 .0) × (y .1 ≡ x .0 .0 .0 ++ blanks (suc (x .0 .1)) ++ x .1 .1)
     from ([], s, l, g, p) = absurd (omega arith)
     from (w ∷ ws, s, l, g, (c, t, e, p)) =
@@ -164,7 +166,8 @@ spells-loose-header = spells-as
     spells-then _ (spells-last (judges-word "inputs" refl)) (λ _.
     spells-onto _ (spells-parted judges-levels) (λ m.
     spells-then _ (spells-last (judges-inputs (m .0 .0))) (λ n.
-    spells-onto _ (spells-loose-names (n .0 .0) []) (λ names. spells-before (spells-give (record { levels = m .0 .0; inputs = n .0 .0; names = names .0 }))) (λ _ _ rest h. h)))
+    spells-onto _ (spells-loose-names (n .0 .0) [])
+    (λ names. spells-before (spells-give (record { levels = m .0 .0; inputs = n .0 .0; names = names .0 }))) (λ _ _ rest h. h)))
     (λ m n rest h. ends-first (decimal (n .0 .0 .0)) (blanks (n .0 .1) ++ newline ∷ []) (n .1 .0 .1 ++ []) rest (decimal-word (n .0 .0 .0)))))
     (λ _ y rest h. word-first (text "inputs") _ refl))
     (λ ((_, c), ((_, d), (((m, f), e), (((n, g, i), k), ((names, s, l, (good, _), p), _))))). (
@@ -188,7 +191,16 @@ spells-loose-header = spells-as
     (λ (h, s, k, head).
     let (c, d, i) = laid-two (text "levels") (text "inputs") (head .words) (head .words-laid) in
     let (e, f, j) = laid-two (decimal (h .levels)) (decimal (h .inputs)) (head .values) (head .values-laid) in (
-      ((tt, c), ((tt, d), (((h .levels, k .levels), e), (((h .inputs, k .inputs, k .cells), f), ((h .names, head .names, k .count, (k .names, fresh-first same (h .names)), head .names-laid), tt))))),
+      (
+        (tt, c),
+        (
+          (tt, d),
+          (
+            ((h .levels, k .levels), e),
+            (((h .inputs, k .inputs, k .cells), f), ((h .names, head .names, k .count, (k .names, fresh-first same (h .names)), head .names-laid), tt)),
+          ),
+        ),
+      ),
       refl,
       head .is
           ∙ (λ q. i q ++ (j q ++ head .names))
@@ -232,7 +244,8 @@ module _ (m : ℕ) where
           × (indexFrom m before (y .0) ≡ indexFrom m (before * m + x .0 .0 .0) (x .1 .0))
           × (y .1 ≡ digitByte (x .0 .0 .0) ∷ [] ++ blanks (suc (x .0 .1)) ++ x .1 .1)
       from ([], s, l, g, p) = absurd (omega arith)
-      from (l ∷ ls, s, k, g, (c, t, e, p)) = ((((l, g .0), c), (ls, t, omega arith, g .1, p)), refl, e ∙ sym (append-assoc (digitByte l ∷ []) (blanks (suc c)) t))
+      from (l ∷ ls, s, k, g, (c, t, e, p)) =
+          ((((l, g .0), c), (ls, t, omega arith, g .1, p)), refl, e ∙ sym (append-assoc (digitByte l ∷ []) (blanks (suc c)) t))
 
 -- an assignment that no earlier row gave
 spells-not-given : (first : ℕ) (earlier : List Row) (p : ℕ) → Spells (notGiven first earlier p) (any (isOf p) earlier ≡ false) (λ _. tt) (λ _. [])
@@ -243,7 +256,8 @@ spells-not-given first earlier p = record { back = λ e rest at _. (at, rw (e, n
         → (x : any (isOf p) earlier ≡ false) × (a ≡ tt) × (s ≡ rest) × Unit {0}
     only s at a rest place e = go (any (isOf p) earlier) refl e
       where
-        go : (t : Bool) → any (isOf p) earlier ≡ t → _≡_ {A = Read (Unit {0})} (elim t [ true ↦ turnedBack 20 first | false ↦ read tt s at ]) (read a rest place)
+        go : (t : Bool) → any (isOf p) earlier ≡ t → _≡_ {A = Read (Unit {0})} (elim t [ true ↦ turnedBack 20 first | false ↦ read tt s at ])
+            (read a rest place)
             → (x : any (isOf p) earlier ≡ false) × (a ≡ tt) × (s ≡ rest) × Unit {0}
         go true d e = absurd (not-read 20 first a rest place e)
         go false d e = (d, refl, (cc), tt)
@@ -263,7 +277,8 @@ named-turned row other = eqb-comm (other .index) (row .index)
 module _ (m n : ℕ) (pos : 0 < m) where
   -- a row that names an assignment given in no earlier row, and its line
   abbrev RowIn : List Row → Type 0
-  RowIn earlier = (row : Row) × (s : List ℕ) × (row .index < m ^ n) × (row .ink ≤ m) × (any (isOf (row .index)) earlier ≡ false) × LooseLine (rowFields m n row) s
+  RowIn earlier = (row : Row) × (s : List ℕ) × (row .index < m ^ n) × (row .ink ≤ m) × (any (isOf (row .index)) earlier ≡ false)
+      × LooseLine (rowFields m n row) s
 
   -- levels below m are an assignment
   given : (ls : List ℕ) → length ls ≡ n → Below m ls → Assignment m n ls
@@ -284,8 +299,16 @@ module _ (m n : ℕ) (pos : 0 < m) where
       let v = inkByte m d ∷ [] in
       let row : Row = record { index = indexFrom m 0 ls; ink = d } in
       let s = t ++ (v ++ (blanks c ++ newline ∷ [])) in
-      let words : rowFields m n row ≡ digitWords ls ++ (v ∷ []) = row-words row ∙ ap (λ (k : List ℕ). digitWords k ++ (v ∷ [])) (levels-index m n ls (given ls l b)) in (
-        (row, s, index-below m n ls (given ls l b), h, fresh, subst⁻¹ (λ (ws : List (List ℕ)). LooseLine ws s) words (last-line v (digitWords ls) s (t, c, p, refl))),
+      let words : rowFields m n row ≡ digitWords ls ++ (v ∷ []) =
+      row-words row ∙ ap (λ (k : List ℕ). digitWords k ++ (v ∷ [])) (levels-index m n ls (given ls l b)) in (
+        (
+          row,
+          s,
+          index-of-below m n ls (given ls l b),
+          h,
+          fresh,
+          subst⁻¹ (λ (ws : List (List ℕ)). LooseLine ws s) words (last-line v (digitWords ls) s (t, c, p, refl)),
+        ),
         refl,
         ap (λ (u : List ℕ). t ++ u) (append-nil (v ++ (blanks c ++ newline ∷ []))),
       ))
@@ -372,7 +395,8 @@ unfolding looseSheet looseFields plain isWord all text isSeparator space newline
 spells-loose = spells-as
     (spells-onto _ spells-loose-header (λ (h, s, k, head).
     spells-then _ (spells-last (judges-word "ink" refl)) (λ _.
-    spells-then _ (spells-loose-rows (h .levels) (h .inputs) (head-pos h k) (h .levels ^ h .inputs) []) (λ rows. spells-end (record { header = h; rows = rows .0 }))))
+    spells-then _ (spells-loose-rows (h .levels) (h .inputs) (head-pos h k) (h .levels ^ h .inputs) [])
+    (λ rows. spells-end (record { header = h; rows = rows .0 }))))
     (λ _ _ rest _. word-first (text "ink") _ refl))
     (λ ((h, s, k, head), ((_, c), ((rows, u, l, each, (unlike, _), laid), _))).
     let ink = text "ink" ++ (blanks c ++ newline ∷ []) in
@@ -382,7 +406,13 @@ spells-loose = spells-as
         record { header = h; rows = rows },
         head .words ++ (head .values ++ (third ++ u)),
         record {
-          lines = (head .words, head .values ++ (third ++ u), refl, head .words-laid, (head .values, third ++ u, refl, head .values-laid, (third, u, refl, line, laid)));
+          lines = (
+            head .words,
+            head .values ++ (third ++ u),
+            refl,
+            head .words-laid,
+            (head .values, third ++ u, refl, head .values-laid, (third, u, refl, line, laid)),
+          );
           kept = record { header = k; count = l; each = each; once = unlike-once rows .0 unlike };
         },
       ),

@@ -18,7 +18,8 @@ use Rattle.rules.specs.Sheets.Printed.{line, firstLines, printedRow, printedRow
 use Rattle.rules.specs.Sheets.SheetRules.{Distinct, TableRules}
 use Rattle.rules.specs.Calls.Answers.{accepted}
 use Rattle.rules.specs.Sheets.Reading.{readTable}
-use Rattle.rules.specs.Sheets.LooseSheet.{Row, LooseTable, inkNamed, tableOfLoose, blanks, LooseLine, LooseLines, rowFields, looseFields, EachRow, LooseRules, IsLoose, readLoose}
+use Rattle.rules.specs.Sheets.LooseSheet.{Row, LooseTable, inkNamed, tableOfLoose, blanks, LooseLine, LooseLines, rowFields, looseFields, EachRow}
+use Rattle.rules.specs.Sheets.LooseSheet.{LooseRules, IsLoose, readLoose}
 use Rattle.laws.specs.Lists.Counts.{times-range}
 use Rattle.laws.specs.Lists.Distinct.{In, NotIn, not-in-cons, times-distinct, all-stand}
 use Rattle.laws.specs.Lists.Ranges.{map-range-length, map-range-at}
@@ -102,7 +103,8 @@ module _ (t : LooseTable) (kept : LooseRules t) where
 
   -- every assignment is named by some row
   pub all-named : (p : ℕ) → p < m ^ n → In p (indices (t .rows))
-  all-named p h = all-stand (m ^ n) (indices (t .rows)) (kept .once) (named-below m n (t .rows) (kept .each)) (omega (arith, length-map (t .rows) (λ row. row .index), kept .count)) p h
+  all-named p h = all-stand (m ^ n) (indices (t .rows)) (kept .once) (named-below m n (t .rows) (kept .each))
+      (omega (arith, length-map (t .rows) (λ row. row .index), kept .count)) p h
 
   -- the ink at an index of the table
   pub ink-at : (p : ℕ) → p < m ^ n → getD (tableOfLoose t .inks) p 0 ≡ inkNamed (t .rows) p
@@ -121,13 +123,13 @@ module _ (t : LooseTable) (kept : LooseRules t) where
 -- ---- strict sheets
 
 -- rows in order, from index p on
-unfoldable pub rowsFrom : ℕ → List ℕ → List Row
-rowsFrom p [] = []
-rowsFrom p (ink ∷ inks) = record { index = p; ink = ink } ∷ rowsFrom (suc p) inks
+unfoldable pub indexedRows : ℕ → List ℕ → List Row
+indexedRows p [] = []
+indexedRows p (ink ∷ inks) = record { index = p; ink = ink } ∷ indexedRows (suc p) inks
 
 -- a table with its rows in order
 unfoldable pub inOrder : Table → LooseTable
-inOrder t = record { header = t .header; rows = rowsFrom 0 (t .inks) }
+inOrder t = record { header = t .header; rows = indexedRows 0 (t .inks) }
 
 -- a printed line is a loose one
 line-loose : (ws : List (List ℕ)) → LooseLine ws (line ws)
@@ -136,35 +138,36 @@ line-loose [] = refl
 line-loose (w ∷ []) = (0, refl)
 line-loose (w ∷ v ∷ ws) = (0, line (v ∷ ws), refl, line-loose (v ∷ ws))
 
-rows-loose : (m n p : ℕ) (inks : List ℕ) → LooseLines (map (rowFields m n) (rowsFrom p inks)) (printedRows m n p inks)
-unfolding rowsFrom printedRows printedRow rowFields
+rows-loose : (m n p : ℕ) (inks : List ℕ) → LooseLines (map (rowFields m n) (indexedRows p inks)) (printedRows m n p inks)
+unfolding indexedRows printedRows printedRow rowFields
 rows-loose m n p [] = refl
-rows-loose m n p (ink ∷ inks) = (printedRow m n p ink, printedRows m n (suc p) inks, refl, line-loose (rowFields m n (record { index = p; ink = ink })), rows-loose m n (suc p) inks)
+rows-loose m n p (ink ∷ inks) =
+    (printedRow m n p ink, printedRows m n (suc p) inks, refl, line-loose (rowFields m n (record { index = p; ink = ink })), rows-loose m n (suc p) inks)
 
 -- the rows name the indices in order
-rows-indices : (p : ℕ) (inks : List ℕ) → indices (rowsFrom p inks) ≡ range p (length inks)
-unfolding rowsFrom range
+rows-indices : (p : ℕ) (inks : List ℕ) → indices (indexedRows p inks) ≡ range p (length inks)
+unfolding indexedRows range
 rows-indices p [] = refl
 rows-indices p (ink ∷ inks) = ap (λ (ps : List ℕ). p ∷ ps) (rows-indices (suc p) inks)
 
-rows-length : (p : ℕ) (inks : List ℕ) → length (rowsFrom p inks) ≡ length inks
-unfolding rowsFrom
+rows-length : (p : ℕ) (inks : List ℕ) → length (indexedRows p inks) ≡ length inks
+unfolding indexedRows
 rows-length p [] = refl
 rows-length p (ink ∷ inks) = ap suc (rows-length (suc p) inks)
 
-rows-each : (m n p : ℕ) (inks : List ℕ) → p + length inks ≤ m ^ n → ((k : ℕ) → k < length inks → getD inks k 0 ≤ m) → EachRow m n (rowsFrom p inks)
-unfolding rowsFrom
+rows-each : (m n p : ℕ) (inks : List ℕ) → p + length inks ≤ m ^ n → ((k : ℕ) → k < length inks → getD inks k 0 ≤ m) → EachRow m n (indexedRows p inks)
+unfolding indexedRows
 rows-each m n p [] h within = tt
 rows-each m n p (ink ∷ inks) h within = (omega arith, within 0 (omega arith), rows-each m n (suc p) inks (omega arith) (λ k l. within (suc k) (omega arith)))
 
 -- each has its own ink
-rows-ink : (p : ℕ) (inks : List ℕ) (k : ℕ) → k < length inks → inkNamed (rowsFrom p inks) (p + k) ≡ getD inks k 0
-unfolding rowsFrom
+rows-ink : (p : ℕ) (inks : List ℕ) (k : ℕ) → k < length inks → inkNamed (indexedRows p inks) (p + k) ≡ getD inks k 0
+unfolding indexedRows
 rows-ink p [] k h = absurd (omega arith)
-rows-ink p (ink ∷ inks) zero h = named-first _ (rowsFrom (suc p) inks) (p + 0) (omega arith)
+rows-ink p (ink ∷ inks) zero h = named-first _ (indexedRows (suc p) inks) (p + 0) (omega arith)
 rows-ink p (ink ∷ inks) (suc k) h =
-    named-later _ (rowsFrom (suc p) inks) (p + suc k) (λ e. omega arith)
-    ∙ ap (inkNamed (rowsFrom (suc p) inks)) (let z : p + suc k ≡ suc p + k = omega arith in z)
+    named-later _ (indexedRows (suc p) inks) (p + suc k) (λ e. omega arith)
+    ∙ ap (inkNamed (indexedRows (suc p) inks)) (let z : p + suc k ≡ suc p + k = omega arith in z)
     ∙ rows-ink (suc p) inks k (omega arith)
 
 module _ (t : Table) (kept : TableRules t) where
@@ -179,7 +182,19 @@ module _ (t : Table) (kept : TableRules t) where
       let rows = printedRows (h .levels) (h .inputs) 0 (t .inks) in
       let apart : words ++ values ++ third ++ rows ≡ words ++ (values ++ (third ++ rows)) = simp append-assoc in
       record {
-        lines = (words, values ++ (third ++ rows), apart, line-loose (text "levels" ∷ text "inputs" ∷ []), (values, third ++ rows, refl, line-loose (decimal (h .levels) ∷ decimal (h .inputs) ∷ []), (third, rows, refl, line-loose (h .names ++ (text "ink" ∷ [])), rows-loose (h .levels) (h .inputs) 0 (t .inks))));
+        lines = (
+          words,
+          values ++ (third ++ rows),
+          apart,
+          line-loose (text "levels" ∷ text "inputs" ∷ []),
+          (
+            values,
+            third ++ rows,
+            refl,
+            line-loose (decimal (h .levels) ∷ decimal (h .inputs) ∷ []),
+            (third, rows, refl, line-loose (h .names ++ (text "ink" ∷ [])), rows-loose (h .levels) (h .inputs) 0 (t .inks)),
+          ),
+        );
         kept = record {
           header = kept .header;
           count = rows-length 0 (t .inks) ∙ kept .count;
@@ -193,11 +208,11 @@ module _ (t : Table) (kept : TableRules t) where
   unfolding inOrder tableOfLoose
   strict-table =
       let count = t .header .levels ^ t .header .inputs in
-      let same : map (inkNamed (rowsFrom 0 (t .inks))) (range 0 count) ≡ t .inks =
-      ext-getD 0 _ _ (map-range-length (inkNamed (rowsFrom 0 (t .inks))) 0 count ∙ sym (kept .count))
+      let same : map (inkNamed (indexedRows 0 (t .inks))) (range 0 count) ≡ t .inks =
+      ext-getD 0 _ _ (map-range-length (inkNamed (indexedRows 0 (t .inks))) 0 count ∙ sym (kept .count))
       (λ i h.
-      let i< : i < count = omega (arith, map-range-length (inkNamed (rowsFrom 0 (t .inks))) 0 count) in
-      map-range-at (inkNamed (rowsFrom 0 (t .inks))) 0 count i 0 i< ∙ rows-ink 0 (t .inks) i (omega (arith, kept .count))) in
+      let i< : i < count = omega (arith, map-range-length (inkNamed (indexedRows 0 (t .inks))) 0 count) in
+      map-range-at (inkNamed (indexedRows 0 (t .inks))) 0 count i 0 i< ∙ rows-ink 0 (t .inks) i (omega (arith, kept .count))) in
       (λ q. record { header = t .header; inks = same q })
 
 -- an accepted table sheet is the sheet of its table, so it is an accepted loose one, of that table

@@ -3,7 +3,7 @@
 use Prim.Native.Nat.{ℕ, suc, _+_, _*_, _^_, _≤_, _<_}
 use mathlib.Core.Path.{_≡_, refl, sym, ap, ap₂, _∙_}
 use mathlib.Core.Logic.{_⊎_, inl, inr}
-use mathlib.Core.Bool.{Bool, true, false, not, _&&_, _||_, and-eq-true-iff}
+use mathlib.Core.Bool.{Bool, true, false, _&&_, _||_, and-eq-true-iff}
 use mathlib.Core.List.{List, [], _∷_, _++_, map}
 use native.Mathlib.Nat.{le-trans, zero-mul, suc-mul}
 use native.Mathlib.Omega.{arith}
@@ -18,7 +18,7 @@ use Rattle.rules.specs.Sheets.Printed.{line, firstLines, printedRow, printedRow
 use Rattle.rules.specs.Sheets.SheetRules.{GoodNames, TableRules}
 use Rattle.laws.specs.Numbers.Decimals.{decimal-length}
 use Rattle.laws.specs.Numbers.Levels.{levels-length}
-use Rattle.laws.specs.Numbers.Sizes.{Size, kept-size, everySize, at-size}
+use Rattle.laws.specs.Numbers.Sizes.{kept-size, everySize, at-size, bounded-at}
 use Rattle.readback.specs.Readers.Judges.{name-parts}
 
 -- ---- the parts of a sheet
@@ -69,30 +69,16 @@ sheet-length t k =
     let c = third-length (h .names) (k .header .names) in
     simp (length-append, rows-length, k .count) (omega (arith, k .header .count))
 
--- there are too many cells, or the bound is small
-boundTest : ℕ → ℕ → Bool
-boundTest m n = not (cellsFit m n) || leb (bound m n) mostTableSheet
-
-bound-tested : everySize boundTest ≡ true
-unfolding everySize all range boundTest bound cellsFit
-bound-tested = refl
-
--- so the bound is small for all sizes that a sheet may have
-size-bound : (m n : ℕ) → Size m n → cellsFit m n ≡ true → bound m n ≤ mostTableSheet
-unfolding boundTest
-size-bound m n size fits = leb-true (bound m n) mostTableSheet (rw fits at (at-size boundTest bound-tested m n size))
-
 -- no table sheet is longer than 106,627 bytes
 pub table-length : (t : Table) → TableRules t → length (printedTable t) ≤ mostTableSheet
-table-length t kept =
-    let h = t .header in
-    le-trans (sheet-length t kept) (size-bound (h .levels) (h .inputs) (kept-size h (kept .header)) (kept .header .cells))
+unfolding everySize all range bound cellsFit
+table-length t kept = le-trans (sheet-length t kept) (bounded-at bound mostTableSheet refl _ _ (kept-size (t .header) (kept .header)))
 
 -- ---- what a program reads
 
--- there are too many cells, or the bound is within what a program reads, or it is the one size that is left
+-- the bound is within what a program reads, or it is the one size that is left
 readTest : ℕ → ℕ → Bool
-readTest m n = not (cellsFit m n) || leb (bound m n) mostRead || (eqb m 2 && eqb n 12)
+readTest m n = leb (bound m n) mostRead || (eqb m 2 && eqb n 12)
 
 read-tested : everySize readTest ≡ true
 unfolding everySize all range readTest bound cellsFit
@@ -109,7 +95,7 @@ table-longer t k two twelve =
 
 pub table-within : (t : Table) → TableRules t → (length (printedTable t) ≤ mostRead) ⊎ ((t .header .levels ≡ 2) × (t .header .inputs ≡ 12))
 unfolding readTest
-table-within t kept = go (leb (bound m n) mostRead) refl (rw (kept .header .cells) at (at-size readTest read-tested m n (kept-size (t .header) (kept .header))))
+table-within t kept = go (leb (bound m n) mostRead) refl (at-size readTest read-tested m n (kept-size (t .header) (kept .header)))
   where
     m : ℕ
     m = t .header .levels

@@ -64,7 +64,8 @@ spells-rows m n zero p earlier = collects-none earlier (Below (suc m)) (printedR
 spells-rows m n (suc count) p earlier =
     rw (← then-then (levelFields (levelsAt m n p)) (λ _. field (inkField m) newline) (λ ink. rowLines m n (suc p) count (earlier ++ (ink ∷ []))))
     (collects-more _ earlier count (λ ink. ink ≤ m) (λ _. Below (suc m)) (Below (suc m)) (printedRow m n p) (printedRows m n (suc p)) (printedRows m n p)
-    (spells-row m n p) (λ ink. spells-rows m n count (suc p) (earlier ++ (ink ∷ []))) (λ ink inks. (λ (h, k). (omega arith, k), λ (h, k). (omega arith, k))) (λ ink inks l. refl))
+    (spells-row m n p) (λ ink. spells-rows m n count (suc p) (earlier ++ (ink ∷ [])))
+    (λ ink inks. (λ (h, k). (omega arith, k), λ (h, k). (omega arith, k))) (λ ink inks l. refl))
 
 -- ---- the sheet
 
@@ -82,5 +83,16 @@ spells-table = spells-as
     (spells-then _ (spells-header space refl) (λ (h, k).
     spells-then _ (spells-field newline refl (judges-word "ink" refl)) (λ _.
     spells-then _ (spells-rows (h .levels) (h .inputs) (h .levels ^ h .inputs) 0 []) (λ inks. spells-end (record { header = h; inks = inks .0 })))))
-    (λ ((h, k), (_, ((inks, l, b), _))). ((record { header = h; inks = inks }, record { header = k; count = l; within = λ k i. omega (arith, below-at (suc (h .levels)) inks b k i) }), refl, table-text h inks))
-    (λ (t, k). (((t .header, k .header), (tt, ((t .inks, k .count, at-below (suc (t .header .levels)) (t .inks) (λ p i. omega (arith, k .within p i))), tt))), refl, sym (table-text (t .header) (t .inks))))
+    (λ ((h, k), (_, ((inks, l, b), _))). (
+      (record { header = h; inks = inks }, record { header = k; count = l; within = λ k i. omega (arith, below-at (suc (h .levels)) inks b k i) }),
+      refl,
+      table-text h inks,
+    ))
+    (λ (t, k). (
+      (
+        (t .header, k .header),
+        (tt, ((t .inks, k .count, at-below (suc (t .header .levels)) (t .inks) (λ p i. omega (arith, k .within p i))), tt)),
+      ),
+      refl,
+      sym (table-text (t .header) (t .inks)),
+    ))

@@ -33,8 +33,8 @@ sameNames (v ∷ vs) (w ∷ ws) = same v w && sameNames vs ws
 unfoldable pub sameHeader : Header → Header → Bool
 sameHeader h k = eqb (h .levels) (k .levels) && eqb (h .inputs) (k .inputs) && sameNames (h .names) (k .names)
 
--- Agreement, or the lowest index at which the inks of a net and of a table of m levels differ. "A check passes over open assignments, for its agreement and for the lowest
--- index that differs." (document 02, K13)
+-- Agreement, or the lowest index at which the inks of a net and of a table of m levels differ. "A check passes over open assignments, for its
+-- agreement and for the lowest index that differs." (document 02, K13)
 unfoldable pub compared : ℕ → List ℕ → List ℕ → Verdict
 compared m xs ys =
     let at = firstPlace (λ p. not (isOpen m (getD ys p 0)) && not (eqb (getD xs p 0) (getD ys p 0))) (range 0 (length xs)) in

@@ -13,7 +13,7 @@ use Rattle.rules.specs.Nets.Leaves.{leavesOf}
 use Rattle.rules.specs.Nets.Family.{treeCount, familyGates}
 use Rattle.rules.specs.Calls.Answers.{Answer, accepted, inkIn, refused, written}
 use Rattle.rules.specs.Calls.OpenCells.{readFull}
-use Rattle.rules.specs.Calls.Settling.{Made, roomFor, writtenSheet}
+use Rattle.rules.specs.Calls.Settling.{Made, roomFor, inRoom, writtenSheet}
 
 -- ---- of a table
 
@@ -73,12 +73,8 @@ afterCount number t cells marks output =
     ]
 
 -- 13, 14, 17, 15
-unfoldable pub numberedInto : ℕ → Table → List ℕ → List ℕ → List ℕ → Made
-numberedInto number t cells marks output =
-    elim (roomFor t cells marks) [
-      | refused refusal need ↦ record { answer = refused refusal need; cells = cells; marks = marks; output = output }
-      | accepted room ↦ afterCount number t cells marks output
-    ]
+abbrev pub numberedInto : ℕ → Table → List ℕ → List ℕ → List ℕ → Made
+numberedInto number t cells marks output = inRoom t cells marks output (afterCount number t cells marks output)
 
 -- "The other takes a table sheet, an order number and all of making's buffers, and writes the tree of that number, from 0."
 unfoldable pub familyTreeCall : List ℕ → ℕ → List ℕ → List ℕ → List ℕ → Made
@@ -90,5 +86,5 @@ familyTreeCall sheet number cells marks output =
 
 -- all of this file computes
 unfoldable pub computing : Unit {0}
-unfolding countOfTable familyNet countedInto familyCountCall afterCount numberedInto familyTreeCall
+unfolding countOfTable familyNet countedInto familyCountCall afterCount familyTreeCall
 computing = tt

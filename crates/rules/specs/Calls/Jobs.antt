@@ -43,7 +43,8 @@ pub record Opened : Type 0 where
   pub job : Job
   pub answer : Answer (Unit {0})
 
--- "A sheet that is turned back opens an empty job beside its refusal". "Everything that .. marks groups .. needs a full table, a job at its opening." (document 02, K13)
+-- "A sheet that is turned back opens an empty job beside its refusal". "Everything that .. marks groups .. needs a full table, a job at its opening."
+-- (document 02, K13)
 unfoldable pub openJob : List ℕ → Opened
 openJob sheet =
     elim (readFull sheet) [
@@ -105,7 +106,8 @@ pub record Finished : Type 0 where
   pub job : Job
   pub made : Made
 
--- Its cells are judged as bare cells of a full table are: "finishing it", an empty job, gives "9 at 0". 22: "finish on an unfinished one, place the groups still to go"
+-- Its cells are judged as bare cells of a full table are: "finishing it", an empty job, gives "9 at 0". 22: "finish on an unfinished one, place the
+-- groups still to go"
 unfoldable pub mayFinish : Job → Answer (Unit {0})
 mayFinish job =
     let t = job .table in

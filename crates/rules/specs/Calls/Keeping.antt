@@ -80,9 +80,10 @@ pub record KeptWiring : Type 0 where
   pub cells : List ℕ
   pub output : List ℕ
 
--- What is judged once both sheets are read, in this order: 12, 27, which names the table sheet, 13, 23 at 0, 23 at a gate, 15. "A kept wiring that leaves out an input that
--- matters is refused with 23 at place 0, before its gates are judged." (document 02, K12) 12: the sheets differ in m, n or names. 13: cells buffer short. "23, place the
--- number of the first gate whose group has more than m classes, judged after 12 and 13 and before 15; it names neither sheet and leaves the cells written."
+-- What is judged once both sheets are read, in this order: 12, 27, which names the table sheet, 13, 23 at 0, 23 at a gate, 15. "A kept wiring that
+-- leaves out an input that matters is refused with 23 at place 0, before its gates are judged." (document 02, K12) 12: the sheets differ in m, n or
+-- names. 13: cells buffer short. "23, place the number of the first gate whose group has more than m classes, judged after 12 and 13 and before 15;
+-- it names neither sheet and leaves the cells written."
 -- 15: output short, with the cells written.
 unfoldable pub keptInto : Net → Table → List ℕ → List ℕ → KeptWiring
 keptInto net t cells output =

@@ -7,16 +7,17 @@ use Rattle.rules.specs.Text.{text, decimal}
 use Rattle.rules.specs.Limits.{mostSettled, mostRead, mostCells, mostInputs}
 use Rattle.rules.specs.Sheets.Printed.{line}
 use Rattle.rules.specs.Groups.Marks.{marksLength}
-use Rattle.rules.specs.Calls.Answers.{accepted, refused}
-use Rattle.rules.specs.Calls.Settling.{Made, makeCall, settleCall}
+use Rattle.rules.specs.Calls.Answers.{Answer, accepted, refused}
+use Rattle.rules.specs.Calls.Settling.{makeCall, settleCall}
 
 -- "A refusal prints the line `number place`, then the two decimal values."
-unfoldable pub programOutput : Made → List ℕ
-programOutput made =
-    elim (made .answer) [
-      | accepted length ↦ take length (made .output)
-      | refused number place ↦ line (text "number" ∷ text "place" ∷ []) ++ line (decimal number ∷ decimal place ∷ [])
-    ]
+abbrev pub refusalLines : ℕ → ℕ → List ℕ
+refusalLines number place = line (text "number" ∷ text "place" ∷ []) ++ line (decimal number ∷ decimal place ∷ [])
+
+-- what a program prints for its call's answer and output
+unfoldable pub programOutput : Answer ℕ → List ℕ → List ℕ
+programOutput (accepted length) output = take length output
+programOutput (refused number place) output = refusalLines number place
 
 -- The programs' buffers have the largest length that any sheet needs.
 abbrev pub zeros : ℕ → List ℕ
@@ -25,12 +26,14 @@ zeros k = replicate k 0
 -- "*Two programs* read standard input, at most its first 65,536 bytes, which are then the sheet: one settles, one makes."
 unfoldable pub settleProgram : List ℕ → List ℕ
 settleProgram input =
-    programOutput (settleCall (take mostRead input) (zeros mostCells) (zeros (marksLength mostInputs)) (zeros mostSettled))
+    let made = settleCall (take mostRead input) (zeros mostCells) (zeros (marksLength mostInputs)) (zeros mostSettled) in
+    programOutput (made .answer) (made .output)
 
 -- .. and one makes
 unfoldable pub makeProgram : List ℕ → List ℕ
 makeProgram input =
-    programOutput (makeCall (take mostRead input) (zeros mostCells) (zeros (marksLength mostInputs)) (zeros mostSettled))
+    let made = makeCall (take mostRead input) (zeros mostCells) (zeros (marksLength mostInputs)) (zeros mostSettled) in
+    programOutput (made .answer) (made .output)
 
 -- all of this file computes
 unfoldable pub computing : Unit {0}

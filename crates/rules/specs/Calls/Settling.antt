@@ -63,13 +63,17 @@ roomFor t cells marks =
       | false ↦ elim (ltb (length marks) marks-need) [ true ↦ refused 14 marks-need | false ↦ accepted tt ]
     ]
 
--- .. then 16, then 15, which needs "the settled sheet's length". `netFor` is the net that is made of a table.
-unfoldable pub madeInto : (Table → Net) → Table → List ℕ → List ℕ → List ℕ → Made
-madeInto netFor t cells marks output =
+-- "Every other refusal changes no buffer.": 13 and 14 end a call. `rest` is what the call comes to where there is room.
+unfoldable pub inRoom : Table → List ℕ → List ℕ → List ℕ → Made → Made
+inRoom t cells marks output rest =
     elim (roomFor t cells marks) [
       | refused number need ↦ record { answer = refused number need; cells = cells; marks = marks; output = output }
-      | accepted room ↦ afterMarks netFor t cells marks output
+      | accepted room ↦ rest
     ]
+
+-- .. then 16, then 15, which needs "the settled sheet's length". `netFor` is the net that is made of a table.
+abbrev pub madeInto : (Table → Net) → Table → List ℕ → List ℕ → List ℕ → Made
+madeInto netFor t cells marks output = inRoom t cells marks output (afterMarks netFor t cells marks output)
 
 -- "Settling reads a net sheet, writes its table into the cells buffer (one byte a cell), the marks into the marks buffer, and
 -- the settled net sheet, with the same first three lines, into the output." "Every other refusal changes no buffer."
@@ -90,5 +94,5 @@ makeCall sheet cells marks output =
 
 -- all of this file computes
 unfoldable pub computing : Unit {0}
-unfolding settledNet writtenSheet afterMarks roomFor madeInto settleCall makeCall
+unfolding settledNet writtenSheet afterMarks roomFor inRoom settleCall makeCall
 computing = tt

@@ -28,7 +28,8 @@ whichBy (refused _ _) (refused _ _) = noSheet
 unfoldable pub whichOf : List ℕ → List ℕ → Which
 whichOf first second = whichBy (layersIn first) (layersIn second)
 
--- What is handed back, as bytes. That it is the sheet itself, a part of the memory lent, is in the contract of the code (crate `shallower`): its result is one of the two slices.
+-- What is handed back, as bytes. That it is the sheet itself, a part of the memory lent, is in the contract of the code (crate `shallower`): its
+-- result is one of the two slices.
 unfoldable pub shallowerCall : List ℕ → List ℕ → List ℕ
 shallowerCall first second = elim (whichOf first second) [ firstSheet ↦ first | secondSheet ↦ second | noSheet ↦ [] ]
 

@@ -3,14 +3,13 @@
 -- Assumes nothing.
 use Prim.Native.Nat.{ℕ, _^_}
 use mathlib.Core.Bool.{true, false}
-use mathlib.Core.List.{List, []}
+use mathlib.Core.List.{List}
 use lib.ListN.{length, take}
 use lib.Dec.{ltb}
 use Rattle.rules.specs.Limits.{mostCells, mostRead}
 use Rattle.rules.specs.Sheets.Sheets.{Table}
 use Rattle.rules.specs.Sheets.Printed.{printedTable}
 use Rattle.rules.specs.Calls.Answers.{Answer, accepted, refused, written}
-use Rattle.rules.specs.Calls.Settling.{Made}
 use Rattle.rules.specs.Calls.Programs.{programOutput, zeros}
 use Rattle.rules.specs.Sheets.LooseSheet.{readLoose, tableOfLoose}
 
@@ -47,13 +46,11 @@ tidyCall sheet cells output =
 
 -- ---- the program
 
--- what a program prints of it is what it prints of settling and making, which have marks besides
-abbrev pub asMade : Tidied → Made
-asMade t = record { answer = t .answer; cells = t .cells; marks = []; output = t .output }
-
 -- a program that tidies what it reads, as the two of document 01 settle and make
 unfoldable pub tidyProgram : List ℕ → List ℕ
-tidyProgram input = programOutput (asMade (tidyCall (take mostRead input) (zeros mostCells) (zeros mostRead)))
+tidyProgram input =
+    let tidied = tidyCall (take mostRead input) (zeros mostCells) (zeros mostRead) in
+    programOutput (tidied .answer) (tidied .output)
 
 -- all of this file computes
 unfoldable pub computing : Unit {0}

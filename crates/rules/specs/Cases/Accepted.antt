@@ -1,12 +1,13 @@
--- Accepted answers of every call, and both sides of every limit, as one theorem, `accepted-hold`. Each buffer is longer than needed, so a case shows which bytes a call
--- writes and which it keeps. Nothing here cites a definition for what a buffer holds: the bytes are written out. `Refusals` has the refused answers.
+-- Accepted answers of every call, and both sides of every limit, as one theorem, `accepted-hold`. Each buffer is longer than needed, so a case shows
+-- which bytes a call writes and which it keeps. Nothing here cites a definition for what a buffer holds: the bytes are written out. `Refusals` has
+-- the refused answers.
 -- Assumes nothing.
 use Prim.Native.Nat.{ℕ, _+_}
 use Prim.Native.String.{String}
 use mathlib.Core.Path.{_≡_, refl}
 use mathlib.Core.List.{List, [], _∷_, _++_}
 use lib.ListN.{length}
-use lib.Ieee.{binary64, toBits}
+use lib.Ieee.{toBits}
 use Rattle.rules.specs.Text.{text}
 use Rattle.rules.specs.Limits.{mostRead, mostSettled, mostTime}
 use Rattle.rules.specs.Groups.Marks.{noTreePlace}
@@ -32,7 +33,7 @@ use Rattle.rules.specs.Cases.Cases.{gateCount}
 use Rattle.rules.specs.Cases.ArrivalCases.{bitsIn}
 use Rattle.rules.specs.Cases.GlyphCases.{signedFrom, signed}
 use Rattle.rules.specs.Cases.Refusals.{jobStepped}
-use Rattle.rules.specs.Cases.Written.{AllHold, paper, digits, nines, named, writing}
+use Rattle.rules.specs.Cases.Written.{_also_, AllHold, paper, digits, nines, letterNames, writing}
 use Rattle.rules.specs.Evaluation.{computing}
 
 -- ---- what a case says
@@ -74,18 +75,18 @@ pub data Accepts : Type 0 where
   limit : (is due : ℕ) → Accepts
 
 -- The common statement: a call's whole result, its answer and every buffer lent to it.
-abbrev pub Answers : Accepts → Type 0
-Answers (multiplicity m n inks g count) = multiplicityCall m n (digits (text inks)) g ≡ accepted count
-Answers (marking m n inks mark marks) = markingCall m n (digits (text inks)) (lent marks) ≡ record { answer = accepted mark; marks = held marks }
+abbrev pub AnswersAs : Accepts → Type 0
+AnswersAs (multiplicity m n inks g count) = multiplicityCall m n (digits (text inks)) g ≡ accepted count
+AnswersAs (marking m n inks mark marks) = markingCall m n (digits (text inks)) (lent marks) ≡ record { answer = accepted mark; marks = held marks }
 -- 16's place in a list of all marks
-Answers (place16 n marks place) = noTreePlace n (digits (text marks)) ≡ place
-Answers (settling sheet settled inks marks) =
+AnswersAs (place16 n marks place) = noTreePlace n (digits (text marks)) ≡ place
+AnswersAs (settling sheet settled inks marks) =
     settleCall (paper sheet) (lent (digits (text inks))) (lent marks) (lent (paper settled))
     ≡ record { answer = accepted (length (paper settled)); cells = held (digits (text inks)); marks = held marks; output = held (paper settled) }
-Answers (making sheet made inks marks) =
+AnswersAs (making sheet made inks marks) =
     makeCall (paper sheet) (lent (digits (text inks))) (lent marks) (lent (paper made))
     ≡ record { answer = accepted (length (paper made)); cells = held (digits (text inks)); marks = held marks; output = held (paper made) }
-Answers (shallowSettling sheet settled inks marks layers) =
+AnswersAs (shallowSettling sheet settled inks marks layers) =
     settleShallowCall (paper sheet) (lent (digits (text inks))) (lent marks) (lent (paper settled))
     ≡ record {
       answer = accepted (record { length = length (paper settled); layers = layers });
@@ -93,7 +94,7 @@ Answers (shallowSettling sheet settled inks marks layers) =
       marks = held marks;
       output = held (paper settled);
     }
-Answers (shallowMaking sheet made inks marks layers) =
+AnswersAs (shallowMaking sheet made inks marks layers) =
     makeShallowCall (paper sheet) (lent (digits (text inks))) (lent marks) (lent (paper made))
     ≡ record {
       answer = accepted (record { length = length (paper made); layers = layers });
@@ -101,47 +102,47 @@ Answers (shallowMaking sheet made inks marks layers) =
       marks = held marks;
       output = held (paper made);
     }
-Answers (counting sheet inks marks count) =
+AnswersAs (counting sheet inks marks count) =
     familyCountCall (paper sheet) (lent (digits (text inks))) (lent marks)
     ≡ record { answer = accepted count; cells = held (digits (text inks)); marks = held marks }
-Answers (numbering sheet number made inks marks) =
+AnswersAs (numbering sheet number made inks marks) =
     familyTreeCall (paper sheet) number (lent (digits (text inks))) (lent marks) (lent (paper made))
     ≡ record { answer = accepted (length (paper made)); cells = held (digits (text inks)); marks = held marks; output = held (paper made) }
-Answers (checking net-sheet table-sheet inks verdict) =
+AnswersAs (checking net-sheet table-sheet inks verdict) =
     checkCall (paper net-sheet) (paper table-sheet) (lent (digits (text inks))) ≡ record { answer = verdict; cells = held (digits (text inks)) }
-Answers (tableWriting sheet table) =
+AnswersAs (tableWriting sheet table) =
     writeTableCall (paper sheet) (lent (paper table)) ≡ record { answer = accepted (length (paper table)); output = held (paper table) }
-Answers (tidying sheet tidied inks) =
+AnswersAs (tidying sheet tidied inks) =
     tidyCall (paper sheet) (lent (digits (text inks))) (lent (paper tidied))
     ≡ record { answer = accepted (length (paper tidied)); cells = held (digits (text inks)); output = held (paper tidied) }
-Answers (line sheet k turn) = listing (paper sheet) k ≡ accepted turn
-Answers (shallower first second handed) = shallowerCall (paper first) (paper second) ≡ paper handed
+AnswersAs (line sheet k turn) = listing (paper sheet) k ≡ accepted turn
+AnswersAs (shallower first second handed) = shallowerCall (paper first) (paper second) ≡ paper handed
 -- the two doubles by their bits
-Answers (timing net-sheet arrival-sheet delay earliest latest) =
+AnswersAs (timing net-sheet arrival-sheet delay earliest latest) =
     bitsIn (arrivalsCall (paper net-sheet) (paper arrival-sheet) delay) ≡ earliest ∷ latest ∷ []
-Answers (arrivalsBack sheet number place) = readArrivals (named "ab") (paper sheet) ≡ refused number place
+AnswersAs (arrivalsBack sheet number place) = readArrivals (letterNames "ab") (paper sheet) ≡ refused number place
 -- one step more than so many, and the mark of a group after so many
-Answers (stepping sheet steps) = stepJob (jobStepped sheet steps) ≡ record { job = jobStepped sheet (steps + 1); answer = accepted tt }
-Answers (asking sheet steps g reached) = askJob (jobStepped sheet steps) g ≡ record { job = jobStepped sheet steps; answer = accepted reached }
-Answers (finishing sheet steps made inks marks) =
+AnswersAs (stepping sheet steps) = stepJob (jobStepped sheet steps) ≡ record { job = jobStepped sheet (steps + 1); answer = accepted tt }
+AnswersAs (asking sheet steps g reached) = askJob (jobStepped sheet steps) g ≡ record { job = jobStepped sheet steps; answer = accepted reached }
+AnswersAs (finishing sheet steps made inks marks) =
     finishJob (jobStepped sheet steps) (lent (digits (text inks))) (lent marks) (lent (paper made))
     ≡ record {
       job = jobStepped sheet steps;
       made = record { answer = accepted (length (paper made)); cells = held (digits (text inks)); marks = held marks; output = held (paper made) };
     }
-Answers (keeping net-sheet table-sheet new inks changed) =
+AnswersAs (keeping net-sheet table-sheet new inks changed) =
     keepCall (paper net-sheet) (paper table-sheet) (lent (digits (text inks))) (lent (paper new))
     ≡ record { answer = rewritten (length (paper new)) changed; cells = held (digits (text inks)); output = held (paper new) }
-Answers (glyph sheet width height picture offsets new) =
+AnswersAs (glyph sheet width height picture offsets new) =
     glyphCall (paper sheet) width height (digits (text picture)) (signed offsets) (lent (digits (text new)))
     ≡ record { answer = accepted (length (digits (text new))); output = held (digits (text new)) }
-Answers (settlingProgram sheet output) = settleProgram (paper sheet) ≡ paper output
-Answers (makingProgram sheet output) = makeProgram (paper sheet) ≡ paper output
+AnswersAs (settlingProgram sheet output) = settleProgram (paper sheet) ≡ paper output
+AnswersAs (makingProgram sheet output) = makeProgram (paper sheet) ≡ paper output
 -- an accepted net sheet has so many gates; a net sheet is refused
-Answers (gates sheet count) = gateCount (readNet (paper sheet)) ≡ accepted count
-Answers (netBack sheet number place) = gateCount (readNet (paper sheet)) ≡ refused number place
+AnswersAs (gates sheet count) = gateCount (readNet (paper sheet)) ≡ accepted count
+AnswersAs (netBack sheet number place) = gateCount (readNet (paper sheet)) ≡ refused number place
 -- a number that the documents fix
-Answers (limit is due) = is ≡ due
+AnswersAs (limit is due) = is ≡ due
 
 -- ---- sheets
 
@@ -227,7 +228,10 @@ acceptedCases =
     ∷ limit mostTime 65_535
     ∷ []
 
-pub accepted-hold : AllHold Answers acceptedCases
+pub accepted-hold : AllHold AnswersAs acceptedCases
 unfolding computing writing toBits lent held gateCount bitsIn signedFrom signed jobStepped
 accepted-hold =
-    (refl, (refl, (refl, (refl, (refl, (refl, (refl, (refl, (refl, (refl, (refl, (refl, (refl, (refl, (refl, (refl, (refl, (refl, (refl, (refl, (refl, (refl, (refl, (refl, (refl, (refl, (refl, (refl, (refl, (refl, (refl, (refl, (refl, (refl, (refl, (refl, (refl, (refl, (refl, (refl, (refl, (refl, (refl, (refl, (refl, (refl, (refl, (refl, tt))))))))))))))))))))))))))))))))))))))))))))))))
+    refl also refl also refl also refl also refl also refl also refl also refl also refl also refl also refl also refl also refl also refl also refl
+    also refl also refl also refl also refl also refl also refl also refl also refl also refl also refl also refl also refl also refl also refl
+    also refl also refl also refl also refl also refl also refl also refl also refl also refl also refl also refl also refl also refl also refl
+    also refl also refl also refl also refl also refl also tt

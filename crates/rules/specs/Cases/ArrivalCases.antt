@@ -1,4 +1,4 @@
--- Document 02, K5, by small arrivalCases: when an output settles, in quarters of a microsecond and as doubles; which sheet is judged first. Sheets are written
+-- Document 02, K5, by small cases: when an output settles, in quarters of a microsecond and as doubles; which sheet is judged first. Sheets are written
 -- as in `Cases`, with `/` for the line feed.
 -- Assumes nothing.
 use Prim.Native.Nat.{ℕ}
@@ -10,7 +10,7 @@ use Rattle.rules.specs.Calls.Answers.{Answer, accepted, onward}
 use Rattle.rules.specs.Sheets.Reading.{readNet}
 use Rattle.rules.specs.Sheets.ArrivalSheet.{readArrivals}
 use Rattle.rules.specs.Nets.Arrivals.{Timing, settles, netRefused, arrivalsRefused, quarter, earliestSettling, latestSettling, arrivalsCall}
-use Rattle.rules.specs.Cases.Written.{AllHold, paper, writing}
+use Rattle.rules.specs.Cases.Written.{_also_, AllHold, paper, writing}
 use Rattle.rules.specs.Evaluation.{computing}
 
 -- ---- what a case says
@@ -47,7 +47,8 @@ ArrivalHolds (answers net-sheet arrival-sheet delay earliest latest) =
 ArrivalHolds (double quarters bits) = toBits binary64 (quarter quarters) ≡ bits
 -- the sheet that is refused, whatever the delay
 ArrivalHolds (netBack net-sheet arrival-sheet number place) = (delay : ℕ) → arrivalsCall (paper net-sheet) (paper arrival-sheet) delay ≡ netRefused number place
-ArrivalHolds (arrivalsBack net-sheet arrival-sheet number place) = (delay : ℕ) → arrivalsCall (paper net-sheet) (paper arrival-sheet) delay ≡ arrivalsRefused number place
+ArrivalHolds (arrivalsBack net-sheet arrival-sheet number place) =
+    (delay : ℕ) → arrivalsCall (paper net-sheet) (paper arrival-sheet) delay ≡ arrivalsRefused number place
 
 -- b and c pass two gates, a passes one
 abbrev pub three : String
@@ -55,7 +56,8 @@ three = "levels inputs/2 3/a b c/left right table/b c 0110/a 1 0110/"
 
 -- a and b pass all ten gates
 abbrev pub tenGates : String
-tenGates = "levels inputs/2 11/a b c d e f g h i j k/left right table/a b 0110/1 c 0110/2 d 0110/3 e 0110/4 f 0110/5 g 0110/6 h 0110/7 i 0110/8 j 0110/9 k 0110/"
+tenGates =
+    "levels inputs/2 11/a b c d e f g h i j k/left right table/a b 0110/1 c 0110/2 d 0110/3 e 0110/4 f 0110/5 g 0110/6 h 0110/7 i 0110/8 j 0110/9 k 0110/"
 
 -- every input at any time
 abbrev pub wide : String
@@ -95,4 +97,5 @@ arrivalCases =
 pub arrival-cases-hold : AllHold ArrivalHolds arrivalCases
 unfolding computing writing toBits quartersIn bitsIn
 arrival-cases-hold =
-    (refl, (refl, (refl, (refl, (refl, (refl, (refl, (refl, (refl, (refl, (refl, (λ _. refl, (λ _. refl, (λ _. refl, (λ _. refl, (λ _. refl, tt))))))))))))))))
+    refl also refl also refl also refl also refl also refl also refl also refl also refl also refl also refl also (λ _. refl) also (λ _. refl)
+    also (λ _. refl) also (λ _. refl) also (λ _. refl) also tt

@@ -18,7 +18,7 @@ use Rattle.rules.specs.Calls.Answers.{Answer, accepted, refused, onward,
 use Rattle.rules.specs.Sheets.Reading.{readNet, tableOfNet}
 use Rattle.rules.specs.Calls.Multiplicity.{multiplicityCall}
 use Rattle.rules.specs.Calls.Programs.{settleProgram, makeProgram}
-use Rattle.rules.specs.Cases.Written.{AllHold, paper, digits, byRule, abc, abcd, oneIf, writing}
+use Rattle.rules.specs.Cases.Written.{_also_, AllHold, paper, digits, byRule, abc, abcd, oneIf, writing}
 use Rattle.rules.specs.Evaluation.{computing}
 
 -- ---- the tables
@@ -124,7 +124,8 @@ starred =
 pub starred-hold : AllHold Holds starred
 unfolding computing writing zeroTable majority twoNotZero seven figureRows figure marksOfCase
 starred-hold =
-    (refl, (refl, (refl, (refl, ((refl, refl), (refl, (refl, (refl, ((refl, refl), ((refl, refl), ((refl, refl), ((refl, refl), (refl, (refl, (refl, tt)))))))))))))))
+    refl also refl also refl also refl also (refl, refl) also refl also refl also refl also (refl, refl) also (refl, refl) also (refl, refl)
+    also (refl, refl) also refl also refl also refl also tt
 
 -- Cases 9 and 10, which the document leaves to tests. "2 with 12, 4 with 6, 5 with 5, 7 with 4 and 8 with 4 come in. Refusals 3 and 9 and case 10 move
 -- with it; 2 with 13 is the new refused side." (document 02, K6)
@@ -164,7 +165,9 @@ unstarred =
 
 pub unstarred-hold : AllHold Holds unstarred
 unfolding computing writing gateCount
-unstarred-hold = (refl, (refl, (refl, (refl, (refl, (refl, (refl, (refl, (refl, (refl, (refl, (refl, (refl, (refl, (refl, (refl, tt))))))))))))))))
+unstarred-hold =
+    refl also refl also refl also refl also refl also refl also refl also refl also refl also refl also refl also refl also refl also refl also refl
+    also refl also tt
 
 -- Of all sizes with up to twelve levels and twenty inputs, those that a sheet may have: for each number of levels the numbers of inputs.
 pub sizes-are : map (λ m. those (sizeFits m) (range 0 21)) (range 0 13)

@@ -1,5 +1,5 @@
--- Document 02, K3, by small cases: how many trees, in which order, which nets are one wiring, and the two calls. Sheets are written as in `Cases`, with `/` for the
--- line feed.
+-- Document 02, K3, by small cases: how many trees, in which order, which nets are one wiring, and the two calls. Sheets are written as in `Cases`,
+-- with `/` for the line feed.
 -- Assumes nothing.
 use Prim.Native.Nat.{ℕ, _+_, _%_}
 use Prim.Native.String.{String}

@@ -1,5 +1,5 @@
--- Document 02, K12, by small leafCases: inputs that never matter. Which inputs are leaves, net sheets with fewer gate lines, and what is made, settled, kept and timed of them. Sheets are written as in
--- `Cases`, with `/` for the line feed.
+-- Document 02, K12, by small cases: inputs that never matter. Which inputs are leaves, net sheets with fewer gate lines, and what is made,
+-- settled, kept and timed of them. Sheets are written as in `Cases`, with `/` for the line feed.
 -- Assumes nothing.
 use Prim.Native.Nat.{ℕ, _+_, _/_, _%_}
 use mathlib.Core.Path.{_≡_, refl}
@@ -12,7 +12,7 @@ use Rattle.rules.specs.Calls.Keeping.{rewritten, turnedAway, keepCall}
 use Rattle.rules.specs.Nets.Arrivals.{settlingTime}
 use Rattle.rules.specs.Cases.Cases.{zeroTable, settles, makes, refuses, accepts, gateCount, Case, Holds}
 use Rattle.rules.specs.Cases.FamilyCases.{joining}
-use Rattle.rules.specs.Cases.Written.{AllHold, paper, abc, abcd, nines, writing}
+use Rattle.rules.specs.Cases.Written.{_also_, AllHold, paper, abc, abcd, nines, writing}
 use Rattle.rules.specs.Evaluation.{computing}
 
 -- ---- which inputs are leaves
@@ -59,7 +59,8 @@ leafCases =
 pub leaf-cases-hold : AllHold Holds leafCases
 unfolding computing writing gateCount
 leaf-cases-hold =
-    (refl, (refl, (refl, (refl, (refl, (refl, (refl, (refl, (refl, (refl, (refl, (refl, (refl, (refl, (refl, (refl, tt))))))))))))))))
+    refl also refl also refl also refl also refl also refl also refl also refl also refl also refl also refl also refl also refl also refl also refl
+    also refl also tt
 
 -- ---- a wiring kept
 
@@ -67,7 +68,8 @@ leaf-cases-hold =
 unfoldable pub mostOf : Table
 mostOf = abcd 2 (λ a b c d. (a + b + c) / 2)
 
--- "A kept wiring that leaves out an input that matters is refused with 23 at place 0, before its gates are judged.": c is left out, and a and b have three classes
+-- "A kept wiring that leaves out an input that matters is refused with 23 at place 0, before its gates are judged.": c is left out, and a and b have
+-- three classes
 pub matters-left-out : keepCall (paper "levels inputs/2 4/a b c d/left right table/a b 0001/1 d 0110/") (printedTable mostOf) (nines 16) (nines 80)
     ≡ record {
       answer = turnedAway neither 23 0;
@@ -78,8 +80,10 @@ unfolding computing writing mostOf
 matters-left-out = refl
 
 -- an input that does not matter may stay out, and may stay in
-pub idle-out : (keepCall (paper "levels inputs/2 3/a b c/left right table/c b 0001/") (printedTable (abc 2 (λ a b c. (b + c) % 2))) (nines 8) (nines 50) .answer ≡ rewritten 50 2)
-    × (keepCall (paper "levels inputs/2 3/a b c/left right table/c a 0001/1 b 0110/") (printedTable (abc 2 (λ a b c. (b + c) % 2))) (nines 8) (nines 59) .answer ≡ rewritten 59 2)
+pub idle-out : (keepCall (paper "levels inputs/2 3/a b c/left right table/c b 0001/") (printedTable (abc 2 (λ a b c. (b + c) % 2))) (nines 8)
+    (nines 50) .answer ≡ rewritten 50 2)
+    × (keepCall (paper "levels inputs/2 3/a b c/left right table/c a 0001/1 b 0110/") (printedTable (abc 2 (λ a b c. (b + c) % 2))) (nines 8)
+    (nines 59) .answer ≡ rewritten 59 2)
 unfolding computing writing
 idle-out = (refl, refl)
 

@@ -1,4 +1,4 @@
--- Document 02, K8, by small looseCases: what tidying makes of a loose sheet, and what turns one back. Sheets are written as in `Cases`, with `/` for the line
+-- Document 02, K8, by small cases: what tidying makes of a loose sheet, and what turns one back. Sheets are written as in `Cases`, with `/` for the line
 -- feed.
 -- Assumes nothing.
 use Prim.Native.Nat.{ℕ}
@@ -10,7 +10,7 @@ use Rattle.rules.specs.Text.{text}
 use Rattle.rules.specs.Calls.Answers.{accepted, refused, written}
 use Rattle.rules.specs.Sheets.LooseSheet.{readLoose}
 use Rattle.rules.specs.Calls.Tidying.{tidyCall}
-use Rattle.rules.specs.Cases.Written.{AllHold, paper, digits, nines, writing}
+use Rattle.rules.specs.Cases.Written.{_also_, AllHold, paper, digits, nines, writing}
 use Rattle.rules.specs.Evaluation.{computing}
 
 -- what a case may say
@@ -74,4 +74,5 @@ looseCases =
 pub loose-cases-hold : AllHold LooseHolds looseCases
 unfolding computing writing
 loose-cases-hold =
-    (refl, (refl, (refl, (refl, (refl, (refl, (refl, (refl, (refl, (refl, (refl, (refl, (refl, (refl, (refl, (refl, (refl, (refl, (refl, (refl, (refl, (refl, (refl, (refl, tt))))))))))))))))))))))))
+    refl also refl also refl also refl also refl also refl also refl also refl also refl also refl also refl also refl also refl also refl also refl
+    also refl also refl also refl also refl also refl also refl also refl also refl also refl also tt

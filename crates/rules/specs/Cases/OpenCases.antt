@@ -44,7 +44,8 @@ unfolding computing writing bothOn leftOpen
 passed-over = refl
 
 -- ".. and for the lowest index that differs": index 1 is open, and 3 differs
-pub lowest-not-open : checkCall bothOn (paper "levels inputs/2 2/a b ink/0 0 0/0 1 -/1 0 0/1 1 0/") (nines 4) ≡ record { answer = differ 3; cells = 0 ∷ 2 ∷ 0 ∷ 0 ∷ [] }
+pub lowest-not-open : checkCall bothOn (paper "levels inputs/2 2/a b ink/0 0 0/0 1 -/1 0 0/1 1 0/") (nines 4)
+    ≡ record { answer = differ 3; cells = 0 ∷ 2 ∷ 0 ∷ 0 ∷ [] }
 unfolding computing writing bothOn
 lowest-not-open = refl
 
@@ -89,7 +90,8 @@ unfolding computing writing bothOn leftOpen
 keeping-27 = refl
 
 -- .. "after 12"
-pub keeping-12-first : keepCall (paper "levels inputs/2 2/b a/left right table/a b 0001/") leftOpen [] [] ≡ record { answer = turnedAway neither 12 0; cells = []; output = [] }
+pub keeping-12-first : keepCall (paper "levels inputs/2 2/b a/left right table/a b 0001/") leftOpen [] []
+    ≡ record { answer = turnedAway neither 12 0; cells = []; output = [] }
 unfolding computing writing leftOpen
 keeping-12-first = refl
 

@@ -55,9 +55,13 @@ noTree =
     record { header = record { levels = 2; inputs = 3; names = text "a" ∷ text "b" ∷ text "c" ∷ [] }; inks = 0 ∷ 0 ∷ 0 ∷ 1 ∷ 0 ∷ 1 ∷ 1 ∷ 1 ∷ [] }
 
 -- one gate
-unfoldable pub oneGate : Net
-oneGate =
-    record { header = record { levels = 2; inputs = 2; names = text "a" ∷ text "b" ∷ [] }; gates = record { left = 0; right = 1; digits = 0 ∷ 0 ∷ 0 ∷ 1 ∷ [] } ∷ [] }
+unfoldable pub oneGateNet : Net
+oneGateNet =
+    record {
+      header = record { levels = 2; inputs = 2; names = text "a" ∷ text "b" ∷ [] };
+      gates =
+          record { left = 0; right = 1; digits = 0 ∷ 0 ∷ 0 ∷ 1 ∷ [] } ∷ [];
+    }
 
 -- all three buffers empty, and no tree
 pub cells-before-marks : makeCall (printedTable noTree) [] [] [] ≡ record { answer = refused 13 8; cells = []; marks = []; output = [] }
@@ -76,8 +80,8 @@ unfolding computing writing noTree
 tree-before-output = refl
 
 -- marks and output empty, with a tree
-pub marks-before-output : settleCall (printedNet oneGate) (nines 4) [] [] ≡ record { answer = refused 14 1; cells = nines 4; marks = []; output = [] }
-unfolding computing writing oneGate
+pub marks-before-output : settleCall (printedNet oneGateNet) (nines 4) [] [] ≡ record { answer = refused 14 1; cells = nines 4; marks = []; output = [] }
+unfolding computing writing oneGateNet
 marks-before-output = refl
 
 -- ---- the family of trees: 13, 14, 17, 15, and in the count 13, 14
@@ -106,13 +110,13 @@ unfolding computing
 net-before-table = refl
 
 -- the table sheet before 12 and 13
-pub table-before-headers : checkCall (printedNet oneGate) [] [] ≡ record { answer = turnedDown tableNamed 1 0; cells = [] }
-unfolding computing oneGate
+pub table-before-headers : checkCall (printedNet oneGateNet) [] [] ≡ record { answer = turnedDown tableNamed 1 0; cells = [] }
+unfolding computing oneGateNet
 table-before-headers = refl
 
 -- 12 before 13: two headers, and no cells
-pub headers-before-cells : checkCall (printedNet oneGate) (printedTable noTree) [] ≡ record { answer = turnedDown neither 12 0; cells = [] }
-unfolding computing oneGate noTree
+pub headers-before-cells : checkCall (printedNet oneGateNet) (printedTable noTree) [] ≡ record { answer = turnedDown neither 12 0; cells = [] }
+unfolding computing oneGateNet noTree
 headers-before-cells = refl
 
 -- ---- keeping a wiring: document 02, K10 and K13: both sheets, then 12, 27, 13, 23, 15 (27 by the cases of `OpenCases`)
@@ -130,22 +134,25 @@ pub keeping-net-first : keepCall [] [] [] [] ≡ record { answer = turnedAway ne
 unfolding computing
 keeping-net-first = refl
 
-pub keeping-table-next : keepCall (printedNet oneGate) [] [] [] ≡ record { answer = turnedAway tableNamed 1 0; cells = []; output = [] }
-unfolding computing oneGate
+pub keeping-table-next : keepCall (printedNet oneGateNet) [] [] [] ≡ record { answer = turnedAway tableNamed 1 0; cells = []; output = [] }
+unfolding computing oneGateNet
 keeping-table-next = refl
 
 -- 12 before 13: two headers, and no cells
-pub keeping-headers-before-cells : keepCall (printedNet oneGate) (printedTable noTree) [] [] ≡ record { answer = turnedAway neither 12 0; cells = []; output = [] }
-unfolding computing oneGate noTree
+pub keeping-headers-before-cells : keepCall (printedNet oneGateNet) (printedTable noTree) [] []
+    ≡ record { answer = turnedAway neither 12 0; cells = []; output = [] }
+unfolding computing oneGateNet noTree
 keeping-headers-before-cells = refl
 
 -- 13 before 23: no tree, so no filling, and no cells
-pub keeping-cells-before-filling : keepCall (printedNet twoGates) (printedTable noTree) [] [] ≡ record { answer = turnedAway neither 13 8; cells = []; output = [] }
+pub keeping-cells-before-filling : keepCall (printedNet twoGates) (printedTable noTree) [] []
+    ≡ record { answer = turnedAway neither 13 8; cells = []; output = [] }
 unfolding computing twoGates noTree
 keeping-cells-before-filling = refl
 
 -- 23 before 15: the output empty, and no filling
-pub keeping-filling-before-output : keepCall (printedNet twoGates) (printedTable noTree) (nines 8) [] ≡ record { answer = turnedAway neither 23 1; cells = noTree .inks; output = [] }
+pub keeping-filling-before-output : keepCall (printedNet twoGates) (printedTable noTree) (nines 8) []
+    ≡ record { answer = turnedAway neither 23 1; cells = noTree .inks; output = [] }
 unfolding computing writing twoGates noTree
 keeping-filling-before-output = refl
 
@@ -157,14 +164,16 @@ unfolding computing
 net-before-arrivals delay = refl
 
 -- a wrong name before the time behind it, which is malformed
-pub name-before-time : (delay : ℕ) → arrivalsCall (printedNet oneGate) (text "name from to" ++ newline ∷ (text "b 00 0" ++ newline ∷ [])) delay ≡ arrivalsRefused 18 13
-unfolding computing oneGate
+pub name-before-time : (delay : ℕ) → arrivalsCall (printedNet oneGateNet) (text "name from to" ++ newline ∷ (text "b 00 0" ++ newline ∷ [])) delay
+    ≡ arrivalsRefused 18 13
+unfolding computing oneGateNet
 name-before-time delay = refl
 
 -- ---- tidying: document 02, K8
 
 -- 20 is "judged just before its ink field": the ink is no digit, and both buffers are empty
-pub row-before-ink : tidyCall (text "levels inputs" ++ newline ∷ (text "2 2" ++ newline ∷ (text "a b ink" ++ newline ∷ (text "1 1 1" ++ newline ∷ (text "1 1 x" ++ newline ∷ []))))) [] []
+pub row-before-ink : tidyCall
+    (text "levels inputs" ++ newline ∷ (text "2 2" ++ newline ∷ (text "a b ink" ++ newline ∷ (text "1 1 1" ++ newline ∷ (text "1 1 x" ++ newline ∷ []))))) [] []
     ≡ record { answer = refused 20 32; cells = []; output = [] }
 unfolding computing
 row-before-ink = refl
@@ -187,11 +196,11 @@ unfolding computing
 net-before-picture width height = refl
 
 -- no picture, no offsets and no output
-pub picture-before-offsets : glyphCall (printedNet oneGate) 1 1 [] [] [] ≡ record { answer = refused 24 0; output = [] }
-unfolding computing oneGate
+pub picture-before-offsets : glyphCall (printedNet oneGateNet) 1 1 [] [] [] ≡ record { answer = refused 24 0; output = [] }
+unfolding computing oneGateNet
 picture-before-offsets = refl
 
 -- no offsets and no output
-pub offsets-before-output : glyphCall (printedNet oneGate) 1 1 (0 ∷ []) [] [] ≡ record { answer = refused 25 0; output = [] }
-unfolding computing oneGate
+pub offsets-before-output : glyphCall (printedNet oneGateNet) 1 1 (0 ∷ []) [] [] ≡ record { answer = refused 25 0; output = [] }
+unfolding computing oneGateNet
 offsets-before-output = refl

@@ -30,14 +30,14 @@ use Rattle.rules.specs.Sheets.LooseSheet.{readLoose}
 use Rattle.rules.specs.Calls.Tidying.{tidyCall}
 use Rattle.rules.specs.Calls.Jobs.{Job, emptyJob, openJob, stepJob, askJob, finishJob, step, afterMoves}
 use Rattle.rules.specs.Calls.Glyphs.{glyphCall}
-use Rattle.rules.specs.Cases.Written.{paper, digits, named, nines, writing}
+use Rattle.rules.specs.Cases.Written.{paper, digits, letterNames, nines, writing}
 use Rattle.rules.specs.Evaluation.{computing}
 use Rattle.rules.specs.Cases.GlyphCases.{signedFrom, signed}
 
 -- ---- what an example says
 
--- A net sheet that is turned back: each call that takes one gives that refusal and changes no buffer, whatever else is lent to it. (But the shallower of two sheets, which
--- gives no number: `Shallower`.)
+-- A net sheet that is turned back: each call that takes one gives that refusal and changes no buffer, whatever else is lent to it. (But the shallower
+-- of two sheets, which gives no number: `Shallower`.)
 pub record NetBack (sheet : List ℕ) (number place : ℕ) : Type 0 where
   pub settling : (cells marks output : List ℕ)
       → settleCall sheet cells marks output ≡ record { answer = refused number place; cells = cells; marks = marks; output = output }
@@ -200,7 +200,7 @@ Comes (tree sheet order cells marks output number place cells-then marks-then) =
       output = nines output;
     }
 -- an arrival sheet for the inputs a and b, turned back by the one call that takes one
-Comes (arrival sheet number place) = ArrivalsBack (named "ab") (paper sheet) number place
+Comes (arrival sheet number place) = ArrivalsBack (letterNames "ab") (paper sheet) number place
 -- a loose table sheet, turned back by the one call that takes one; tidying, with the cells as said and the output as it was
 Comes (loose sheet number place) = LooseBack (paper sheet) number place
 Comes (tidy sheet cells output number place cells-then) =
@@ -254,7 +254,8 @@ refusals =
     ∷ net "levels inputs/2 2/a b/left right table/a b 0001" 1 47
     ∷ net "levels inputs/2 2/a b/left right table/a b 0001/a b 0001/" 1 48
     ∷ table "levels inputs/2 2/a b ink/0 0 0/0 1 0/1 0 0/1 1 1/1 1 1/" 1 50
-    -- .. and in a loose sheet: a space that starts a line; after the spaces passed, a missing field and a missing line feed; too few rows; a row beyond the last
+    -- .. and in a loose sheet: a space that starts a line; after the spaces passed, a missing field and a missing line feed; too few rows; a row
+    -- beyond the last
     ∷ loose "levels inputs/2 2/ a b ink/" 1 18
     ∷ loose "levels inputs/2 2/a b ink/0 0   /" 1 32
     ∷ loose "levels inputs  2 2/" 1 15
@@ -307,7 +308,8 @@ refusals =
     ∷ check "levels inputs/2 2/a b/left right table/a b 0001/" "levels inputs/2 2/a b ink/0 0 0/0 1 0/1 0 0/1 1 1/" 3 13 4
     ∷ count "levels inputs/2 2/a b ink/0 0 0/0 1 0/1 0 0/1 1 1/" 3 0 13 4 "999" []
     ∷ tidy "levels inputs/2 2/a b ink/1 1 1/1 0 0/0 1 0/0 0 0/" 3 50 13 4 "999"
-    ∷ keep "levels inputs/2 3/a b c/left right table/a b 0001/1 c 0111/" "levels inputs/2 3/a b c ink/0 0 0 0/0 0 1 0/0 1 0 0/0 1 1 1/1 0 0 0/1 0 1 1/1 1 0 1/1 1 1 1/" 7 60 13 8 "9999999"
+    ∷ keep "levels inputs/2 3/a b c/left right table/a b 0001/1 c 0111/"
+    "levels inputs/2 3/a b c ink/0 0 0 0/0 0 1 0/0 1 0 0/0 1 1 1/1 0 0 0/1 0 1 1/1 1 0 1/1 1 1 1/" 7 60 13 8 "9999999"
     -- 14: the marks buffer
     ∷ settle "levels inputs/2 2/a b/left right table/a b 0001/" 4 0 48 14 1 "9999" []
     ∷ tree "levels inputs/2 2/a b ink/0 0 0/0 1 0/1 0 0/1 1 1/" 1 4 0 0 14 1 "9999" []
@@ -319,14 +321,16 @@ refusals =
     ∷ tidy "levels inputs/2 2/a b ink/1 1 1/1 0 0/0 1 0/0 0 0/" 5 49 15 50 "00019"
     ∷ keep "levels inputs/2 2/a b/left right table/a b 0001/" "levels inputs/2 2/a b ink/0 0 0/0 1 1/1 0 1/1 1 1/" 5 47 15 48 "01119"
     ∷ glyph "levels inputs/2 2/a b/left right table/a b 0110/" "01 11" "0 0 -1 0" 2 2 3 15 4
-    -- 16: no tree, whatever the output; the whole group has mark 1 too, but more members. (`Accepted` has a place where fewest members and lowest number differ.)
+    -- 16: no tree, whatever the output; the whole group has mark 1 too, but more members. (`Accepted` has a place where fewest members and lowest
+    -- number differ.)
     ∷ make "levels inputs/2 3/a b c ink/0 0 0 0/0 0 1 0/0 1 0 0/0 1 1 1/1 0 0 0/1 0 1 1/1 1 0 1/1 1 1 1/" 9 3 0 16 7 "000101119" (0x28 ∷ 0x42 ∷ 9 ∷ [])
     ∷ make
     "levels inputs/2 4/a b c d ink/0 0 0 0 0/0 0 0 1 1/0 0 1 0 0/0 0 1 1 1/0 1 0 0 0/0 1 0 1 1/0 1 1 0 1/0 1 1 1 0/1 0 0 0 0/1 0 0 1 1/1 0 1 0 1/1 0 1 1 0/1 1 0 0 1/1 1 0 1 0/1 1 1 0 1/1 1 1 1 0/"
     16 4 70 16 7 "0101011001101010" (0x28 ∷ 0x42 ∷ 0x02 ∷ 0x40 ∷ [])
     -- 17: three trees, 0 to 2; a number past them, whatever the output; no tree, and so none of number 0
     ∷ tree "levels inputs/2 3/a b c ink/0 0 0 0/0 0 1 1/0 1 0 1/0 1 1 0/1 0 0 1/1 0 1 0/1 1 0 0/1 1 1 1/" 3 8 3 60 17 3 "01101001" (0xa8 ∷ 0xaa ∷ 9 ∷ [])
-    ∷ tree "levels inputs/2 3/a b c ink/0 0 0 0/0 0 1 1/0 1 0 1/0 1 1 0/1 0 0 1/1 0 1 0/1 1 0 0/1 1 1 1/" 1000000007 9 2 0 17 1000000007 "011010019" (0xa8 ∷ 0xaa ∷ [])
+    ∷ tree "levels inputs/2 3/a b c ink/0 0 0 0/0 0 1 1/0 1 0 1/0 1 1 0/1 0 0 1/1 0 1 0/1 1 0 0/1 1 1 1/" 1000000007 9 2 0 17 1000000007 "011010019"
+    (0xa8 ∷ 0xaa ∷ [])
     ∷ tree "levels inputs/2 3/a b c ink/0 0 0 0/0 0 1 0/0 1 0 0/0 1 1 1/1 0 0 0/1 0 1 1/1 1 0 1/1 1 1 1/" 0 8 2 0 17 0 "00010111" (0x28 ∷ 0x42 ∷ [])
     -- 18: a name that is not the next input's
     ∷ arrival "name from to/b 0 0/" 18 13
@@ -346,10 +350,13 @@ refusals =
     ∷ finish "levels inputs/2 2/a b ink/0 0 0/0 1 0/1 0 0/1 1 1/" 0 4 4 48 22 3 "9999" (nines 4)
     ∷ finish "levels inputs/2 2/a b ink/0 0 0/0 1 0/1 0 0/1 1 1/" 2 0 0 0 22 1 "" []
     -- 23: three classes of a and b, whatever the output; of a, b and c, at the second gate
-    ∷ keep "levels inputs/2 3/a b c/left right table/a b 0001/1 c 0111/" "levels inputs/2 3/a b c ink/0 0 0 0/0 0 1 0/0 1 0 0/0 1 1 1/1 0 0 0/1 0 1 1/1 1 0 1/1 1 1 1/" 9 0 23 1 "000101119"
-    ∷ keep "levels inputs/2 4/a b c d/left right table/a b 0110/c 1 0001/2 d 0001/" "levels inputs/2 4/a b c d ink/0 0 0 0 0/0 0 0 1 0/0 0 1 0 0/0 0 1 1 1/0 1 0 0 0/0 1 0 1 1/0 1 1 0 1/0 1 1 1 1/1 0 0 0 0/1 0 0 1 1/1 0 1 0 1/1 0 1 1 1/1 1 0 0 0/1 1 0 1 0/1 1 1 0 0/1 1 1 1 1/" 16 80 23 2 "0001011101110001"
+    ∷ keep "levels inputs/2 3/a b c/left right table/a b 0001/1 c 0111/"
+    "levels inputs/2 3/a b c ink/0 0 0 0/0 0 1 0/0 1 0 0/0 1 1 1/1 0 0 0/1 0 1 1/1 1 0 1/1 1 1 1/" 9 0 23 1 "000101119"
+    ∷ keep "levels inputs/2 4/a b c d/left right table/a b 0110/c 1 0001/2 d 0001/"
+    "levels inputs/2 4/a b c d ink/0 0 0 0 0/0 0 0 1 0/0 0 1 0 0/0 0 1 1 1/0 1 0 0 0/0 1 0 1 1/0 1 1 0 1/0 1 1 1 1/1 0 0 0 0/1 0 0 1 1/1 0 1 0 1/1 0 1 1 1/1 1 0 0 0/1 1 0 1 0/1 1 1 0 0/1 1 1 1 1/" 16 80 23 2 "0001011101110001"
     -- .. and an input that matters left out, at place 0, before the gates
-    ∷ keep "levels inputs/2 3/a b c/left right table/a b 0001/" "levels inputs/2 3/a b c ink/0 0 0 0/0 0 1 0/0 1 0 0/0 1 1 1/1 0 0 0/1 0 1 1/1 1 0 1/1 1 1 1/" 9 50 23 0 "000101119"
+    ∷ keep "levels inputs/2 3/a b c/left right table/a b 0001/"
+    "levels inputs/2 3/a b c ink/0 0 0 0/0 0 1 0/0 1 0 0/0 1 1 1/1 0 0 0/1 0 1 1/1 1 0 1/1 1 1 1/" 9 50 23 0 "000101119"
     -- 24: a side of 0; of 65; the number of cells; a cell's level
     ∷ glyph "levels inputs/2 2/a b/left right table/a b 0110/" "" "0 0 -1 0" 0 2 4 24 0
     ∷ glyph "levels inputs/2 2/a b/left right table/a b 0110/" "00000000000000000000000000000000000000000000000000000000000000000" "0 0 -1 0" 65 1 65 24 0
@@ -386,5 +393,6 @@ refusals-hold =
     and refl and refl and refl and refl and refl and refl and refl and refl and refl and refl and refl and refl and refl and refl and refl
     and refl and refl and refl and arrivals-back refl and arrivals-back refl and arrivals-back refl and arrivals-back refl
     and arrivals-back refl and arrivals-back refl and loose-back refl and loose-back refl and refl and refl and refl and refl and refl
-    and refl and refl and refl and refl and refl and refl and refl and refl and refl and refl and net-back refl and net-back refl and net-back refl and cells-back refl and cells-back refl and refl and refl and refl and refl and refl
+    and refl and refl and refl and refl and refl and refl and refl and refl and refl and refl and net-back refl and net-back refl and net-back refl
+    and cells-back refl and cells-back refl and refl and refl and refl and refl and refl
     and none

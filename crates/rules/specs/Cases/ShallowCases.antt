@@ -1,4 +1,5 @@
--- Document 02, K2, by small shallowCases: a table whose settled net has a layer more than need be, and the shallower of two sheets. Sheets are written as in `Cases`, with `/` for the line feed.
+-- Document 02, K2, by small cases: a table whose settled net has a layer more than need be, and the shallower of two sheets. Sheets are
+-- written as in `Cases`, with `/` for the line feed.
 -- Assumes nothing.
 use Prim.Native.Nat.{ℕ, _+_, _%_}
 use Prim.Native.String.{String}
@@ -13,7 +14,7 @@ use Rattle.rules.specs.Calls.Answers.{Answer, accepted, onward}
 use Rattle.rules.specs.Calls.Programs.{makeProgram, zeros}
 use Rattle.rules.specs.Calls.ShallowSettling.{LayeredMade, makeShallowCall, settleShallowCall}
 use Rattle.rules.specs.Calls.Shallower.{Which, firstSheet, secondSheet, noSheet, layersIn, whichOf}
-use Rattle.rules.specs.Cases.Written.{AllHold, paper, abcd, writing}
+use Rattle.rules.specs.Cases.Written.{_also_, AllHold, paper, abcd, writing}
 use Rattle.rules.specs.Evaluation.{computing}
 
 -- ---- the tables
@@ -89,4 +90,4 @@ shallowCases =
 pub shallow-cases-hold : AllHold ShallowHolds shallowCases
 unfolding computing writing odd wroteIn on
 shallow-cases-hold =
-    (refl, (refl, (refl, (refl, (refl, (refl, (refl, (refl, (refl, (refl, (refl, (refl, tt))))))))))))
+    refl also refl also refl also refl also refl also refl also refl also refl also refl also refl also refl also refl also tt

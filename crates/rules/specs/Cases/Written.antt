@@ -1,4 +1,5 @@
--- How a case is written down: sheets with `/` for the line feed, as document 01 has them; tables by their rule; buffers before a call. Every file of cases uses these.
+-- How a case is written down: sheets with `/` for the line feed, as document 01 has them; tables by their rule; buffers before a call. Every file of
+-- cases uses these.
 -- Assumes nothing.
 use Prim.Native.Nat.{ℕ, _-_, _^_}
 use Prim.Native.String.{String}
@@ -15,6 +16,11 @@ abbrev pub AllHold : {C : Type 0} → (C → Type 0) → List C → Type 0
 AllHold Holds [] = Unit {0}
 AllHold Holds (c ∷ cases) = Holds c × AllHold Holds cases
 
+-- one case holds, and the rest do
+infixr 5 _also_
+pub _also_ : {A B : Type 0} → A → B → A × B
+one also others = (one, others)
+
 unfoldable pub lineEnds : List ℕ → List ℕ
 lineEnds [] = []
 lineEnds (b ∷ s) = cond (eqb b 47) newline b ∷ lineEnds s
@@ -29,8 +35,8 @@ digits [] = []
 digits (b ∷ s) = elim (isDigit 10 b) [ true ↦ (b - 48) ∷ digits s | false ↦ digits s ]
 
 -- one-letter names
-unfoldable pub named : String → List (List ℕ)
-named names = map (λ b. b ∷ []) (text names)
+unfoldable pub letterNames : String → List (List ℕ)
+letterNames names = map (λ b. b ∷ []) (text names)
 
 -- a table by its rule: the ink from the inputs' levels
 unfoldable pub byRule : ℕ → ℕ → List (List ℕ) → (List ℕ → ℕ) → Table
@@ -39,11 +45,11 @@ byRule m n names rule =
 
 -- .. of three inputs a, b, c
 unfoldable pub abc : ℕ → (ℕ → ℕ → ℕ → ℕ) → Table
-abc m rule = byRule m 3 (named "abc") (λ ls. rule (getD ls 0 0) (getD ls 1 0) (getD ls 2 0))
+abc m rule = byRule m 3 (letterNames "abc") (λ ls. rule (getD ls 0 0) (getD ls 1 0) (getD ls 2 0))
 
 -- .. of four, a to d
 unfoldable pub abcd : ℕ → (ℕ → ℕ → ℕ → ℕ → ℕ) → Table
-abcd m rule = byRule m 4 (named "abcd") (λ ls. rule (getD ls 0 0) (getD ls 1 0) (getD ls 2 0) (getD ls 3 0))
+abcd m rule = byRule m 4 (letterNames "abcd") (λ ls. rule (getD ls 0 0) (getD ls 1 0) (getD ls 2 0) (getD ls 3 0))
 
 -- 1 where it holds, 0 where not
 unfoldable pub oneIf : Bool → ℕ
@@ -55,5 +61,5 @@ nines k = replicate k 9
 
 -- all of this file computes
 unfoldable pub writing : Unit {0}
-unfolding lineEnds paper digits named byRule abc abcd oneIf nines
+unfolding lineEnds paper digits letterNames byRule abc abcd oneIf nines
 writing = tt

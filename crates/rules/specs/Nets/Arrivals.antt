@@ -19,7 +19,8 @@ use Rattle.rules.specs.Sheets.ArrivalSheet.{Arrival, earliestOf, latestO
 unfoldable pub startsAt : ℕ → ℕ → List (List ℕ)
 startsAt n i = map (λ j. elim (eqb j i) [ true ↦ 0 ∷ [] | false ↦ [] ]) (range 0 n)
 
--- The ways from input i to the output, which is the last gate, by the number of gates on each. In a net a used input has just one, and an unused input has none.
+-- The ways from input i to the output, which is the last gate, by the number of gates on each. In a net a used input has just one, and an unused
+-- input has none.
 unfoldable pub waysFrom : ℕ → List Gate → ℕ → List ℕ
 waysFrom n gates i = getD (withWays (startsAt n i) gates) (n + length gates - 1) []
 

@@ -26,8 +26,8 @@ classNumber m n f g =
 unfoldable pub carried : ℕ → ℕ → (ℕ → ℕ) → ℕ → ℕ → ℕ
 carried m n f g = elim (eqb (size n g) 1) [ true ↦ let i = firstInput n g in λ p. level m n p i | false ↦ classNumber m n f g ]
 
--- What the gate of group g gives at index p. "A gate below the last gives its group's classes". "The last gate gives the ink." Inputs outside g do not matter there
--- (document 02, K12: they are no leaves), so the ink is read with level 0 at them.
+-- What the gate of group g gives at index p. "A gate below the last gives its group's classes". "The last gate gives the ink." Inputs outside g do
+-- not matter there (document 02, K12: they are no leaves), so the ink is read with level 0 at them.
 unfoldable pub given : ℕ → ℕ → (ℕ → ℕ) → Bool → ℕ → ℕ → ℕ
 given m n f true g = λ p. f (part m n g p)
 given m n f false g = classNumber m n f g

@@ -3,7 +3,7 @@
 use Prim.Native.Nat.{ℕ, suc, _+_, _-_, max}
 use mathlib.Core.List.{List, [], _∷_, _++_, map}
 use lib.ListN.{length, getD}
-use Rattle.rules.specs.Lists.{range}
+use Rattle.rules.specs.Lists.{range, withEach}
 use Rattle.rules.specs.Sheets.Sheets.{Gate}
 
 -- A way from an input to a reference, by the number of gates on it: the ways to a gate are those to its left and those to its right, each with
@@ -12,9 +12,8 @@ unfoldable pub gateWays : List (List ℕ) → Gate → List ℕ
 gateWays ways g = map suc (getD ways (g .left) [] ++ getD ways (g .right) [])
 
 -- the ways to all references: those given, to the inputs; then the gates', in order
-unfoldable pub withWays : List (List ℕ) → List Gate → List (List ℕ)
-withWays ways [] = ways
-withWays ways (g ∷ gates) = withWays (ways ++ (gateWays ways g ∷ [])) gates
+abbrev pub withWays : List (List ℕ) → List Gate → List (List ℕ)
+withWays ways gates = withEach gateWays ways gates
 
 -- the ways "from an input to the output", which is the last gate: to an input there is one way, with no gate on it
 unfoldable pub waysOf : ℕ → List Gate → List ℕ
@@ -31,5 +30,5 @@ layers n gates = most (waysOf n gates)
 
 -- all of this file computes
 unfoldable pub computing : Unit {0}
-unfolding gateWays withWays waysOf most layers
+unfolding gateWays waysOf most layers
 computing = tt

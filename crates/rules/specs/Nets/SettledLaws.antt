@@ -58,9 +58,9 @@ module _ (n : ℕ) (marks : List ℕ) (g : ℕ) where
   abbrev pub mayBeA : ℕ → Bool
   mayBeA a = partsAt n marks g a && member (firstInput n g) a
 
-  pub tested : (a : ℕ) → MayBeA n marks g a → mayBeA a ≡ true
+  pub may-be-a : (a : ℕ) → MayBeA n marks g a → mayBeA a ≡ true
   unfolding partsAt
-  tested a is = rw (is .part, is .two, is .rest-two, is .holds-first)
+  may-be-a a is = rw (is .part, is .two, is .rest-two, is .holds-first)
 
   pub may-be : (a : ℕ) → 0 < a → a < g → mayBeA a ≡ true → MayBeA n marks g a
   unfolding partsAt
@@ -75,7 +75,7 @@ module _ (n : ℕ) (marks : List ℕ) (g : ℕ) where
   unfolding splitOf
   split-lowest a is =
       let (passes, least) : (mayBeA (splitOf n marks g) ≡ true) × (splitOf n marks g ≤ a) =
-      found-in-range _ 1 _ a (is .some) (omega (arith, is .less)) (tested a is) in
+      found-in-range _ 1 _ a (is .some) (omega (arith, is .less)) (may-be-a a is) in
       (may-be (splitOf n marks g) (omega arith) (omega (arith, is .less)) passes, least)
 
 -- ---- "in the order in which they first appear"
@@ -254,7 +254,9 @@ module _ (same : ℕ → ℕ → Bool) (own : (p : ℕ) → same p p ≡ true) (
 
   -- What `firsts` keeps of a list is one element of each class, in the order in which they first appear.
   firsts-by-appearance : (ps : List ℕ) → ByAppearance same ps (firsts same [] ps)
-  firsts-by-appearance ps = firsts-on [] [] ps (record { all-listed = λ p h. h; appears = λ i h. absurd (omega arith); first = λ i h. absurd (omega arith); order = λ i j h k. absurd (omega arith) })
+  firsts-by-appearance ps =
+      firsts-on [] [] ps
+      (record { all-listed = λ p h. h; appears = λ i h. absurd (omega arith); first = λ i h. absurd (omega arith); order = λ i j h k. absurd (omega arith) })
 
 -- two assignments are alike over a list of others exactly when the ink is the same with each
 alike-cons : (f : ℕ → ℕ) (y : ℕ) (ys : List ℕ) (p q : ℕ) → (alikeOver f (y ∷ ys) p q ≡ true) ↔ ((f (p + y) ≡ f (q + y)) × (alikeOver f ys p q ≡ true))
@@ -285,4 +287,5 @@ alike-chain f (y ∷ ys) p q r a b =
 pub classes-by-appearance : (m n : ℕ) (f : ℕ → ℕ) (g : ℕ) → ByAppearance (alike m n f g) (points m n g) (classes m n f g)
 unfolding classes alike
 classes-by-appearance m n f g =
-    firsts-by-appearance (alikeOver f (points m n (others n g))) (alike-own f (points m n (others n g))) (alike-chain f (points m n (others n g))) (points m n g)
+    firsts-by-appearance (alikeOver f (points m n (others n g))) (alike-own f (points m n (others n g))) (alike-chain f (points m n (others n g)))
+    (points m n g)

@@ -25,8 +25,9 @@ least (x ∷ y ∷ xs) = min x (least (y ∷ xs))
 unfoldable pub splitLayers : List ℕ → ℕ → ℕ → ℕ
 splitLayers fewest g a = 1 + max (getD fewest a 0) (getD fewest (g - a) 0)
 
--- The fewest layers of a group g of mark 2: the least over the ways to part it into two groups of mark 2. `fewest` has those of the groups below g. A single input has no two
--- parts, so it gets 0, which is right: it has no gate. A group of several members and mark 0 or 1 may get a number too; no wiring uses it.
+-- The fewest layers of a group g of mark 2: the least over the ways to part it into two groups of mark 2. `fewest` has those of the groups below g. A
+-- single input has no two parts, so it gets 0, which is right: it has no gate. A group of several members and mark 0 or 1 may get a number too; no
+-- wiring uses it.
 unfoldable pub fewestOf : ℕ → List ℕ → List ℕ → ℕ → ℕ
 fewestOf n marks fewest g = least (map (splitLayers fewest g) (those (partsAt n marks g) (range 1 (g - 1))))
 

@@ -1,4 +1,5 @@
--- Trees. "a tree is any net as above with the same m and n, whatever its wiring and its gates' digits. It is fanout-free, since nothing in it is referred to twice."
+-- Trees. "a tree is any net as above with the same m and n, whatever its wiring and its gates' digits. It is fanout-free, since nothing in it is
+-- referred to twice."
 -- (document 01, 'Marks'). Said of nets, whose gate lines are listed, and of trees as values, which have no line order.
 -- Assumes nothing.
 use Prim.Native.Nat.{ℕ, _+_, _*_, _^_, _<_}

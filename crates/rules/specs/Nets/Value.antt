@@ -1,9 +1,9 @@
 -- Document 01, section 'Value of a net'.
 -- Assumes nothing.
 use Prim.Native.Nat.{ℕ, _+_, _-_, _*_, _^_}
-use mathlib.Core.List.{List, [], _∷_, _++_, map}
+use mathlib.Core.List.{List, map}
 use lib.ListN.{length, getD}
-use Rattle.rules.specs.Lists.{range}
+use Rattle.rules.specs.Lists.{range, withEach}
 use Rattle.rules.specs.Sheets.Sheets.{Gate, levelsAt}
 
 -- "A gate's value is its digit at (left's value · m + right's value)." `values` has every reference's value so far.
@@ -11,9 +11,8 @@ unfoldable pub gateValue : ℕ → List ℕ → Gate → ℕ
 gateValue m values g = getD (g .digits) (getD values (g .left) 0 * m + getD values (g .right) 0) 0
 
 -- the values of all references: the inputs' levels, then the gates', in order
-unfoldable pub withGates : ℕ → List ℕ → List Gate → List ℕ
-withGates m values [] = values
-withGates m values (g ∷ gates) = withGates m (values ++ (gateValue m values g ∷ [])) gates
+abbrev pub withGates : ℕ → List ℕ → List Gate → List ℕ
+withGates m values gates = withEach (gateValue m) values gates
 
 -- "The net's value is its last gate's." Here with these levels at its inputs: "An assignment gives each input a level."
 unfoldable pub valueWith : ℕ → ℕ → List Gate → List ℕ → ℕ
@@ -29,5 +28,5 @@ tableOf m n gates = map (value m n gates) (range 0 (m ^ n))
 
 -- all of this file computes
 unfoldable pub computing : Unit {0}
-unfolding gateValue withGates valueWith value tableOf
+unfolding gateValue valueWith value tableOf
 computing = tt

@@ -126,7 +126,8 @@ unfoldable pub orEnd : {A : Type 0} → A → Reader A → Reader A
 orEnd a more [] at = read a [] at
 orEnd a more (b ∷ s) at = more (b ∷ s) at
 
--- "A net sheet may have from 1 to n − 1 gate lines, and the sheet's end closes it" (document 02, K12). They are "numbered from 1"; up to `count` more, one at least
+-- "A net sheet may have from 1 to n − 1 gate lines, and the sheet's end closes it" (document 02, K12). They are "numbered from 1"; up to `count`
+-- more, one at least
 unfoldable pub gateLines : ℕ → List (List ℕ) → ℕ → List Gate → Reader (List Gate)
 gateLines m names zero earlier = give earlier
 gateLines m names (suc count) earlier =
@@ -164,8 +165,8 @@ levelsAt m n p = map (level m n p) (range 0 n)
 unfoldable pub levelField : ℕ → Judge (Unit {0})
 levelField due w = judged (same w (digitByte due ∷ [])) tt 5
 
--- "the ink level". 6: ink field. Or, where an assignment cannot occur, "its maker writes `-` as their ink. Table sheets take it, and a cell holds m for it." (document 02, K13)
--- (No judge gets an empty field.)
+-- "the ink level". 6: ink field. Or, where an assignment cannot occur, "its maker writes `-` as their ink. Table sheets take it, and a cell holds m
+-- for it." (document 02, K13) (No judge gets an empty field.)
 unfoldable pub inkField : ℕ → Judge ℕ
 inkField m [] = bad 6
 inkField m (b ∷ []) = elim (eqb b openByte) [ true ↦ good m | false ↦ judged (isDigit m b) (b - 48) 6 ]

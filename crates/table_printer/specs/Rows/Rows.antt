@@ -24,8 +24,8 @@ unfolding printedRow rowText
 row-text m n p ink = refl
 
 -- that line from level i on
-unfoldable pub rowFrom : List ℕ → ℕ → ℕ → List ℕ
-rowFrom levels b i = spaced (map oneDigit (drop i levels)) ++ (b ∷ newline ∷ [])
+unfoldable pub rowFromInput : List ℕ → ℕ → ℕ → List ℕ
+rowFromInput levels b i = spaced (map oneDigit (drop i levels)) ++ (b ∷ newline ∷ [])
 
 digits-length : (levels : List ℕ) → length (spaced (map oneDigit levels)) ≡ 2 * length levels
 unfolding spaced
@@ -33,28 +33,28 @@ digits-length [] = refl
 digits-length (l ∷ levels) = omega (arith, digits-length levels)
 
 module _ (levels : List ℕ) (b : ℕ) where
-  pub row-all : rowText levels b ≡ rowFrom levels b 0
-  unfolding rowText rowFrom
+  pub row-all : rowText levels b ≡ rowFromInput levels b 0
+  unfolding rowText rowFromInput
   row-all = line-last (map oneDigit levels) (b ∷ [])
 
-  pub printed-row-next : (i : ℕ) → i < length levels → rowFrom levels b i ≡ digitByte (getD levels i 0) ∷ space ∷ rowFrom levels b (i + 1)
-  unfolding rowFrom spaced
+  pub printed-row-next : (i : ℕ) → i < length levels → rowFromInput levels b i ≡ digitByte (getD levels i 0) ∷ space ∷ rowFromInput levels b (i + 1)
+  unfolding rowFromInput spaced
   printed-row-next i h = rw (add-one i, drop-cons levels i 0 h)
 
-  pub row-end : (i : ℕ) → length levels ≤ i → rowFrom levels b i ≡ b ∷ newline ∷ []
-  unfolding rowFrom spaced
+  pub row-end : (i : ℕ) → length levels ≤ i → rowFromInput levels b i ≡ b ∷ newline ∷ []
+  unfolding rowFromInput spaced
   row-end i h = rw (drop-of-length-le levels {i = i} h)
 
   -- two bytes for each level and two for the ink
-  pub row-length : length (rowText levels b) ≡ 2 * length levels + 2
-  unfolding rowFrom
-  row-length = ap length row-all ∙ length-append (spaced (map oneDigit levels)) (b ∷ newline ∷ []) ∙ omega (arith, digits-length levels)
+  pub row-text-length : length (rowText levels b) ≡ 2 * length levels + 2
+  unfolding rowFromInput
+  row-text-length = ap length row-all ∙ length-append (spaced (map oneDigit levels)) (b ∷ newline ∷ []) ∙ omega (arith, digits-length levels)
 
 -- the rows from index k on, the first of them by its levels
-pub rows-next : (m n k : ℕ) (inks : List ℕ) → k < length inks
+pub printed-rows-next : (m n k : ℕ) (inks : List ℕ) → k < length inks
     → printedRows m n k (drop k inks) ≡ rowText (levelsAt m n k) (inkByte m (getD inks k 0)) ++ printedRows m n (k + 1) (drop (k + 1) inks)
 unfolding printedRows
-rows-next m n k inks h = rw (drop-cons inks k 0 h, row-text, add-one k)
+printed-rows-next m n k inks h = rw (drop-cons inks k 0 h, row-text, add-one k)
 
 pub rows-end : (m n k : ℕ) (inks : List ℕ) → length inks ≤ k → printedRows m n k (drop k inks) ≡ []
 unfolding printedRows

@@ -16,7 +16,7 @@ use Rattle.net_sheets.specs.Text.Lines.{spaced}
 use Rattle.net_sheets.specs.Text.Put.{NetLeft, parts-left, put-left}
 use Rattle.table_reader.specs.declared.fast.words.Words.{Words}
 use Rattle.table_reader.specs.Fast.Words.{duePair, dueWord}
-use Rattle.table_printer.specs.Rows.Rows.{oneDigit, rowText, rowFrom, row-all, row-length}
+use Rattle.table_printer.specs.Rows.Rows.{oneDigit, rowText, rowFromInput, row-all, row-text-length}
 
 -- ---- the text of some levels
 
@@ -48,7 +48,7 @@ spaced-text (l ∷ ls) = ap {B = List ℕ} (λ (r : List ℕ). digitByte l ∷ s
 
 -- a row is the text of its levels, and the ink
 row-is : (ls : List ℕ) (b : ℕ) → rowText ls b ≡ levelsText ls ++ (b ∷ newline ∷ [])
-unfolding rowFrom
+unfolding rowFromInput
 row-is ls b = row-all ls b ∙ ap (λ (t : List ℕ). t ++ (b ∷ newline ∷ [])) (spaced-text ls)
 
 -- ---- a word
@@ -209,7 +209,7 @@ module _ (m n : ℕ) (words : Words) (levels ls : List ℕ) (row : PrintedSpells
       omega (arith, simp length-append at (ap length (row .is)), length-take-le (n - 4) levels (omega (arith, row .front .long)), row .count)
 
   pub row-bytes : (ink : ℕ) → length (rowText ls ink) ≡ 2 * n + 2
-  row-bytes ink = row-length ls ink ∙ ap (λ (k : ℕ). 2 * k + 2) spelled-length
+  row-bytes ink = row-text-length ls ink ∙ ap (λ (k : ℕ). 2 * k + 2) spelled-length
 
   levels-put : (before after later : List ℕ) (at r : ℕ) → FrontPut words n before at after r
       → later ≡ sets after (at + 2 * (n - 4)) (wordBytes (words .last)) → later ≡ sets before at (levelsText ls)

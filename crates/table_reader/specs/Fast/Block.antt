@@ -55,11 +55,11 @@ module _ (m front q : ℕ) (levels cells : List ℕ) (starts : BlockStarts m fro
       rw after at (reached-next s start m (front + 1) now place (q * m + l) rows more (On ink next) (row .reads ∙ ap (λ ls. rowLine m ls (drop place s) place) due) ink next refl here)
 
 -- all m rows
-pub block-done : (s before after : List ℕ) (m front q at place l : ℕ) → take (q * m) after ≡ take (q * m) before → l ≡ m → place ≡ at + l * rowBytes front
+pub block-read : (s before after : List ℕ) (m front q at place l : ℕ) → take (q * m) after ≡ take (q * m) before → l ≡ m → place ≡ at + l * rowBytes front
     → at + m * rowBytes front ≤ length s
     → ((start : ℕ) → TableReached s start m (front + 1) before at (q * m) → TableReached s start m (front + 1) after place (q * m + l))
     → BlockTried s at m front q before after true
-block-done s before after m front q at place l kept all end within rows =
+block-read s before after m front q at place l kept all end within rows =
     record { kept = kept; within = λ _. within; reached = λ _ start read. rw (end, all) at (rows start read) }
 
 -- none of them counts

@@ -1,15 +1,14 @@
 -- A group of which every part has mark 2 has (2k − 3)!! trees, k being the number of its members: as many as k inputs have.
 -- Assumes nothing.
-use Prim.Native.Nat.{ℕ, zero, suc, _+_, _-_, _*_, _/_, _%_, _^_, _≤_, _<_}
+use Prim.Native.Nat.{ℕ, zero, suc, _+_, _-_, _*_, _^_, _≤_, _<_}
 use mathlib.Core.Path.{_≡_, refl, sym, ap, ap₂, _∙_}
 use mathlib.Core.Logic.{_≢_}
-use mathlib.Core.Bool.{Bool, true, false, cond, _&&_, false≢true, and-false, and-eq-true-iff}
+use mathlib.Core.Bool.{Bool, true, false, cond, _&&_, false≢true, and-false}
 use mathlib.Core.List.{List, [], _∷_, _++_, map}
 use native.Mathlib.Nat.{mul-zero}
 use native.Mathlib.Decide.{ℕ-discrete, decLe}
 use native.Mathlib.Omega.{arith}
 use lib.Bits.{and-self, and-le-r}
-use lib.Count.{ones, ones-step}
 use lib.Dec.{eqb}
 use lib.ListN.{getD}
 use borrow.Author.Tests.{eqb-true}
@@ -24,11 +23,12 @@ use Rattle.laws.specs.Lists.Tests.{all-mem}
 use Rattle.laws.specs.Lists.Ranges.{range-suc, mem-range}
 use Rattle.laws.specs.Lists.Totals.{total-parts, those-cons, those-append}
 use Rattle.laws.specs.Lists.Sums.{sumTo, sum-same}
-use Rattle.trees.specs.Groups.Members.{member-zero, inside-member, member-inside, inside-le, member-rest, size-zero, size-suc, size-le, size-pos}
-use Rattle.trees.specs.Trees.MarkTwo.{isA}
-use Rattle.trees.specs.Families.FamilyCounts.{counted, splitCounted, count-single, count-several}
+use Rattle.trees.specs.Groups.Members.{member-zero, inside-le, size-le, size-pos}
+use Rattle.trees.specs.Trees.MarkTwo.{isA, inside-trans, rest-inside}
+use Rattle.trees.specs.Families.FamilyCounts.{groupTrees, splitCounted, count-single, count-several}
 use Rattle.trees.specs.Families.FamilyBounds.{overSets, inFirst, over-firsts, treesOn, splitTrees}
 use Rattle.trees.specs.Families.Families.{split-sizes, split-a-below, split-b-below}
+use Rattle.radix.specs.Members.{ones-size}
 use Rattle.radix.specs.Parts.{PartOf, Next, inside-part, part-inside}
 
 -- ---- sums
@@ -80,7 +80,7 @@ trees-by-splits k low high =
 -- a part of a part
 part-part : (n a b g : ℕ) → a < 2 ^ n → inside n a b ≡ true → PartOf b g → PartOf a g
 part-part n a b g a< in-b p =
-    inside-part n a g a< (member-inside n a g (λ i i< e. inside-member i n b g (part-inside n b g p) i< (inside-member i n a b in-b i< e)))
+    inside-part n a g a< (inside-trans n a b g in-b (part-inside n b g p))
 
 -- every part of g that is not empty has mark 2
 abbrev pub AllTwo : List ℕ → ℕ → Type 0
@@ -95,11 +95,6 @@ part-two n marks a g a< p twos b some q =
 held-some : (i a : ℕ) → member i a ≡ true → 0 < a
 held-some i zero held = absurd (false≢true (sym (member-zero i) ∙ held))
 held-some i (suc a) held = omega arith
-
--- the rest of a group is a part of it
-rest-inside : (n a g : ℕ) → a < 2 ^ n → g < 2 ^ n → inside n a g ≡ true → inside n (g - a) g ≡ true
-rest-inside n a g a< g< in-g =
-    member-inside n (g - a) g (λ i i< e. and-eq-true-iff _ _ .0 (sym (member-rest i n a g a< g< in-g i<) ∙ e) .0)
 
 -- ---- the count
 
@@ -119,7 +114,8 @@ module _ (n : ℕ) (marks : List ℕ) where
           holds-first = held;
         }
 
-    module _ (parts : (a : ℕ) → MayBeA n marks g a → (counted n marks a ≡ treesOn (size n a)) × (counted n marks (g - a) ≡ treesOn (size n (g - a)))) where
+    module _ (parts : (a : ℕ) → MayBeA n marks g a → (groupTrees n marks a ≡ treesOn (size n a))
+        × (groupTrees n marks (g - a) ≡ treesOn (size n (g - a)))) where
       abbrev h : ℕ → ℕ
       h = splitTrees (size n g)
 
@@ -151,13 +147,14 @@ module _ (n : ℕ) (marks : List ℕ) where
               let none : size n g - size n a ≡ 0 = rw all (omega arith) in
               rw none (mul-zero _)
 
-      several-full : size n g ≢ 1 → size n g ≤ mostInputs → counted n marks g ≡ treesOn (size n g)
+      several-full : size n g ≢ 1 → size n g ≤ mostInputs → groupTrees n marks g ≡ treesOn (size n g)
       unfolding splitsOf
       several-full several small =
           let two : markIn marks g ≡ 2 = twos g some (and-self g) in
           let end : suc (g - 1) ≡ g = omega arith in
           let none : cond (isA n marks g 0) (splitCounted n marks g 0) 0 ≡ 0 = rw (member-zero, and-false) in
-          let summed : total (map (splitCounted n marks g) (those (isA n marks g) (range 1 (g - 1)))) ≡ sumTo (λ a. cond (isA n marks g a) (splitCounted n marks g a) 0) (suc (g - 1)) =
+          let summed : total (map (splitCounted n marks g) (those (isA n marks g) (range 1 (g - 1))))
+          ≡ sumTo (λ a. cond (isA n marks g a) (splitCounted n marks g a) 0) (suc (g - 1)) =
           omega (arith, total-is-sum (splitCounted n marks g) (isA n marks g) (g - 1)) in
           count-several n marks g g< two several
           ∙ summed
@@ -168,12 +165,12 @@ module _ (n : ℕ) (marks : List ℕ) where
           ∙ trees-by-splits (size n g) (omega (arith, size-pos n g g< some)) small
 
   -- by the number of members
-  full-below : (k g : ℕ) → g < 2 ^ n → 0 < g → size n g ≤ k → k ≤ mostInputs → AllTwo marks g → counted n marks g ≡ treesOn (size n g)
+  full-below : (k g : ℕ) → g < 2 ^ n → 0 < g → size n g ≤ k → k ≤ mostInputs → AllTwo marks g → groupTrees n marks g ≡ treesOn (size n g)
   full-below zero g g< some small k≤ twos = absurd (omega (arith, size-pos n g g< some))
   full-below (suc k) g g< some small k≤ twos = go (ℕ-discrete (size n g) 1) (full-below k)
     where
-      go : Dec (size n g ≡ 1) → ((a : ℕ) → a < 2 ^ n → 0 < a → size n a ≤ k → k ≤ mostInputs → AllTwo marks a → counted n marks a ≡ treesOn (size n a))
-          → counted n marks g ≡ treesOn (size n g)
+      go : Dec (size n g ≡ 1) → ((a : ℕ) → a < 2 ^ n → 0 < a → size n a ≤ k → k ≤ mostInputs → AllTwo marks a → groupTrees n marks a ≡ treesOn (size n a))
+          → groupTrees n marks g ≡ treesOn (size n g)
       go (yes one) below = count-single n marks g g< (twos g some (and-self g)) one ∙ rw one (unfold treesOn in refl)
       go (no several) below =
           several-full g g< some twos (λ a split.
@@ -185,17 +182,12 @@ module _ (n : ℕ) (marks : List ℕ) where
                 (part-two n marks (g - a) g b< (inside-part n (g - a) g b< (rest-inside n a g a< g< (split .part))) twos),
           )) several (omega arith)
 
--- ---- members by a count of bits
-
-pub tree-count-ones-size : (n g : ℕ) → g < 2 ^ n → ones g ≡ size n g
-unfolding ones
-tree-count-ones-size zero g g< = let none : g ≡ 0 = omega arith in rw none (sym (size-zero 0))
-tree-count-ones-size (suc n) g g< = ones-step g ∙ ap (λ (k : ℕ). g % 2 + k) (tree-count-ones-size n (g / 2) (omega arith)) ∙ sym (size-suc n g)
+-- ---- for every number of inputs
 
 -- A full group's count, for every number of inputs that has the group.
-pub full-count : (marks : List ℕ) (g : ℕ) → 0 < g → g < 2 ^ mostInputs → AllTwo marks g → (n : ℕ) → g < 2 ^ n → treesOn (size n g) ≡ counted n marks g
+pub full-count : (marks : List ℕ) (g : ℕ) → 0 < g → g < 2 ^ mostInputs → AllTwo marks g → (n : ℕ) → g < 2 ^ n → treesOn (size n g) ≡ groupTrees n marks g
 full-count marks g some small twos n g< =
-    sym (full-below n marks mostInputs g g< some (omega (arith, tree-count-ones-size n g g<, tree-count-ones-size mostInputs g small, size-le mostInputs g)) (omega arith) twos)
+    sym (full-below n marks mostInputs g g< some (omega (arith, ones-size n g g<, ones-size mostInputs g small, size-le mostInputs g)) (omega arith) twos)
 
 -- ---- as the code goes through the parts
 

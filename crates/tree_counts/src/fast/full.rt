@@ -1,8 +1,7 @@
 // The counts of full groups: where every part of a group has mark 2, its number of members alone says how many trees it has.
 ghost use mathlib.Core.Path.{_≡_};
-ghost use Prim.Native.Nat.{ℕ, _^_, _≤_, _<_};
+ghost use Prim.Native.Nat.{_≤_, _<_};
 ghost use Rattle.rules.specs.Limits.{mostInputs};
-ghost use Rattle.rules.specs.Groups.Groups.{size};
 ghost use Rattle.trees.specs.Families.FamilyBounds.{treesOn};
 ghost use Rattle.tree_counts.specs.Counts.{Countable, CountsKnown, CountKnown};
 use crate::counts;
@@ -34,13 +33,6 @@ fn trees_on(k: usize) -> u64
     TREES[k]
 }
 
-// Returns how many members group g has.
-fn members_of(g: usize) -> usize
-    ensures { λ r. ⌜ ((n : ℕ) → g < 2 ^ n → r ≡ size n g) ⌝ }
-{
-    usize::count_ones(g) as usize
-}
-
 // Records the counts of the parts of group g, by rising number, up to the first that does not have mark 2: every part of one that is passed was passed
 // before it.
 fn keep_full(marks: &[u8], counts: &mut [u64], g: usize)
@@ -53,7 +45,7 @@ fn keep_full(marks: &[u8], counts: &mut [u64], g: usize)
         if own::mark_at(marks, part) != 2 {
             return;
         }
-        let count = trees_on(members_of(part));
+        let count = trees_on(members::members_of(part));
         counts[part] = count;
     }
 }

@@ -1,11 +1,12 @@
--- When the output of a net settles: every used input has just one way to it and no other input has any, and the settling time is, gate by gate, that of the later of the two that a gate joins
--- and one delay more.
+-- When the output of a net settles: every used input has just one way to it and no other input has any, and the settling time is, gate by gate, that
+-- of the later of the two that a gate joins and one delay more.
 -- Assumes nothing.
 use Prim.Native.Nat.{ℕ, suc, _+_, _-_, _*_, _≤_, _<_, max}
 use mathlib.Core.Path.{_≡_, refl, sym, ap, ap₂, _∙_}
 use mathlib.Core.Bool.{Bool, true, false}
 use mathlib.Core.Logic.{⊎-elim}
-use mathlib.Core.List.{List, [], _∷_, _++_, map, map-map, List·Memᴰ, List·Memᴰ·head, List·Memᴰ·append-cases, List·Memᴰ·not-nil, Memᴰ·append-left, Memᴰ·append-right, Memᴰ·map, Memᴰ·of-map, List·Memᴰ·eq-of-singleton}
+use mathlib.Core.List.{List, [], _∷_, _++_, map, map-map, List·Memᴰ, List·Memᴰ·head, List·Memᴰ·append-cases, List·Memᴰ·not-nil, Memᴰ·append-left}
+use mathlib.Core.List.{Memᴰ·append-right, Memᴰ·map, Memᴰ·of-map, List·Memᴰ·eq-of-singleton}
 use native.Mathlib.Nat.{add-comm, mul-suc, max-zero, le-antisymm}
 use native.Mathlib.Omega.{arith, max-cases}
 use lib.ListN.{length, getD, length-append, length-map}
@@ -18,17 +19,17 @@ use Rattle.rules.specs.Sheets.SheetRules.{RefersBack, IsNet}
 use Rattle.rules.specs.Nets.Wirings.{Wiring, input, gate, groupOf}
 use Rattle.rules.specs.Nets.Layers.{most, layers}
 use Rattle.rules.specs.Nets.Arrivals.{startsAt, waysFrom, gatesOnWay, usedInputs, settlingTime}
-use Rattle.laws.specs.Lists.Concat.{map-append}
 use Rattle.laws.specs.Lists.Extremes.{most-bounds, most-listed}
-use Rattle.laws.specs.Lists.Places.{length-snoc, map-at, mem-place}
+use Rattle.laws.specs.Lists.Places.{map-at, mem-place}
 use Rattle.laws.specs.Lists.Ranges.{by-places}
 use Rattle.laws.specs.Lists.Same.{eqb-comm}
 use Rattle.laws.specs.Lists.Tests.{oneWhere, one-if-or, not-false-true}
 use Rattle.laws.specs.Nets.Times.{gateTime, withTimes}
 use Rattle.rules.specs.Nets.Trees.{Tree, leaf, wiringIn, EachOnce}
+use Rattle.laws.specs.Lists.WithEach.{with-each-length, gates-step}
 use Rattle.trees.specs.Groups.Members.{member-single, member-join}
 use Rattle.trees.specs.Trees.Wirings.{group-below}
-use Rattle.trees.specs.Trees.Forest.{joined, withTrees, inputTrees, trees-length, inputs-length}
+use Rattle.trees.specs.Trees.Forest.{joinedTree, withTrees, inputTrees, inputs-length}
 use Rattle.trees.specs.Trees.NetTree.{net-tree, netWiring, net-uses}
 use Rattle.trees.specs.Trees.UsedOnce.{listed-used, used-listed, used-inputs-length}
 use Rattle.trees.specs.Shallow.Depths.{depth}
@@ -127,17 +128,13 @@ module _ (delay : ℕ) (arrival : ℕ → ℕ) where
   timeTo t = timeIn delay arrival (wiringIn t)
 
   gate-time : (forest : List Tree) (g : Gate) → g .left < length forest → g .right < length forest
-      → gateTime delay (map timeTo forest) g ≡ timeTo (joined forest g)
+      → gateTime delay (map timeTo forest) g ≡ timeTo (joinedTree forest g)
   unfolding gateTime timeIn
   gate-time forest g l< r< = rw (map-at timeTo forest (g .left) (leaf 0) 0 l<, map-at timeTo forest (g .right) (leaf 0) 0 r<)
 
   gates-times : (gates : List Gate) (forest : List Tree) → RefersBack (length forest) gates
       → withTimes delay (map timeTo forest) gates ≡ map timeTo (withTrees forest gates)
-  unfolding withTimes withTrees
-  gates-times [] forest back = refl
-  gates-times (g ∷ gates) forest back =
-      rw (gate-time forest g (back .0) (back .1), ← (map-append timeTo forest (joined forest g ∷ [])))
-      (gates-times gates (forest ++ (joined forest g ∷ [])) (rw length-snoc (back .2)))
+  gates-times = gates-step timeTo joinedTree (gateTime delay) gate-time
 
   inputs-times : (n : ℕ) → map timeTo (inputTrees n) ≡ map arrival (range 0 n)
   unfolding inputTrees timeIn
@@ -148,7 +145,7 @@ module _ (m n : ℕ) (gates : List Gate) (net : IsNet m n gates) where
   tree = netWiring m n gates net
 
   last< : n + length gates - 1 < length (withTrees (inputTrees n) gates)
-  last< = omega (arith, trees-length (inputTrees n) gates, inputs-length n)
+  last< = omega (arith, with-each-length joinedTree (inputTrees n) gates, inputs-length n)
 
   -- the ways from an input to the output are those in the net's tree
   ways-from : (i : ℕ) → waysFrom n gates i ≡ waysInFrom i tree
@@ -205,7 +202,8 @@ module _ (m n : ℕ) (gates : List Gate) (net : IsNet m n gates) where
       where
         most-within : most (map through (usedInputs n gates)) ≤ timeIn delay arrival tree
         most-within =
-            let (i, listed, is) = Memᴰ·of-map through (usedInputs n gates) (most-listed (map through (usedInputs n gates)) (rw (length-map, used-inputs-length m n gates net) (omega arith))) in
+            let (i, listed, is) = Memᴰ·of-map through (usedInputs n gates)
+            (most-listed (map through (usedInputs n gates)) (rw (length-map, used-inputs-length m n gates net) (omega arith))) in
             let (i<, used) = listed-used n gates i listed in
             rw (← is) (arrival-way-within delay arrival i (gatesOnWay n gates i) tree (way-in-tree i i< used))
 
@@ -226,7 +224,8 @@ module _ (m n : ℕ) (gates : List Gate) (net : IsNet m n gates) where
         ∙ sym (map-at (timeTo delay arrival) (withTrees (inputTrees n) gates) (n + length gates - 1) (leaf 0) 0 last<)
         ∙ ap (λ (times : List ℕ). getD times (n + length gates - 1) 0)
         (sym (gates-times delay arrival gates (inputTrees n) (rw inputs-length (net .rules .back)))
-        ∙ ap (λ (times : List ℕ). withTimes delay times gates) (inputs-times delay arrival n ∙ ap (λ (k : ℕ). map arrival (range 0 k)) (sym count) ∙ by-places 0 arrivals))
+        ∙ ap (λ (times : List ℕ). withTimes delay times gates)
+        (inputs-times delay arrival n ∙ ap (λ (k : ℕ). map arrival (range 0 k)) (sym count) ∙ by-places 0 arrivals))
 
   -- with every arrival at 0 and a delay of 1 it is the layers
   pub settling-layers : (arrivals : List ℕ) → ((i : ℕ) → getD arrivals i 0 ≡ 0) → settlingTime n gates 1 arrivals ≡ layers n gates

@@ -24,7 +24,7 @@ use Rattle.trees.specs.Filling.Carried.{first-single}
 use Rattle.trees.specs.Trees.Wirings.{group-below, group-some}
 use Rattle.trees.specs.Trees.MarkTwo.{isA}
 use Rattle.trees.specs.Families.NormalWirings.{Normal, left-inside}
-use Rattle.trees.specs.Families.FamilyCounts.{split-is, is-split, counted, splitCounted, count-single, count-several, counted-two, counted-some}
+use Rattle.trees.specs.Families.FamilyCounts.{split-is, is-split, groupTrees, splitCounted, count-single, count-several, counted-two, counted-some}
 
 -- a factor of a product that is not 0
 factor-some : (x p q : ℕ) → x < p * q → 0 < q
@@ -53,7 +53,7 @@ module _ (n : ℕ) (marks : List ℕ) where
   numberOf (input i) = 0
   numberOf (gate a b) =
       before (splitCounted n marks (groupOf a + groupOf b)) (splitsOf n marks (groupOf a + groupOf b)) (groupOf a)
-      + (numberOf a * counted n marks (groupOf b) + numberOf b)
+      + (numberOf a * groupTrees n marks (groupOf b) + numberOf b)
 
   -- ---- the wiring of a number, by its last gate
 
@@ -64,7 +64,7 @@ module _ (n : ℕ) (marks : List ℕ) where
   -- where the split and the number in it are known
   abbrev wiredAt : ℕ → ℕ → Numbered → Wiring
   wiredAt fuel g at =
-      gate (wired fuel (at .part) (at .number / counted n marks (g - at .part))) (wired fuel (g - at .part) (at .number % counted n marks (g - at .part)))
+      gate (wired fuel (at .part) (at .number / groupTrees n marks (g - at .part))) (wired fuel (g - at .part) (at .number % groupTrees n marks (g - at .part)))
 
   pub wired-single : (fuel g r : ℕ) → size n g ≡ 1 → wired fuel g r ≡ input (firstInput n g)
   unfolding familyWiring
@@ -111,7 +111,7 @@ module _ (n : ℕ) (marks : List ℕ) where
         }
 
     join-number : (l r : Wiring) → groupOf l ≡ a → groupOf r ≡ g - a
-        → numberOf (gate l r) ≡ before (splitCounted n marks g) (splitsOf n marks g) a + (numberOf l * counted n marks (g - a) + numberOf r)
+        → numberOf (gate l r) ≡ before (splitCounted n marks g) (splitsOf n marks g) a + (numberOf l * groupTrees n marks (g - a) + numberOf r)
     unfolding numberOf
     join-number l r left right =
         let whole : a + (g - a) ≡ g = omega (arith, split .less) in
@@ -122,20 +122,20 @@ module _ (n : ℕ) (marks : List ℕ) where
   -- a split and a number in it, of the number r of g: each part has a number of its own
   pub record SplitAt (g r : ℕ) (at : Numbered) : Type 0 where
     pub split : MayBeA n marks g (at .part)
-    pub rest-some : 0 < counted n marks (g - at .part)
-    pub left : at .number / counted n marks (g - at .part) < counted n marks (at .part)
-    pub right : at .number % counted n marks (g - at .part) < counted n marks (g - at .part)
+    pub rest-some : 0 < groupTrees n marks (g - at .part)
+    pub left : at .number / groupTrees n marks (g - at .part) < groupTrees n marks (at .part)
+    pub right : at .number % groupTrees n marks (g - at .part) < groupTrees n marks (g - at .part)
     pub again : before (splitCounted n marks g) (splitsOf n marks g) (at .part) + at .number ≡ r
 
   -- where a number of a group of several members falls
-  pub number-split : (g r : ℕ) → g < 2 ^ n → size n g ≢ 1 → r < counted n marks g → SplitAt g r (numberedAt (splitCounted n marks g) (splitsOf n marks g) r)
+  pub number-split : (g r : ℕ) → g < 2 ^ n → size n g ≢ 1 → r < groupTrees n marks g → SplitAt g r (numberedAt (splitCounted n marks g) (splitsOf n marks g) r)
   number-split g r g< several h =
       let two = counted-two n marks g g< (omega arith) in
       let placed : Placed (splitCounted n marks g) (splitsOf n marks g) r =
       numbered-placed (splitCounted n marks g) (splitsOf n marks g) (splits-distinct g) r (rw (count-several n marks g g< two several) at h) in
       let at : Numbered = numberedAt (splitCounted n marks g) (splitsOf n marks g) r in
-      let small : at .number < counted n marks (at .part) * counted n marks (g - at .part) = unfold splitCount in placed .below in
-      let some : 0 < counted n marks (g - at .part) = factor-some (at .number) (counted n marks (at .part)) (counted n marks (g - at .part)) small in
+      let small : at .number < groupTrees n marks (at .part) * groupTrees n marks (g - at .part) = unfold splitCount in placed .below in
+      let some : 0 < groupTrees n marks (g - at .part) = factor-some (at .number) (groupTrees n marks (at .part)) (groupTrees n marks (g - at .part)) small in
       record {
         split = split-is n marks g (at .part) (placed .listed);
         rest-some = some;
@@ -150,7 +150,7 @@ module _ (n : ℕ) (marks : List ℕ) where
     pub number : numberOf w ≡ r
 
   -- a single input
-  single-numbered : (g r : ℕ) → g < 2 ^ n → size n g ≡ 1 → r < counted n marks g → HasNumber g r (input (firstInput n g))
+  single-numbered : (g r : ℕ) → g < 2 ^ n → size n g ≡ 1 → r < groupTrees n marks g → HasNumber g r (input (firstInput n g))
   unfolding numberOf groupOf
   single-numbered g r g< one h =
       let two = counted-two n marks g g< (omega arith) in
@@ -161,12 +161,12 @@ module _ (n : ℕ) (marks : List ℕ) where
       }
 
   -- Each number below the count gives a wiring that is counted, and is that wiring's number.
-  pub wiring-numbered : (fuel g r : ℕ) → g < 2 ^ n → size n g ≤ fuel → r < counted n marks g → HasNumber g r (wired fuel g r)
+  pub wiring-numbered : (fuel g r : ℕ) → g < 2 ^ n → size n g ≤ fuel → r < groupTrees n marks g → HasNumber g r (wired fuel g r)
   wiring-numbered zero g r g< enough h = absurd (omega (arith, size-pos n g g< (counted-some n marks g g< (omega arith))))
   wiring-numbered (suc fuel) g r g< enough h =
       go (ℕ-discrete (size n g) 1) (λ g r. wiring-numbered fuel g r)
     where
-      go : Dec (size n g ≡ 1) → ((g r : ℕ) → g < 2 ^ n → size n g ≤ fuel → r < counted n marks g → HasNumber g r (wired fuel g r))
+      go : Dec (size n g ≡ 1) → ((g r : ℕ) → g < 2 ^ n → size n g ≤ fuel → r < groupTrees n marks g → HasNumber g r (wired fuel g r))
           → HasNumber g r (wired (suc fuel) g r)
       go (yes one) below = rw (wired-single (suc fuel) g r one) (single-numbered g r g< one h)
       go (no several) below =
@@ -176,8 +176,8 @@ module _ (n : ℕ) (marks : List ℕ) where
           let a : ℕ = at .part in
           let split = placed .split in
           let sizes = split-sizes g a g< split in
-          let left = below a (at .number / counted n marks (g - a)) (split-a-below g a g< split) (omega arith) (placed .left) in
-          let right = below (g - a) (at .number % counted n marks (g - a)) (split-b-below g a g< split) (omega arith) (placed .right) in
+          let left = below a (at .number / groupTrees n marks (g - a)) (split-a-below g a g< split) (omega arith) (placed .left) in
+          let right = below (g - a) (at .number % groupTrees n marks (g - a)) (split-b-below g a g< split) (omega arith) (placed .right) in
           rw (wired-several fuel g r several) (record {
             family = join-family g a g< split two _ _ (left .family) (right .family);
             number =
@@ -203,7 +203,7 @@ module _ (n : ℕ) (marks : List ℕ) where
 
   -- a gate whose two sides are counted
   module _ (a b : Wiring) (once : EachOnce n (gate a b)) (twos : AllTwos (gate a b)) (norm : Normal n (gate a b))
-      (a-small : numberOf a < counted n marks (groupOf a)) (b-small : numberOf b < counted n marks (groupOf b)) where
+      (a-small : numberOf a < groupTrees n marks (groupOf a)) (b-small : numberOf b < groupTrees n marks (groupOf b)) where
     abbrev own : ℕ
     own = groupOf a + groupOf b
 
@@ -218,7 +218,7 @@ module _ (n : ℕ) (marks : List ℕ) where
 
     -- its number in the split
     abbrev number : ℕ
-    number = numberOf a * counted n marks (groupOf b) + numberOf b
+    number = numberOf a * groupTrees n marks (groupOf b) + numberOf b
 
     sizes : (size n own ≡ size n (groupOf a) + size n (groupOf b)) × (0 < size n (groupOf a)) × (0 < size n (groupOf b))
     sizes = rw rest at (split-sizes own (groupOf a) own< split)
@@ -230,7 +230,7 @@ module _ (n : ℕ) (marks : List ℕ) where
     unfolding splitCount
     small = rw rest (digits-lt a-small b-small)
 
-    gate-below : numberOf (gate a b) < counted n marks own
+    gate-below : numberOf (gate a b) < groupTrees n marks own
     unfolding numberOf groupOf
     gate-below =
         rw (count-several n marks own own< (twos .0) several)
@@ -251,7 +251,7 @@ module _ (n : ℕ) (marks : List ℕ) where
 
   -- Each wiring that is counted has a number below the count, and is the wiring of that number.
   pub number-wired : (w : Wiring) → EachOnce n w → AllTwos w → Normal n w
-      → (numberOf w < counted n marks (groupOf w)) × ((fuel : ℕ) → size n (groupOf w) ≤ fuel → wired fuel (groupOf w) (numberOf w) ≡ w)
+      → (numberOf w < groupTrees n marks (groupOf w)) × ((fuel : ℕ) → size n (groupOf w) ≤ fuel → wired fuel (groupOf w) (numberOf w) ≡ w)
   unfolding groupOf
   number-wired (input i) once twos norm =
       let i< : 2 ^ i < 2 ^ n = group-below n (input i) once in

@@ -1,5 +1,5 @@
--- No count is over 64 bits: a group of k members has at most (2k − 3)!! trees, for k up to the most inputs that a sheet may have. The splits of a group, by the size of A, are as many
--- as there are ways to choose the other members of A.
+-- No count is over 64 bits: a group of k members has at most (2k − 3)!! trees, for k up to the most inputs that a sheet may have. The splits of a
+-- group, by the size of A, are as many as there are ways to choose the other members of A.
 -- Assumes nothing.
 use Prim.Native.Nat.{ℕ, zero, suc, _+_, _-_, _*_, _/_, _%_, _^_, _≤_, _<_}
 use mathlib.Core.Path.{_≡_, refl, sym, ap, ap₂, _∙_}
@@ -24,7 +24,7 @@ use Rattle.laws.specs.Lists.Ranges.{range-shift, mem-range}
 use Rattle.laws.specs.Lists.Sums.{sumTo, sum-same, sum-both, sum-pairs, sum-more, total-sum}
 use Rattle.trees.specs.Groups.Members.{low-bit, low-member, member-suc, size-suc, size-le, size-pos, first-odd, first-even}
 use Rattle.trees.specs.Trees.MarkTwo.{isA}
-use Rattle.trees.specs.Families.FamilyCounts.{split-is, counted, splitCounted, counts-length, count-single, count-several, counted-two, counted-some}
+use Rattle.trees.specs.Families.FamilyCounts.{split-is, groupTrees, splitCounted, counts-length, count-single, count-several, counted-two, counted-some}
 use Rattle.trees.specs.Families.Families.{split-a-below, split-b-below, split-sizes}
 
 -- ---- the parts of a group by their size
@@ -176,7 +176,7 @@ most-trees = refl
 module _ (n : ℕ) (marks : List ℕ) where
   -- what a split counts for, where its two groups keep the bound
   split-bound : (g a : ℕ) → g < 2 ^ n → MayBeA n marks g a
-      → counted n marks a ≤ treesOn (size n a) → counted n marks (g - a) ≤ treesOn (size n (g - a))
+      → groupTrees n marks a ≤ treesOn (size n a) → groupTrees n marks (g - a) ≤ treesOn (size n (g - a))
       → splitCounted n marks g a ≤ inFirst n g (splitTrees (size n g)) a
   unfolding splitCount inFirst splitTrees
   split-bound g a g< split of-a of-b =
@@ -184,9 +184,9 @@ module _ (n : ℕ) (marks : List ℕ) where
       rw (split .part, split .holds-first, rest) (mul-le-mul of-a of-b)
 
   -- what its splits count for together
-  several-bound : (g : ℕ) → g < 2 ^ n → 0 < counted n marks g → size n g ≢ 1 → size n g ≤ mostInputs
-      → ((a : ℕ) → MayBeA n marks g a → (counted n marks a ≤ treesOn (size n a)) × (counted n marks (g - a) ≤ treesOn (size n (g - a))))
-      → counted n marks g ≤ treesOn (size n g)
+  several-bound : (g : ℕ) → g < 2 ^ n → 0 < groupTrees n marks g → size n g ≢ 1 → size n g ≤ mostInputs
+      → ((a : ℕ) → MayBeA n marks g a → (groupTrees n marks a ≤ treesOn (size n a)) × (groupTrees n marks (g - a) ≤ treesOn (size n (g - a))))
+      → groupTrees n marks g ≤ treesOn (size n g)
   unfolding splitsOf
   several-bound g g< some several small parts =
       let h : ℕ → ℕ = splitTrees (size n g) in
@@ -196,22 +196,23 @@ module _ (n : ℕ) (marks : List ℕ) where
       (λ a is. let split = split-is n marks g a is in split-bound g a g< split (parts a split .0) (parts a split .1)) in
       let wider : sumTo (inFirst n g h) (suc (g - 1)) ≤ sumTo (inFirst n g h) (2 ^ n) = sum-more (inFirst n g h) (suc (g - 1)) (2 ^ n) (omega arith) in
       let fits : overSets (size n g - 1) (λ j. h (suc j)) ≤ treesOn (size n g) =
-      leb-true _ _ (all-mem (λ k. leb (overSets (k - 1) (λ j. splitTrees k (suc j))) (treesOn k)) (mem-range 0 (mostInputs + 1) (size n g) (omega arith) (omega arith)) splits-fit) in
+      leb-true _ _ (all-mem (λ k. leb (overSets (k - 1) (λ j. splitTrees k (suc j))) (treesOn k))
+      (mem-range 0 (mostInputs + 1) (size n g) (omega arith) (omega arith)) splits-fit) in
       let counts = count-several n marks g g< (counted-two n marks g g< some) several in
       let over = over-firsts n g h g< has in
       omega arith
 
   -- a group of k members has at most (2k − 3)!! trees, for k up to the limit
-  bounded : (k g : ℕ) → k ≤ mostInputs → g < 2 ^ n → size n g ≤ k → counted n marks g ≤ treesOn (size n g)
-  bounded zero g k≤ g< small = go (decLt 0 (counted n marks g))
+  bounded : (k g : ℕ) → k ≤ mostInputs → g < 2 ^ n → size n g ≤ k → groupTrees n marks g ≤ treesOn (size n g)
+  bounded zero g k≤ g< small = go (decLt 0 (groupTrees n marks g))
     where
-      go : Dec (0 < counted n marks g) → counted n marks g ≤ treesOn (size n g)
+      go : Dec (0 < groupTrees n marks g) → groupTrees n marks g ≤ treesOn (size n g)
       go (yes some) = absurd (omega (arith, size-pos n g g< (counted-some n marks g g< some)))
       go (no none) = omega arith
-  bounded (suc k) g k≤ g< small = go (decLt 0 (counted n marks g)) (ℕ-discrete (size n g) 1) (λ a. bounded k a (omega arith))
+  bounded (suc k) g k≤ g< small = go (decLt 0 (groupTrees n marks g)) (ℕ-discrete (size n g) 1) (λ a. bounded k a (omega arith))
     where
-      go : Dec (0 < counted n marks g) → Dec (size n g ≡ 1) → ((a : ℕ) → a < 2 ^ n → size n a ≤ k → counted n marks a ≤ treesOn (size n a))
-          → counted n marks g ≤ treesOn (size n g)
+      go : Dec (0 < groupTrees n marks g) → Dec (size n g ≡ 1) → ((a : ℕ) → a < 2 ^ n → size n a ≤ k → groupTrees n marks a ≤ treesOn (size n a))
+          → groupTrees n marks g ≤ treesOn (size n g)
       go (no none) _ below = omega arith
       go (yes some) (yes one) below = rw one (unfold treesOn in omega (arith, count-single n marks g g< (counted-two n marks g g< some) one))
       go (yes some) (no several) below =
@@ -220,17 +221,18 @@ module _ (n : ℕ) (marks : List ℕ) where
           (below a (split-a-below n marks g a g< split) (omega arith), below (g - a) (split-b-below n marks g a g< split) (omega arith)))
 
   -- A group has at most (2k − 3)!! trees, k being the number of its members, ..
-  pub count-bound : n ≤ mostInputs → (g : ℕ) → g < 2 ^ n → counted n marks g ≤ treesOn (size n g)
+  pub count-bound : n ≤ mostInputs → (g : ℕ) → g < 2 ^ n → groupTrees n marks g ≤ treesOn (size n g)
   count-bound n≤ g g< = bounded n g n≤ g< (size-le n g)
 
   -- .. which is less than 2 to the 64.
-  pub count-fits : n ≤ mostInputs → (g : ℕ) → counted n marks g < 2 ^ 64
-  count-fits n≤ g = go (decLt g (2 ^ n))
+  pub group-trees-fit : n ≤ mostInputs → (g : ℕ) → groupTrees n marks g < 2 ^ 64
+  group-trees-fit n≤ g = go (decLt g (2 ^ n))
     where
-      go : Dec (g < 2 ^ n) → counted n marks g < 2 ^ 64
+      go : Dec (g < 2 ^ n) → groupTrees n marks g < 2 ^ 64
       go (yes g<) =
           let fits : treesOn (size n g) < 2 ^ 64 =
-          ltb-true _ _ (all-mem (λ k. ltb (treesOn k) (2 ^ 64)) (mem-range 0 (mostInputs + 1) (size n g) (omega arith) (omega (arith, size-le n g))) trees-fit) in
+          ltb-true _ _ (all-mem (λ k. ltb (treesOn k) (2 ^ 64)) (mem-range 0 (mostInputs + 1) (size n g) (omega arith) (omega (arith, size-le n g)))
+          trees-fit) in
           omega (arith, count-bound n≤ g g<)
       go (no past) =
           let end : length (countsOf n marks) ≤ g = omega (arith, counts-length n marks) in

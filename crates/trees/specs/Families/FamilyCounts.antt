@@ -95,8 +95,8 @@ module _ (n : ℕ) (marks : List ℕ) where
       go (no ne) below = List·getD-append (countsBelow n marks k) _ 0 g (rw (counts-below-length k) (omega arith)) ∙ below (omega arith)
 
   -- the count of a group
-  abbrev pub counted : ℕ → ℕ
-  counted g = countIn (countsOf n marks) g
+  abbrev pub groupTrees : ℕ → ℕ
+  groupTrees g = countIn (countsOf n marks) g
 
   -- the count of a split
   abbrev pub splitCounted : ℕ → ℕ → ℕ
@@ -107,7 +107,7 @@ module _ (n : ℕ) (marks : List ℕ) where
   counts-length = counts-below-length (2 ^ n)
 
   -- each count is the rule's, with all counts at hand
-  pub count-rule : (g : ℕ) → g < 2 ^ n → counted g ≡ countOf n marks (countsOf n marks) g
+  pub count-rule : (g : ℕ) → g < 2 ^ n → groupTrees g ≡ countOf n marks (countsOf n marks) g
   unfolding countsOf
   count-rule g g< =
       count-below (2 ^ n) g g<
@@ -117,19 +117,19 @@ module _ (n : ℕ) (marks : List ℕ) where
 
   module _ (g : ℕ) (g< : g < 2 ^ n) where
     -- none where the mark is not 2
-    pub no-parts-count : markIn marks g ≢ 2 → counted g ≡ 0
+    pub no-parts-count : markIn marks g ≢ 2 → groupTrees g ≡ 0
     no-parts-count other = count-rule g g< ∙ rw (count-outcome, ne-eqb (markIn marks g) 2 other)
 
     -- one for a single input
-    pub count-single : markIn marks g ≡ 2 → size n g ≡ 1 → counted g ≡ 1
+    pub count-single : markIn marks g ≡ 2 → size n g ≡ 1 → groupTrees g ≡ 1
     count-single two one = count-rule g g< ∙ rw (count-outcome, two, one)
 
     -- else that of its splits
-    pub count-several : markIn marks g ≡ 2 → size n g ≢ 1 → counted g ≡ total (map (splitCounted g) (splitsOf n marks g))
+    pub count-several : markIn marks g ≡ 2 → size n g ≢ 1 → groupTrees g ≡ total (map (splitCounted g) (splitsOf n marks g))
     count-several two several = count-rule g g< ∙ rw (count-outcome, two, ne-eqb (size n g) 1 several)
 
     -- a group that has a tree has mark 2, ..
-    pub counted-two : 0 < counted g → markIn marks g ≡ 2
+    pub counted-two : 0 < groupTrees g → markIn marks g ≡ 2
     counted-two some = go (ℕ-discrete (markIn marks g) 2)
       where
         go : Dec (markIn marks g ≡ 2) → markIn marks g ≡ 2
@@ -137,7 +137,7 @@ module _ (n : ℕ) (marks : List ℕ) where
         go (no other) = absurd (omega (arith, no-parts-count other))
 
   -- .. and an input
-  pub counted-some : (g : ℕ) → g < 2 ^ n → 0 < counted g → 0 < g
+  pub counted-some : (g : ℕ) → g < 2 ^ n → 0 < groupTrees g → 0 < g
   unfolding splitsOf those range total
   counted-some zero g< some =
       absurd (omega (arith, count-several 0 g< (counted-two 0 g< some) (λ one. omega (arith, size-zero n))))
@@ -147,11 +147,11 @@ module _ (n : ℕ) (marks : List ℕ) where
 
   module _ (g : ℕ) (g< : g < 2 ^ n) (two : markIn marks g ≡ 2) (several : size n g ≢ 1) where
     -- the count of each split
-    pub split-most : (a : ℕ) → List·Memᴰ a (splitsOf n marks g) → splitCounted g a ≤ counted g
+    pub split-most : (a : ℕ) → List·Memᴰ a (splitsOf n marks g) → splitCounted g a ≤ groupTrees g
     split-most a is = rw (count-several g g< two several) (total-most (splitCounted g) (splitsOf n marks g) a is)
 
     -- and the sum over the parts below any number
-    pub partial-most : (k : ℕ) → k ≤ g - 1 → total (map (splitCounted g) (those (isA n marks g) (range 1 k))) ≤ counted g
+    pub partial-most : (k : ℕ) → k ≤ g - 1 → total (map (splitCounted g) (those (isA n marks g) (range 1 k))) ≤ groupTrees g
     unfolding splitsOf
     partial-most k k≤ =
         let rest : k + (g - 1 - k) ≡ g - 1 = omega arith in

@@ -112,7 +112,8 @@ module _ (m n : ℕ) (pos : 0 < m) (several : 1 < n) (f : ℕ → ℕ) where
       → UsesJust n gates (leavesOf m n f)
   only-leaves inks gates net r h same =
       let of-family = family-computes inks r h .0 in
-      rw (same-leaves m n gates (familyGatesOf r) net of-family same ∙ net-group m n (familyGatesOf r) of-family (leavesOf m n f) leaves< (family-leaves r h)) at
+      rw (same-leaves m n gates (familyGatesOf r) net of-family same
+      ∙ net-group m n (familyGatesOf r) of-family (leavesOf m n f) leaves< (family-leaves r h)) at
       (net-uses m n gates net)
 
   -- ---- number 0 and count 0

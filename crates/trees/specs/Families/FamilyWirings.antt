@@ -22,7 +22,7 @@ use Rattle.trees.specs.Trees.Wirings.{group-below}
 use Rattle.trees.specs.Groups.MarkRule.{marked}
 use Rattle.trees.specs.Trees.MarkTwo.{isA, some-A, two-says, wiring-mark, split-two, settled-wiring-of}
 use Rattle.trees.specs.Families.NormalWirings.{Normal, normal, normal-turned, turned-gates, normal-once, normal-group, normal-is}
-use Rattle.trees.specs.Families.FamilyCounts.{split-is, counted, splitCounted, no-parts-count}
+use Rattle.trees.specs.Families.FamilyCounts.{split-is, groupTrees, splitCounted, no-parts-count}
 use Rattle.trees.specs.Families.Families.{AllTwos, numberOf, wired, wired-single, wired-several, wiring-numbered, number-wired}
 
 module _ (m n : ℕ) (pos : 0 < m) (f : ℕ → ℕ) where
@@ -35,7 +35,7 @@ module _ (m n : ℕ) (pos : 0 < m) (f : ℕ → ℕ) where
 
   -- how many there are
   abbrev pub countAt : ℕ → ℕ
-  countAt g = counted n (marksOf m n f) g
+  countAt g = groupTrees n (marksOf m n f) g
 
   -- ---- mark 2 at each group, and few classes at each gate's
 

@@ -5,7 +5,8 @@ use Prim.Native.Nat.{ℕ, _+_, _^_, _<_}
 use mathlib.Core.Path.{_≡_, refl, sym, ap, ap₂, _∙_, subst, subst⁻¹}
 use mathlib.Core.Logic.{_↔_, _⊎_, inl, inr, ⊎-elim}
 use mathlib.Core.Bool.{Bool, true, false, _&&_, true≢false}
-use mathlib.Core.List.{List, [], _∷_, _++_, List·Memᴰ, List·Memᴰ·head, List·Memᴰ·append-cases, List·Memᴰ·eq-of-singleton, List·Memᴰ·not-nil, Memᴰ·append-left, Memᴰ·append-right}
+use mathlib.Core.List.{List, [], _∷_, _++_, List·Memᴰ, List·Memᴰ·head, List·Memᴰ·append-cases, List·Memᴰ·eq-of-singleton, List·Memᴰ·not-nil}
+use mathlib.Core.List.{Memᴰ·append-left, Memᴰ·append-right}
 use native.Mathlib.Nat.{add-comm}
 use native.Mathlib.Omega.{arith}
 use borrow.Author.Tests.{eqb-true}
@@ -92,7 +93,8 @@ module _ (n : ℕ) where
     pub inside-one : (h : ℕ) → h < 2 ^ n → 0 < h → inside n h (groupOf a) ≡ true → inside n h (groupOf b) ≡ true → ⊥
     inside-one h h< some l r =
         let first = first-member n h h< some in
-        not-in-both (firstInput n h) (first .0) (inside-member (firstInput n h) n h (groupOf a) l (first .0) (first .1)) (inside-member (firstInput n h) n h (groupOf b) r (first .0) (first .1))
+        not-in-both (firstInput n h) (first .0) (inside-member (firstInput n h) n h (groupOf a) l (first .0) (first .1))
+        (inside-member (firstInput n h) n h (groupOf b) r (first .0) (first .1))
 
   -- what a gate joins is a group of some of the wiring's inputs
   pub joins-inside : (h : ℕ) (w : Wiring) → EachOnce n w → Joins h w → (h < 2 ^ n) × (0 < h) × (inside n h (groupOf w) ≡ true)
@@ -137,7 +139,8 @@ module _ (n : ℕ) where
       rw here in-a)
   side-inside x x< (gate c d) in-w a b once in-a less kept = go (joins-cases _ a b (kept _ (joins-own _ c d refl)))
     where
-      go : Joins (groupOf (gate c d)) a ⊎ (Joins (groupOf (gate c d)) b ⊎ (groupOf (gate c d) ≡ groupOf (gate a b))) → inside n (groupOf (gate c d)) (groupOf a) ≡ true
+      go : Joins (groupOf (gate c d)) a ⊎ (Joins (groupOf (gate c d)) b ⊎ (groupOf (gate c d) ≡ groupOf (gate a b)))
+          → inside n (groupOf (gate c d)) (groupOf a) ≡ true
       go (inl l) = joins-inside _ a (once .1) l .2
       go (inr (inl r)) =
           absurd (not-in-both a b once x x< in-a (inside-member x n (groupOf (gate c d)) (groupOf b) (joins-inside _ b (once .2) r .2) x< in-w))
@@ -206,8 +209,10 @@ module _ (n : ℕ) where
   normal-known (gate a b) (input j) once once′ norm norm′ whole gates = absurd (joins-none _ j (gates _ .0 (joins-own _ a b refl)))
   normal-known (gate a b) (gate c d) once once′ norm norm′ whole gates =
       ap₂ gate
-      (normal-known a c (once .1) (once′ .1) (norm .1) (norm′ .1) (left-same a b c d once once′ whole (norm .0) (norm′ .0) gates) (left-gates a b c d once once′ whole (norm .0) (norm′ .0) gates))
-      (normal-known b d (once .2) (once′ .2) (norm .2) (norm′ .2) (right-same a b c d once once′ whole (norm .0) (norm′ .0) gates) (right-gates a b c d once once′ whole (norm .0) (norm′ .0) gates))
+      (normal-known a c (once .1) (once′ .1) (norm .1) (norm′ .1) (left-same a b c d once once′ whole (norm .0) (norm′ .0) gates)
+      (left-gates a b c d once once′ whole (norm .0) (norm′ .0) gates))
+      (normal-known b d (once .2) (once′ .2) (norm .2) (norm′ .2) (right-same a b c d once once′ whole (norm .0) (norm′ .0) gates)
+      (right-gates a b c d once once′ whole (norm .0) (norm′ .0) gates))
 
 -- ---- the normal form
 

@@ -50,7 +50,12 @@ module _ (m n : ℕ) (pos : 0 < m) (f : ℕ → ℕ) (a b : ℕ) (parts : Parts 
 
   pub join-several : size n (a + b) ≢ 1
   join-several one =
-      omega (arith, size-join n a b (parts .a-below) (parts .b-below) (parts .apart), size-pos n a (parts .a-below) (parts .some-a), size-pos n b (parts .b-below) (parts .some-b))
+      omega (
+        arith,
+        size-join n a b (parts .a-below) (parts .b-below) (parts .apart),
+        size-pos n a (parts .a-below) (parts .some-a),
+        size-pos n b (parts .b-below) (parts .some-b),
+      )
 
   -- what it is given settles what both sides carry
   left-carries : (p q : ℕ) → part m n (a + b) p ≡ part m n (a + b) q → carried m n f a p ≡ carried m n f a q

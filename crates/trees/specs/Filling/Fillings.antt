@@ -7,19 +7,20 @@ use native.Mathlib.Omega.{arith}
 use mathlib.Core.Path.{_≡_, refl, sym, ap, ap₂, _∙_}
 use mathlib.Core.Bool.{Bool, true, false}
 use mathlib.Core.List.{List, [], _∷_, _++_, append-assoc, append-nil}
-use lib.ListN.{length, getD, length-append, List·getD-append}
+use lib.ListN.{length, getD, length-append}
 use lib.Seq.{getD-append-seam}
 use lib.Dec.{eqb}
 use borrow.Author.Tests.{ne-eqb}
+use Rattle.rules.specs.Lists.{withEach}
 use Rattle.rules.specs.Sheets.Sheets.{Gate}
 use Rattle.rules.specs.Nets.Value.{value}
 use Rattle.rules.specs.Nets.Wirings.{Wiring, input, gate, groupOf, Link, gatesIn, referenceTo, linksOf}
 use Rattle.rules.specs.Nets.Filling.{gateDigits, inputGroups, filledFrom, filled}
 use Rattle.rules.specs.Sheets.SheetRules.{IsNet}
-use Rattle.laws.specs.Lists.Places.{length-snoc}
 use Rattle.laws.specs.Lists.Ranges.{map-range-length, map-range-at}
 use Rattle.trees.specs.Trees.Trees.{EachGate, fill}
 use Rattle.rules.specs.Nets.Trees.{EachOnce, Filled, treeValue, UsesJust}
+use Rattle.laws.specs.Lists.WithEach.{with-each-append, with-each-length, with-each-earlier}
 use Rattle.trees.specs.Groups.Classes.{Few}
 use Rattle.trees.specs.Filling.DigitRule.{Parts}
 use Rattle.trees.specs.Trees.Wirings.{gate-parts}
@@ -32,28 +33,8 @@ abbrev pub linkGroup : List ℕ → Link → ℕ
 linkGroup groups l = getD groups (l .left) 0 + getD groups (l .right) 0
 
 -- the groups of all references: those given, then the gates', in order
-unfoldable pub withGroups : List ℕ → List Link → List ℕ
-withGroups groups [] = groups
-withGroups groups (l ∷ links) = withGroups (groups ++ (linkGroup groups l ∷ [])) links
-
-pub groups-append : (groups : List ℕ) (xs ys : List Link) → withGroups groups (xs ++ ys) ≡ withGroups (withGroups groups xs) ys
-unfolding withGroups
-groups-append groups [] ys = refl
-groups-append groups (x ∷ xs) ys = groups-append (groups ++ (linkGroup groups x ∷ [])) xs ys
-
-pub groups-length : (groups : List ℕ) (links : List Link) → length (withGroups groups links) ≡ length groups + length links
-unfolding withGroups
-groups-length groups [] = omega arith
-groups-length groups (l ∷ links) =
-    omega (arith, groups-length (groups ++ (linkGroup groups l ∷ [])) links, length-snoc groups (linkGroup groups l))
-
--- the groups before stay
-pub groups-earlier : (groups : List ℕ) (links : List Link) (r : ℕ) → r < length groups → getD (withGroups groups links) r 0 ≡ getD groups r 0
-unfolding withGroups
-groups-earlier groups [] r h = refl
-groups-earlier groups (l ∷ links) r h =
-    groups-earlier (groups ++ (linkGroup groups l ∷ [])) links r (omega (arith, length-snoc groups (linkGroup groups l)))
-    ∙ List·getD-append groups (linkGroup groups l ∷ []) 0 r h
+abbrev pub withGroups : List ℕ → List Link → List ℕ
+withGroups groups links = withEach linkGroup groups links
 
 -- ---- a wiring's links
 
@@ -78,8 +59,8 @@ module _ (n : ℕ) where
 
   pub grouped-after : (before : ℕ) (groups : List ℕ) (w : Wiring) → Grouped before groups → Grouped (before + gatesIn w) (groupsAfter groups before w)
   grouped-after before groups w grouped = (
-    omega (arith, groups-length groups (linksOf n before w), links-length n before w, grouped .0),
-    λ i h. groups-earlier groups (linksOf n before w) i (omega arith) ∙ grouped .1 i h,
+    omega (arith, with-each-length linkGroup groups (linksOf n before w), links-length n before w, grouped .0),
+    λ i h. with-each-earlier linkGroup 0 groups (linksOf n before w) i (omega arith) ∙ grouped .1 i h,
   )
 
   -- the groups after the lines below a gate
@@ -98,13 +79,13 @@ module _ (n : ℕ) where
   left-kept : (before : ℕ) (groups : List ℕ) (a b : Wiring) → EachOnce n a → Grouped before groups
       → getD (groupsBelow groups before a b) (referenceTo n before a) 0 ≡ getD (groupsAfter groups before a) (referenceTo n before a) 0
   left-kept before groups a b once grouped =
-      groups-earlier (groupsAfter groups before a) (linksOf n (before + gatesIn a) b) (referenceTo n before a)
+      with-each-earlier linkGroup 0 (groupsAfter groups before a) (linksOf n (before + gatesIn a) b) (referenceTo n before a)
       (omega (arith, grouped-after before groups a grouped .0, reference-below n before a once))
 
   -- after a wiring's lines, the group at the reference to it is its own
   pub group-at-reference : (before : ℕ) (groups : List ℕ) (w : Wiring) → EachOnce n w → Grouped before groups
       → getD (groupsAfter groups before w) (referenceTo n before w) 0 ≡ groupOf w
-  unfolding linksOf withGroups referenceTo groupOf
+  unfolding linksOf withEach referenceTo groupOf
   group-at-reference before groups (input i) once grouped = grouped .1 i once
   group-at-reference before groups (gate a b) once grouped =
       let mid = before + gatesIn a in
@@ -113,7 +94,7 @@ module _ (n : ℕ) where
       let left = left-kept before groups a b (once .1) grouped ∙ group-at-reference before groups a (once .1) grouped in
       let right = group-at-reference mid (groupsAfter groups before a) b (once .2) after-a in
       let own : n + before + gatesIn a + gatesIn b ≡ length (groupsBelow groups before a b) = omega arith in
-      rw (groups-append groups (linksOf n before a ++ linksOf n mid b) (ownLink before a b ∷ []), groups-append groups (linksOf n before a) (linksOf n mid b), own)
+      rw (with-each-append linkGroup groups (linksOf n before a ++ linksOf n mid b) (ownLink before a b ∷ []), with-each-append linkGroup groups (linksOf n before a) (linksOf n mid b), own)
       (getD-append-seam (groupsBelow groups before a b) (linkGroup (groupsBelow groups before a b) (ownLink before a b)) [] 0 ∙ ap₂ (λ (x y : ℕ). x + y) left right)
 
   -- the same of both sides of a gate
@@ -132,7 +113,7 @@ module _ (m n : ℕ) (f : ℕ → ℕ) where
   filled-links : (before : ℕ) (groups : List ℕ) (w : Wiring) (rest : List Link) → EachOnce n w → Grouped n before groups
       → filledFrom m n f groups (linksOf n before w ++ rest)
       ≡ gateList m n f (eqb (length rest) 0) before w ++ filledFrom m n f (withGroups groups (linksOf n before w)) rest
-  unfolding linksOf withGroups gateList filledFrom
+  unfolding linksOf withEach gateList filledFrom
   filled-links before groups (input i) rest once grouped = refl
   filled-links before groups (gate a b) rest once grouped =
       ap (filledFrom m n f groups) (append-assoc (of-a ++ of-b) (own ∷ []) rest ∙ append-assoc of-a of-b (own ∷ rest))
@@ -175,7 +156,7 @@ module _ (m n : ℕ) (f : ℕ → ℕ) where
           ap₂ (λ (x y : ℕ). record { left = own .left; right = own .right; digits = gateDigits m n f last x y } ∷ next)
           (left-group n before groups a b once grouped) (right-group n before groups a b once grouped)
           ∙ ap (λ (gs : List ℕ). line ∷ filledFrom m n f gs rest)
-          (sym (groups-append groups (of-a ++ of-b) (own ∷ []) ∙ ap (λ (gs : List ℕ). withGroups gs (own ∷ [])) (groups-append groups of-a of-b)))
+          (sym (with-each-append linkGroup groups (of-a ++ of-b) (own ∷ []) ∙ ap (λ (gs : List ℕ). withGroups gs (own ∷ [])) (with-each-append linkGroup groups of-a of-b)))
 
   -- a wiring's links filled are its gate list
   pub filled-list : (w : Wiring) → EachOnce n w → filled m n f (linksOf n 0 w) ≡ gateList m n f true 0 w
@@ -208,7 +189,7 @@ Fillable m n f groups (l ∷ links) =
 
 fillable-append : (m n : ℕ) (f : ℕ → ℕ) (groups : List ℕ) (xs ys : List Link) → Fillable m n f groups xs → Fillable m n f (withGroups groups xs) ys
     → Fillable m n f groups (xs ++ ys)
-unfolding withGroups
+unfolding withEach
 fillable-append m n f groups [] ys first then = then
 fillable-append m n f groups (x ∷ xs) ys first then =
     (first .0, first .1, first .2, fillable-append m n f (groups ++ (linkGroup groups x ∷ [])) xs ys (first .3) then)
@@ -230,7 +211,7 @@ module _ (m n : ℕ) (pos : 0 < m) (f : ℕ → ℕ) where
       rw (left-group n before groups a b once grouped, right-group n before groups a b once grouped) (gate-parts m n pos f a b once few) in
       fillable-append m n f groups (linksOf n before a ++ linksOf n mid b) (ownLink n before a b ∷ [])
       (fillable-append m n f groups (linksOf n before a) (linksOf n mid b) in-a in-b)
-      (rw groups-append (omega (arith, reference-below n before a (once .1)), omega (arith, reference-below n mid b (once .2)), sides, tt))
+      (rw with-each-append (omega (arith, reference-below n before a (once .1)), omega (arith, reference-below n mid b (once .2)), sides, tt))
 
   pub wiring-fillable : (w : Wiring) → EachOnce n w → EachGate (Few m n f) w → Fillable m n f (inputGroups n) (linksOf n 0 w)
   wiring-fillable w once few = fillable-links 0 (inputGroups n) w once few (inputs-grouped n)

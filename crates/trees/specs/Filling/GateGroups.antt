@@ -5,14 +5,15 @@ use Prim.Native.Nat.{ℕ, _+_, _-_, _≤_, _<_}
 use mathlib.Core.Path.{_≡_, refl, sym, ap, ap₂, _∙_, subst}
 use mathlib.Core.Logic.{_↔_, ⊎-elim}
 use mathlib.Core.Bool.{true≢false}
-use mathlib.Core.List.{List, [], _∷_, _++_, append-assoc, append-nil, List·Memᴰ, List·Memᴰ·head, List·Memᴰ·append-cases, List·Memᴰ·eq-of-singleton, List·Memᴰ·not-nil, Memᴰ·append-left, Memᴰ·append-right}
+use mathlib.Core.List.{List, [], _∷_, _++_, append-assoc, append-nil, List·Memᴰ, List·Memᴰ·head, List·Memᴰ·append-cases, List·Memᴰ·eq-of-singleton}
+use mathlib.Core.List.{List·Memᴰ·not-nil, Memᴰ·append-left, Memᴰ·append-right}
 use native.Mathlib.Omega.{arith}
 use native.Mathlib.Decide.{decLt, ℕ-discrete}
 use lib.ListN.{length, List·getD-append}
 use lib.Seq.{getD-append-seam}
 use lib.Dec.{eqb}
 use borrow.Author.Tests.{eq-eqb}
-use Rattle.rules.specs.Lists.{any}
+use Rattle.rules.specs.Lists.{any, withEach}
 use Rattle.rules.specs.Sheets.Sheets.{Gate, usedBy}
 use Rattle.rules.specs.Nets.Wirings.{Wiring, input, gate, groupOf, Link, gatesIn, linksOf}
 use Rattle.rules.specs.Nets.Filling.{inputGroups, filledFrom, filled}
@@ -24,13 +25,15 @@ use Rattle.laws.specs.Lists.Places.{length-snoc}
 use Rattle.laws.specs.Lists.Distinct.{NotIn, not-in-two}
 use Rattle.laws.specs.Lists.Totals.{any-mem}
 use Rattle.rules.specs.Nets.Trees.{Tree, leaf, wiringIn, EachOnce, Turned}
-use Rattle.trees.specs.Trees.Forest.{treeAt, joined, withTrees, inputTrees, trees-length, inputs-length, input-at}
+use Rattle.laws.specs.Lists.WithEach.{with-each-append, with-each-length}
+use Rattle.trees.specs.Trees.Forest.{treeAt, joinedTree, withTrees, inputTrees, inputs-length, input-at}
 use Rattle.trees.specs.Trees.Homes.{grown-inputs, grown-gates}
 use Rattle.trees.specs.Trees.NetTree.{net-tree, netWiring, netGroup}
 use Rattle.trees.specs.Trees.UsedOnce.{net-gates}
-use Rattle.trees.specs.Filling.Fillings.{linkGroup, withGroups, groups-append, ownLink, Grouped, inputs-grouped, grouped-after, groupsAfter, left-group, right-group}
+use Rattle.trees.specs.Filling.Fillings.{linkGroup, withGroups, ownLink, Grouped, inputs-grouped, grouped-after, groupsAfter, left-group, right-group}
 use Rattle.trees.specs.Filling.GateLinks.{treeGroup, groupsIn, group-at, groups-joined, inputs-in}
-use Rattle.trees.specs.Families.NormalWirings.{groupsJoined, Joins, SameGates, joins-left, joins-right, joins-own, joins-cases, joins-none, joined-leaves, turned-same, same-turned}
+use Rattle.trees.specs.Families.NormalWirings.{groupsJoined, Joins, SameGates, joins-left, joins-right, joins-own, joins-cases, joins-none}
+use Rattle.trees.specs.Families.NormalWirings.{joined-leaves, turned-same, same-turned}
 
 -- ---- a wiring's links, filled
 
@@ -47,7 +50,7 @@ filled-groups m n f groups (l ∷ links) =
     ap (λ (gs : List ℕ). linkGroup groups l ∷ gs) (filled-groups m n f (groups ++ (linkGroup groups l ∷ [])) links)
 
 link-groups-append : (groups : List ℕ) (xs ys : List Link) → linkGroups groups (xs ++ ys) ≡ linkGroups groups xs ++ linkGroups (withGroups groups xs) ys
-unfolding linkGroups withGroups
+unfolding linkGroups withEach
 link-groups-append groups [] ys = refl
 link-groups-append groups (x ∷ xs) ys =
     ap (λ (gs : List ℕ). linkGroup groups x ∷ gs) (link-groups-append (groups ++ (linkGroup groups x ∷ [])) xs ys)
@@ -65,8 +68,9 @@ wiring-groups n before groups (gate a b) once grouped =
     link-groups-append groups (of-a ++ of-b) (own ∷ [])
     ∙ ap₂ (λ (xs ys : List ℕ). xs ++ ys)
     (link-groups-append groups of-a of-b
-    ∙ ap₂ (λ (xs ys : List ℕ). xs ++ ys) (wiring-groups n before groups a (once .1) grouped) (wiring-groups n mid (groupsAfter n groups before a) b (once .2) after))
-    (ap (λ (gs : List ℕ). linkGroup gs own ∷ []) (groups-append groups of-a of-b)
+    ∙ ap₂ (λ (xs ys : List ℕ). xs ++ ys) (wiring-groups n before groups a (once .1) grouped)
+    (wiring-groups n mid (groupsAfter n groups before a) b (once .2) after))
+    (ap (λ (gs : List ℕ). linkGroup gs own ∷ []) (with-each-append linkGroup groups of-a of-b)
     ∙ ap₂ (λ (x y : ℕ). (x + y) ∷ []) (left-group n before groups a b once grouped) (right-group n before groups a b once grouped))
 
 -- the groups of the gates of a wiring's links, filled, are the wiring's
@@ -96,20 +100,20 @@ housed-inputs n = record {
 module _ (used : List ℕ) (forest : List Tree) (done : List ℕ) (housed : Housed used forest done) (g : Gate)
     (left< : g .left < length forest) (right< : g .right < length forest) where
   abbrev forest⁺ : List Tree
-  forest⁺ = forest ++ (joined forest g ∷ [])
+  forest⁺ = forest ++ (joinedTree forest g ∷ [])
 
   abbrev used⁺ : List ℕ
   used⁺ = used ++ (g .left ∷ g .right ∷ [])
 
   abbrev own : ℕ
-  own = groupOf (wiringIn (joined forest g))
+  own = groupOf (wiringIn (joinedTree forest g))
 
   -- a tree before stays, and the last is the gate's
   before-at : (r : ℕ) → r < length forest → treeAt forest⁺ r ≡ treeAt forest r
-  before-at r h = List·getD-append forest (joined forest g ∷ []) (leaf 0) r h
+  before-at r h = List·getD-append forest (joinedTree forest g ∷ []) (leaf 0) r h
 
-  gate-at : treeAt forest⁺ (length forest) ≡ joined forest g
-  gate-at = getD-append-seam forest (joined forest g) [] (leaf 0)
+  gate-at : treeAt forest⁺ (length forest) ≡ joinedTree forest g
+  gate-at = getD-append-seam forest (joinedTree forest g) [] (leaf 0)
 
   abbrev left-tree : Wiring
   left-tree = wiringIn (treeAt forest (g .left))
@@ -123,7 +127,7 @@ module _ (used : List ℕ) (forest : List Tree) (done : List ℕ) (housed : Hous
   listed⁺ : (r h : ℕ) → r < length forest⁺ → Joins h (wiringIn (treeAt forest⁺ r)) → List·Memᴰ h (done ++ (own ∷ []))
   listed⁺ r h r< is = go (decLt r (length forest))
     where
-      new : Joins h (wiringIn (joined forest g)) → List·Memᴰ h (done ++ (own ∷ []))
+      new : Joins h (wiringIn (joinedTree forest g)) → List·Memᴰ h (done ++ (own ∷ []))
       new is =
           ⊎-elim (λ l. Memᴰ·append-left _ (housed .listed (g .left) h left< l))
           (λ later. ⊎-elim (λ r. Memᴰ·append-left _ (housed .listed (g .right) h right< r)) (λ e. Memᴰ·append-right done (List·Memᴰ·head e)) later)
@@ -132,7 +136,7 @@ module _ (used : List ℕ) (forest : List Tree) (done : List ℕ) (housed : Hous
       go : Dec (r < length forest) → List·Memᴰ h (done ++ (own ∷ []))
       go (yes early) = Memᴰ·append-left _ (housed .listed r h early (rw (before-at r early) at is))
       go (no late) =
-          let last : r ≡ length forest = omega (arith, length-snoc forest (joined forest g)) in
+          let last : r ≡ length forest = omega (arith, length-snoc forest (joinedTree forest g)) in
           new (rw (last, gate-at) at is)
 
   -- the gate is the new home of what it takes
@@ -140,7 +144,7 @@ module _ (used : List ℕ) (forest : List Tree) (done : List ℕ) (housed : Hous
   Home⁺ h = (r : ℕ) × (r < length forest⁺) × NotIn r used⁺ × Joins h (wiringIn (treeAt forest⁺ r))
 
   at-gate : (h : ℕ) → Joins h (gate left-tree right-tree) → Home⁺ h
-  at-gate h is = (length forest, omega (arith, length-snoc forest (joined forest g)), fresh⁺ (length forest) (omega arith), rw gate-at is)
+  at-gate h is = (length forest, omega (arith, length-snoc forest (joinedTree forest g)), fresh⁺ (length forest) (omega arith), rw gate-at is)
 
   home⁺ : (h : ℕ) → List·Memᴰ h (done ++ (own ∷ [])) → Home⁺ h
   home⁺ h is = ⊎-elim old (λ e. at-gate h (joins-own h left-tree right-tree (List·Memᴰ·eq-of-singleton e))) (List·Memᴰ·append-cases done is)
@@ -150,7 +154,7 @@ module _ (used : List ℕ) (forest : List Tree) (done : List ℕ) (housed : Hous
       go r r< free there (no _) (yes e) = at-gate h (joins-right h left-tree right-tree (rw e at there))
       go r r< free there (no not-l) (no not-r) = (
         r,
-        omega (arith, length-snoc forest (joined forest g)),
+        omega (arith, length-snoc forest (joinedTree forest g)),
         not-in-two r used (g .left) (g .right) .1 (free, not-l, not-r),
         rw (before-at r r<) there,
       )
@@ -160,37 +164,42 @@ module _ (used : List ℕ) (forest : List Tree) (done : List ℕ) (housed : Hous
 
   housed-snoc : Housed used⁺ forest⁺ (done ++ (own ∷ []))
   housed-snoc = record {
-    fresh = λ r h. fresh⁺ r (omega (arith, length-snoc forest (joined forest g)));
+    fresh = λ r h. fresh⁺ r (omega (arith, length-snoc forest (joinedTree forest g)));
     listed = listed⁺;
     home = home⁺;
   }
 
 -- the group that a gate's line says is its tree's
 joined-group : (forest : List Tree) (g : Gate) → g .left < length forest → g .right < length forest
-    → linkGroup (groupsIn forest) (linkOf g) ≡ treeGroup (joined forest g)
+    → linkGroup (groupsIn forest) (linkOf g) ≡ treeGroup (joinedTree forest g)
 unfolding groupOf
 joined-group forest g l< r< = ap₂ (λ (a b : ℕ). a + b) (group-at forest (g .left) l<) (group-at forest (g .right) r<)
 
 -- all gates
 housed-gates : (gates : List Gate) (used : List ℕ) (forest : List Tree) (done : List ℕ) → Housed used forest done → RefersBack (length forest) gates
     → Housed (used ++ usedBy gates) (withTrees forest gates) (done ++ groupsFrom (groupsIn forest) gates)
-unfolding usedBy withTrees groupsFrom
+unfolding usedBy withEach groupsFrom
 housed-gates [] used forest done housed back = rw (append-nil used, append-nil done) housed
 housed-gates (g ∷ gates) used forest done housed back =
     let l< = back .0 in
     let r< = back .1 in
-    let own : ℕ = treeGroup (joined forest g) in
-    let next : Housed (used ++ (g .left ∷ g .right ∷ [])) (forest ++ (joined forest g ∷ [])) (done ++ (own ∷ [])) = housed-snoc used forest done housed g l< r< in
-    let rest = housed-gates gates (used ++ (g .left ∷ g .right ∷ [])) (forest ++ (joined forest g ∷ [])) (done ++ (own ∷ [])) next (rw length-snoc (back .2)) in
+    let own : ℕ = treeGroup (joinedTree forest g) in
+    let next : Housed (used ++ (g .left ∷ g .right ∷ [])) (forest ++ (joinedTree forest g ∷ [])) (done ++ (own ∷ [])) =
+    housed-snoc used forest done housed g l< r< in
+    let rest = housed-gates gates (used ++ (g .left ∷ g .right ∷ [])) (forest ++ (joinedTree forest g ∷ [])) (done ++ (own ∷ [])) next
+    (rw length-snoc (back .2)) in
     rw (groups-joined forest g l< r<, joined-group forest g l< r<)
-    (rw (append-assoc used (g .left ∷ g .right ∷ []) (usedBy gates), append-assoc done (own ∷ []) (groupsFrom (groupsIn (forest ++ (joined forest g ∷ []))) gates)) at rest)
+    (rw (
+      append-assoc used (g .left ∷ g .right ∷ []) (usedBy gates),
+      append-assoc done (own ∷ []) (groupsFrom (groupsIn (forest ++ (joinedTree forest g ∷ []))) gates),
+    ) at rest)
 
 module _ (m n : ℕ) (gates : List Gate) (net : IsNet m n gates) where
   abbrev forest : List Tree
   forest = withTrees (inputTrees n) gates
 
   forest-length : length forest ≡ n + length gates
-  forest-length = trees-length (inputTrees n) gates ∙ rw inputs-length
+  forest-length = with-each-length joinedTree (inputTrees n) gates ∙ rw inputs-length
 
   back : RefersBack (length (inputTrees n)) gates
   back = rw inputs-length (net .rules .back)

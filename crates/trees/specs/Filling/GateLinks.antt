@@ -8,7 +8,7 @@ use native.Mathlib.Decide.{decLt}
 use native.Mathlib.Omega.{arith}
 use lib.ListN.{length, getD, length-map, List·getD-append}
 use lib.Seq.{getD-append-seam}
-use Rattle.rules.specs.Lists.{range}
+use Rattle.rules.specs.Lists.{range, withEach}
 use Rattle.rules.specs.Sheets.Sheets.{Gate, usedBy}
 use Rattle.rules.specs.Nets.Wirings.{groupOf, Link}
 use Rattle.rules.specs.Nets.Filling.{inputGroups}
@@ -18,13 +18,14 @@ use Rattle.laws.specs.Lists.Concat.{map-append}
 use Rattle.laws.specs.Lists.Distinct.{NotIn}
 use Rattle.laws.specs.Lists.Places.{length-snoc, map-at}
 use Rattle.rules.specs.Nets.Trees.{Tree, leaf, wiringIn}
+use Rattle.laws.specs.Lists.WithEach.{with-each-earlier}
 use Rattle.trees.specs.Groups.Classes.{Few}
 use Rattle.trees.specs.Filling.Carried.{single-few}
 use Rattle.trees.specs.Filling.DigitRule.{Parts}
 use Rattle.trees.specs.Trees.Wirings.{group-below, group-some}
-use Rattle.trees.specs.Trees.Forest.{treeAt, joined, inputTrees, inputs-length}
+use Rattle.trees.specs.Trees.Forest.{treeAt, joinedTree, inputTrees, inputs-length}
 use Rattle.trees.specs.Trees.Homes.{Grown, grown-inputs, sides-apart, grown-snoc, heads-unused}
-use Rattle.trees.specs.Filling.Fillings.{linkGroup, withGroups, groups-earlier, inputs-grouped, Fillable}
+use Rattle.trees.specs.Filling.Fillings.{linkGroup, withGroups, inputs-grouped, Fillable}
 
 -- the group of the inputs below a tree
 abbrev pub treeGroup : Tree → ℕ
@@ -40,11 +41,11 @@ group-at forest r h = map-at treeGroup forest r (leaf 0) 0 h
 
 -- one gate more
 pub groups-joined : (forest : List Tree) (g : Gate) → g .left < length forest → g .right < length forest
-    → groupsIn forest ++ (linkGroup (groupsIn forest) (linkOf g) ∷ []) ≡ groupsIn (forest ++ (joined forest g ∷ []))
+    → groupsIn forest ++ (linkGroup (groupsIn forest) (linkOf g) ∷ []) ≡ groupsIn (forest ++ (joinedTree forest g ∷ []))
 unfolding groupOf
 groups-joined forest g l< r< =
     ap (λ (k : ℕ). groupsIn forest ++ (k ∷ [])) (ap₂ (λ (a b : ℕ). a + b) (group-at forest (g .left) l<) (group-at forest (g .right) r<))
-    ∙ sym (map-append treeGroup forest (joined forest g ∷ []))
+    ∙ sym (map-append treeGroup forest (joinedTree forest g ∷ []))
 
 -- the inputs' trees have the inputs' groups
 pub inputs-in : (n : ℕ) → groupsIn (inputTrees n) ≡ inputGroups n
@@ -79,7 +80,7 @@ module _ (m n : ℕ) (f : ℕ → ℕ) where
     fillable-gates : (gates : List Gate) (used : List ℕ) (forest : List Tree) → Grown m n used forest
         → RefersBack (length forest) gates → Distinct (used ++ usedBy gates) → Tables m gates → AllFew (groupsIn forest) (gateLinks gates)
         → Fillable m n f (groupsIn forest) (gateLinks gates)
-    unfolding usedBy withGroups
+    unfolding usedBy withEach
     fillable-gates [] used forest grown back distinct tables few = tt
     fillable-gates (g ∷ gates) used forest grown back distinct tables few =
         let groups : List ℕ = groupsIn forest in
@@ -89,13 +90,14 @@ module _ (m n : ℕ) (f : ℕ → ℕ) where
         let next = grown-snoc m n used forest grown g (back .0) (back .1) (heads .0) (heads .1) (heads .2) (tables .0) in
         let more : length (groups ++ (own ∷ [])) ≡ suc (length groups) = length-snoc groups own in
         let still : (r : ℕ) → r < suc (length groups) → Few m n f (getD (groups ++ (own ∷ [])) r 0) =
-        λ r h. subst (Few m n f) (groups-earlier (groups ++ (own ∷ [])) (gateLinks gates) r (omega arith)) (few r (omega arith)) in
+        λ r h. subst (Few m n f) (with-each-earlier linkGroup 0 (groups ++ (own ∷ [])) (gateLinks gates) r (omega arith)) (few r (omega arith)) in
         let before : (r : ℕ) → r < length groups → Few m n f (getD groups r 0) =
         λ r h. subst (Few m n f) (List·getD-append groups (own ∷ []) 0 r h) (still r (omega arith)) in
         let parts = may-join used forest grown g (back .0) (back .1) (heads .0) (heads .1) (heads .2)
-        (before (g .left) (omega arith)) (before (g .right) (omega arith)) (subst (Few m n f) (getD-append-seam groups own [] 0) (still (length groups) (omega arith))) in
+        (before (g .left) (omega arith)) (before (g .right) (omega arith))
+        (subst (Few m n f) (getD-append-seam groups own [] 0) (still (length groups) (omega arith))) in
         let grow = groups-joined forest g (back .0) (back .1) in
-        let rest = fillable-gates gates (used ++ (g .left ∷ g .right ∷ [])) (forest ++ (joined forest g ∷ [])) next
+        let rest = fillable-gates gates (used ++ (g .left ∷ g .right ∷ [])) (forest ++ (joinedTree forest g ∷ [])) next
         (rw length-snoc (back .2)) (rw append-assoc distinct) (tables .1)
         (subst (λ (gs : List ℕ). AllFew gs (gateLinks gates)) grow (λ r h. few r (omega arith))) in
         (omega arith, omega arith, parts, subst⁻¹ (λ (gs : List ℕ). Fillable m n f gs (gateLinks gates)) grow rest)
@@ -117,7 +119,7 @@ module _ (m n : ℕ) (f : ℕ → ℕ) where
             go : Dec (r < n) → Few m n f (getD (withGroups (inputGroups n) (gateLinks gates)) r 0)
             go (yes input) =
                 subst⁻¹ (Few m n f)
-                (groups-earlier (inputGroups n) (gateLinks gates) r (omega (arith, inputs-grouped n .0)) ∙ inputs-grouped n .1 r input)
+                (with-each-earlier linkGroup 0 (inputGroups n) (gateLinks gates) r (omega (arith, inputs-grouped n .0)) ∙ inputs-grouped n .1 r input)
                 (single-few m n pos f r input)
             go (no late) =
                 let place : n + (r - n) ≡ r = omega arith in

@@ -4,7 +4,8 @@
 use Prim.Native.Nat.{ℕ, zero, suc, _+_, _-_, _*_, _/_, _%_, _^_, _≤_, _<_}
 use mathlib.Core.Path.{_≡_, refl, sym, ap, ap₂, _∙_, subst, subst⁻¹}
 use mathlib.Core.Bool.{Bool, true, false, cond, _&&_, true≢false}
-use native.Mathlib.Nat.{add-comm, add-zero, zero-add, sub-self, mul-comm, mul-assoc, mul-one, zero-mul, pow-zero, pow-suc, one-le-pow, le-refl, le-step, mod-lt, mod-eq-of-lt, mul-div-cancel, div-lt-iff-lt-mul}
+use native.Mathlib.Nat.{add-comm, add-zero, zero-add, sub-self, mul-comm, mul-assoc, mul-one, zero-mul, pow-zero, pow-suc, one-le-pow, le-refl}
+use native.Mathlib.Nat.{le-step, mod-lt, mod-eq-of-lt, mul-div-cancel, div-lt-iff-lt-mul}
 use native.Mathlib.Decide.{decLt}
 use native.Mathlib.Omega.{arith}
 use lib.Arith.{digits-lt, digits-div, digits-mod, sub-sub-self}
@@ -28,7 +29,8 @@ pub record Covers (m n : ℕ) (f : ℕ → ℕ) (g c : ℕ) (e : ℕ → ℕ) : 
 
 -- ---- an assignment of one group plus one of another that shares no input with it
 
-module _ (m n : ℕ) (pos : 0 < m) (a b : ℕ) (a< : a < 2 ^ n) (b< : b < 2 ^ n) (apart : Apart n a b) (x y : ℕ) (x-own : part m n a x ≡ x) (y-own : part m n b y ≡ y) where
+module _ (m n : ℕ) (pos : 0 < m) (a b : ℕ) (a< : a < 2 ^ n) (b< : b < 2 ^ n) (apart : Apart n a b) (x y : ℕ) (x-own : part m n a x ≡ x)
+    (y-own : part m n b y ≡ y) where
   -- y has level 0 at the members of a
   out : (i : ℕ) → i < n → member i b ≡ false → level m n y i ≡ 0
   out i h e = ap (λ r. level m n r i) (sym y-own) ∙ level-part m n pos b y i h ∙ ap (λ t. cond t (level m n y i) 0) e
@@ -38,7 +40,8 @@ module _ (m n : ℕ) (pos : 0 < m) (a b : ℕ) (a< : a < 2 ^ n) (b< : b < 2 ^ n)
 
   -- .. so it is an assignment of all inputs outside a
   y-outside : part m n (others n a) y ≡ y
-  y-outside = level-ext m n pos (part m n (others n a) y) y (part-below m n pos (others n a) y) (rw y-own at (part-below m n pos b y)) (λ i h. at i h (member i a) refl)
+  y-outside = level-ext m n pos (part m n (others n a) y) y (part-below m n pos (others n a) y) (rw y-own at (part-below m n pos b y))
+      (λ i h. at i h (member i a) refl)
     where
       at : (i : ℕ) → i < n → (t : Bool) → member i a ≡ t → level m n (part m n (others n a) y) i ≡ level m n y i
       at i h true e = simp (level-part m n pos (others n a) y i h, member-others i n a h a<, e) (sym (out i h (not-both i h e)))
@@ -58,7 +61,8 @@ module _ (m n : ℕ) (pos : 0 < m) (a b : ℕ) (a< : a < 2 ^ n) (b< : b < 2 ^ n)
 
   -- it is an assignment of both groups together
   pub sum-own : part m n (a + b) (x + y) ≡ x + y
-  sum-own = level-ext m n pos (part m n (a + b) (x + y)) (x + y) (part-below m n pos (a + b) (x + y)) (rw sum-mix at (mix-below m n pos a x y a<)) (λ i h. at i h (member i (a + b)) refl)
+  sum-own = level-ext m n pos (part m n (a + b) (x + y)) (x + y) (part-below m n pos (a + b) (x + y)) (rw sum-mix at (mix-below m n pos a x y a<))
+      (λ i h. at i h (member i (a + b)) refl)
     where
       at : (i : ℕ) → i < n → (t : Bool) → member i (a + b) ≡ t → level m n (part m n (a + b) (x + y)) i ≡ level m n (x + y) i
       at i h true e = level-part-in m n pos (a + b) (x + y) i h e
@@ -67,6 +71,13 @@ module _ (m n : ℕ) (pos : 0 < m) (a b : ℕ) (a< : a < 2 ^ n) (b< : b < 2 ^ n)
           level-part m n pos (a + b) (x + y) i h
           ∙ ap (λ t. cond t (level m n (x + y) i) 0) e
           ∙ sym (sum-level i h ∙ ap (λ t. cond t (level m n x i) (level m n y i)) (neither .0) ∙ out i h (neither .1))
+
+-- what the sum gives b is y
+pub sum-right : (m n : ℕ) (pos : 0 < m) (a b : ℕ) (a< : a < 2 ^ n) (b< : b < 2 ^ n) (apart : Apart n a b) (x y : ℕ) (x-own : part m n a x ≡ x)
+    (y-own : part m n b y ≡ y)
+    → part m n b (x + y) ≡ y
+sum-right m n pos a b a< b< apart x y x-own y-own =
+    ap (part m n b) (add-comm x y) ∙ sum-left m n pos b a b< a< (apart-sym n a b apart) y x y-own x-own
 
 -- ---- one input
 
@@ -195,9 +206,11 @@ module _ (m n : ℕ) (pos : 0 < m) (f : ℕ → ℕ) where
         omega (arith, digits-lt k< j<, mul-comm c d),
         rw (digits-mod k j<, digits-div k j<)
             (alike-join m n pos f a b p (e j + h k) a< b< apart
-            (alike-trans m n pos f a p (e j) (e j + h k) like-a (alike-part m n pos f a (e j) (e j + h k) (left .own j j< ∙ sym (sum-left m n pos a b a< b< apart (e j) (h k) (left .own j j<) (right .own k k<)))))
+            (alike-trans m n pos f a p (e j) (e j + h k) like-a
+            (alike-part m n pos f a (e j) (e j + h k) (left .own j j< ∙ sym (sum-left m n pos a b a< b< apart (e j) (h k) (left .own j j<) (right .own k k<)))))
             (alike-trans m n pos f b p (h k) (e j + h k) like-b (alike-part m n pos f b (h k) (e j + h k)
-            (right .own k k< ∙ sym (ap (part m n b) (add-comm (e j) (h k)) ∙ sum-left m n pos b a b< a< (apart-sym n a b apart) (h k) (e j) (right .own k k<) (left .own j j<)))))),
+            (right .own k k< ∙ sym
+            (ap (part m n b) (add-comm (e j) (h k)) ∙ sum-left m n pos b a b< a< (apart-sym n a b apart) (h k) (e j) (right .own k k<) (left .own j j<)))))),
       )
 
   -- .. So with one input more there are m times as many rows, whatever the group has for classes.
@@ -242,7 +255,8 @@ module _ (m n : ℕ) (pos : 0 < m) (f : ℕ → ℕ) where
   -- has as many classes as there are inks: at most k, where every ink is below k
   pub whole-few : (k : ℕ) → ((p : ℕ) → p < m ^ n → f p < k) → multiplicity m n f (wholeGroup n) ≤ k
   whole-few k small =
-      few-classes m n pos f (wholeGroup n) (whole-below n) k (λ p. f (part m n (wholeGroup n) p)) (λ p. small (part m n (wholeGroup n) p) (part-below m n pos (wholeGroup n) p))
+      few-classes m n pos f (wholeGroup n) (whole-below n) k (λ p. f (part m n (wholeGroup n) p))
+      (λ p. small (part m n (wholeGroup n) p) (part-below m n pos (wholeGroup n) p))
       (λ p q e y. ink p y ∙ e ∙ sym (ink q y))
     where
       ink : (p y : ℕ) → f (mix m n (wholeGroup n) p y) ≡ f (part m n (wholeGroup n) p)

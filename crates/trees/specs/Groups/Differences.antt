@@ -1,4 +1,5 @@
--- Two assignments of a group compared (document 02, K4): none is told exactly when they are alike, a place exactly when it is the least at which the inks differ.
+-- Two assignments of a group compared (document 02, K4): none is told exactly when they are alike, a place exactly when it is the least at which the
+-- inks differ.
 -- Assumes nothing.
 use Prim.Native.Nat.{ℕ, _+_, _-_, _^_, _≤_, _<_}
 use mathlib.Core.Path.{_≡_, refl, sym, ap, _∙_, subst}
@@ -99,7 +100,8 @@ module _ (m n : ℕ) (f : ℕ → ℕ) (g p q : ℕ) where
   difference-below pos g< k e = rw (points-length m n pos (others n g), size-others n g g<) at (difference-first k .0 e .place .there)
 
 -- What two indices give a group: none is told exactly when the ink is the same whatever the other inputs are.
-pub difference-alike : (m n : ℕ) → 0 < m → (f : ℕ → ℕ) (g p q : ℕ) → g < 2 ^ n → firstDifference m n f g (part m n g p) (part m n g q) ≡ none ↔ Alike m n f g p q
+pub difference-alike : (m n : ℕ) → 0 < m → (f : ℕ → ℕ) (g p q : ℕ) → g < 2 ^ n
+    → firstDifference m n f g (part m n g p) (part m n g q) ≡ none ↔ Alike m n f g p q
 difference-alike m n pos f g p q g< =
     let tested = difference-none m n f g (part m n g p) (part m n g q) in
     (λ e. alike-holds m n pos f g p q g< (tested .0 e), λ h. tested .1 (alike-tested m n pos f g p q g< h))

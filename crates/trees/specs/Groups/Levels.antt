@@ -4,7 +4,8 @@ use Prim.Native.Nat.{ℕ, zero, suc, _+_, _*_, _/_, _%_, _^_, _<_}
 use mathlib.Core.Path.{_≡_, refl, sym, ap, _∙_}
 use mathlib.Core.Logic.{_⊎_, inl, inr}
 use mathlib.Core.Bool.{Bool, true, false, not, cond, _&&_, _||_, true≢false}
-use native.Mathlib.Nat.{pow-zero, pow-suc, div-lt-iff-lt-mul, div-add-mod', mod-lt, zero-div, zero-mod, zero-mul, add-zero, zero-add, eq-or-lt-of-le, le-of-suc-le-suc, not-suc-le-zero, one-le-pow, le-step, le-refl}
+use native.Mathlib.Nat.{pow-zero, pow-suc, div-lt-iff-lt-mul, div-add-mod', mod-lt, zero-div, zero-mod, zero-mul, add-zero, zero-add, eq-or-lt-of-le}
+use native.Mathlib.Nat.{le-of-suc-le-suc, not-suc-le-zero, one-le-pow, le-step, le-refl}
 use native.Mathlib.Omega.{arith}
 use lib.Arith.{digits-lt, digits-div, digits-mod, lt-one}
 use Rattle.rules.specs.Sheets.Sheets.{level}
@@ -146,7 +147,8 @@ module _ (m n : ℕ) (pos : 0 < m) where
       either false = refl
 
   pub part-whole : (p : ℕ) → p < m ^ n → part m n (wholeGroup n) p ≡ p
-  part-whole p p< = level-ext m n pos (part m n (wholeGroup n) p) p (part-below (wholeGroup n) p) p< (λ i h. level-part-in (wholeGroup n) p i h (member-whole i n h))
+  part-whole p p< = level-ext m n pos (part m n (wholeGroup n) p) p (part-below (wholeGroup n) p) p<
+      (λ i h. level-part-in (wholeGroup n) p i h (member-whole i n h))
 
   -- what a group is given depends on the levels of its members alone
   pub part-ext : (g p q : ℕ) → ((i : ℕ) → i < n → member i g ≡ true → level m n p i ≡ level m n q i) → part m n g p ≡ part m n g q

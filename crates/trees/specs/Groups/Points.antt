@@ -4,8 +4,10 @@ use Prim.Native.Nat.{ℕ, zero, suc, _+_, _-_, _*_, _/_, _%_, _^_, _≤_, _<_}
 use mathlib.Core.Path.{_≡_, refl, sym, ap, fun-ext, _∙_}
 use mathlib.Core.Logic.{_⊎_, inl, inr}
 use mathlib.Core.Bool.{Bool, true, false, cond}
-use mathlib.Core.List.{List, [], _∷_, _++_, List·Memᴰ, List·Memᴰ·head, List·Memᴰ·tail, List·Memᴰ·not-nil, List·Memᴰ·append-cases, List·Memᴰ·eq-of-singleton, map}
-use native.Mathlib.Nat.{add-zero, zero-add, zero-mul, suc-mul, le-refl, le-step, pow-zero, pow-suc, mod-lt, not-suc-le-zero, le-of-suc-le-suc, le-add-right, add-lt-add-of-le-of-lt, div-add-mod', lt-of-lt-of-le, div-lt-iff-lt-mul, div-mul-le-self, one-mul, add-comm}
+use mathlib.Core.List.{List, [], _∷_, _++_, List·Memᴰ, List·Memᴰ·head, List·Memᴰ·tail, List·Memᴰ·not-nil, List·Memᴰ·append-cases}
+use mathlib.Core.List.{List·Memᴰ·eq-of-singleton, map}
+use native.Mathlib.Nat.{add-zero, zero-add, zero-mul, suc-mul, le-refl, le-step, pow-zero, pow-suc, mod-lt, not-suc-le-zero, le-of-suc-le-suc}
+use native.Mathlib.Nat.{le-add-right, add-lt-add-of-le-of-lt, div-add-mod', lt-of-lt-of-le, div-lt-iff-lt-mul, div-mul-le-self, one-mul, add-comm}
 use native.Mathlib.Omega.{arith}
 use lib.ListN.{length, getD}
 use lib.Arith.{digits-div, digits-mod}
@@ -152,7 +154,14 @@ pub points-length : (m n : ℕ) → 0 < m → (g : ℕ) → length (points m n g
 unfolding points size those range
 points-length m zero pos g = sym (pow-zero m)
 points-length m (suc n) pos g =
-    rw (points-suc, concat-length (block m (member n g)) (choices m (member n g)) (λ p. range-length (p * m) _), points-length m n pos g, size-last, pow-add, pow-choice)
+    rw (
+      points-suc,
+      concat-length (block m (member n g)) (choices m (member n g)) (λ p. range-length (p * m) _),
+      points-length m n pos g,
+      size-last,
+      pow-add,
+      pow-choice,
+    )
 
 -- ---- the whole group's and the empty group's
 

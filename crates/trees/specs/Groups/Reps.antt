@@ -75,7 +75,8 @@ module _ (m n : ℕ) (pos : 0 < m) (f : ℕ → ℕ) (g : ℕ) (g< : g < 2 ^ n) 
               let (j<, passes) = first-passing (alikeOver f ys (getD xs k 0)) 0 kept (keeps .covers _ (mem-getD xs k 0 k<)) in
               (_, j<, agree-alike _ _ (rows .own k k<) (own _ j<) passes));
           differ = λ i j h j< like.
-              true≢false (sym (alike-agree _ _ (own j j<) (own i (omega arith)) (alike-sym m n pos f g _ _ like)) ∙ keeps .fresh (λ _ _ _ l. absurd (not-suc-le-zero l)) i j h j<);
+              true≢false (sym (alike-agree _ _ (own j j<) (own i (omega arith)) (alike-sym m n pos f g _ _ like))
+              ∙ keeps .fresh (λ _ _ _ l. absurd (not-suc-le-zero l)) i j h j<);
         }
       where
         kept : List ℕ

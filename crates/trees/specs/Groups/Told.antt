@@ -63,16 +63,23 @@ module _ (m n : ℕ) (pos : 0 < m) (f : ℕ → ℕ) where
       -- the row with a column is the index that it was
       same-index : (y : ℕ) → SameAt m n s y (told .base) → (i : ℕ) → mix m n (g + d) (wide i) y ≡ mix m n g (told .row i) y
       same-index y same i =
-          level-ext m n pos (mix m n (g + d) (wide i) y) (mix m n g (told .row i) y) (mix-below m n pos (g + d) (wide i) y g+d<) (mix-below m n pos g (told .row i) y g<)
+          level-ext m n pos (mix m n (g + d) (wide i) y) (mix m n g (told .row i) y) (mix-below m n pos (g + d) (wide i) y g+d<)
+          (mix-below m n pos g (told .row i) y g<)
           (λ a a<.
-          simp (level-mix m n pos (g + d) (wide i) y a g+d< a<, level-mix m n pos d (told .base) (told .row i) a d< a<, level-mix m n pos g (told .row i) y a g< a<, member-join a n g d g< d< apart a<)
+          simp (
+            level-mix m n pos (g + d) (wide i) y a g+d< a<,
+            level-mix m n pos d (told .base) (told .row i) a d< a<,
+            level-mix m n pos g (told .row i) y a g< a<,
+            member-join a n g d g< d< apart a<,
+          )
           (at a a< (member a g) (member a d) refl refl))
         where
           both : (a : ℕ) → a < n → member a g ≡ true → member a d ≡ true → ⊥
           both a a< in-g in-d = true≢false (rw (in-g, in-d) at (apart a a<))
 
           at : (a : ℕ) → a < n → (t u : Bool) → member a g ≡ t → member a d ≡ u
-              → cond (t || u) (cond u (level m n (told .base) a) (level m n (told .row i) a)) (level m n y a) ≡ cond t (level m n (told .row i) a) (level m n y a)
+              → cond (t || u) (cond u (level m n (told .base) a) (level m n (told .row i) a)) (level m n y a)
+              ≡ cond t (level m n (told .row i) a) (level m n y a)
           at a a< true true in-g in-d = absurd (both a a< in-g in-d)
           at a a< true false in-g in-d = refl
           at a a< false true in-g in-d = sym (same a a< (inside a a< in-d))

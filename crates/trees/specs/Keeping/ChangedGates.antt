@@ -43,7 +43,8 @@ member-powers (suc n) test zero h =
     low-member (powers test (range 0 (suc n))) (test 0) (omega (arith, powers-halves test n, one-if-le (test 0)))
 member-powers (suc n) test (suc i) h =
     member-suc i (powers test (range 0 (suc n)))
-    ∙ ap (member i) (let z : powers test (range 0 (suc n)) / 2 ≡ powers (λ j. test (suc j)) (range 0 n) = omega (arith, powers-halves test n, one-if-le (test 0)) in z)
+    ∙ ap (member i) (let z : powers test (range 0 (suc n)) / 2 ≡ powers (λ j. test (suc j)) (range 0 n) =
+    omega (arith, powers-halves test n, one-if-le (test 0)) in z)
     ∙ member-powers n (λ j. test (suc j)) i (omega arith)
 
 -- no further bit is set

@@ -8,7 +8,7 @@ use native.Mathlib.Omega.{arith}
 use lib.ListN.{length, getD, length-map, List·getD-append}
 use lib.Seq.{getD-append-add, getD-append-seam}
 use lib.Dec.{eqb}
-use Rattle.rules.specs.Lists.{any}
+use Rattle.rules.specs.Lists.{any, withEach}
 use Rattle.rules.specs.Sheets.Sheets.{Gate, usedBy}
 use Rattle.rules.specs.Nets.Wirings.{Link}
 use Rattle.rules.specs.Nets.Filling.{inputGroups, filledFrom, filled}
@@ -16,7 +16,8 @@ use Rattle.rules.specs.Nets.Family.{groupsFrom, gateGroups}
 use Rattle.rules.specs.Calls.Keeping.{linkOf, gateLinks, keptGates}
 use Rattle.rules.specs.Sheets.SheetRules.{RefersBack, Distinct, Tables, IsNet}
 use Rattle.laws.specs.Lists.Places.{length-snoc}
-use Rattle.trees.specs.Filling.Fillings.{linkGroup, withGroups, groups-earlier, inputs-grouped}
+use Rattle.laws.specs.Lists.WithEach.{with-each-earlier}
+use Rattle.trees.specs.Filling.Fillings.{linkGroup, withGroups, inputs-grouped}
 use Rattle.trees.specs.Filling.GateGroups.{linkGroups}
 
 -- ---- the rules of a net
@@ -78,7 +79,7 @@ from-links groups (g ∷ gates) =
 
 -- they stand behind the groups before
 behind : (groups : List ℕ) (links : List Link) → withGroups groups links ≡ groups ++ linkGroups groups links
-unfolding withGroups linkGroups
+unfolding withEach linkGroups
 behind groups [] = sym (append-nil groups)
 behind groups (l ∷ links) =
     behind (groups ++ (linkGroup groups l ∷ [])) links
@@ -108,15 +109,15 @@ module _ (n : ℕ) (gates : List Gate) where
 -- a gate's group is the sum of those of its two references, which stand before it
 own-group : (groups : List ℕ) (gates : List Gate) → RefersBack (length groups) gates → (k : ℕ) (d : Gate) → k < length gates
     → getD (withGroups groups (gateLinks gates)) (length groups + k) 0 ≡ linkGroup (withGroups groups (gateLinks gates)) (linkOf (getD gates k d))
-unfolding withGroups
+unfolding withEach
 own-group groups [] back k d h = absurd (omega arith)
 own-group groups (g ∷ gates) back zero d h =
     let x : ℕ = linkGroup groups (linkOf g) in
     let more : length (groups ++ (x ∷ [])) ≡ suc (length groups) = length-snoc groups x in
     let earlier : (r : ℕ) → r < length groups → getD groups r 0 ≡ getD (withGroups (groups ++ (x ∷ [])) (gateLinks gates)) r 0 =
-    λ r l. sym (List·getD-append groups (x ∷ []) 0 r l) ∙ sym (groups-earlier (groups ++ (x ∷ [])) (gateLinks gates) r (omega arith)) in
+    λ r l. sym (List·getD-append groups (x ∷ []) 0 r l) ∙ sym (with-each-earlier linkGroup 0 (groups ++ (x ∷ [])) (gateLinks gates) r (omega arith)) in
     ap (λ (r : ℕ). getD (withGroups (groups ++ (x ∷ [])) (gateLinks gates)) r 0) (add-zero (length groups))
-    ∙ groups-earlier (groups ++ (x ∷ [])) (gateLinks gates) (length groups) (omega arith)
+    ∙ with-each-earlier linkGroup 0 (groups ++ (x ∷ [])) (gateLinks gates) (length groups) (omega arith)
     ∙ getD-append-seam groups x [] 0
     ∙ ap₂ (λ (a b : ℕ). a + b) (earlier (g .left) (back .0)) (earlier (g .right) (back .1))
 own-group groups (g ∷ gates) back (suc k) d h =

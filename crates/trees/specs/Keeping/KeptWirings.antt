@@ -14,7 +14,7 @@ use lib.ListN.{length, getD, length-map}
 use lib.Seq.{getD-append-seam}
 use lib.Dec.{eqb, ltb}
 use borrow.Author.Tests.{ltb-true, ltb-false}
-use Rattle.rules.specs.Lists.{range, any, firstPlace}
+use Rattle.rules.specs.Lists.{range, any, firstPlace, withEach}
 use Rattle.rules.specs.Sheets.Sheets.{Gate, Net, Table, usedBy, levelsAt}
 use Rattle.rules.specs.Nets.Value.{gateValue, withGates, value, valueWith}
 use Rattle.rules.specs.Groups.Groups.{part, multiplicity}
@@ -31,11 +31,12 @@ use Rattle.laws.specs.Lists.Places.{length-snoc, mem-getD}
 use Rattle.laws.specs.Lists.Ranges.{mem-range, range-mem}
 use Rattle.trees.specs.Trees.Trees.{EachGate}
 use Rattle.rules.specs.Nets.Trees.{Tree, wiringIn, Computes}
+use Rattle.laws.specs.Lists.WithEach.{with-each-length}
 use Rattle.trees.specs.Groups.Classes.{Few}
 use Rattle.trees.specs.Filling.DigitRule.{gate-table}
 use Rattle.trees.specs.Trees.Wirings.{group-below}
 use Rattle.trees.specs.Trees.Homes.{grown-inputs, grown-gates}
-use Rattle.trees.specs.Trees.Forest.{treeAt, withTrees, joined, inputTrees, trees-length, inputs-length}
+use Rattle.trees.specs.Trees.Forest.{treeAt, withTrees, joinedTree, inputTrees, inputs-length}
 use Rattle.trees.specs.Trees.NetTree.{net-tree, netWiring, netGroup, net-group-below, net-uses}
 use Rattle.trees.specs.Leaves.Mattering.{Holding, holding-part}
 use Rattle.trees.specs.Trees.Existence.{net-few, net-holds}
@@ -76,17 +77,19 @@ module _ (m n : ℕ) (pos : 0 < m) (f : ℕ → ℕ) where
     last-gives : (groups values : List ℕ) (l : Link) (links : List Link) → Carries m n pos f p groups values → Fillable m n f groups (l ∷ links)
         → getD (withGates m values (filledFrom m n f groups (l ∷ links))) (length groups + length links) 0
         ≡ given m n f true (getD (withGroups groups (l ∷ links)) (length groups + length links) 0) p
-    unfolding filledFrom withGates withGroups
+    unfolding filledFrom withEach
     last-gives groups values l [] carries may =
         let at : length groups + 0 ≡ length values = omega (arith, carries .count) in
         let own : length groups + 0 ≡ length groups = omega arith in
         let v : ℕ = gateValue m values (lineGate m n f true groups l) in
         ap (λ (i : ℕ). getD (values ++ (v ∷ [])) i 0) at ∙ getD-append-seam values v [] 0
         ∙ line-value m n pos f p groups values l true carries (may .0) (may .1) (may .2)
-        ∙ ap (λ (x : ℕ). given m n f true x p) (sym (ap (λ (i : ℕ). getD (groups ++ (linkGroup groups l ∷ [])) i 0) own ∙ getD-append-seam groups (linkGroup groups l) [] 0))
+        ∙ ap (λ (x : ℕ). given m n f true x p)
+        (sym (ap (λ (i : ℕ). getD (groups ++ (linkGroup groups l ∷ [])) i 0) own ∙ getD-append-seam groups (linkGroup groups l) [] 0))
     last-gives groups values l (k ∷ links) carries may =
         let next = line-carries m n pos f p groups values l carries (may .0) (may .1) (may .2) in
-        let on : length groups + suc (length links) ≡ length (groups ++ (linkGroup groups l ∷ [])) + length links = omega (arith, length-snoc groups (linkGroup groups l)) in
+        let on : length groups + suc (length links) ≡ length (groups ++ (linkGroup groups l ∷ [])) + length links =
+        omega (arith, length-snoc groups (linkGroup groups l)) in
         rw (more-left m n f groups l k links, on)
         (last-gives (groups ++ (linkGroup groups l ∷ [])) (values ++ (gateValue m values (lineGate m n f false groups l) ∷ [])) k links next (may .3))
 
@@ -106,11 +109,11 @@ module _ (m n : ℕ) (pos : 0 < m) (f : ℕ → ℕ) where
 -- the groups of the references are those of their trees
 groups-of-trees : (forest : List Tree) (gates : List Gate) → RefersBack (length forest) gates
     → withGroups (groupsIn forest) (gateLinks gates) ≡ groupsIn (withTrees forest gates)
-unfolding withGroups withTrees
+unfolding withEach
 groups-of-trees forest [] back = refl
 groups-of-trees forest (g ∷ gates) back =
     ap (λ (gs : List ℕ). withGroups gs (gateLinks gates)) (groups-joined forest g (back .0) (back .1))
-    ∙ groups-of-trees (forest ++ (joined forest g ∷ [])) gates (rw length-snoc (back .2))
+    ∙ groups-of-trees (forest ++ (joinedTree forest g ∷ [])) gates (rw length-snoc (back .2))
 
 -- and groups of inputs below n
 pub group-small : (m n : ℕ) (gates : List Gate) → IsNet m n gates → (r : ℕ) → r < n + length gates
@@ -119,7 +122,7 @@ group-small m n gates net r h =
     let forest : List Tree = withTrees (inputTrees n) gates in
     let back : RefersBack (length (inputTrees n)) gates = rw inputs-length (net .rules .back) in
     let grown = grown-gates m n gates [] (inputTrees n) (grown-inputs m n) back (net .rules .once) (net .rules .tables) in
-    let r< : r < length forest = omega (arith, trees-length (inputTrees n) gates, inputs-length n) in
+    let r< : r < length forest = omega (arith, with-each-length joinedTree (inputTrees n) gates, inputs-length n) in
     subst⁻¹ (λ (g : ℕ). g < 2 ^ n)
     (ap (λ (gs : List ℕ). getD (withGroups gs (gateLinks gates)) r 0) (sym (inputs-in n))
     ∙ ap (λ (gs : List ℕ). getD gs r 0) (groups-of-trees (inputTrees n) gates back)
@@ -134,7 +137,7 @@ last-leaves m n gates net =
     let at : ℕ = n + length gates - 1 in
     ap (λ (gs : List ℕ). getD (withGroups gs (gateLinks gates)) at 0) (sym (inputs-in n))
     ∙ ap (λ (gs : List ℕ). getD gs at 0) (groups-of-trees (inputTrees n) gates (rw inputs-length (net .rules .back)))
-    ∙ group-at forest at (omega (arith, net .some, trees-length (inputTrees n) gates, inputs-length n))
+    ∙ group-at forest at (omega (arith, net .some, with-each-length joinedTree (inputTrees n) gates, inputs-length n))
     ∙ ap treeGroup (sym (net-tree m n gates net .last))
 
 -- what holds of every gate's group of a wiring holds of each group that it joins

@@ -21,7 +21,8 @@ use Rattle.rules.specs.Nets.Leaves.{matters, leavesOf}
 use Rattle.laws.specs.Lists.Tests.{not-true-false, or-false-iff}
 use Rattle.trees.specs.Trees.Trees.{WiringOf, EachGate, mix}
 use Rattle.rules.specs.Nets.Trees.{Apart, EachOnce}
-use Rattle.trees.specs.Groups.Members.{member-ext, member-zero, member-single, member-join, member-rest, member-whole, member-inside, inside-member, inside-join, inside-le, first-member, single-below, join-below, whole-below, size-single}
+use Rattle.trees.specs.Groups.Members.{member-ext, member-zero, member-single, member-join, member-rest, member-whole, member-inside}
+use Rattle.trees.specs.Groups.Members.{inside-member, inside-join, inside-le, first-member, single-below, join-below, whole-below, size-single}
 use Rattle.trees.specs.Groups.Levels.{level-mix-in, level-mix-out, mix-below}
 use Rattle.trees.specs.Groups.Classes.{Few, class-below, class-alike, few-classes}
 use Rattle.trees.specs.Trees.Wirings.{group-below}
@@ -48,7 +49,7 @@ module _ (m n : ℕ) (pos : 0 < m) (f : ℕ → ℕ) where
 
   module _ (g h : ℕ) (g< : g < 2 ^ n) (h< : h < 2 ^ n) (rest : Idle g h) where
     -- the levels that h has and g has not do not show
-    idle-mix : (p y : ℕ) → f (mix m n g p y) ≡ f (mix m n h p y)
+    pub idle-mix : (p y : ℕ) → f (mix m n g p y) ≡ f (mix m n h p y)
     idle-mix p y =
         idle-ink m n pos f _ _ (mix-below m n pos g p y g<) (mix-below m n pos h p y h<) (λ j j< is. go j j< is (member j g) refl (member j h) refl)
       where
@@ -112,7 +113,8 @@ module _ (m n : ℕ) (pos : 0 < m) (f : ℕ → ℕ) where
   -- of a gate, by what is left on its two sides
   module _ (g : ℕ) (a b : Wiring) (once : EachOnce n (gate a b)) where
     -- a gate's leaves in g are those of its sides
-    gate-meets : (i : ℕ) → i < n → (member i (groupOf (gate a b)) && member i g) ≡ ((member i (groupOf a) && member i g) || (member i (groupOf b) && member i g))
+    gate-meets : (i : ℕ) → i < n → (member i (groupOf (gate a b)) && member i g)
+        ≡ ((member i (groupOf a) && member i g) || (member i (groupOf b) && member i g))
     unfolding groupOf
     gate-meets i i< =
         ap (λ t. t && member i g) (member-join i n (groupOf a) (groupOf b) (group-below n a (once .1)) (group-below n b (once .2)) (once .0) i<)

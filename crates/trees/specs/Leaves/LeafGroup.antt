@@ -48,7 +48,8 @@ list-group n (x ∷ xs) distinct inputs =
     let apart : Apart n (2 ^ x) (powersOf xs) = λ i i<. rw (member-single i x, rest .members i i<) (other i (eqb i x) refl) in
     record {
       below = join-below n (2 ^ x) (powersOf xs) x-below (rest .below) apart;
-      members = λ i i<. member-join i n (2 ^ x) (powersOf xs) x-below (rest .below) apart i< ∙ rw (member-single i x, rest .members i i<) (sym (any-cons (eqb i) x xs));
+      members = λ i i<. member-join i n (2 ^ x) (powersOf xs) x-below (rest .below) apart i<
+          ∙ rw (member-single i x, rest .members i i<) (sym (any-cons (eqb i) x xs));
       many = size-join n (2 ^ x) (powersOf xs) x-below (rest .below) apart ∙ omega (arith, size-single x n x<, rest .many);
     }
   where

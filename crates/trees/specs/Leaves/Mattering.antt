@@ -51,7 +51,7 @@ not-true false e = refl
 
 module _ (m n : ℕ) (pos : 0 < m) (f : ℕ → ℕ) where
   -- an index that has q's levels at g, and p's elsewhere, is q where p and q agree elsewhere
-  mix-is : (g p q : ℕ) → g < 2 ^ n → q < m ^ n → ((j : ℕ) → j < n → member j g ≡ false → level m n p j ≡ level m n q j) → mix m n g q p ≡ q
+  pub mix-is : (g p q : ℕ) → g < 2 ^ n → q < m ^ n → ((j : ℕ) → j < n → member j g ≡ false → level m n p j ≡ level m n q j) → mix m n g q p ≡ q
   mix-is g p q g< q< agree =
       level-ext m n pos (mix m n g q p) q (mix-below m n pos g q p g<) q< (λ j j<. go j j< (member j g) refl)
     where

@@ -5,7 +5,8 @@ use Prim.Native.Nat.{ℕ, zero, suc, _+_, _-_, _*_, _/_, _%_, _^_, _<_}
 use mathlib.Core.Path.{_≡_, refl, sym, ap, _∙_}
 use mathlib.Core.Bool.{Bool, true, false, not, cond}
 use mathlib.Core.List.{List, [], _∷_, map, map-map, append-nil, List·Memᴰ, Memᴰ·of-map}
-use native.Mathlib.Nat.{zero-mul, zero-add, add-zero, mul-one, one-mul, suc-mul, pow-zero, pow-suc, le-refl, le-step, mul-assoc, mul-add-div-right, one-le-pow, div-add-mod', zero-div, zero-mod}
+use native.Mathlib.Nat.{zero-mul, zero-add, add-zero, mul-one, one-mul, suc-mul, pow-zero, pow-suc, le-refl, le-step, mul-assoc, mul-add-div-right}
+use native.Mathlib.Nat.{one-le-pow, div-add-mod', zero-div, zero-mod}
 use native.Mathlib.Numerals.{add-one}
 use native.Mathlib.Decide.{decLt}
 use native.Mathlib.Omega.{arith}

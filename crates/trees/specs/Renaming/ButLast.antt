@@ -35,7 +35,8 @@ module _ (gates others : List Gate) (but : ButLast gates others) where
   with-last g = but .before ++ (g ∷ [])
 
   -- what is the same for both forms of the last gate is the same for both lists
-  by-last : {A : Type 0} (what : List Gate → A) → what (with-last (withTable (but .last) (but .digits))) ≡ what (with-last (but .last)) → what others ≡ what gates
+  by-last : {A : Type 0} (what : List Gate → A) → what (with-last (withTable (but .last) (but .digits))) ≡ what (with-last (but .last))
+      → what others ≡ what gates
   by-last what same = ap what (but .theirs) ∙ same ∙ sym (ap what (but .ours))
 
   -- "every table but the last"
@@ -46,7 +47,8 @@ module _ (gates others : List Gate) (but : ButLast gates others) where
       by-last (λ l. tableAt l k) (simp map-append (List·getD-append tables _ [] (k - 1) early' ∙ sym (List·getD-append tables _ [] (k - 1) early')))
 
   -- "the gates whose table field differs from the old one": every gate but the last is one in both or in neither
-  pub but-last-changed : (old : List Gate) → length old ≡ length gates → (k : ℕ) → k ≢ length gates → member k (changedGates old others) ≡ member k (changedGates old gates)
+  pub but-last-changed : (old : List Gate) → length old ≡ length gates → (k : ℕ) → k ≢ length gates
+      → member k (changedGates old others) ≡ member k (changedGates old gates)
   but-last-changed old count k not-last =
       two-ways _ _
       (λ e. let (some, within, differs) = changed-exactly old others k .0 e in

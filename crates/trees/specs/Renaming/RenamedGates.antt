@@ -10,7 +10,7 @@ use native.Mathlib.Nat.{mod-lt, div-add-mod', div-lt-iff-lt-mul}
 use native.Mathlib.Omega.{arith}
 use lib.ListN.{length, getD}
 use lib.Dec.{eqb}
-use Rattle.rules.specs.Lists.{firstPlace}
+use Rattle.rules.specs.Lists.{firstPlace, withEach}
 use Rattle.rules.specs.Sheets.Sheets.{Gate, level, levelsAt}
 use Rattle.rules.specs.Nets.Value.{gateValue, withGates}
 use Rattle.rules.specs.Groups.Groups.{part, points, others, size, classes, alikeOver}
@@ -34,14 +34,16 @@ module _ (m n : ℕ) (pos : 0 < m) (f h : ℕ → ℕ) (same : SameInks m n f h)
   pub class-renamed : (g p : ℕ) → classNumber m n f g p ≡ classNumber m n h g p
   unfolding classNumber
   class-renamed g p =
-      place-same _ _ (classes m n f g) (λ q is. alike-renamed m n pos f h same g (part m n g p) q (part-in-points m n pos g p) (classes-of-points m n pos f g q is))
+      place-same _ _ (classes m n f g)
+      (λ q is. alike-renamed m n pos f h same g (part m n g p) q (part-in-points m n pos g p) (classes-of-points m n pos f g q is))
       ∙ ap (firstPlace (alikeOver h (points m n (others n g)) (part m n g p))) (classes-renamed m n pos f h same g)
 
   -- .. so each wire carries the same, ..
   wire-renamed : (g : ℕ) → carried m n f g ≡ carried m n h g
   unfolding carried
   wire-renamed g =
-      ap (λ (several : ℕ → ℕ). elim (eqb (size n g) 1) as (λ _. ℕ → ℕ) [ true ↦ λ p. level m n p (firstInput n g) | false ↦ several ]) (fun-ext (class-renamed g))
+      ap (λ (several : ℕ → ℕ). elim (eqb (size n g) 1) as (λ _. ℕ → ℕ) [ true ↦ λ p. level m n p (firstInput n g) | false ↦ several ])
+      (fun-ext (class-renamed g))
 
   pub carried-renamed : (g p : ℕ) → carried m n f g p ≡ carried m n h g p
   carried-renamed g p = ap (λ (wire : ℕ → ℕ). wire p) (wire-renamed g)
@@ -128,7 +130,7 @@ module _ (m n : ℕ) (pos : 0 < m) (r f h : ℕ → ℕ) (below : (p : ℕ) → 
   -- the last gate alone
   last-renamed : (groups : List ℕ) (values : ℕ → List ℕ) (l : Link) → ((p : ℕ) → Carries m n pos f p groups (values p)) → Fillable m n f groups (l ∷ [])
       → RenamedFrom m n r values (filledFrom m n f groups (l ∷ [])) (filledFrom m n h groups (l ∷ []))
-  unfolding filledFrom withGates
+  unfolding filledFrom withEach
   last-renamed groups values l carries may =
       record {
         lines = record { before = []; last = own; digits = gateDigits m n h true a b; ours = refl; theirs = refl };
@@ -158,7 +160,7 @@ module _ (m n : ℕ) (pos : 0 < m) (r f h : ℕ → ℕ) (below : (p : ℕ) → 
 
   from-renamed : (groups : List ℕ) (values : ℕ → List ℕ) (l : Link) (links : List Link) → ((p : ℕ) → Carries m n pos f p groups (values p))
       → Fillable m n f groups (l ∷ links) → RenamedFrom m n r values (filledFrom m n f groups (l ∷ links)) (filledFrom m n h groups (l ∷ links))
-  unfolding withGates
+  unfolding withEach
   from-renamed groups values l [] carries may = last-renamed groups values l carries may
   from-renamed groups values l (k ∷ links) carries may =
       let line : Gate = lineGate m n f false groups l in
@@ -173,7 +175,8 @@ module _ (m n : ℕ) (pos : 0 < m) (r f h : ℕ → ℕ) (below : (p : ℕ) → 
           theirs =
               more-left m n h groups l k links
               ∙ ap₂ (λ (digits : List ℕ) (gates : List Gate). withTable line digits ∷ gates)
-              (sym (digits-renamed m n pos f h (renamed-same m n r f h below renamed) (getD groups (l .left) 0) (getD groups (l .right) 0))) (rest .lines .theirs);
+              (sym (digits-renamed m n pos f h (renamed-same m n r f h below renamed) (getD groups (l .left) 0) (getD groups (l .right) 0)))
+              (rest .lines .theirs);
         };
         count = rest .count;
         count-renamed = rest .count-renamed;
@@ -182,7 +185,8 @@ module _ (m n : ℕ) (pos : 0 < m) (r f h : ℕ → ℕ) (below : (p : ℕ) → 
       }
 
   -- any wiring that can be filled
-  pub filled-renamed : (links : List Link) → 0 < length links → Fillable m n f (inputGroups n) links → RenamedGates m n r (filled m n f links) (filled m n h links)
+  pub filled-renamed : (links : List Link) → 0 < length links → Fillable m n f (inputGroups n) links
+      → RenamedGates m n r (filled m n f links) (filled m n h links)
   unfolding filled
   filled-renamed [] some may = absurd (omega arith)
   filled-renamed (l ∷ links) some may = from-renamed (inputGroups n) (levelsAt m n) l links (inputs-carry m n pos f) may

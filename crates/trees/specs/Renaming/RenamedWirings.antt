@@ -1,5 +1,5 @@
--- Two tables of which one is a renaming of the other's inks have the same wirings, since these are chosen by marks and leaves: the settled one, the shallow one,
--- and each of the family, which has as many. A given wiring fits both or neither, at the same gate.
+-- Two tables of which one is a renaming of the other's inks have the same wirings, since these are chosen by marks and leaves: the settled one, the
+-- shallow one, and each of the family, which has as many. A given wiring fits both or neither, at the same gate.
 -- Assumes nothing.
 use Prim.Native.Nat.{ℕ, suc, _+_, _-_, _<_}
 use mathlib.Core.Path.{_≡_, refl, sym, _∙_, ap, ap₂}
@@ -7,7 +7,7 @@ use mathlib.Core.Bool.{Bool, not, _&&_}
 use mathlib.Core.List.{List, [], _∷_, _++_, map}
 use lib.ListN.{length, getD, length-map}
 use lib.Dec.{eqb, ltb}
-use Rattle.rules.specs.Lists.{range, any}
+use Rattle.rules.specs.Lists.{range, any, withEach}
 use Rattle.rules.specs.Sheets.Sheets.{Gate, Net, Table, usedBy}
 use Rattle.rules.specs.Nets.Leaves.{leavesOf}
 use Rattle.rules.specs.Groups.Marks.{marksOf}
@@ -61,7 +61,7 @@ module _ (m n : ℕ) (pos : 0 < m) (f h : ℕ → ℕ) (same : SameInks m n f h)
 -- a wiring has the same ways to its references, whatever table it is filled for
 ways-filled : (m n : ℕ) (f h : ℕ → ℕ) (ways : List (List ℕ)) (groups : List ℕ) (links : List Link)
     → withWays ways (filledFrom m n f groups links) ≡ withWays ways (filledFrom m n h groups links)
-unfolding withWays gateWays filledFrom
+unfolding withEach gateWays filledFrom
 ways-filled m n f h ways groups [] = refl
 ways-filled m n f h ways groups (l ∷ links) =
     ways-filled m n f h (ways ++ (map suc (getD ways (l .left) [] ++ getD ways (l .right) []) ∷ [])) (groups ++ (linkGroup groups l ∷ [])) links
@@ -86,7 +86,8 @@ shallow-layers-renamed m n pos f h same =
 
 -- ---- of a net sheet and two table sheets
 
-module _ (net : Net) (t u : Table) (pos : 0 < net .header .levels) (same : SameInks (net .header .levels) (net .header .inputs) (inkIn (t .inks)) (inkIn (u .inks))) where
+module _ (net : Net) (t u : Table) (pos : 0 < net .header .levels)
+    (same : SameInks (net .header .levels) (net .header .inputs) (inkIn (t .inks)) (inkIn (u .inks))) where
   abbrev m : ℕ
   m = net .header .levels
 

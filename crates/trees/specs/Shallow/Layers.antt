@@ -13,12 +13,12 @@ use Rattle.rules.specs.Nets.Wirings.{Wiring, input, gate, gatesIn, linksOf}
 use Rattle.rules.specs.Nets.Filling.{filled}
 use Rattle.rules.specs.Nets.Layers.{gateWays, withWays, waysOf, most, layers}
 use Rattle.rules.specs.Sheets.SheetRules.{RefersBack, IsNet}
-use Rattle.laws.specs.Lists.Concat.{map-append}
-use Rattle.laws.specs.Lists.Places.{length-snoc, map-at}
+use Rattle.laws.specs.Lists.Places.{map-at}
 use Rattle.laws.specs.Lists.Extremes.{most-bounds, most-listed, most-append, most-suc}
 use Rattle.trees.specs.Trees.Trees.{fill}
 use Rattle.rules.specs.Nets.Trees.{Tree, leaf, node, wiringIn, EachOnce}
-use Rattle.trees.specs.Trees.Forest.{treeAt, joined, withTrees, inputTrees, trees-length, inputs-length}
+use Rattle.laws.specs.Lists.WithEach.{with-each-length, gates-step}
+use Rattle.trees.specs.Trees.Forest.{treeAt, joinedTree, withTrees, inputTrees, inputs-length}
 use Rattle.trees.specs.Shallow.Depths.{depth}
 use Rattle.trees.specs.Trees.NetTree.{net-tree, netWiring}
 use Rattle.trees.specs.Trees.TreeLists.{treeGates, lines-length, lines-back}
@@ -51,18 +51,14 @@ depth-most (gate a b) =
 -- for ways of any kind: those at a gate are the ways at its two sides, each with one gate more
 module _ (ways : Tree → List ℕ) (joins : (digits : List ℕ) (a b : Tree) → ways (node digits a b) ≡ map suc (ways a ++ ways b)) where
   gate-ways : (forest : List Tree) (g : Gate) → g .left < length forest → g .right < length forest
-      → gateWays (map ways forest) g ≡ ways (joined forest g)
+      → gateWays (map ways forest) g ≡ ways (joinedTree forest g)
   unfolding gateWays
   gate-ways forest g l< r< =
       rw (map-at ways forest (g .left) (leaf 0) [] l<, map-at ways forest (g .right) (leaf 0) [] r<) (sym (joins (g .digits) _ _))
 
   pub gates-ways : (gates : List Gate) (forest : List Tree) → RefersBack (length forest) gates
       → withWays (map ways forest) gates ≡ map ways (withTrees forest gates)
-  unfolding withWays withTrees
-  gates-ways [] forest back = refl
-  gates-ways (g ∷ gates) forest back =
-      rw (gate-ways forest g (back .0) (back .1), ← (map-append ways forest (joined forest g ∷ [])))
-      (gates-ways gates (forest ++ (joined forest g ∷ [])) (rw length-snoc (back .2)))
+  gates-ways = gates-step ways joinedTree gateWays gate-ways
 
 -- the ways in a tree
 abbrev waysTo : Tree → List ℕ
@@ -90,7 +86,7 @@ module _ (n : ℕ) (gates : List Gate) (some : 0 < length gates) (back : RefersB
   last-ways =
       rw (← inputs-ways, gates-ways waysTo ways-join gates (inputTrees n) (rw inputs-length back))
       (map-at waysTo (withTrees (inputTrees n) gates) (n + length gates - 1) (leaf 0) []
-      (omega (arith, trees-length (inputTrees n) gates, inputs-length n)))
+      (omega (arith, with-each-length joinedTree (inputTrees n) gates, inputs-length n)))
 
   pub last-layers : layers n gates ≡ depth (wiringIn lastTree)
   unfolding layers

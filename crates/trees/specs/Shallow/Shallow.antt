@@ -15,7 +15,7 @@ use Rattle.rules.specs.Groups.Groups.{size}
 use Rattle.rules.specs.Groups.Marks.{inside, marksOf}
 use Rattle.rules.specs.Nets.Wirings.{Wiring, input, gate, groupOf}
 use Rattle.rules.specs.Nets.Shallow.{splitLayers, fewestLayers, shallowSplit, shallowWiring}
-use Rattle.rules.specs.Nets.SettledLaws.{found-in-range, MayBeA, mayBeA, tested, may-be}
+use Rattle.rules.specs.Nets.SettledLaws.{found-in-range, MayBeA, mayBeA, may-be-a, may-be}
 use Rattle.trees.specs.Trees.Trees.{EachGate, WiringOf}
 use Rattle.rules.specs.Nets.Trees.{EachOnce}
 use Rattle.trees.specs.Groups.Members.{member-inside, size-single, size-le}
@@ -46,7 +46,7 @@ module _ (n : ℕ) (marks : List ℕ) (g : ℕ) where
 
   shallow-tested : (a : ℕ) → MayBeShallowA n marks g a → isShallowA a ≡ true
   unfolding splitLayers
-  shallow-tested a is = and-eq-true-iff _ _ .1 (tested n marks g a (is .may), eq-eqb _ _ (is .keeps))
+  shallow-tested a is = and-eq-true-iff _ _ .1 (may-be-a n marks g a (is .may), eq-eqb _ _ (is .keeps))
 
   shallow-may-be : (a : ℕ) → 0 < a → a < g → isShallowA a ≡ true → MayBeShallowA n marks g a
   unfolding splitLayers

@@ -48,7 +48,8 @@ module _ (t : Table) (kept : TableRules t) (full : FullTable t) (two : WholeTwo 
       λ i. record { header = t .header; inks = table-is (t .header .levels) (t .header .inputs) (shallowNet t .gates) (t .inks) (kept .count) has i }
 
   -- no gate list with the table has fewer layers, whatever its wiring and tables, ..
-  pub shallow-least-gates : (gates : List Gate) → IsNet (t .header .levels) (t .header .inputs) gates → Computes (t .header .levels) (t .header .inputs) gates (inkIn (t .inks))
+  pub shallow-least-gates : (gates : List Gate) → IsNet (t .header .levels) (t .header .inputs) gates
+      → Computes (t .header .levels) (t .header .inputs) gates (inkIn (t .inks))
       → netLayers (shallowNet t) ≤ layers (t .header .inputs) gates
   unfolding shallowNet netLayers
   shallow-least-gates = shallowest-net (t .header .levels) (t .header .inputs) pos several (inkIn (t .inks)) two
@@ -68,7 +69,8 @@ module _ (t : Table) (kept : TableRules t) (full : FullTable t) (two : WholeTwo 
         header = kept .header;
         gates = settled-net (t .header .levels) (t .header .inputs) pos several (inkIn (t .inks)) inks-below two .0;
       } in
-      let used = same-inputs (t .header .inputs) (shallowNet t .gates) (settledNet t .gates) (leavesOf (t .header .levels) (t .header .inputs) (inkIn (t .inks)))
+      let used = same-inputs (t .header .inputs) (shallowNet t .gates) (settledNet t .gates)
+      (leavesOf (t .header .levels) (t .header .inputs) (inkIn (t .inks)))
       (shallow-leaves (t .header .levels) (t .header .inputs) pos several (inkIn (t .inks)) two)
       (settled-leaves (t .header .levels) (t .header .inputs) pos several (inkIn (t .inks)) two) in
       equally-long (shallowNet t) (settledNet t) shallow-kept settled-kept refl used

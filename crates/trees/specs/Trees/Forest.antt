@@ -2,45 +2,37 @@
 -- references are the values of their trees.
 -- Assumes nothing.
 use Prim.Native.Nat.{ℕ, _+_, _-_, _<_}
-use mathlib.Core.Path.{_≡_, refl, _∙_, ap}
-use mathlib.Core.List.{List, [], _∷_, _++_, map, map-map}
+use mathlib.Core.Path.{_≡_, _∙_, ap}
+use mathlib.Core.List.{List, map, map-map}
 use native.Mathlib.Nat.{zero-add}
 use native.Mathlib.Omega.{arith}
 use lib.ListN.{length, getD}
-use Rattle.rules.specs.Lists.{range}
+use Rattle.rules.specs.Lists.{range, withEach}
 use Rattle.rules.specs.Sheets.Sheets.{Gate, levelsAt}
 use Rattle.rules.specs.Nets.Value.{gateValue, withGates, value, valueWith}
 use Rattle.rules.specs.Sheets.SheetRules.{RefersBack}
-use Rattle.laws.specs.Lists.Concat.{map-append}
-use Rattle.laws.specs.Lists.Places.{length-snoc, map-at}
+use Rattle.laws.specs.Lists.Places.{map-at}
 use Rattle.laws.specs.Lists.Ranges.{map-range-length, map-range-at}
 use Rattle.rules.specs.Nets.Trees.{Tree, leaf, node, treeValue}
+use Rattle.laws.specs.Lists.WithEach.{with-each-length, gates-step}
 
 -- the tree of a reference
 abbrev pub treeAt : List Tree → ℕ → Tree
 treeAt forest r = getD forest r (leaf 0)
 
 -- the tree of one more gate
-abbrev pub joined : List Tree → Gate → Tree
-joined forest g = node (g .digits) (treeAt forest (g .left)) (treeAt forest (g .right))
+abbrev pub joinedTree : List Tree → Gate → Tree
+joinedTree forest g = node (g .digits) (treeAt forest (g .left)) (treeAt forest (g .right))
 
 -- the trees of all references: those given, then the gates', in order
-unfoldable pub withTrees : List Tree → List Gate → List Tree
-withTrees forest [] = forest
-withTrees forest (g ∷ gates) = withTrees (forest ++ (joined forest g ∷ [])) gates
+abbrev pub withTrees : List Tree → List Gate → List Tree
+withTrees forest gates = withEach joinedTree forest gates
 
 -- the trees of the inputs
 unfoldable pub inputTrees : ℕ → List Tree
 inputTrees n = map leaf (range 0 n)
 
 -- ---- lengths
-
--- each gate has a tree
-pub trees-length : (forest : List Tree) (gates : List Gate) → length (withTrees forest gates) ≡ length forest + length gates
-unfolding withTrees
-trees-length forest [] = omega arith
-trees-length forest (g ∷ gates) =
-    omega (arith, trees-length (forest ++ (joined forest g ∷ [])) gates, length-snoc forest (joined forest g))
 
 -- each input has a tree
 pub inputs-length : (n : ℕ) → length (inputTrees n) ≡ n
@@ -61,7 +53,7 @@ module _ (m n p : ℕ) where
 
   -- a gate's value is its tree's
   gate-value : (forest : List Tree) (g : Gate) → g .left < length forest → g .right < length forest
-      → gateValue m (map valueOf forest) g ≡ valueOf (joined forest g)
+      → gateValue m (map valueOf forest) g ≡ valueOf (joinedTree forest g)
   unfolding gateValue treeValue
   gate-value forest g l< r< =
       rw (map-at valueOf forest (g .left) (leaf 0) 0 l<, map-at valueOf forest (g .right) (leaf 0) 0 r<)
@@ -69,11 +61,7 @@ module _ (m n p : ℕ) where
   -- every reference's value is its tree's
   gates-values : (gates : List Gate) (forest : List Tree) → RefersBack (length forest) gates
       → withGates m (map valueOf forest) gates ≡ map valueOf (withTrees forest gates)
-  unfolding withGates withTrees
-  gates-values [] forest back = refl
-  gates-values (g ∷ gates) forest back =
-      rw (gate-value forest g (back .0) (back .1), ← (map-append valueOf forest (joined forest g ∷ [])))
-      (gates-values gates (forest ++ (joined forest g ∷ [])) (rw length-snoc (back .2)))
+  gates-values = gates-step valueOf joinedTree (gateValue m) gate-value
 
   -- an input's value is its level
   inputs-values : map valueOf (inputTrees n) ≡ levelsAt m n p
@@ -87,4 +75,4 @@ module _ (m n p : ℕ) where
   last-value gates some back =
       rw (← inputs-values, gates-values gates (inputTrees n) (rw inputs-length back))
       (map-at valueOf (withTrees (inputTrees n) gates) (n + length gates - 1) (leaf 0) 0
-      (omega (arith, trees-length (inputTrees n) gates, inputs-length n)))
+      (omega (arith, with-each-length joinedTree (inputTrees n) gates, inputs-length n)))

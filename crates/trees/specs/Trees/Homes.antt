@@ -11,7 +11,7 @@ use lib.ListN.{length, List·getD-append}
 use lib.Seq.{getD-append-seam}
 use lib.Dec.{eqb}
 use borrow.Author.Tests.{eqb-true, eqb-false, eq-eqb, ne-eqb}
-use Rattle.rules.specs.Lists.{any}
+use Rattle.rules.specs.Lists.{any, withEach}
 use Rattle.rules.specs.Sheets.Sheets.{Gate, usedBy}
 use Rattle.rules.specs.Groups.Groups.{member}
 use Rattle.rules.specs.Nets.Wirings.{groupOf}
@@ -22,7 +22,7 @@ use Rattle.laws.specs.Lists.Distinct.{NotIn, not-in-two, not-in-cons, distinct-
 use Rattle.rules.specs.Nets.Trees.{Tree, leaf, wiringIn, Apart, EachOnce, Filled}
 use Rattle.trees.specs.Groups.Members.{member-single, member-join}
 use Rattle.trees.specs.Trees.Wirings.{group-below}
-use Rattle.trees.specs.Trees.Forest.{treeAt, joined, withTrees, inputTrees, inputs-length, input-at}
+use Rattle.trees.specs.Trees.Forest.{treeAt, joinedTree, withTrees, inputTrees, inputs-length, input-at}
 
 -- the inputs below a reference
 abbrev pub groupAt : List Tree → ℕ → ℕ
@@ -85,7 +85,7 @@ module _ (m n : ℕ) (used : List ℕ) (forest : List Tree) (grown : Grown m n u
   used⁺ = used ++ (g .left ∷ g .right ∷ [])
 
   abbrev forest⁺ : List Tree
-  forest⁺ = forest ++ (joined forest g ∷ [])
+  forest⁺ = forest ++ (joinedTree forest g ∷ [])
 
   -- the two have no input in common
   pub sides-apart : Apart n (groupAt forest (g .left)) (groupAt forest (g .right))
@@ -107,7 +107,7 @@ module _ (m n : ℕ) (used : List ℕ) (forest : List Tree) (grown : Grown m n u
     taken = eqb (home .at) (g .left) || eqb (home .at) (g .right)
 
     -- then the input is below the gate
-    joined-member : member i (groupOf (wiringIn (joined forest g))) ≡ taken
+    joined-member : member i (groupOf (wiringIn (joinedTree forest g))) ≡ taken
     unfolding groupOf
     joined-member =
         member-join i n (groupAt forest (g .left)) (groupAt forest (g .right)) (small (g .left) left<) (small (g .right) right<)
@@ -126,10 +126,10 @@ module _ (m n : ℕ) (used : List ℕ) (forest : List Tree) (grown : Grown m n u
         go : NotIn s used × (s ≡ g .left → ⊥) × (s ≡ g .right → ⊥) → Dec (s < length forest)
             → member i (groupAt forest⁺ s) ≡ eqb a s
         go was (yes k) =
-            rw (List·getD-append forest (joined forest g ∷ []) (leaf 0) s k)
+            rw (List·getD-append forest (joinedTree forest g ∷ []) (leaf 0) s k)
             (home .sole s k (was .0) ∙ old s k (was .1) (was .2))
         go was (no k) =
-            let last : s ≡ length forest = omega (arith, length-snoc forest (joined forest g)) in
+            let last : s ≡ length forest = omega (arith, length-snoc forest (joinedTree forest g)) in
             rw (last, getD-append-seam) (joined-member ∙ new)
 
     -- the gate is the new home if it takes the old one
@@ -139,7 +139,7 @@ module _ (m n : ℕ) (used : List ℕ) (forest : List Tree) (grown : Grown m n u
         go : (t : Bool) → taken ≡ t → Home used⁺ forest⁺ i
         go true e = record {
           at = length forest;
-          below = omega (arith, length-snoc forest (joined forest g));
+          below = omega (arith, length-snoc forest (joinedTree forest g));
           unused = fresh-snoc (length forest) (omega arith);
           sole = sole-snoc (length forest)
               (λ s h no-l no-r. neither (home .at) (g .left) (g .right) s e no-l no-r ∙ sym (ne-eqb (length forest) s (λ q. omega arith)))
@@ -147,7 +147,7 @@ module _ (m n : ℕ) (used : List ℕ) (forest : List Tree) (grown : Grown m n u
         }
         go false e = let other = or-false-iff (eqb (home .at) (g .left)) (eqb (home .at) (g .right)) .0 e in record {
           at = home .at;
-          below = omega (arith, length-snoc forest (joined forest g), home .below);
+          below = omega (arith, length-snoc forest (joinedTree forest g), home .below);
           unused = not-in-two (home .at) used (g .left) (g .right) .1
               (home .unused, eqb-false (home .at) (g .left) (other .0), eqb-false (home .at) (g .right) (other .1));
           sole = sole-snoc (home .at) (λ s h no-l no-r. refl)
@@ -157,13 +157,13 @@ module _ (m n : ℕ) (used : List ℕ) (forest : List Tree) (grown : Grown m n u
   -- the gate keeps all that `Grown` says
   pub grown-snoc : GateTable m (g .digits) → Grown m n used⁺ forest⁺
   grown-snoc table = record {
-    enough = omega (arith, length-snoc forest (joined forest g), grown .enough);
-    inputs = λ i h. List·getD-append forest (joined forest g ∷ []) (leaf 0) i (omega (arith, grown .enough)) ∙ grown .inputs i h;
-    filled = each-snoc (Filled m) (leaf 0) forest (joined forest g) (grown .filled)
+    enough = omega (arith, length-snoc forest (joinedTree forest g), grown .enough);
+    inputs = λ i h. List·getD-append forest (joinedTree forest g ∷ []) (leaf 0) i (omega (arith, grown .enough)) ∙ grown .inputs i h;
+    filled = each-snoc (Filled m) (leaf 0) forest (joinedTree forest g) (grown .filled)
         (table, grown .filled (g .left) left<, grown .filled (g .right) right<);
-    once = each-snoc (λ t. EachOnce n (wiringIn t)) (leaf 0) forest (joined forest g) (grown .once)
+    once = each-snoc (λ t. EachOnce n (wiringIn t)) (leaf 0) forest (joinedTree forest g) (grown .once)
         (sides-apart, grown .once (g .left) left<, grown .once (g .right) right<);
-    fresh = λ r h. fresh-snoc r (omega (arith, length-snoc forest (joined forest g)));
+    fresh = λ r h. fresh-snoc r (omega (arith, length-snoc forest (joinedTree forest g)));
     home = home-snoc;
   }
 
@@ -180,11 +180,11 @@ module _ (m n : ℕ) where
   pub grown-gates : (gates : List Gate) (used : List ℕ) (forest : List Tree) → Grown m n used forest
       → RefersBack (length forest) gates → Distinct (used ++ usedBy gates) → Tables m gates
       → Grown m n (used ++ usedBy gates) (withTrees forest gates)
-  unfolding usedBy withTrees
+  unfolding usedBy withEach
   grown-gates [] used forest grown back distinct tables = rw append-nil grown
   grown-gates (g ∷ gates) used forest grown back distinct tables =
       let heads = heads-unused used (g .left) (g .right) (usedBy gates) distinct in
       let next = grown-snoc m n used forest grown g (back .0) (back .1) (heads .0) (heads .1) (heads .2) (tables .0) in
       rw append-assoc at
-      (grown-gates gates (used ++ (g .left ∷ g .right ∷ [])) (forest ++ (joined forest g ∷ [])) next
+      (grown-gates gates (used ++ (g .left ∷ g .right ∷ [])) (forest ++ (joinedTree forest g ∷ [])) next
       (rw length-snoc (back .2)) (rw append-assoc distinct) (tables .1))

@@ -2,44 +2,21 @@
 -- Assumes nothing.
 use Prim.Native.Nat.{ℕ, _+_, _-_, _<_}
 use native.Mathlib.Omega.{arith}
-use mathlib.Core.Path.{_≡_, refl, _∙_}
+use mathlib.Core.Path.{_≡_, _∙_}
 use mathlib.Core.Bool.{true}
-use mathlib.Core.List.{List, [], _∷_, _++_}
-use lib.ListN.{length, length-append, List·getD-append}
-use lib.Seq.{getD-append-seam}
+use mathlib.Core.List.{List, _++_}
+use lib.ListN.{length, length-append}
+use Rattle.rules.specs.Lists.{withEach}
 use Rattle.rules.specs.Sheets.Sheets.{Gate}
 use Rattle.rules.specs.Nets.Wirings.{Wiring, gatesIn, referenceTo, linksOf}
 use Rattle.rules.specs.Nets.Filling.{filled}
-use Rattle.laws.specs.Lists.Places.{length-snoc}
 use Rattle.trees.specs.Trees.Trees.{fill}
 use Rattle.rules.specs.Nets.Trees.{Tree, leaf, node, wiringIn, EachOnce}
-use Rattle.trees.specs.Trees.Forest.{treeAt, joined, withTrees, inputTrees, trees-length, inputs-length, input-at}
+use Rattle.laws.specs.Lists.WithEach.{with-each-append, with-each-length, with-each-earlier, with-each-last}
+use Rattle.trees.specs.Trees.Forest.{treeAt, joinedTree, withTrees, inputTrees, inputs-length, input-at}
 use Rattle.trees.specs.Trees.GateLists.{reference-below, list-lines}
 use Rattle.trees.specs.Trees.TreeLists.{treeGates, lines-length}
 use Rattle.trees.specs.Filling.Fillings.{filled-list}
-
--- ---- gate lists joined end to end
-
--- the trees of the first list's gates, then those of the second's
-trees-append : (forest : List Tree) (xs ys : List Gate) → withTrees forest (xs ++ ys) ≡ withTrees (withTrees forest xs) ys
-unfolding withTrees
-trees-append forest [] ys = refl
-trees-append forest (x ∷ xs) ys = trees-append (forest ++ (joined forest x ∷ [])) xs ys
-
--- the trees before stay
-trees-earlier : (forest : List Tree) (gates : List Gate) (r : ℕ) → r < length forest → treeAt (withTrees forest gates) r ≡ treeAt forest r
-unfolding withTrees
-trees-earlier forest [] r h = refl
-trees-earlier forest (g ∷ gates) r h =
-    trees-earlier (forest ++ (joined forest g ∷ [])) gates r (omega (arith, length-snoc forest (joined forest g)))
-    ∙ List·getD-append forest (joined forest g ∷ []) (leaf 0) r h
-
--- the last is the last gate's
-trees-last : (forest : List Tree) (xs : List Gate) (g : Gate) (k : ℕ) → k ≡ length forest + length xs
-    → treeAt (withTrees forest (xs ++ (g ∷ []))) k ≡ joined (withTrees forest xs) g
-unfolding withTrees
-trees-last forest xs g k e =
-    rw (trees-append, e, ← trees-length forest xs) (getD-append-seam (withTrees forest xs) (joined (withTrees forest xs) g) [] (leaf 0))
 
 -- ---- a tree's own lines
 
@@ -55,26 +32,26 @@ module _ (n : ℕ) where
   planted-after : (before : ℕ) (forest : List Tree) (t : Tree) → Planted before forest
       → Planted (before + gatesIn (wiringIn t)) (treesAfter forest before t)
   planted-after before forest t planted = (
-    omega (arith, trees-length forest (treeGates n before t), lines-length n before t, planted .0),
-    λ i h. trees-earlier forest (treeGates n before t) i (omega arith) ∙ planted .1 i h,
+    omega (arith, with-each-length joinedTree forest (treeGates n before t), lines-length n before t, planted .0),
+    λ i h. with-each-earlier joinedTree (leaf 0) forest (treeGates n before t) i (omega arith) ∙ planted .1 i h,
   )
 
   -- after a tree's lines, the tree at the reference to it is that tree
   tree-at-reference : (before : ℕ) (forest : List Tree) (t : Tree) → EachOnce n (wiringIn t) → Planted before forest
       → treeAt (treesAfter forest before t) (referenceTo n before (wiringIn t)) ≡ t
-  unfolding treeGates withTrees referenceTo
+  unfolding treeGates withEach referenceTo
   tree-at-reference before forest (leaf i) once planted = planted .1 i once
   tree-at-reference before forest (node digits a b) once planted =
       let mid = before + gatesIn (wiringIn a) in
       let after-a = planted-after before forest a planted in
       let below : List Gate = treeGates n before a ++ treeGates n mid b in
-      let left = trees-earlier (treesAfter forest before a) (treeGates n mid b) (referenceTo n before (wiringIn a))
+      let left = with-each-earlier joinedTree (leaf 0) (treesAfter forest before a) (treeGates n mid b) (referenceTo n before (wiringIn a))
       (omega (arith, after-a .0, reference-below n before (wiringIn a) (once .1)))
       ∙ tree-at-reference before forest a (once .1) planted in
       let right = tree-at-reference mid (treesAfter forest before a) b (once .2) after-a in
       let own : n + before + gatesIn (wiringIn a) + gatesIn (wiringIn b) ≡ length forest + length below =
       omega (arith, length-append (treeGates n before a) (treeGates n mid b), lines-length n before a, lines-length n mid b, planted .0) in
-      trees-last forest below _ _ own ∙ rw (trees-append, left, right)
+      with-each-last joinedTree (leaf 0) forest below _ _ own ∙ rw (with-each-append, left, right)
 
   -- the tree that a tree's own lines are
   pub lines-tree : (digits : List ℕ) (a b : Tree) → EachOnce n (wiringIn (node digits a b)) →

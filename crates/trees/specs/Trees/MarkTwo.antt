@@ -21,7 +21,8 @@ use Rattle.trees.specs.Trees.Trees.{WiringOf, EachGate}
 use Rattle.rules.specs.Nets.Trees.{EachOnce}
 use Rattle.trees.specs.Groups.Classes.{Few}
 use Rattle.trees.specs.Trees.Wirings.{group-below}
-use Rattle.trees.specs.Groups.Members.{member-join, member-rest, inside-member, member-inside, first-member, size-zero, size-single, size-one, size-join, size-pos, size-le, rest-apart}
+use Rattle.trees.specs.Groups.Members.{member-join, member-rest, inside-member, member-inside, first-member, size-zero, size-single, size-one}
+use Rattle.trees.specs.Groups.Members.{size-join, size-pos, size-le, rest-apart}
 use Rattle.trees.specs.Groups.MarkRule.{PartsIntoTwos, parts-at-holds, parts-found, parts-swap, Way, to-none, to-two, to-one, marked, way, three-way}
 
 -- the test for document 01's A: a part of mark 2 with a rest of mark 2, that holds the first-listed input
@@ -158,8 +159,10 @@ module _ (n : ℕ) (mark : ℕ → ℕ) (leaves : ℕ) (split : ℕ → ℕ) (sp
       λ several.
       let half = parted g g< g-in two several in
       ap₂ gate
-      (wiring-agree other same fuel _ (a-below g g< g-in two several) (a-inside g g< g-in two several) (half .two-a) ∙ ap (wiringBy n other fuel) (same g g< two))
-      (wiring-agree other same fuel _ (b-below g g< g-in two several) (b-inside g g< g-in two several) (half .two-b) ∙ ap (λ (a : ℕ). wiringBy n other fuel (g - a)) (same g g< two))
+      (wiring-agree other same fuel _ (a-below g g< g-in two several) (a-inside g g< g-in two several) (half .two-a)
+      ∙ ap (wiringBy n other fuel) (same g g< two))
+      (wiring-agree other same fuel _ (b-below g g< g-in two several) (b-inside g g< g-in two several) (half .two-b)
+      ∙ ap (λ (a : ℕ). wiringBy n other fuel (g - a)) (same g g< two))
     where
       go : {w v : Wiring} (b : Bool) → eqb (size n g) 1 ≡ b → (size n g ≢ 1 → w ≡ v)
           → _≡_ {A = Wiring} (elim b [ true ↦ input (firstInput n g) | false ↦ w ]) (elim b [ true ↦ input (firstInput n g) | false ↦ v ])

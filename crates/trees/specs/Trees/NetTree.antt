@@ -19,9 +19,10 @@ use Rattle.rules.specs.Sheets.SheetRules.{RefersBack, GateRules, EarlierUsed, I
 use Rattle.laws.specs.Lists.Tests.{not-false-true}
 use Rattle.laws.specs.Lists.Distinct.{NotIn, not-in-cons}
 use Rattle.rules.specs.Nets.Trees.{Tree, wiringIn, treeValue, EachOnce, Filled, UsesJust}
+use Rattle.laws.specs.Lists.WithEach.{with-each-length}
 use Rattle.trees.specs.Groups.Members.{member-ext, member-single}
 use Rattle.trees.specs.Trees.Wirings.{group-below}
-use Rattle.trees.specs.Trees.Forest.{treeAt, withTrees, inputTrees, trees-length, inputs-length, last-value}
+use Rattle.trees.specs.Trees.Forest.{treeAt, joinedTree, withTrees, inputTrees, inputs-length, last-value}
 use Rattle.trees.specs.Trees.Homes.{Home, Grown, groupAt, grown-inputs, grown-gates}
 
 -- the tree that a gate list is
@@ -63,7 +64,7 @@ module _ (m n : ℕ) (gates : List Gate) (rules : GateRules m n gates) where
   last = n + length gates - 1
 
   forest-length : length forest ≡ n + length gates
-  forest-length = trees-length (inputTrees n) gates ∙ rw inputs-length
+  forest-length = with-each-length joinedTree (inputTrees n) gates ∙ rw inputs-length
 
   -- after all gates, each input is below exactly one reference that is not used
   grown : Grown m n (usedBy gates) forest

@@ -12,7 +12,7 @@ use mathlib.Core.List.{List, [], _∷_, _++_, List·Memᴰ}
 use lib.ListN.{length, getD, length-append}
 use lib.Dec.{eqb}
 use borrow.Author.Tests.{eq-eqb}
-use Rattle.rules.specs.Lists.{range, any, those}
+use Rattle.rules.specs.Lists.{range, any, those, withEach}
 use Rattle.rules.specs.Sheets.Sheets.{Gate, usedBy, level, levelsAt}
 use Rattle.rules.specs.Nets.Value.{value, gateValue, withGates, valueWith}
 use Rattle.rules.specs.Groups.Groups.{member}
@@ -27,9 +27,10 @@ use Rattle.laws.specs.Lists.Listed.{mem-those, those-pass}
 use Rattle.laws.specs.Lists.Counts.{count-cons, count-append, count-none, times, not-one, times-range}
 use Rattle.laws.specs.Lists.Distinct.{times-distinct}
 use Rattle.rules.specs.Nets.Trees.{Tree, leaf, node, wiringIn, EachOnce, Filled, treeValue, UsesJust}
+use Rattle.laws.specs.Lists.WithEach.{with-each-append, with-each-length, with-each-earlier, with-each-last}
 use Rattle.trees.specs.Groups.Members.{member-single, member-join, size-le}
 use Rattle.trees.specs.Trees.Wirings.{group-below, gates-in-size}
-use Rattle.trees.specs.Trees.JoinedLists.{used-append, refers-append, tables-append, with-gates-append, with-gates-length, with-gates-earlier, with-gates-last}
+use Rattle.trees.specs.Trees.JoinedLists.{used-append, refers-append, tables-append}
 
 -- ---- a number in a list
 
@@ -209,8 +210,8 @@ module _ (n : ℕ) where
     -- and a tree's lines add its gates' values
     valued-after : (p before : ℕ) (vs : List ℕ) (t : Tree) → Valued p before vs → Valued p (before + gatesOf t) (withGates m vs (treeGates n before t))
     valued-after p before vs t valued = (
-      omega (arith, with-gates-length m vs (treeGates n before t), lines-length before t, valued .0),
-      λ i h. with-gates-earlier m vs (treeGates n before t) i (omega arith) ∙ valued .1 i h,
+      omega (arith, with-each-length (gateValue m) vs (treeGates n before t), lines-length before t, valued .0),
+      λ i h. with-each-earlier (gateValue m) 0 vs (treeGates n before t) i (omega arith) ∙ valued .1 i h,
     )
 
     -- the lines after a tree's leave the value at the reference to it
@@ -220,7 +221,7 @@ module _ (n : ℕ) where
     value-kept p before vs t gates once valued =
         let after = valued-after p before vs t valued in
         let ref = reference-back before t once in
-        with-gates-earlier m (withGates m vs (treeGates n before t)) gates (refTo n before t) (omega arith)
+        with-each-earlier (gateValue m) 0 (withGates m vs (treeGates n before t)) gates (refTo n before t) (omega arith)
 
     -- a gate's value, from those at the references to its two trees
     value-of-gate : (before : ℕ) (vs : List ℕ) (digits : List ℕ) (a b : Tree) (x y : ℕ) → length vs ≡ n + before →
@@ -230,13 +231,13 @@ module _ (n : ℕ) where
     unfolding treeGates referenceTo gateValue
     value-of-gate before vs digits a b x y e left right =
         let own = n + before + gatesOf a + gatesOf b in
-        with-gates-last m vs (below before a b) (ownLine n before digits a b) own (omega (arith, below-length before a b))
-        ∙ rw (with-gates-append, left, right)
+        with-each-last (gateValue m) 0 vs (below before a b) (ownLine n before digits a b) own (omega (arith, below-length before a b))
+        ∙ rw (with-each-append, left, right)
 
     -- after a tree's lines, the value at the reference to it is the tree's
     value-at-reference : (p before : ℕ) (vs : List ℕ) (t : Tree) → EachOnce n (wiringIn t) → Valued p before vs
         → getD (withGates m vs (treeGates n before t)) (refTo n before t) 0 ≡ treeValue m n t p
-    unfolding treeGates withGates referenceTo treeValue
+    unfolding treeGates withEach referenceTo treeValue
     value-at-reference p before vs (leaf i) once valued = valued .1 i once
     value-at-reference p before vs (node digits a b) once valued =
         let mid = before + gatesOf a in

@@ -1,4 +1,5 @@
--- What the theorems speak of: wirings of a group, the class rule's tree, alike as a statement. (Trees are in `rules`, `Nets/Trees`; a net sheet's rules in `Sheets/SheetRules`.)
+-- What the theorems speak of: wirings of a group, the class rule's tree, alike as a statement. (Trees are in `rules`, `Nets/Trees`; a net sheet's
+-- rules in `Sheets/SheetRules`.)
 -- Assumes nothing.
 use Prim.Native.Nat.{ℕ, _+_}
 use mathlib.Core.Path.{_≡_}

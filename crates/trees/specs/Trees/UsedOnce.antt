@@ -113,7 +113,8 @@ module _ (f : ℕ → ℕ) where
   sum-those zero (x ∷ xs) d small = absurd (not-in-cons x x xs .0 (small x (omega arith)) .0 refl)
   sum-those (suc k) xs d small =
       go (any (eqb k) xs) refl
-      (sum-those k (but k xs) (but-distinct k xs d) (λ z h. by-cases (ℕ-discrete z k) (λ e. rw e (but-gone k xs d)) (λ ne. but-not k z xs (small z (omega arith)))))
+      (sum-those k (but k xs) (but-distinct k xs d)
+      (λ z h. by-cases (ℕ-discrete z k) (λ e. rw e (but-gone k xs d)) (λ ne. but-not k z xs (small z (omega arith)))))
       (λ free. sum-those k xs d (λ z h. by-cases (ℕ-discrete z k) (λ e. rw e free) (λ ne. small z (omega arith))))
     where
       test : ℕ → Bool
@@ -140,7 +141,8 @@ module _ (f : ℕ → ℕ) where
       let all : those test (range (0 + n) (length gates - 1)) ≡ range n (length gates - 1) =
       rw (zero-add n) (those-every test (range n (length gates - 1)) (λ i listed. gate-used i (range-mem n (length gates - 1) i listed))) in
       sum-those (n + (length gates - 1)) (usedBy gates) (net .rules .once) (λ z h. past-unused n gates (net .rules .back) z (omega (arith, net .some)))
-      ∙ ap (λ (xs : List ℕ). total (map f xs)) (ap (those test) (range-append 0 n (length gates - 1)) ∙ those-append test (range 0 n) (range (0 + n) (length gates - 1)))
+      ∙ ap (λ (xs : List ℕ). total (map f xs))
+      (ap (those test) (range-append 0 n (length gates - 1)) ∙ those-append test (range 0 n) (range (0 + n) (length gates - 1)))
       ∙ total-parts f (those test (range 0 n)) (those test (range (0 + n) (length gates - 1)))
       ∙ ap (λ (xs : List ℕ). total (map f (those test (range 0 n))) + total (map f xs)) all
     where

@@ -2,7 +2,7 @@
 -- members have room for all of them in one layer more. Marks that no table has may leave a group without room; the search then goes by no floor
 -- but that of any split.
 -- Assumes nothing.
-use Prim.Native.Nat.{ℕ, zero, suc, _+_, _-_, _*_, _/_, _%_, _^_, _≤_, _<_, max}
+use Prim.Native.Nat.{ℕ, zero, suc, _+_, _-_, _*_, _^_, _≤_, _<_, max}
 use mathlib.Core.Path.{_≡_, sym, ap, _∙_, subst}
 use mathlib.Core.Logic.{_⊎_, inl, inr, ⊎-elim}
 use mathlib.Core.Bool.{Bool, true, false, true≢false}
@@ -12,12 +12,12 @@ use native.Mathlib.Decide.{ℕ-discrete, decLt}
 use native.Mathlib.Omega.{arith}
 use lib.ListN.{length, getD, set}
 use lib.Seq.{getD-set-same, getD-set-other}
-use lib.Count.{ones, ones-step, leadingZeros, leading-length}
+use lib.Count.{leadingZeros, leading-length}
 use lib.Pow.{pow-mono}
 use Rattle.rules.specs.Groups.Groups.{size}
 use Rattle.rules.specs.Groups.Marks.{markIn, partsAt}
 use Rattle.rules.specs.Nets.Shallow.{splitLayers}
-use Rattle.trees.specs.Groups.Members.{size-zero, size-suc, size-join, size-pos}
+use Rattle.trees.specs.Groups.Members.{size-join, size-pos}
 use Rattle.trees.specs.Groups.MarkRule.{parts-of}
 
 -- ---- a number of members
@@ -54,17 +54,11 @@ floor-zeros members some fits =
     let is : bits .0 ≡ 64 - leadingZeros 64 (members - 1) = omega (arith, bits .1) in
     subst (λ (r : ℕ). Floor members r) is (floor-length members (bits .0) some (bits .2) (bits .3))
 
--- the set bits of a group's number are its members
-pub ones-size : (n g : ℕ) → g < 2 ^ n → ones g ≡ size n g
-unfolding ones
-ones-size zero g g< = let none : g ≡ 0 = omega arith in rw none (sym (size-zero 0))
-ones-size (suc n) g g< = ones-step g ∙ ap (λ (k : ℕ). g % 2 + k) (ones-size n (g / 2) (omega arith)) ∙ sym (size-suc n g)
-
 -- ---- the groups below g
 
 -- those of mark 2 have room for their members in the layers that stand at their numbers
-abbrev pub Sized : List ℕ → List ℕ → ℕ → Type 0
-Sized marks layers g = (n h : ℕ) → h < 2 ^ n → h < g → markIn marks h ≡ 2 → size n h ≤ 2 ^ getD layers h 0
+abbrev pub RoomInLayers : List ℕ → List ℕ → ℕ → Type 0
+RoomInLayers marks layers g = (n h : ℕ) → h < 2 ^ n → h < g → markIn marks h ≡ 2 → size n h ≤ 2 ^ getD layers h 0
 
 -- no split of g has fewer layers than `floor`, which is not 0 where g has a split
 abbrev pub Under : List ℕ → List ℕ → ℕ → ℕ → Type 0
@@ -76,7 +70,7 @@ FloorAt marks g sized r = markIn marks g ≡ 2 → ((sized ≡ false) × (r ≡ 
 
 module _ (marks layers : List ℕ) (g : ℕ) where
   -- two parts have room for their members in the layers of the gate that joins them
-  split-room : Sized marks layers g → (n a : ℕ) → g < 2 ^ n → 0 < a → a < g → partsAt n marks g a ≡ true
+  split-room : RoomInLayers marks layers g → (n a : ℕ) → g < 2 ^ n → 0 < a → a < g → partsAt n marks g a ≡ true
       → (1 < size n g) × (size n g ≤ 2 ^ splitLayers layers g a)
   unfolding parts-of splitLayers
   split-room sized n a g< some less h =
@@ -91,7 +85,7 @@ module _ (marks layers : List ℕ) (g : ℕ) where
       (omega arith, omega (arith, twice deeper))
 
   -- so the search of g may go by its floor
-  pub floor-under : (sized : Bool) → (sized ≡ true → Sized marks layers g) → (r : ℕ) → FloorAt marks g sized r → markIn marks g ≡ 2
+  pub floor-under : (sized : Bool) → (sized ≡ true → RoomInLayers marks layers g) → (r : ℕ) → FloorAt marks g sized r → markIn marks g ≡ 2
       → Under marks layers g r
   unfolding splitLayers
   floor-under sized is r floor two n a g< some less h =
@@ -103,8 +97,8 @@ module _ (marks layers : List ℕ) (g : ℕ) where
       (floor two)
 
   -- g has room too, once layers from its floor on stand at its number
-  pub sized-next : (sized : Bool) → (sized ≡ true → Sized marks layers g) → (floor : ℕ) → FloorAt marks g sized floor → g < length layers
-      → (r : ℕ) → floor ≤ r → sized ≡ true → Sized marks (set layers g r) (g + 1)
+  pub sized-next : (sized : Bool) → (sized ≡ true → RoomInLayers marks layers g) → (floor : ℕ) → FloorAt marks g sized floor → g < length layers
+      → (r : ℕ) → floor ≤ r → sized ≡ true → RoomInLayers marks (set layers g r) (g + 1)
   sized-next sized is floor at room r enough yes-sized n h h< h<g two = go (ℕ-discrete h g)
     where
       go : Dec (h ≡ g) → size n h ≤ 2 ^ getD (set layers g r) h 0

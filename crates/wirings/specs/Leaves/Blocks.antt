@@ -4,7 +4,8 @@
 use Prim.Native.Nat.{ℕ, suc, _+_, _-_, _*_, _/_, _%_, _^_, _≤_, _<_}
 use mathlib.Core.Path.{_≡_, refl, sym, ap, _∙_}
 use mathlib.Core.Bool.{Bool, true, false, not, true≢false, false≢true}
-use native.Mathlib.Nat.{zero-mul, one-mul, pow-succ', suc-mul, mul-assoc, mul-le-mul-right, mul-pos, mul-add-div-right, add-div-right, div-add-mod', div-lt-iff-lt-mul, lt-div-mul-add, mod-lt, one-le-pow}
+use native.Mathlib.Nat.{zero-mul, one-mul, pow-succ', suc-mul, mul-assoc, mul-le-mul-right, mul-pos, mul-add-div-right, add-div-right, div-add-mod'}
+use native.Mathlib.Nat.{div-lt-iff-lt-mul, lt-div-mul-add, mod-lt, one-le-pow}
 use native.Mathlib.Omega.{arith}
 use lib.Arith.{digits-lt, digits-mod}
 use lib.Pow.{pow-add}

@@ -1,17 +1,9 @@
 // The fewest layers that the number of its members leaves a group, so that the search of a group ends at a split that has no more.
-ghost use mathlib.Core.Path.{_≡_};
-ghost use Prim.Native.Nat.{ℕ, _^_, _<_};
+ghost use Prim.Native.Nat.{_<_};
 ghost use lib.ListN.{length};
-ghost use Rattle.rules.specs.Groups.Groups.{size};
 ghost use Rattle.wirings.specs.Fast.Floors.{Floor, FloorAt};
 use marks::own;
-
-// Returns how many members group g has.
-fn members_of(g: usize) -> usize
-    ensures { λ r. ⌜ ((n : ℕ) → g < 2 ^ n → r ≡ size n g) ⌝ }
-{
-    usize::count_ones(g) as usize
-}
+use radix::members;
 
 // Returns the fewest layers that have room for so many members: r layers have room for 2 to the power r. It is the length of members - 1 in bits.
 fn floor_of(members: usize) -> usize
@@ -33,7 +25,7 @@ pub fn floor_at(marks: &[u8], g: usize, sized: bool) -> usize
         return 0;
     }
     if sized {
-        return floor_of(members_of(g));
+        return floor_of(members::members_of(g));
     }
     1
 }

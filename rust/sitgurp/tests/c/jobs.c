@@ -97,7 +97,7 @@ static void empty(void) {
     HOLDS(job_is(&job, "", nothing, nothing, 0));
     HOLDS(is(sitgurp_job_step(&job), 21, 0));
     for (group = 0; group < 10; group++) {
-        HOLDS(says(sitgurp_job_mark(&job, group), 2, 0));
+        HOLDS(says(sitgurp_job_mark(&job, group), SITGURP_REFUSED_GROUP, 0));
     }
     HOLDS(is(finish(&job, &into, all_lent), 9, 0) && untouched(&into));
     HOLDS(job_is(&job, "", nothing, nothing, 0));
@@ -115,7 +115,8 @@ static void majority(void) {
         HOLDS(is(finish(&job, &into, all_lent), 22, GROUPS + 1 - group) && untouched(&into));
         HOLDS(is(sitgurp_job_step(&job), 0, 0));
         HOLDS(says(sitgurp_job_mark(&job, group), 0, majority_marks[group]));
-        HOLDS(says(sitgurp_job_mark(&job, 0), 2, 0) && says(sitgurp_job_mark(&job, GROUPS + 1), 2, 0));
+        HOLDS(says(sitgurp_job_mark(&job, 0), SITGURP_REFUSED_GROUP, 0));
+        HOLDS(says(sitgurp_job_mark(&job, GROUPS + 1), SITGURP_REFUSED_GROUP, 0));
     }
     HOLDS(job_is(&job, LINES, majority_cells, majority_marks, GROUPS));
     copy = job;
@@ -154,7 +155,7 @@ static void not_opened(void) {
     memset(&job, OTHER, sizeof job);
     copy = job;
     HOLDS(is(sitgurp_job_step(&job), 21, 0));
-    HOLDS(says(sitgurp_job_mark(&job, 1), 2, 0));
+    HOLDS(says(sitgurp_job_mark(&job, 1), SITGURP_REFUSED_GROUP, 0));
     HOLDS(is(finish(&job, &into, all_lent), 9, 0) && untouched(&into));
     HOLDS(same(&job, &copy));
     HOLDS(is(sitgurp_job_open(TEXT(SUM), &job), 0, 0));

@@ -4,13 +4,12 @@ use Prim.Native.Nat.{ℕ, _-_, _+_, _≤_, _<_}
 use mathlib.Core.Path.{_≡_, refl}
 use native.Mathlib.Omega.{arith}
 use borrow.Author.Needs.{needs}
-use lib.ListN.{getD}
 use Rattle.rules.specs.Limits.{mostDelay}
 use Rattle.rules.specs.Nets.Arrivals.{quarter}
 use Rattle.nets.specs.declared.forms.Net.{Net}
-use Rattle.nets.specs.Room.{mostGates, mostWires}
-use Rattle.nets.specs.References.{refers-back}
-use Rattle.nets.specs.Sound.{Sound, gates-count, gates-pos, sound-size, wires-room}
+use Rattle.nets.specs.Room.{mostWires}
+use Rattle.nets.specs.References.{GateStep, gate-step}
+use Rattle.nets.specs.Sound.{Sound, gates-pos, sound-size, wires-room}
 use Rattle.arrivals.specs.Wires.{ArrivalTurned, wired-none, wired-more, wired-all}
 use Rattle.arrivals.proofs.settling.settling.Statement.{statement}
 use Rattle.arrivals.proofs.settling.settling.Tie as tie
@@ -54,12 +53,9 @@ module _ (c : tie.Then1 Inv-loop μ-loop) where
   abbrev k : ℕ
   k = at-loop c .loop .k
 
-  -- the gate's references are earlier ones
-  back : (getD (net .left) k 0 < net .inputs + k) × (getD (net .right) k 0 < net .inputs + k)
-  back = refers-back net sound k (c .if1 .taken)
-
-  few : (net .inputs + k < mostWires) × (k < mostGates)
-  few = (omega (arith, wires-room net sound, c .if1 .taken), omega (arith, gates-count net sound, sound-size net sound .inputs-most, c .if1 .taken))
+  -- the gate's references and its own wire
+  step : GateStep net k
+  step = gate-step net sound k (c .if1 .taken)
 
 -- the delay is a byte
 byte : (start : tie.Start Inv-loop μ-loop) → start .args .delay ≤ mostDelay
@@ -89,10 +85,10 @@ returns c =
 
 pub settling-spec : {M : Type 1} → statement M
 settling-spec =
-    tie.close (tie.spec Inv-loop μ-loop (λ c κs. search needs) input-ends-requires loop-holds (λ c. omega (arith, few c)) (λ c. omega (arith, back c, few c))
-    (λ c. omega (arith, back c, few c)) (λ c. omega (arith, back c, few c)) (λ c. omega (arith, few (c .before)))
-    (λ c. omega (arith, back (c .before), few (c .before))) (λ c. omega (arith, back (c .before), few (c .before)))
-    (λ c. omega (arith, back (c .before), few (c .before))) (λ c κs. search needs) (λ c. omega (arith, few (at-turn c))) (λ c. omega (arith, few (at-turn c)))
-    (λ c. omega (arith, few (at-turn c))) (λ c. omega (arith, few (at-turn c))) (λ c. omega (arith, at-turn c .if1 .taken)) loop-again
+    tie.close (tie.spec Inv-loop μ-loop (λ c κs. search needs) input-ends-requires loop-holds (λ c. omega (arith, step c)) (λ c. omega (arith, step c))
+    (λ c. omega (arith, step c)) (λ c. omega (arith, step c)) (λ c. omega (arith, step (c .before)))
+    (λ c. omega (arith, step (c .before))) (λ c. omega (arith, step (c .before)))
+    (λ c. omega (arith, step (c .before))) (λ c κs. search needs) (λ c. omega (arith, step (at-turn c))) (λ c. omega (arith, step (at-turn c)))
+    (λ c. omega (arith, step (at-turn c))) (λ c. omega (arith, step (at-turn c))) (λ c. omega (arith, at-turn c .if1 .taken)) loop-again
     (λ c. omega (arith, wires (at-end c))) (λ c. omega (arith, wires (at-end c))) (λ c. omega (arith, wires (at-end c))) (λ c. omega (arith, wires (at-end c)))
     returns)

@@ -1,4 +1,5 @@
--- `classes::differences::first_difference` meets its contract. The loop begins where the inks are no longer known to be the same, and its invariant is that the places that are left decide. Assumes nothing.
+-- `classes::differences::first_difference` meets its contract. The loop begins where the inks are no longer known to be the same, and its invariant
+-- is that the places that are left decide. Assumes nothing.
 use Prim.Native.Nat.{ℕ, _+_, _-_, _≤_, _<_}
 use mathlib.Core.Path.{_≡_, sym, ap, _∙_}
 use mathlib.Core.Bool.{not}

@@ -1,26 +1,16 @@
--- `classes::multiplicity::group_answer` meets its contract: refusal 11, or the count of the group's classes, for which the work arrays have
--- room.
+-- `classes::multiplicity::group_answer` meets its contract: refusal 11, or the count of the group's classes.
 -- Assumes nothing.
-use native.Mathlib.Nat.{le-trans}
+use Prim.Native.Nat.{_^_, _<_}
 use native.Mathlib.Omega.{arith}
-use Rattle.rules.specs.Groups.Groups.{classes, multiplicity}
-use Rattle.rules.specs.Calls.Answers.{inkIn}
 use Rattle.laws.specs.Numbers.Sizes.{sized}
-use Rattle.classes.specs.Firsts.{classes-fit, front-all}
 use Rattle.laws.specs.Calls.Multiplicity.{group-empty, group-past, group-counted}
 use borrow.Author.Needs.{needs}
 use Rattle.classes.proofs.multiplicity.group_answer.Statement.{statement}
 use Rattle.classes.proofs.multiplicity.group_answer.Tie as tie
 
--- the start, the two tests and the call of `group_firsts`, each from the next
+-- the start from the power, and that the group is one
 abbrev at-start : tie.After-power → tie.Start
 at-start c = c .before .before .before
-
-abbrev at-fits : tie.After-known → tie.Else2
-at-fits c = c .before .before .before .before
-
-abbrev at-classes : tie.After-known2 → tie.After-group-firsts
-at-classes c = c .before .before .before .before
 
 returns : tie.Need-returns
 returns c = group-empty _ _ _ _ (c .if1 .taken)
@@ -34,23 +24,27 @@ power-requires c κs =
 returns-2 : tie.Need-returns-2
 returns-2 c = group-past _ _ _ _ (omega (arith, c .before .power .ensures, c .if2 .taken))
 
-group-firsts-requires : tie.Need-group-firsts-requires
-group-firsts-requires c κs =
-    let start = at-start (at-fits c .before) in
-    let fit = sized (start .args .m) (start .args .n) (start .pre .0) in
-    omega (arith, fit .levels-least, fit .levels-most, fit .inputs-most, fit .cells-most, start .pre .1, at-fits c .before .power .ensures)
+-- the group is below 2 to the n
+below : (c : tie.Else2) → at-start (c .before) .args .group < 2 ^ at-start (c .before) .args .n
+below c = omega (arith, c .before .power .ensures, c .if2 .left)
+
+counted-small-requires : tie.Need-counted-small-requires
+counted-small-requires c κs =
+    let fits = c .before in
+    let start = at-start (fits .before) in
+    (start .pre .0, start .pre .1, below fits, c .if3 .taken)
+
+counted-large-requires : tie.Need-counted-large-requires
+counted-large-requires c κs =
+    let fits = c .before in
+    let start = at-start (fits .before) in
+    (start .pre .0, start .pre .1, below fits)
 
 returns-3 : tie.Need-returns-3
-unfolding multiplicity
-returns-3 c =
-    let start = at-start (at-fits (at-classes c .before) .before) in
-    let a = start .args in
-    let fit = sized (a .m) (a .n) (start .pre .0) in
-    let all = le-trans (classes-fit (a .m) (a .n) (omega (arith, fit .levels-least)) (inkIn (a .cells .now)) (a .group)) (fit .cells-most) in
-    group-counted _ _ _ _ _ (at-fits (at-classes c .before) .before .before .if1 .left) (omega (arith, at-fits (at-classes c .before) .before .power .ensures, at-fits (at-classes c .before) .if2 .left))
-    (front-all _ (classes (a .m) (a .n) (inkIn (a .cells .now)) (a .group)) (at-classes c .group-firsts .ensures) all .count)
+returns-3 c = let fits = c .before .before in group-counted _ _ _ _ _ (fits .before .before .if1 .left) (below fits) (c .counted-small .ensures)
+
+returns-4 : tie.Need-returns-4
+returns-4 c = let fits = c .before .before in group-counted _ _ _ _ _ (fits .before .before .if1 .left) (below fits) (c .counted-large .ensures)
 
 pub group-answer-spec : {M : Type 1} → statement M
-group-answer-spec =
-    tie.close (tie.spec returns power-requires returns-2 (λ c. search needs) (λ c. search needs) (λ c. search needs) (λ c. search needs)
-    group-firsts-requires returns-3)
+group-answer-spec = tie.close (tie.spec returns power-requires returns-2 counted-small-requires returns-3 counted-large-requires returns-4)

@@ -4,11 +4,10 @@ use mathlib.Core.Path.{_≡_, sym}
 use native.Mathlib.Nat.{zero-mul, mul-le-mul}
 use native.Mathlib.Omega.{arith}
 use borrow.Author.Needs.{needs}
-use lib.ListN.{getD}
 use Rattle.nets.specs.declared.forms.Net.{Net}
 use Rattle.nets.specs.Room.{mostGates, mostWires}
-use Rattle.nets.specs.References.{refers-back}
-use Rattle.nets.specs.Sound.{Sound, gates-count, gates-pos, sound-size, wires-room}
+use Rattle.nets.specs.References.{GateStep, gate-step}
+use Rattle.nets.specs.Sound.{Sound, gates-pos, sound-size, wires-room}
 use Rattle.evaluation.specs.Values.{GatesDone, gates-none, gate-ready, column-gate-room, from-more, gates-more, gates-done}
 use Rattle.evaluation.proofs.values.values.Statement.{statement}
 use Rattle.evaluation.proofs.values.values.Tie as tie
@@ -61,12 +60,9 @@ module _ (c : tie.Then1 Inv-loop μ-loop) where
   abbrev k : ℕ
   k = at-head c .loop .k
 
-  -- the gate's references are earlier ones
-  back : (getD (net .left) k 0 < net .inputs + k) × (getD (net .right) k 0 < net .inputs + k)
-  back = refers-back net sound k (c .if1 .taken)
-
-  few : (net .inputs + k < mostWires) × (k < mostGates)
-  few = (omega (arith, wires-room net sound, c .if1 .taken), omega (arith, gates-count net sound, sound-size net sound .inputs-most, c .if1 .taken))
+  -- the gate's references and its own wire
+  step : GateStep net k
+  step = gate-step net sound k (c .if1 .taken)
 
 gate-values-requires : tie.Need-gate-values-requires Inv-loop μ-loop
 gate-values-requires c κs =
@@ -84,7 +80,7 @@ add-to c =
 add-from : tie.Need-add-from Inv-loop μ-loop
 add-from c =
     let turn = at-turn c in
-    let low : k turn ≤ mostGates = omega (arith, few turn) in
+    let low : k turn ≤ mostGates = omega (arith, step turn) in
     let far : k turn * (net turn .levels * net turn .levels) ≤ mostGates * 81 = mul-le-mul low (square (net turn) (sound turn)) in
     omega (arith, square (net turn) (sound turn), far, at-head turn .loop .inv .1)
 
@@ -111,10 +107,10 @@ returns c =
 
 pub values-spec : {M : Type 1} → statement M
 values-spec =
-    tie.close (tie.spec Inv-loop μ-loop (λ c. omega (arith, square _ (at-start c .pre .sound))) loop-holds (λ c. omega (arith, few c))
-    (λ c. omega (arith, back c, few c)) (λ c. omega (arith, back c, few c)) (λ c. omega (arith, back c, few c)) (λ c. omega (arith, few c))
-    (λ c. omega (arith, back c, few c)) (λ c. omega (arith, back c, few c)) (λ c. omega (arith, back c, few c)) (λ c. search needs)
-    gate-values-requires (λ c. omega (arith, few (at-turn c))) (λ c. omega (arith, few (at-turn c))) (λ c. omega (arith, few (at-turn c)))
-    add-to add-from (λ c. omega (arith, few (at-turn c))) (λ c. omega (arith, at-turn c .if1 .taken)) loop-again
+    tie.close (tie.spec Inv-loop μ-loop (λ c. omega (arith, square _ (at-start c .pre .sound))) loop-holds (λ c. omega (arith, step c))
+    (λ c. omega (arith, step c)) (λ c. omega (arith, step c)) (λ c. omega (arith, step c)) (λ c. omega (arith, step c))
+    (λ c. omega (arith, step c)) (λ c. omega (arith, step c)) (λ c. omega (arith, step c)) (λ c. search needs)
+    gate-values-requires (λ c. omega (arith, step (at-turn c))) (λ c. omega (arith, step (at-turn c))) (λ c. omega (arith, step (at-turn c)))
+    add-to add-from (λ c. omega (arith, step (at-turn c))) (λ c. omega (arith, at-turn c .if1 .taken)) loop-again
     (λ c. omega (arith, wires (at-end c))) (λ c. omega (arith, wires (at-end c))) (λ c. omega (arith, wires (at-end c)))
     (λ c. omega (arith, wires (at-end c))) (λ c. at-end c .loop .inv .0 .same) returns)

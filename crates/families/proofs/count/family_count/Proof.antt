@@ -26,8 +26,16 @@ at-counted c = c .before .before .before .before .before .before
 count-marked-requires : tie.Need-count-marked-requires
 count-marked-requires c κs =
     let taken = at-read (at-told c) .read-input .ensures .taken (at-told c .enum-told .given .1) in
-    let size = given-size _ _ _ (taken .given) in
-    (size, given-count _ _ _ (taken .given), taken .cells-long, groups-room _ _ size, taken .marks-long, groups-room _ _ size, none-known (2 ^ mostInputs), given-below _ _ _ (taken .given))
+    let size = given-size _ _ _ (taken .given) in (
+      size,
+      given-count _ _ _ (taken .given),
+      taken .cells-long,
+      groups-room _ _ size,
+      taken .marks-long,
+      groups-room _ _ size,
+      none-known (2 ^ mostInputs),
+      given-below _ _ _ (taken .given),
+    )
 
 returns : tie.Need-returns
 returns c =
@@ -41,7 +49,8 @@ returns-2 c =
     let read = at-read (at-told (did .before)) in
     let a = at-start read .args in
     let taken = read .read-input .ensures .taken (at-told (did .before) .enum-told .given .1) in
-    count-given (a .s .now) (read .read-input .result .header) _ (a .cells .now) (a .marks .now) (did .count-marked .result) _ _ _ _ (did .count-marked .ensures) (taken .room)
+    count-given (a .s .now) (read .read-input .result .header) _ (a .cells .now) (a .marks .now) (did .count-marked .result) _ _ _ _
+    (did .count-marked .ensures) (taken .room)
     ∙ input-counted (a .s .now) (a .cells .now) (a .marks .now) _ _ taken
 
 pub family-count-spec : {M : Type 1} → statement M

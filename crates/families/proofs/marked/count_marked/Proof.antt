@@ -51,7 +51,8 @@ module _ (c : tie.After-power) where
   own = take (c .power .result - 0) (at-marks c .mark-and-store .last .1 .1 .1 .0)
 
   is-own : own ≡ marksOf (start .args .m) (start .args .n) f
-  is-own = marks-front (start .args .m) (start .args .n) (start .pre .0) f _ (at-marks c .mark-and-store .ensures .own .front) (c .power .result) (c .power .ensures)
+  is-own = marks-front (start .args .m) (start .args .n) (start .pre .0) f _ (at-marks c .mark-and-store .ensures .own .front) (c .power .result)
+      (c .power .ensures)
 
 mark-and-store-requires : tie.Need-mark-and-store-requires
 mark-and-store-requires c κs =
@@ -77,7 +78,8 @@ returns c =
     let s = start power in
     let did = at-marks power .mark-and-store in
     record {
-      count = leaves-counted (s .args .m) (s .args .n) (s .pre .0) (f power) (own power) (is-own power) _ (at-leaves (found .before) .leaves .ensures) (found .tree-count .result) _ (found .tree-count .ensures);
+      count = leaves-counted (s .args .m) (s .args .n) (s .pre .0) (f power) (own power) (is-own power) _ (at-leaves (found .before) .leaves .ensures)
+          (found .tree-count .result) _ (found .tree-count .ensures);
       copied = put-wrote (s .pre .2) (at-copy (at-marks power) .copy .ensures) .text;
       front = did .ensures .own .front;
       marked = did .ensures .buffer;

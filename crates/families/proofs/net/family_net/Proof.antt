@@ -4,7 +4,7 @@ use mathlib.Core.Path.{subst, subst⁻¹}
 use borrow.Author.Needs.{needs}
 use Rattle.rules.specs.Nets.Leaves.{leavesOf}
 use Rattle.rules.specs.Calls.Answers.{inkIn}
-use Rattle.gate_tables.specs.Sized.{Sized, sized}
+use Rattle.gate_tables.specs.Sized.{Sized, sized-cells}
 use Rattle.tree_counts.specs.Counts.{Countable}
 use Rattle.tree_counts.specs.Numbered.{InCount, WiringFound}
 use Rattle.families.specs.FamilyNet.{leaves-in, number-count, number-fills, number-net}
@@ -22,7 +22,7 @@ abbrev wiring : tie.After-slice-known2 → tie.After-wiring-of
 wiring c = c .before .before
 
 in-bounds : (c : tie.Start) → Sized (c .args .m) (c .args .n) (c .args .cells .now)
-in-bounds c = sized (c .args .m) (c .args .n) (c .args .cells .now) (c .pre .0) (c .pre .1)
+in-bounds c = sized-cells (c .args .m) (c .args .n) (c .args .cells .now) (c .pre .0) (c .pre .1)
 
 wiring-of-requires : tie.Need-wiring-of-requires
 wiring-of-requires c κs =

@@ -35,7 +35,8 @@ returns-2 c =
     let told = at-told (at-done c .before) in
     let a = at-start (at-read told) .args in
     at-done c .tree-marked .ensures
-    ∙ input-numbered (a .s .now) (a .cells .now) (a .marks .now) (a .order) (a .out .now) _ _ (at-read told .read-input .ensures .taken (told .enum-told .given .1))
+    ∙ input-numbered (a .s .now) (a .cells .now) (a .marks .now) (a .order) (a .out .now) _ _
+    (at-read told .read-input .ensures .taken (told .enum-told .given .1))
 
 pub family-tree-spec : {M : Type 1} → statement M
 family-tree-spec =

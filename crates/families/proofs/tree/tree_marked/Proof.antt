@@ -47,8 +47,16 @@ at-sheet c = c .before .before
 count-marked-requires : tie.Need-count-marked-requires
 count-marked-requires c κs =
     let start = at-args c in
-    let size = given-size _ _ _ (start .pre .0) in
-    (size, given-count _ _ _ (start .pre .0), start .pre .1, groups-room _ _ size, start .pre .2, groups-room _ _ size, none-known (2 ^ mostInputs), given-below _ _ _ (start .pre .0))
+    let size = given-size _ _ _ (start .pre .0) in (
+      size,
+      given-count _ _ _ (start .pre .0),
+      start .pre .1,
+      groups-room _ _ size,
+      start .pre .2,
+      groups-room _ _ size,
+      none-known (2 ^ mostInputs),
+      given-below _ _ _ (start .pre .0),
+    )
 
 returns : tie.Need-returns
 returns c =
@@ -74,9 +82,11 @@ family-net-requires c κs =
     let size = given-size _ _ _ (start .pre .0) in
     let did = count .count-marked in
     let own : List ℕ = take (power .power .result - 0) (did .last .1 .1 .1 .1 .0) in
-    let is-own : own ≡ marksOf (h .levels) (h .inputs) f = marks-front (h .levels) (h .inputs) size f _ (did .ensures .front) (power .power .result) (power .power .ensures) in
+    let is-own : own ≡ marksOf (h .levels) (h .inputs) f = marks-front (h .levels) (h .inputs) size f _ (did .ensures .front) (power .power .result)
+    (power .power .ensures) in
     let long : length (did .last .1 .1 .1 .1 .1 .1 .0) ≡ 2 ^ mostInputs = search needs in
-    let kept : CountsKnown own (did .last .1 .1 .1 .1 .1 .1 .0) = subst⁻¹ (λ (marks : List ℕ). CountsKnown marks (did .last .1 .1 .1 .1 .1 .1 .0)) is-own (did .ensures .kept) in (
+    let kept : CountsKnown own (did .last .1 .1 .1 .1 .1 .1 .0) =
+    subst⁻¹ (λ (marks : List ℕ). CountsKnown marks (did .last .1 .1 .1 .1 .1 .1 .0)) is-own (did .ensures .kept) in (
       size,
       le-of-eq (sym (given-count _ _ _ (start .pre .0))),
       given-below _ _ _ (start .pre .0),
@@ -98,7 +108,8 @@ returns-2 c =
     let test = at-test (at-power (net .before)) in
     let count = at-count test in
     let a = at-start count .args in
-    order-tree (a .s .now) (a .header) (a .inks .now) (a .cells .now) (a .marks .now) (count .count-marked .result) _ _ _ _ (count .count-marked .ensures) (a .order) (a .out .now)
+    order-tree (a .s .now) (a .header) (a .inks .now) (a .cells .now) (a .marks .now) (count .count-marked .result) _ _ _ _
+    (count .count-marked .ensures) (a .order) (a .out .now)
     (at-start count .pre .0) (test .if1 .left) (net .family-net .result) (net .family-net .ensures) (sheet .write-sheet .result) _ (sheet .write-sheet .ensures)
 
 pub tree-marked-spec : {M : Type 1} → statement M

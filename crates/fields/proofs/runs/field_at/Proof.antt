@@ -2,7 +2,8 @@
 -- Assumes nothing.
 use borrow.Author.Needs.{needs}
 use native.Mathlib.Nat.{le-of-lt}
-use Rattle.fields.specs.Runs.{fieldEnd, ends-within, field-part, field-none}
+use Rattle.laws.specs.Lists.Runs.{fieldEnd}
+use Rattle.fields.specs.Runs.{ends-within, field-part, field-none}
 use Rattle.fields.proofs.runs.field_at.Statement.{statement}
 use Rattle.fields.proofs.runs.field_at.Tie as tie
 

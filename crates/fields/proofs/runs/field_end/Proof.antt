@@ -4,7 +4,8 @@ use Prim.Native.Nat.{_-_}
 use mathlib.Core.Path.{_≡_, refl, sym, _∙_}
 use native.Mathlib.Omega.{arith}
 use lib.ListN.{length}
-use Rattle.fields.specs.Runs.{fieldEnd, ends-here, ends-at, ends-later, is-space, is-newline, is-neither}
+use Rattle.laws.specs.Lists.Runs.{fieldEnd}
+use Rattle.fields.specs.Runs.{ends-here, ends-at, ends-later, is-space, is-newline, is-neither}
 use Rattle.fields.proofs.runs.field_end.Statement.{statement}
 use Rattle.fields.proofs.runs.field_end.Tie as tie
 

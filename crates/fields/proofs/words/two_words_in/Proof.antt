@@ -1,7 +1,7 @@
 -- `fields::words::two_words_in` meets its contract: a word, then the other.
 -- Assumes nothing.
 use borrow.Author.Needs.{needs}
-use Rattle.fields.specs.Words.{words-back, words-on}
+use Rattle.fields.specs.Words.{twoWordsIn, word-back, word-on}
 use Rattle.fields.proofs.words.two_words_in.Statement.{statement}
 use Rattle.fields.proofs.words.two_words_in.Tie as tie
 
@@ -10,10 +10,12 @@ abbrev at-start : tie.After-word-field-in → tie.Start
 at-start c = c .before .before .before .before
 
 returns : tie.Need-returns
-returns c = words-back _ _ (at-start (c .before .before .before) .args .at) _ _ _ (c .before .before .before .word-field-in .ensures) _ _ (c .before .number .given .1)
+unfolding twoWordsIn
+returns c = word-back _ _ (at-start (c .before .before .before) .args .at) _ _ _ (c .before .before .before .word-field-in .ensures) _ _ (c .before .number .given .1)
 
 returns-2 : tie.Need-returns-2
-returns-2 c = words-on _ _ (at-start (c .before .before .before .before) .args .at) _ _ _ (c .before .before .before .before .word-field-in .ensures) _ _ (c .word-field-in2 .result) (c .before .before .next .given .1) (c .word-field-in2 .ensures)
+unfolding twoWordsIn
+returns-2 c = word-on _ _ (at-start (c .before .before .before .before) .args .at) _ _ _ (c .before .before .before .before .word-field-in .ensures) _ _ (c .word-field-in2 .result) (c .before .before .next .given .1) (c .word-field-in2 .ensures)
 
 pub two-words-in-spec : {M : Type 1} → statement M
 two-words-in-spec =

@@ -8,7 +8,7 @@ use Rattle.rules.specs.Calls.Answers.{inkIn}
 use Rattle.trees.specs.Leaves.LeafGroup.{leaves-below}
 use Rattle.wirings.specs.Choice.{splitBy, LayersRoom}
 use Rattle.wirings.specs.Chosen.{Choosable, Chosen}
-use Rattle.gate_tables.specs.Sized.{Sized, sized}
+use Rattle.gate_tables.specs.Sized.{Sized, sized-cells}
 use Rattle.gate_tables.specs.MadeNet.{some-level, layers-room, choosable, leaves-two, chosen-count, chosen-fillable, chosen-made}
 use Rattle.gate_tables.proofs.chosen.chosen_net.Statement.{statement}
 use Rattle.gate_tables.proofs.chosen.chosen_net.Tie as tie
@@ -21,7 +21,7 @@ abbrev gathered : tie.After-choose → tie.After-leaves
 gathered c = c .before
 
 in-bounds : (c : tie.Start) → Sized (c .args .m) (c .args .n) (c .args .cells .now)
-in-bounds c = sized (c .args .m) (c .args .n) (c .args .cells .now) (c .pre .0) (c .pre .1)
+in-bounds c = sized-cells (c .args .m) (c .args .n) (c .args .cells .now) (c .pre .0) (c .pre .1)
 
 -- A's number in each group, as it is found
 abbrev found : tie.Start → ℕ → ℕ

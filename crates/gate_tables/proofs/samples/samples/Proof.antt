@@ -1,11 +1,13 @@
 -- `gate_tables::samples::samples` meets its contract: the test tells a single input from several. Assumes nothing.
 use Prim.Native.Nat.{ℕ, _*_, _<_}
 use mathlib.Core.Path.{sym, ap, _∙_, subst}
+use native.Mathlib.Nat.{mul-comm}
 use native.Mathlib.Omega.{arith}
 use borrow.Author.Needs.{needs}
 use Rattle.rules.specs.Calls.Answers.{inkIn}
 use Rattle.trees.specs.Groups.Members.{first-member}
-use Rattle.gate_tables.specs.Samples.{gate-weight-fits, single-front, several-front}
+use Rattle.radix.specs.Weights.{weight-fits}
+use Rattle.gate_tables.specs.Samples.{single-front, several-front}
 use Rattle.gate_tables.proofs.samples.samples.Statement.{statement}
 use Rattle.gate_tables.proofs.samples.samples.Tie as tie
 
@@ -32,7 +34,7 @@ level-points-requires c κs =
     let sized = s .pre .0 in
     let i = c .before .before .first-input .result in (
       s .pre .1,
-      omega (arith, gate-weight-fits (a .m) (a .n) i (sized .some) (first (c .before .before)), ap (λ (w : ℕ). a .m * w) (c .before .power .ensures), sized .small),
+      omega (arith, weight-fits (a .m) (a .n) i (sized .some) (first (c .before .before)), ap (λ (w : ℕ). w * a .m) (c .before .power .ensures), mul-comm (a .m) (c .before .power .result), sized .small),
     )
 
 returns : tie.Need-returns

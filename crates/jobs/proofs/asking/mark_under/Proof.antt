@@ -1,7 +1,7 @@
 -- `jobs::asking::mark_under` meets its contract, at each test. Assumes nothing.
 use native.Mathlib.Omega.{arith}
 use Rattle.jobs.specs.Forms.{front-size, front-groups}
-use Rattle.jobs.specs.Asking.{asked-empty, asked-over, asked-ahead, asked-passed}
+use Rattle.jobs.specs.Asking.{asked-empty, asked-over, not-reached-answer, reached-answer}
 use Rattle.jobs.proofs.asking.mark_under.Statement.{statement}
 use Rattle.jobs.proofs.asking.mark_under.Tie as tie
 
@@ -26,7 +26,7 @@ returns-2 c =
 returns-3 : tie.Need-returns-3
 returns-3 c =
     let power = c .before .before in
-    λ cells. asked-ahead _ _ (at-start (power .before) .pre .0) _ _ _ cells (power .before .if1 .left) (omega (arith, power .power .ensures, c .before .if2 .left)) (c .if3 .taken)
+    λ cells. not-reached-answer _ _ (at-start (power .before) .pre .0) _ _ _ cells (power .before .if1 .left) (omega (arith, power .power .ensures, c .before .if2 .left)) (c .if3 .taken)
 
 shared-slice-read-t9 : tie.Need-shared-slice-read-t9
 shared-slice-read-t9 c =
@@ -37,7 +37,7 @@ shared-slice-read-t9 c =
 returns-4 : tie.Need-returns-4
 returns-4 c =
     let power = at-power (c .before) in
-    λ cells. asked-passed _ _ (at-start (power .before) .pre .0) _ _ _ cells (power .before .if1 .left) (omega (arith, power .power .ensures, c .before .before .if2 .left)) (c .before .if3 .left)
+    λ cells. reached-answer _ _ (at-start (power .before) .pre .0) _ _ _ cells (power .before .if1 .left) (omega (arith, power .power .ensures, c .before .before .if2 .left)) (c .before .if3 .left)
 
 pub mark-under-spec : {M : Type 1} → statement M
 mark-under-spec =

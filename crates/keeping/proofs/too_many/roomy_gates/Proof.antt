@@ -1,4 +1,4 @@
--- `keeping::too_many::roomy_gates` meets its contract. The loop's invariant: the groups of the first k gates are known, and have few classes. Assumes nothing.
+-- `keeping::too_many::roomy_gates` meets its contract. The loop's invariant: the groups of the first k gates are known, and have step classes. Assumes nothing.
 use Prim.Native.Nat.{ℕ, _+_, _-_, _^_, _<_}
 use mathlib.Core.Path.{_≡_, sym, ap, _∙_, subst⁻¹}
 use mathlib.Core.Bool.{Bool}
@@ -12,10 +12,11 @@ use lib.Pow.{pow-mono}
 use Rattle.rules.specs.Groups.Groups.{multiplicity}
 use Rattle.rules.specs.Calls.Answers.{inkIn}
 use Rattle.nets.specs.declared.forms.Net.{Net}
-use Rattle.nets.specs.Room.{mostGates, mostWires}
-use Rattle.nets.specs.Sound.{Sound, gates-count, sound-size, wires-room}
-use Rattle.nets.specs.References.{refers-back}
-use Rattle.keeping.specs.Groups.{GroupsTo, RoomyTo, gateGroupAt, groups-none, keeping-group-below, next-group, groups-next, roomy-next, first-crowded, none-crowded}
+use Rattle.nets.specs.Room.{mostWires}
+use Rattle.nets.specs.Sound.{Sound, sound-size}
+use Rattle.nets.specs.References.{GateStep, gate-step}
+use Rattle.keeping.specs.Groups.{GroupsTo, RoomyTo, gateGroupAt, groups-none, keeping-group-below, next-group, groups-next, roomy-next}
+use Rattle.keeping.specs.Groups.{first-crowded, none-crowded}
 use Rattle.keeping.proofs.too_many.roomy_gates.Statement.{statement}
 use Rattle.keeping.proofs.too_many.roomy_gates.Tie as tie
 
@@ -78,12 +79,9 @@ module _ (c : tie.Then1 Inv-loop μ-loop) where
   abbrev groups : List ℕ
   groups = head c .loop .groups
 
-  -- the gate's references are earlier ones
-  back : (getD (net .left) k 0 < net .inputs + k) × (getD (net .right) k 0 < net .inputs + k)
-  back = refers-back net sound k (c .if1 .taken)
-
-  few : (net .inputs + k < mostWires) × (k < mostGates)
-  few = (omega (arith, wires-room net sound, c .if1 .taken), omega (arith, gates-count net sound, sound-size net sound .inputs-most, c .if1 .taken))
+  -- the gate's references and its own wire
+  step : GateStep net k
+  step = gate-step net sound k (c .if1 .taken)
 
   -- the sum that the code makes is the gate's group
   abbrev own : ℕ
@@ -124,9 +122,9 @@ returns-2 c =
 
 pub roomy-gates-spec : {M : Type 1} → statement M
 roomy-gates-spec =
-    tie.close (tie.spec Inv-loop μ-loop (λ c. search needs) input-groups-requires loop-holds (λ c. omega (arith, few c)) (λ c. omega (arith, back c, few c))
-    (λ c. omega (arith, back c, few c)) (λ c. omega (arith, back c, few c)) (λ c. omega (arith, small c)) (λ c. omega (arith, few c))
-    (λ c. omega (arith, back c, few c)) (λ c. omega (arith, back c, few c)) (λ c. omega (arith, back c, few c)) (λ c. omega (arith, small c))
+    tie.close (tie.spec Inv-loop μ-loop (λ c. search needs) input-groups-requires loop-holds (λ c. omega (arith, step c)) (λ c. omega (arith, step c))
+    (λ c. omega (arith, step c)) (λ c. omega (arith, step c)) (λ c. omega (arith, small c)) (λ c. omega (arith, step c))
+    (λ c. omega (arith, step c)) (λ c. omega (arith, step c)) (λ c. omega (arith, step c)) (λ c. omega (arith, small c))
     (λ c. omega (arith, small c)) (λ c κs. (s c .pre .1, below c)) returns (λ c. omega (arith, small (turn-left c)))
-    (λ c. omega (arith, few (turn-left (c .before)))) (λ c. omega (arith, few (turn-left (c .before)))) (λ c. omega (arith, few (turn-left (c .before))))
-    (λ c. omega (arith, few (turn-left (c .before)))) (λ c. omega (arith, turn-left (c .before) .if1 .taken)) loop-again returns-2)
+    (λ c. omega (arith, step (turn-left (c .before)))) (λ c. omega (arith, step (turn-left (c .before)))) (λ c. omega (arith, step (turn-left (c .before))))
+    (λ c. omega (arith, step (turn-left (c .before)))) (λ c. omega (arith, turn-left (c .before) .if1 .taken)) loop-again returns-2)

@@ -6,7 +6,7 @@ use native.Mathlib.Omega.{arith}
 use Rattle.rules.specs.Nets.Settled.{splitOf}
 use Rattle.radix.specs.Widths.{mostMembers}
 use Rattle.marks.specs.FirstParts.{settledTest, settled-looked}
-use Rattle.marks.specs.Searching.{Sought, sought-none, sought-all, here, sought-found, sought-next}
+use Rattle.marks.specs.Searching.{Sought, sought-none, sought-all, part-looked-at, sought-found, sought-next}
 use Rattle.marks.proofs.split.split_of.Statement.{statement}
 use Rattle.marks.proofs.split.split_of.Tie as tie
 
@@ -33,7 +33,7 @@ module _ (c : tie.In-loop Inv-loop μ-loop) where
 
   there : (0 < (start .args .g - rest .without-first .result) + c .before .loop .part) × ((start .args .g - rest .without-first .result) + c .before .loop .part < start .args .g)
   there =
-      let a = here _ _ (start .args .g) (rest .without-first .result) (settled-looked (start .args .marks .now) (start .args .g)) (start .pre .0) (rest .without-first .ensures) (c .before .loop .part) (c .before .loop .inv) (c .loop-test .taken) mostMembers (start .pre .1) in
+      let a = part-looked-at _ _ (start .args .g) (rest .without-first .result) (settled-looked (start .args .marks .now) (start .args .g)) (start .pre .0) (rest .without-first .ensures) (c .before .loop .part) (c .before .loop .inv) (c .loop-test .taken) mostMembers (start .pre .1) in
       (a .0, a .1)
 
 sub-first : tie.Need-sub-first Inv-loop μ-loop

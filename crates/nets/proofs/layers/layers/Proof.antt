@@ -4,12 +4,11 @@ use mathlib.Core.Path.{refl}
 use mathlib.Core.List.{List}
 use native.Mathlib.Omega.{arith}
 use borrow.Author.Needs.{needs}
-use lib.ListN.{getD}
 use Rattle.nets.specs.declared.forms.Net.{Net}
-use Rattle.nets.specs.Room.{mostGates, mostWires}
-use Rattle.nets.specs.Sound.{Sound, gates-count, gates-pos, sound-size, wires-room}
-use Rattle.nets.specs.References.{refers-back}
-use Rattle.nets.proofs.Depths.{Depths, depths-none, depths-more, depths-all}
+use Rattle.nets.specs.Room.{mostWires}
+use Rattle.nets.specs.Sound.{Sound, gates-pos, wires-room}
+use Rattle.nets.specs.References.{GateStep, gate-step}
+use Rattle.nets.proofs.Depths.{Depths, depths-none, depth-small, depths-more, depths-all}
 use Rattle.nets.proofs.layers.layers.Statement.{statement}
 use Rattle.nets.proofs.layers.layers.Tie as tie
 
@@ -50,18 +49,15 @@ module _ (c : tie.Then1 Inv-loop μ-loop) where
   abbrev depths : List ℕ
   depths = at-loop c .loop .depths
 
-  -- the gate's references are earlier ones
-  back : (getD (net .left) k 0 < net .inputs + k) × (getD (net .right) k 0 < net .inputs + k)
-  back = refers-back net sound k (c .if1 .taken)
-
-  few : (net .inputs + k < mostWires) × (k < mostGates)
-  few = (omega (arith, wires-room net sound, c .if1 .taken), omega (arith, gates-count net sound, sound-size net sound .inputs-most, c .if1 .taken))
+  -- the gate's references and its own wire
+  step : GateStep net k
+  step = gate-step net sound k (c .if1 .taken)
 
 add-depths : tie.Need-add-depths Inv-loop μ-loop
 add-depths c =
     let t = c .before in
-    let small = at-loop t .loop .inv .small in
-    omega (arith, c .deeper .ensures, small (getD (net t .left) (k t) 0), small (getD (net t .right) (k t) 0), few t)
+    let small = depth-small (net t) (sound t) (k t) (depths t) (at-loop t .loop .inv) in
+    omega (arith, c .deeper .ensures, small _ (step t .0), small _ (step t .1), step t)
 
 loop-again : tie.Need-loop-again Inv-loop μ-loop
 loop-again c =
@@ -82,9 +78,9 @@ returns c =
 pub layers-spec : {M : Type 1} → statement M
 layers-spec =
     tie.close
-    (tie.spec Inv-loop μ-loop loop-holds (λ c. omega (arith, few c)) (λ c. omega (arith, back c, few c)) (λ c. omega (arith, back c, few c))
-    (λ c. omega (arith, back c, few c)) (λ c. omega (arith, few c)) (λ c. omega (arith, back c, few c)) (λ c. omega (arith, back c, few c))
-    (λ c. omega (arith, back c, few c)) (λ c κs. search needs) add-depths (λ c. omega (arith, few (at-turn c)))
-    (λ c. omega (arith, few (at-turn c))) (λ c. omega (arith, few (at-turn c))) (λ c. omega (arith, few (at-turn c)))
+    (tie.spec Inv-loop μ-loop loop-holds (λ c. omega (arith, step c)) (λ c. omega (arith, step c)) (λ c. omega (arith, step c))
+    (λ c. omega (arith, step c)) (λ c. omega (arith, step c)) (λ c. omega (arith, step c)) (λ c. omega (arith, step c))
+    (λ c. omega (arith, step c)) (λ c κs. search needs) add-depths (λ c. omega (arith, step (at-turn c)))
+    (λ c. omega (arith, step (at-turn c))) (λ c. omega (arith, step (at-turn c))) (λ c. omega (arith, step (at-turn c)))
     (λ c. omega (arith, at-turn c .if1 .taken)) loop-again (λ c. omega (arith, wires (at-end c))) (λ c. omega (arith, wires (at-end c)))
     (λ c. omega (arith, wires (at-end c))) (λ c. omega (arith, wires (at-end c))) returns)

@@ -33,7 +33,8 @@ returns c =
     let a = c .before .before .before .before .args in
     let l = c .before .before .before .loop in
     let i< = c .before .before .loop-test .taken in
-    sym (place-stop (λ j. member j (a .g)) (range 0 (a .n)) (l .i) (rw range-length i<) (here (a .n) (a .g) (l .i) _ i< (c .before .member-of .ensures) ∙ c .if1 .taken))
+    sym (place-stop (λ j. member j (a .g)) (range 0 (a .n)) (l .i) (rw range-length i<)
+    (here (a .n) (a .g) (l .i) _ i< (c .before .member-of .ensures) ∙ c .if1 .taken))
     ∙ l .inv .1
 
 loop-again : tie.Need-loop-again Inv-loop μ-loop
@@ -42,7 +43,8 @@ loop-again c =
     let l = c .before .before .before .loop in
     let i< = c .before .before .loop-test .taken in (
       omega arith,
-      place-next (λ j. member j (a .g)) (range 0 (a .n)) (l .i) (rw range-length i<) (here (a .n) (a .g) (l .i) _ i< (c .before .member-of .ensures) ∙ c .if1 .left)
+      place-next (λ j. member j (a .g)) (range 0 (a .n)) (l .i) (rw range-length i<)
+          (here (a .n) (a .g) (l .i) _ i< (c .before .member-of .ensures) ∙ c .if1 .left)
           ∙ l .inv .1,
     )
 

@@ -11,7 +11,9 @@ use Rattle.radix.proofs.offsets.widen.Statement.{statement}
 use Rattle.radix.proofs.offsets.widen.Tie as tie
 
 abbrev Inv-loop : tie.InvT-loop
-Inv-loop out₀ len w m end j₀ out j = (len ≤ j) × (j ≤ len * m) × (end ≡ len * m) × (length out ≡ length out₀) × (take j out ≡ take j (Rattle.radix.specs.Offsets.widened m w (take len out₀)))
+Inv-loop out₀ len w m end j₀ out j =
+    (len ≤ j) × (j ≤ len * m) × (end ≡ len * m) × (length out ≡ length out₀)
+    × (take j out ≡ take j (Rattle.radix.specs.Offsets.widened m w (take len out₀)))
 
 abbrev μ-loop : tie.MeasureT-loop
 μ-loop out₀ len w m end j₀ out j = end - j

@@ -52,7 +52,11 @@ mul-w : tie.Need-mul-w Inv-loop μ-loop
 mul-w c =
     let a = c .before .before .args in
     let l = c .before .loop in
-    omega (arith, weight-below (a .m) (a .n) (l .i - 1) (l .w * a .m) (c .before .before .pre .0) (one-more (a .m) (a .n) (l .i) (l .w) (omega arith) (l .inv .0) (l .inv .2)))
+    omega (
+      arith,
+      weight-below (a .m) (a .n) (l .i - 1) (l .w * a .m) (c .before .before .pre .0)
+          (one-more (a .m) (a .n) (l .i) (l .w) (omega arith) (l .inv .0) (l .inv .2)),
+    )
 
 loop-again : tie.Need-loop-again Inv-loop μ-loop
 loop-again c =

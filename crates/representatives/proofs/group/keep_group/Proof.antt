@@ -6,7 +6,7 @@ use lib.ListN.{length, getD}
 use Rattle.representatives.specs.Known.{Base}
 use Rattle.representatives.specs.Sources.{PassesOn, OneOf}
 use Rattle.representatives.specs.Working.{step-level, step-own-places, step-counted}
-use Rattle.representatives.proofs.GroupSteps.{step-empty, step-off-lower, step-inner, step-passed}
+use Rattle.representatives.proofs.GroupSteps.{step-empty, step-off-lower, step-off-apart, step-inner, step-passed}
 use borrow.Author.Needs.{needs}
 use Rattle.representatives.proofs.group.keep_group.Statement.{statement}
 use Rattle.representatives.proofs.group.keep_group.Tie as tie
@@ -33,7 +33,7 @@ rest-counted : (c : tie.After-source) →
     let a = source-start c .args in
     let h = a .g - c .source .result in
     (h < length (a .counts .now)) × (h * a .m + 1 < length (a .kept .now)) × (getD (a .counts .now) h 0 ≡ 0 → Base (a .m) (a .counts .now) (a .kept .now) h)
-rest-counted c = let pre = source-start c .pre in step-counted (pre .0) (pre .1) (off c .1)
+rest-counted c = let pre = source-start c .pre in step-counted (pre .0) (pre .1) (off c .1) (step-off-apart (pre .0) (pre .1) (one c))
 
 slice-write-kept : tie.Need-slice-write-kept
 slice-write-kept c = let pre = at-start (c .before) .pre in omega (arith, step-own-places (pre .0) (pre .1), pre .0 .levels)

@@ -1,4 +1,5 @@
--- `representatives::source::source` meets its contract. The loop's invariant: the members that are left are members, and the best so far is one. Assumes nothing.
+-- `representatives::source::source` meets its contract. The loop's invariant: the members that are left are members, and the best so far is one.
+-- Assumes nothing.
 use Prim.Native.Nat.{_-_, _^_, _≤_, _<_}
 use native.Mathlib.Omega.{arith}
 use Rattle.representatives.specs.Known.{places-before}

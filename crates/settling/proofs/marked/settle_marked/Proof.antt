@@ -8,7 +8,8 @@ use lib.Pow.{pow-mono}
 use Rattle.rules.specs.Limits.{mostInputs}
 use Rattle.laws.specs.Numbers.Sizes.{sized}
 use Rattle.net_sheets.specs.Text.Put.{put-wrote}
-use Rattle.settling.specs.Outcomes.{given-size, given-count, given-below, made-inside, settling-made-short, made-sound, given-two, own-marks, given-16, given-tree}
+use Rattle.settling.specs.Outcomes.{given-size, given-count, given-below, made-inside, settling-made-short, made-sound, given-two, own-marks}
+use Rattle.settling.specs.Outcomes.{given-16, given-tree}
 use borrow.Author.Needs.{needs}
 use Rattle.settling.proofs.marked.settle_marked.Statement.{statement}
 use Rattle.settling.proofs.marked.settle_marked.Tie as tie

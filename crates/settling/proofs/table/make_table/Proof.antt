@@ -1,6 +1,7 @@
 -- `settling::table::make_table` meets its contract: the settled choice, without the count of layers. Assumes nothing.
 use mathlib.Core.Path.{_∙_}
-use Rattle.settling.specs.Calls.{made-plain, into-plain}
+use Rattle.laws.specs.Calls.ShallowSettling.{plain-into}
+use Rattle.settling.specs.Calls.{made-plain}
 use borrow.Author.Needs.{needs}
 use Rattle.settling.proofs.table.make_table.Statement.{statement}
 use Rattle.settling.proofs.table.make_table.Tie as tie
@@ -13,7 +14,7 @@ returns : tie.Need-returns
 returns c =
     let did = at-settled (c .before) in
     made-plain (did .settle-into .result) (c .length-alone .result) (c .length-alone .ensures) _ _ _ _ (did .settle-into .ensures)
-    ∙ into-plain _ _ _ _ _
+    ∙ plain-into _ _ _ _ _
 
 pub make-table-spec : {M : Type 1} → statement M
 make-table-spec =

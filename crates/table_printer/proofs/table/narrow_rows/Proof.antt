@@ -12,7 +12,7 @@ use Rattle.rules.specs.Sheets.Sheets.{levelsAt, inkByte}
 use Rattle.rules.specs.Sheets.Printed.{printedRows}
 use Rattle.laws.specs.Numbers.Levels.{zeros-front, levels-length, levels-below, front-next, front-kept}
 use Rattle.net_sheets.specs.Text.Put.{PutRoom, NetLeft, all-left, put-left, room-for, none-left}
-use Rattle.table_printer.specs.Rows.Rows.{rowText, rows-next, rows-end}
+use Rattle.table_printer.specs.Rows.Rows.{rowText, printed-rows-next, rows-end}
 use Rattle.table_printer.proofs.table.narrow_rows.Statement.{statement}
 use Rattle.table_printer.proofs.table.narrow_rows.Tie as tie
 
@@ -45,7 +45,7 @@ module _ (m n k : ℕ) (levels : List ℕ) (front : take n levels ≡ levelsAt m
   module _ (inks : List ℕ) (h : k < length inks) {b : ℕ} (byte : b ≡ inkByte m (getD inks k 0))
       {out : List ℕ} {p : ℕ} {out₀ : List ℕ} {at : ℕ} {t : List ℕ} (l : NetLeft out p (printedRows m n k (drop k inks)) out₀ at t) where
     first-row : NetLeft out p (rowText (take (n - 0) levels) b ++ printedRows m n (k + 1) (drop (k + 1) inks)) out₀ at t
-    first-row = rw (lent, byte) (rw (rows-next m n k inks h) at l)
+    first-row = rw (lent, byte) (rw (printed-rows-next m n k inks h) at l)
 
     row-room : PutRoom out p (rowText (take (n - 0) levels) b)
     row-room = room-for (rowText (take (n - 0) levels) b) (printedRows m n (k + 1) (drop (k + 1) inks)) first-row

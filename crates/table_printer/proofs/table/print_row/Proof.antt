@@ -6,19 +6,19 @@ use native.Mathlib.Omega.{arith}
 use lib.ListN.{length, getD, length-set}
 use Rattle.rules.specs.Text.{space, newline, digitByte, zeroByte, spaceByte, newlineByte}
 use Rattle.net_sheets.specs.Text.Put.{NetLeft, parts-left, bytes-left, none-left}
-use Rattle.table_printer.specs.Rows.Rows.{rowText, rowFrom, row-all, printed-row-next, row-end}
+use Rattle.table_printer.specs.Rows.Rows.{rowText, rowFromInput, row-all, printed-row-next, row-end}
 use Rattle.table_printer.proofs.table.print_row.Statement.{statement}
 use Rattle.table_printer.proofs.table.print_row.Tie as tie
 
 abbrev Inv-loop : tie.InvT-loop
-Inv-loop levels ink out₀ at i₀ p₀ out i p = (i ≤ length levels) × NetLeft out p (rowFrom levels ink i) out₀ at (rowText levels ink)
+Inv-loop levels ink out₀ at i₀ p₀ out i p = (i ≤ length levels) × NetLeft out p (rowFromInput levels ink i) out₀ at (rowText levels ink)
 
 abbrev μ-loop : tie.MeasureT-loop
 μ-loop levels ink out₀ at i₀ p₀ out i p = length levels - i
 
 turn : (c : tie.After-shared-slice-known Inv-loop μ-loop)
     → NetLeft (c .before .before .loop .out) (c .before .before .loop .p)
-    ((zeroByte + getD (c .before .before .before .args .levels .now) (c .before .before .loop .i) 0) ∷ spaceByte ∷ rowFrom (c .before .before .before .args .levels .now) (c .before .before .before .args .ink) (c .before .before .loop .i + 1))
+    ((zeroByte + getD (c .before .before .before .args .levels .now) (c .before .before .loop .i) 0) ∷ spaceByte ∷ rowFromInput (c .before .before .before .args .levels .now) (c .before .before .before .args .ink) (c .before .before .loop .i + 1))
     (c .before .before .before .args .out .now) (c .before .before .before .args .at) (rowText (c .before .before .before .args .levels .now) (c .before .before .before .args .ink))
 unfolding digitByte space
 turn c = rw (printed-row-next (c .before .before .before .args .levels .now) (c .before .before .before .args .ink) (c .before .before .loop .i) (c .before .loop-test .taken)) at (c .before .before .loop .inv .1)

@@ -12,7 +12,7 @@ use Rattle.rules.specs.Sheets.Sheets.{levelsAt, inkByte}
 use Rattle.rules.specs.Sheets.Printed.{printedRows}
 use Rattle.laws.specs.Numbers.Levels.{levels-next, levels-length}
 use Rattle.net_sheets.specs.Text.Put.{NetLeft, all-left, put-left, room-for, none-left}
-use Rattle.table_printer.specs.Rows.Rows.{rowText, row-length, rows-next, rows-end}
+use Rattle.table_printer.specs.Rows.Rows.{rowText, row-text-length, printed-rows-next, rows-end}
 use Rattle.table_printer.specs.Rows.Words.{PrintedSpells}
 use Rattle.table_printer.specs.Rows.Next.{zeros-spell}
 use Rattle.table_printer.proofs.table.wide_rows.Statement.{statement}
@@ -42,11 +42,11 @@ at-row c = c .before .before .before
 module _ (m n k : ℕ) (inks : List ℕ) (h : k < length inks) {b : ℕ} (byte : b ≡ inkByte m (getD inks k 0))
     {out : List ℕ} {p : ℕ} {out₀ : List ℕ} {at : ℕ} {t : List ℕ} (l : NetLeft out p (printedRows m n k (drop k inks)) out₀ at t) where
   first-row : NetLeft out p (rowText (levelsAt m n k) b ++ printedRows m n (k + 1) (drop (k + 1) inks)) out₀ at t
-  first-row = rw byte (rw (rows-next m n k inks h) at l)
+  first-row = rw byte (rw (printed-rows-next m n k inks h) at l)
 
   row-room : p + (2 * n + 2) ≤ length out
   row-room =
-      omega (arith, room-for (rowText (levelsAt m n k) b) (printedRows m n (k + 1) (drop (k + 1) inks)) first-row, row-length (levelsAt m n k) b, levels-length m n k)
+      omega (arith, room-for (rowText (levelsAt m n k) b) (printedRows m n (k + 1) (drop (k + 1) inks)) first-row, row-text-length (levelsAt m n k) b, levels-length m n k)
 
 loop-holds : tie.Need-loop-holds Inv-loop μ-loop
 loop-holds c =

@@ -3,7 +3,7 @@
 use native.Mathlib.Omega.{arith}
 use Rattle.accepted.specs.Taken.{held-size, sound, own-most, front-given}
 use Rattle.table_printer.specs.Tables.{table-inside}
-use Rattle.table_printer.specs.Writing.{output-short, output-long, output-written}
+use Rattle.table_printer.specs.Writing.{table-output-short, output-long, table-output-written}
 use borrow.Author.Needs.{needs}
 use Rattle.table_printer.proofs.write.write_accepted.Statement.{statement}
 use Rattle.table_printer.proofs.write.write_accepted.Tie as tie
@@ -32,7 +32,7 @@ table-length-requires c κs =
     (size .inputs-most, omega (arith, size .cells-most, c .power .ensures))
 
 returns : tie.Need-returns
-returns c = output-short _ _ _ (at-start (c .before .before) .pre) _ _ (c .before .before .power .ensures) (c .before .table-length .ensures) _ (c .if1 .taken)
+returns c = table-output-short _ _ _ (at-start (c .before .before) .pre) _ _ (c .before .before .power .ensures) (c .before .table-length .ensures) _ (c .if1 .taken)
 
 table-requires : tie.Need-table-requires
 table-requires c κs =
@@ -54,7 +54,7 @@ returns-2 c =
     let table = at-table (c .before .before .before) in
     let fits = at-fits table in
     let start = fits-start fits in
-    output-written _ _ _ (start .pre) _ _ (fits .before .before .power .ensures) (fits .before .table-length .ensures) (start .args .out .now) (fits .if1 .left) _ _ _
+    table-output-written _ _ _ (start .pre) _ _ (fits .before .before .power .ensures) (fits .before .table-length .ensures) (start .args .out .now) (fits .if1 .left) _ _ _
     (table .table .ensures) _ _ (c .before .before .print-table .ensures)
 
 pub write-accepted-spec : {M : Type 1} → statement M

@@ -1,5 +1,6 @@
--- `tree_counts::counts::group_count` and `split_count`, which call each other, meet their contracts. The measure is twice the number of members, and one less for a
--- split: "the number of members, with a split position, falls". The loop's invariant: what is kept is right, and the sum is that of the splits passed. Assumes nothing.
+-- `tree_counts::counts::group_count` and `split_count`, which call each other, meet their contracts. The measure is twice the number of members, and
+-- one less for a split: "the number of members, with a split position, falls". The loop's invariant: what is kept is right, and the sum is that of
+-- the splits passed. Assumes nothing.
 use Prim.Native.Nat.{ℕ, _+_, _-_, _*_, _^_, _<_}
 use mathlib.Core.Path.{_≡_, refl, sym, ap₂, _∙_}
 use mathlib.Core.Logic.{_≢_, ⊎-elim}
@@ -13,11 +14,12 @@ use Rattle.rules.specs.Groups.Marks.{markIn}
 use Rattle.rules.specs.Nets.Wirings.{firstInput}
 use Rattle.rules.specs.Nets.Family.{splitCount}
 use Rattle.trees.specs.Groups.Members.{size-pos}
-use Rattle.trees.specs.Families.FamilyCounts.{counted, splitCounted, no-parts-count, count-single}
-use Rattle.trees.specs.Families.FamilyBounds.{count-fits}
+use Rattle.trees.specs.Families.FamilyCounts.{groupTrees, splitCounted, no-parts-count, count-single}
+use Rattle.trees.specs.Families.FamilyBounds.{group-trees-fit}
 use Rattle.radix.specs.Parts.{PartOf, Next}
 use Rattle.radix.specs.Widths.{groupsEnd}
-use Rattle.tree_counts.specs.Counts.{CountsKnown, Countable, Splittable, splittable-sizes, one-kept, smaller, split-none, split-fits, product-fits, product-split}
+use Rattle.tree_counts.specs.Counts.{CountsKnown, Countable, Splittable, splittable-sizes, one-kept, smaller, split-none, split-fits}
+use Rattle.tree_counts.specs.Counts.{product-fits, product-split}
 use Rattle.tree_counts.specs.Walking.{Passed, passed-none, passed-next, looked, Summed, summed-none, summed-next, summed-all, summed-most}
 use borrow.Fn.Kinds.{In}
 use borrow.Fn.PlainCycle.{Measures, is, falls, and}
@@ -185,7 +187,7 @@ module _ (t : ℕ) where
     abbrev at-single : Start
     at-single = start (mark-of (known-of (c .before)))
 
-    is-one : (n : ℕ) → g at-single < 2 ^ n → 1 ≡ counted n (marks at-single) (g at-single)
+    is-one : (n : ℕ) → g at-single < 2 ^ n → 1 ≡ groupTrees n (marks at-single) (g at-single)
     is-one n g< =
         sym
         (count-single n (marks at-single) (g at-single) g< (two (known-of (c .before)))
@@ -259,7 +261,7 @@ module _ (t : ℕ) where
           arith,
           summed-most (marks s) (g s) (rest f) (group s .some) (is-rest f) part sum count (group s .below) (c .loop-test .taken) (c .before .loop .inv .2)
               (c .before .loop .inv .3) is (has-two f) (several f),
-          count-fits mostInputs (marks s) (omega arith) (g s),
+          group-trees-fit mostInputs (marks s) (omega arith) (g s),
         )
 
     -- .. and then the sum is that of the splits passed
@@ -286,7 +288,8 @@ module _ (t : ℕ) where
   split-count-requires : group-count-lts.Need-split-count-requires (called t) (group-count-at t) group-count.Post Inv-loop μ-loop
   split-count-requires c κs =
       let at = turn (c .before .before) in
-      let falls : size mostInputs (g (s at)) + size mostInputs (g (s at)) - 1 < t = omega (arith, s at .pre .0, size-pos mostInputs (g (s at)) (group (s at) .below) (group (s at) .some)) in
+      let falls : size mostInputs (g (s at)) + size mostInputs (g (s at)) - 1 < t =
+      omega (arith, s at .pre .0, size-pos mostInputs (g (s at)) (group (s at) .below) (group (s at) .some)) in
       (falls, here at)
 
   add-sum : group-count-lts.Need-add-sum (called t) (group-count-at t) group-count.Post Inv-loop μ-loop
@@ -314,7 +317,8 @@ module _ (t : ℕ) where
     known-turn = turn (c .before)
 
     is-split : (n : ℕ) → g (s known-turn) < 2 ^ n
-        → c .before .kept-product .result ≡ splitCounted n (marks (s known-turn)) (g (s known-turn)) ((g (s known-turn) - rest (f known-turn)) + part known-turn)
+        → c .before .kept-product .result ≡ splitCounted n (marks (s known-turn)) (g (s known-turn))
+        ((g (s known-turn) - rest (f known-turn)) + part known-turn)
     is-split n g< =
         c .before .kept-product .ensures
         ∙ product-split _ _ _ _ (here known-turn) (λ none. c .if4 .left (c .before .kept-product .ensures ∙ none)) n g<
@@ -349,9 +353,10 @@ module _ (t : ℕ) where
     abbrev all : ℕ
     all = c .before .loop .sum
 
-    is-count : (n : ℕ) → g entry < 2 ^ n → all ≡ counted n (marks entry) (g entry)
+    is-count : (n : ℕ) → g entry < 2 ^ n → all ≡ groupTrees n (marks entry) (g entry)
     is-count =
-        summed-all (marks entry) (g entry) (rest from) (group entry .some) (is-rest from) (c .before .loop .part) all (c .before .loop .inv .3) (c .loop-test .left)
+        summed-all (marks entry) (g entry) (rest from) (group entry .some) (is-rest from) (c .before .loop .part) all (c .before .loop .inv .3)
+        (c .loop-test .left)
         (has-two from) (several from)
 
     has-room : g entry < length (c .before .loop .counts)
@@ -423,8 +428,10 @@ module _ (t : ℕ) where
   group-count-requires : split-count-lts.Need-group-count-requires asked (split-count-at t) split-count.Post
   group-count-requires c κs =
       let e = came (c .before .before) in
-      let is : Splittable ((e .args .marks .now)) (e .args .counts .now) (e .args .g) (e .args .a) = e .pre .1 in
-      (omega (arith, e .pre .0, splittable-sizes _ _ _ _ mostInputs (is .group .below) is), smaller _ _ _ _ _ (is .group) (is .some) (is .less) refl (is .group .kept))
+      let is : Splittable ((e .args .marks .now)) (e .args .counts .now) (e .args .g) (e .args .a) = e .pre .1 in (
+        omega (arith, e .pre .0, splittable-sizes _ _ _ _ mostInputs (is .group .below) is),
+        smaller _ _ _ _ _ (is .group) (is .some) (is .less) refl (is .group .kept),
+      )
 
   sub-group-count : split-count-lts.Need-sub-group-count asked (split-count-at t) split-count.Post
   sub-group-count c = omega (arith, entered (c .before .before .before) .pre .1 .less)
@@ -435,8 +442,10 @@ module _ (t : ℕ) where
       let e = entered l in
       let is : Splittable (e .args .marks .now) (e .args .counts .now) (e .args .g) (e .args .a) = e .pre .1 in
       let some : 0 < e .args .g - e .args .a = omega (arith, is .less) in
-      let less : e .args .g - e .args .a < e .args .g = omega (arith, is .some, is .less) in
-      (omega (arith, e .pre .0, splittable-sizes _ _ _ _ mostInputs (is .group .below) is), smaller _ _ _ _ _ (is .group) some less (l .group-count .kept .1 .0) (l .group-count .ensures .kept))
+      let less : e .args .g - e .args .a < e .args .g = omega (arith, is .some, is .less) in (
+        omega (arith, e .pre .0, splittable-sizes _ _ _ _ mostInputs (is .group .below) is),
+        smaller _ _ _ _ _ (is .group) some less (l .group-count .kept .1 .0) (l .group-count .ensures .kept),
+      )
 
   -- the product of what was found is the split's count
   is-product : (c : After-right) →

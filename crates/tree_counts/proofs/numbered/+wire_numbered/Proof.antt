@@ -10,9 +10,10 @@ use Rattle.rules.specs.Groups.Groups.{size}
 use Rattle.rules.specs.Nets.Wirings.{firstInput}
 use Rattle.trees.specs.Groups.Members.{size-one}
 use Rattle.rules.specs.Nets.Family.{splitsOf, numberedAt}
-use Rattle.trees.specs.Families.FamilyCounts.{counted, splitCounted, counted-two}
+use Rattle.trees.specs.Families.FamilyCounts.{groupTrees, splitCounted, counted-two}
 use Rattle.tree_counts.specs.Counts.{Countable, smaller}
-use Rattle.tree_counts.specs.Numbered.{InCount, NumberWired, numbered-single, tree-count-part-less, tree-count-part-sizes, count-some, left-in, right-in, numbered-several}
+use Rattle.tree_counts.specs.Numbered.{InCount, NumberWired, numbered-single, tree-count-part-less, tree-count-part-sizes, count-some, left-in}
+use Rattle.tree_counts.specs.Numbered.{right-in, numbered-several}
 use borrow.Fn.Kinds.{In}
 use borrow.Fn.PlainCycle.{Measures, is, falls, and}
 use Rattle.tree_counts.proofs.numbered.wire_numbered.Reads as wire-numbered
@@ -193,7 +194,7 @@ module _ (t : ℕ) where
     abbrev count : ℕ
     count = c .group-count .result
 
-    is-count : count ≡ counted (n (s p)) (marks (s p)) (g (s p) - a p)
+    is-count : count ≡ groupTrees (n (s p)) (marks (s p)) (g (s p) - a p)
     is-count = c .group-count .ensures .count (n (s p)) (omega (arith, less p, in-count (s p) .below))
 
     some : 0 < count
@@ -215,8 +216,15 @@ module _ (t : ℕ) where
       let falls : a (p k) < t = subst (λ (j : ℕ). a (p k) < j) (e .pre .0) (less (p k) .1) in
       let fits : e .args .wiring .gates + size (n e) (a (p k)) ≤ n e = omega (arith, sizes (p k), room e) in
       let left-group : Countable (marks e) (k .group-count .last .1 .0) (a (p k)) =
-      smaller _ _ _ _ _ (group e) (less (p k) .0) (less (p k) .1) (long k) (k .group-count .ensures .kept) in
-      (falls, (left-group, left-in (n e) (marks e) (g e) (r e) (in-count e) (several (p k)) (a (p k)) (number (p k)) (fallen (p k)) (count k) (is-count k), fits))
+      smaller _ _ _ _ _ (group e) (less (p k) .0) (less (p k) .1) (long k) (k .group-count .ensures .kept) in (
+        falls,
+        (
+          left-group,
+          left-in (n e) (marks e) (g e) (r e) (in-count e) (several (p k)) (a (p k)) (number (p k)) (fallen (p k)) (count k)
+              (is-count k),
+          fits,
+        ),
+      )
 
   -- ---- B's
 
@@ -244,8 +252,15 @@ module _ (t : ℕ) where
       let fits : l .wire-numbered .result .wiring .gates + size (n (e l)) (g (e l) - a q) ≤ n (e l) =
       omega (arith, l .wire-numbered .ensures .count, sizes q, room (e l)) in
       let right-group : Countable (marks (e l)) (l .wire-numbered .last .1 .1 .0) (g (e l) - a q) =
-      smaller _ _ _ _ _ (group (e l)) (omega (arith, less q)) (omega (arith, less q)) (long-left l) (l .wire-numbered .ensures .kept) in
-      (falls, (right-group, right-in (n (e l)) (marks (e l)) (g (e l)) (r (e l)) (in-count (e l)) (several q) (a q) (number q) (fallen q) (count (k l)) (is-count (k l)), fits))
+      smaller _ _ _ _ _ (group (e l)) (omega (arith, less q)) (omega (arith, less q)) (long-left l) (l .wire-numbered .ensures .kept) in (
+        falls,
+        (
+          right-group,
+          right-in (n (e l)) (marks (e l)) (g (e l)) (r (e l)) (in-count (e l)) (several q) (a q) (number q) (fallen q)
+              (count (k l)) (is-count (k l)),
+          fits,
+        ),
+      )
 
   -- ---- its own
 
@@ -272,8 +287,10 @@ module _ (t : ℕ) where
       let w = right (c .before) in
       let l = left w in
       let q = p (k l) in
-      numbered-several (n (e l)) (marks (e l)) (g (e l)) (r (e l)) (in-count (e l)) (several q) (a q) (number q) (fallen q) (count (k l)) (is-count (k l)) (e l .args .wiring)
-      (l .wire-numbered .result .wiring) (w .wire-numbered2 .result .wiring) (c .link .result) (l .wire-numbered .result .reference) (w .wire-numbered2 .result .reference)
+      numbered-several (n (e l)) (marks (e l)) (g (e l)) (r (e l)) (in-count (e l)) (several q) (a q) (number q) (fallen q) (count (k l))
+      (is-count (k l)) (e l .args .wiring)
+      (l .wire-numbered .result .wiring) (w .wire-numbered2 .result .wiring) (c .link .result) (l .wire-numbered .result .reference)
+      (w .wire-numbered2 .result .reference)
       (l .wire-numbered .last .1 .1 .0) (w .wire-numbered2 .last .1 .1 .0) (l .wire-numbered .ensures) (w .wire-numbered2 .ensures) (c .link .ensures)
 
 pub +wire-numbered-spec : {M : Type 1} → statement M

@@ -16,7 +16,8 @@ returns c =
     let s = c .before .before .before .before .before in
     let is = c .before .kept-product .ensures in
     record {
-      count = λ n g<. is ∙ product-split (s .args .marks .now) (s .args .counts .now) (s .args .g) (s .args .a) (s .pre) (λ none. c .if1 .taken (is ∙ none)) n g<;
+      count = λ n g<. is ∙ product-split (s .args .marks .now) (s .args .counts .now) (s .args .g) (s .args .a) (s .pre)
+          (λ none. c .if1 .taken (is ∙ none)) n g<;
       kept = s .pre .group .kept;
     }
 

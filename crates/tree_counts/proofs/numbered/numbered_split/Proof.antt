@@ -1,5 +1,5 @@
--- `tree_counts::numbered::numbered_split` meets its contract. The loop's invariant: what is kept is right, and what is left of the number falls, of the splits that
--- are left, where the number falls of all. Assumes nothing.
+-- `tree_counts::numbered::numbered_split` meets its contract. The loop's invariant: what is kept is right, and what is left of the number falls, of
+-- the splits that are left, where the number falls of all. Assumes nothing.
 use Prim.Native.Nat.{ℕ, _+_, _-_, _^_, _<_}
 use mathlib.Core.Path.{_≡_, refl, _∙_}
 use mathlib.Core.List.{List}
@@ -83,7 +83,8 @@ returns c =
     let t = at-turn split in
     let l = t .before .loop in
     record {
-      is = left-here (marks (f t)) (g (f t)) (rest (f t)) (group (f t) .some) (is-rest (f t)) (r (f t)) (part t) (l .left) (split .known-split .result) (t .loop-test .taken)
+      is = left-here (marks (f t)) (g (f t)) (rest (f t)) (group (f t) .some) (is-rest (f t)) (r (f t)) (part t) (l .left)
+          (split .known-split .result) (t .loop-test .taken)
           (l .inv .2) (l .inv .3) (split .known-split .ensures .count) (group (f t) .below) (c .if1 .taken);
       kept = split .known-split .ensures .kept;
     }
@@ -105,7 +106,8 @@ loop-again c =
       split .known-split .kept .1 .0 ∙ l .inv .0,
       split .known-split .ensures .kept,
       passed-next (rest (f t)) (part t) (c .next-part .result) (t .loop-test .taken) (c .next-part .ensures),
-      left-later (marks (f t)) (g (f t)) (rest (f t)) (group (f t) .some) (is-rest (f t)) (r (f t)) (part t) (l .left) (split .known-split .result) (t .loop-test .taken)
+      left-later (marks (f t)) (g (f t)) (rest (f t)) (group (f t) .some) (is-rest (f t)) (r (f t)) (part t) (l .left) (split .known-split .result)
+          (t .loop-test .taken)
           (l .inv .2) (l .inv .3) (split .known-split .ensures .count) (c .next-part .result) (c .next-part .ensures) (c .before .if1 .left),
     )
 

@@ -177,8 +177,14 @@ module _ (t : ℕ) where
   wire-group-requires c κs =
       let e = s c in
       let falls : part c < t = subst (λ (k : ℕ). part c < k) (e .pre .0) (less c .1) in
-      let fits : e .args .wiring .gates + size (n e) (part c) ≤ n e = omega (arith, sizes c, room e) in
-      (falls, (left-choosable (n e) (marks e) (by e) (g e) (ready e) (several c) (part c) (part-is c), room-below (e .args .choice) (g e) (fewest e) (layers e) (part c) (omega (arith, less c .1)), fits))
+      let fits : e .args .wiring .gates + size (n e) (part c) ≤ n e = omega (arith, sizes c, room e) in (
+        falls,
+        (
+          left-choosable (n e) (marks e) (by e) (g e) (ready e) (several c) (part c) (part-is c),
+          room-below (e .args .choice) (g e) (fewest e) (layers e) (part c) (omega (arith, less c .1)),
+          fits,
+        ),
+      )
 
   sub-wire-group : wire-group-lts.Need-sub-wire-group (called t) (wire-group-at t) wire-group.Post
   sub-wire-group c = omega (arith, less (split (c .before)) .1)
@@ -189,8 +195,14 @@ module _ (t : ℕ) where
       let e = s p in
       let falls : g e - part p < t = omega (arith, less p, e .pre .0) in
       let fits : c .before .wire-group .result .wiring .gates + size (n e) (g e - part p) ≤ n e =
-      omega (arith, c .before .wire-group .ensures .count, sizes p, room e) in
-      (falls, (right-choosable (n e) (marks e) (by e) (g e) (ready e) (several p) (part p) (part-is p), room-below (e .args .choice) (g e) (fewest e) (layers e) (g e - part p) (omega arith), fits))
+      omega (arith, c .before .wire-group .ensures .count, sizes p, room e) in (
+        falls,
+        (
+          right-choosable (n e) (marks e) (by e) (g e) (ready e) (several p) (part p) (part-is p),
+          room-below (e .args .choice) (g e) (fewest e) (layers e) (g e - part p) (omega arith),
+          fits,
+        ),
+      )
 
   -- how many gates stand before the group's own
   two-more : (c : After-right) → c .wire-group2 .result .wiring .gates + 2 ≤ n (s (split (left c)))

@@ -30,7 +30,8 @@ returns : tie.Need-returns
 returns c =
     let built = c .before in
     let s = start (none built) in
-    chosen (s .args .n) (splitBy (s .args .choice) (s .args .n) (s .args .marks .now) (s .args .fewest .now)) (s .args .leaves) (none built .no-links .result) (built .wire-group .result .wiring)
+    chosen (s .args .n) (splitBy (s .args .choice) (s .args .n) (s .args .marks .now) (s .args .fewest .now)) (s .args .leaves)
+    (none built .no-links .result) (built .wire-group .result .wiring)
     (built .wire-group .result .reference) (empty (none built)) (built .wire-group .ensures)
 
 pub choose-spec : {M : Type 1} → statement M

@@ -11,13 +11,13 @@ use lib.ListN.{length, length-set}
 use lib.Pow.{pow-mono}
 use Rattle.radix.specs.Widths.{mostMembers}
 use Rattle.wirings.specs.FewestLayers.{WiringKnown, known-small, wiring-known-next}
-use Rattle.wirings.specs.Fast.Floors.{Sized, floor-under, sized-next}
+use Rattle.wirings.specs.Fast.Floors.{RoomInLayers, floor-under, sized-next}
 use Rattle.wirings.proofs.fewest_layers.fewest_layers.Statement.{statement}
 use Rattle.wirings.proofs.fewest_layers.fewest_layers.Tie as tie
 
 abbrev Inv-loop : tie.InvT-loop
 Inv-loop n marks fewest₀ end sized₀ g₀ fewest sized g =
-    (g ≤ end) × (length fewest ≡ length fewest₀) × WiringKnown n marks g fewest × (sized ≡ true → Sized marks fewest g)
+    (g ≤ end) × (length fewest ≡ length fewest₀) × WiringKnown n marks g fewest × (sized ≡ true → RoomInLayers marks fewest g)
 
 abbrev μ-loop : tie.MeasureT-loop
 μ-loop n marks fewest₀ end sized₀ g₀ fewest sized g = end - g
@@ -85,7 +85,8 @@ loop-again c =
       wiring-known-next (n t) (marks t) (g t) (l .fewest) (l .inv .2) (g< t) (room t .1) (r .result) (r .ensures (n t) (g< t)),
       ⊎-elim (λ w is. absurd (true≢false (sym is ∙ w .1)))
           (λ w is.
-          sized-next (marks t) (l .fewest) (g t) (l .sized) (l .inv .3) (f .result) (f .ensures) (room t .1) (r .result) (omega (arith, w .0 .left)) (sym (w .1) ∙ is))
+          sized-next (marks t) (l .fewest) (g t) (l .sized) (l .inv .3) (f .result) (f .ensures) (room t .1) (r .result) (omega (arith, w .0 .left))
+          (sym (w .1) ∙ is))
           (c .if1 .came),
     )
 

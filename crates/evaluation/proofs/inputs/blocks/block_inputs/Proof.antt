@@ -1,4 +1,5 @@
--- `evaluation::inputs::blocks::block_inputs` meets its contract. The loop's invariant: the last `low` inputs have `size` assignments, which a block has room for.
+-- `evaluation::inputs::blocks::block_inputs` meets its contract. The loop's invariant: the last `low` inputs have `size` assignments, which a block
+-- has room for.
 -- Assumes nothing.
 use Prim.Native.Nat.{_-_, _*_, _^_, _≤_}
 use mathlib.Core.Path.{_≡_, sym}

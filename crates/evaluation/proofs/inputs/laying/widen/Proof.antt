@@ -1,4 +1,5 @@
--- `evaluation::inputs::laying::widen` meets its contract. The loop's invariant: with l levels of the new input the columns are laid, for `to` cells. Assumes nothing.
+-- `evaluation::inputs::laying::widen` meets its contract. The loop's invariant: with l levels of the new input the columns are laid, for `to` cells.
+-- Assumes nothing.
 use Prim.Native.Nat.{ℕ, _+_, _-_, _*_, _≤_, _<_}
 use mathlib.Core.Path.{_≡_, refl, sym, ap, _∙_}
 use native.Mathlib.Nat.{one-mul, mul-comm}

@@ -6,9 +6,6 @@ use borrow.Author.Needs.{needs}
 use Rattle.loose_sheets.proofs.reader.inks.ink_field.Statement.{statement}
 use Rattle.loose_sheets.proofs.reader.inks.ink_field.Tie as tie
 
-add-t7 : tie.Need-add-t7
-add-t7 c = omega (arith, c .before .before .before .plain-digit .ensures _ (c .before .value .given .1) .0 .within)
-
 returns-2 : tie.Need-returns-2
 returns-2 c =
     let (plain, below) = c .before .before .before .plain-digit .ensures _ (c .before .value .given .1) in
@@ -16,4 +13,6 @@ returns-2 c =
 
 pub ink-field-spec : {M : Type 1} → statement M
 ink-field-spec =
-    tie.close (tie.spec (λ c κs. search needs) (λ c. search needs) (λ c κs. search needs) (λ c. search needs) add-t7 (λ c. search needs) returns-2)
+    tie.close
+    (tie.spec (λ c κs. search needs) (λ c. search needs) (λ c κs. search needs) (λ c. search needs)
+    (λ c. omega (arith, c .before .before .before .plain-digit .ensures _ (c .before .value .given .1) .0 .within)) (λ c. search needs) returns-2)

@@ -5,7 +5,7 @@ use Prim.Native.Nat.{ℕ, _-_, _^_, _≤_, _<_}
 use mathlib.Core.Path.{_≡_, refl, _∙_, subst}
 use native.Mathlib.Omega.{arith}
 use borrow.Author.Count.{falls}
-use lib.Pow.{pow-pos}
+use lib.Pow.{pow-pos, pow-mono}
 use Rattle.rules.specs.Calls.Answers.{inkIn}
 use Rattle.representatives.specs.Steps.{work-same, Near}
 use Rattle.marks.specs.Marking.{Below}
@@ -14,11 +14,11 @@ use Rattle.marks.proofs.fast.below.mark_below.Statement.{statement}
 use Rattle.marks.proofs.fast.below.mark_below.Tie as tie
 
 abbrev Inv-loop : tie.InvT-loop
-Inv-loop m n cells weights counts₀ kept₀ xs₀ ys₀ firsts₀ marks₀ end past₀ g₀ counts kept xs ys firsts marks past g =
-    Long counts₀ kept₀ xs₀ ys₀ firsts₀ counts kept xs ys firsts × Passed m n (inkIn cells) marks₀ counts kept marks past g × (end ≡ 2 ^ n - 1) × (g ≤ end)
+Inv-loop m n cells weights counts₀ kept₀ xs₀ ys₀ firsts₀ marks₀ end idle₀ past₀ g₀ counts kept xs ys firsts marks idle past g =
+    Long counts₀ kept₀ xs₀ ys₀ firsts₀ counts kept xs ys firsts × Passed m n (inkIn cells) marks₀ counts kept marks idle past g × (end ≡ 2 ^ n - 1) × (g ≤ end)
 
 abbrev μ-loop : tie.MeasureT-loop
-μ-loop m n cells weights counts₀ kept₀ xs₀ ys₀ firsts₀ marks₀ end past₀ g₀ counts kept xs ys firsts marks past g =
+μ-loop m n cells weights counts₀ kept₀ xs₀ ys₀ firsts₀ marks₀ end idle₀ past₀ g₀ counts kept xs ys firsts marks idle past g =
     end - g
 
 -- the start from the loop's head
@@ -89,20 +89,33 @@ put-mark-requires c κs =
     let turn = at-past (at-next c .before) .before in
     omega (arith, below-whole turn, passed-room (turn .before .loop .inv .1) (loop-start (turn .before) .pre .2))
 
+more-idle-requires : tie.Need-more-idle-requires Inv-loop μ-loop
+more-idle-requires c κs =
+    let marked = at-next (at-put (c .before) .before) in
+    let turn = end-turn (c .before) in
+    let l = turn .before .loop in
+    let pre = loop-start (turn .before) .pre in (
+      omega (arith, below-whole turn, marked .mark-next .kept .1 .1 .1 .1 .1 .1 .1 .0, l .inv .0 .for-counts, pre .0 .for-counts),
+      omega (arith, below-whole turn, pow-mono (pre .0 .inputs)),
+      omega (arith, l .inv .1 .idle-below, pow-mono (pre .0 .inputs)),
+    )
+
 add-g : tie.Need-add-g Inv-loop μ-loop
-add-g c = omega (arith, end-turn c .loop-test .taken, end-turn c .before .before .power .ok)
+add-g c = let turn = end-turn (c .before .before) in omega (arith, turn .loop-test .taken, turn .before .before .power .ok)
 
 loop-less : tie.Need-loop-less Inv-loop μ-loop
-loop-less c = falls (end-turn c .before .before .power .result - 1) (end-turn c .before .loop .g) (end-turn c .loop-test .taken)
+loop-less c = let turn = end-turn (c .before .before) in falls (turn .before .before .power .result - 1) (turn .before .loop .g) (turn .loop-test .taken)
 
 loop-again : tie.Need-loop-again Inv-loop μ-loop
 loop-again c =
-    let marked = at-next (at-put c .before) in
+    let put = at-put (c .before .before) in
+    let marked = at-next (put .before) in
     let past = at-past (marked .before) in
     let turn = past .before in
     let l = turn .before .loop in
     let long = l .inv .0 in
-    let lent = marked .mark-next .kept .1 .1 .1 .1 .1 .1 in (
+    let pre = loop-start (turn .before) .pre in
+    let lent = marked .mark-next .kept .1 .1 .1 .1 .1 .1 .1 in (
       record {
         for-counts = lent .0 ∙ long .for-counts;
         for-kept = lent .1 .0 ∙ long .for-kept;
@@ -110,7 +123,8 @@ loop-again c =
         for-ys = lent .1 .1 .1 .0 ∙ long .for-ys;
         for-firsts = lent .1 .1 .1 .1 .0 ∙ long .for-firsts;
       },
-      passed-next (l .inv .1) (loop-start (turn .before) .pre .2) (below-whole turn) (is-past past) (marked .mark-next .ensures) (at-put c .put-mark .ensures),
+      passed-next (l .inv .1) (pre .2) (omega (arith, pre .0 .levels)) (below-whole turn) (is-past past) (marked .mark-next .ensures) (put .put-mark .ensures)
+          (c .more-idle .ensures),
       l .inv .2,
       omega (arith, turn .loop-test .taken),
     )
@@ -126,6 +140,6 @@ pub mark-below-spec : {M : Type 1} → statement M
 mark-below-spec =
     tie.close
     (tie.spec Inv-loop μ-loop (λ c κs. omega (arith, at-start c .pre .0 .inputs)) sub-end loop-holds past-of-requires mark-next-requires
-    put-mark-requires add-g loop-less loop-again (λ c. c .before .loop .inv .0 .for-counts) (λ c. c .before .loop .inv .0 .for-kept)
+    put-mark-requires more-idle-requires add-g loop-less loop-again (λ c. c .before .loop .inv .0 .for-counts) (λ c. c .before .loop .inv .0 .for-kept)
     (λ c. c .before .loop .inv .0 .for-xs) (λ c. c .before .loop .inv .0 .for-ys) (λ c. c .before .loop .inv .0 .for-firsts)
     (λ c. c .before .loop .inv .1 .marked .same) returns)

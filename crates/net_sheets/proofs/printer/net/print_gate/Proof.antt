@@ -10,7 +10,7 @@ use Rattle.rules.specs.Sheets.Printed.{printedGate}
 use Rattle.nets.specs.Room.{mostGates}
 use Rattle.nets.specs.Forms.{gateOf}
 use Rattle.net_sheets.specs.Text.Put.{Put, NetLeft, parts-left, put-left, room-for, room-byte, last-put}
-use Rattle.net_sheets.specs.Printer.Gates.{referenceIn, gateLine}
+use Rattle.net_sheets.specs.Printer.Gates.{referenceIn, printedGateAt}
 use Rattle.net_sheets.specs.Text.Lines.{line-three}
 use Rattle.net_sheets.proofs.printer.net.print_gate.Statement.{statement}
 use Rattle.net_sheets.proofs.printer.net.print_gate.Tie as tie
@@ -45,7 +45,7 @@ abbrev digits : tie.Start → List ℕ
 digits c = map digitByte (gateOf (c .args .net) (c .args .k) .digits)
 
 abbrev Rest : tie.Start → List ℕ → ℕ → List ℕ → Type 0
-Rest c out at t = NetLeft out at t (c .args .out .now) (c .args .at) (gateLine (c .args .s .now) (c .args .h) (c .args .net) (c .args .k))
+Rest c out at t = NetLeft out at t (c .args .out .now) (c .args .at) (printedGateAt (c .args .s .now) (c .args .h) (c .args .net) (c .args .k))
 
 start : (c : tie.Start)
     → Rest c (c .args .out .now) (c .args .at) ((left c ++ (space ∷ [])) ++ ((right c ++ (space ∷ [])) ++ (digits c ++ (newline ∷ []))))

@@ -5,12 +5,12 @@ use mathlib.Core.Path.{sym}
 use mathlib.Core.List.{List, _++_}
 use native.Mathlib.Omega.{arith}
 use Rattle.net_sheets.specs.Text.Put.{NetLeft, parts-left, put-left, room-for, none-left}
-use Rattle.net_sheets.specs.Printer.Gates.{gateLine, gateLines, linesFrom, lines-all, lines-next, lines-none}
+use Rattle.net_sheets.specs.Printer.Gates.{printedGateAt, printedGates, linesFrom, lines-all, lines-next, lines-none}
 use Rattle.net_sheets.proofs.printer.net.print_gates.Statement.{statement}
 use Rattle.net_sheets.proofs.printer.net.print_gates.Tie as tie
 
 abbrev Inv-loop : tie.InvT-loop
-Inv-loop s h net out₀ at gates k₀ p₀ out k p = NetLeft out p (linesFrom s h net k) out₀ at (gateLines s h net)
+Inv-loop s h net out₀ at gates k₀ p₀ out k p = NetLeft out p (linesFrom s h net k) out₀ at (printedGates s h net)
 
 abbrev μ-loop : tie.MeasureT-loop
 μ-loop s h net out₀ at gates k₀ p₀ out k p = gates - k
@@ -20,14 +20,14 @@ abbrev at-start : tie.In-loop Inv-loop μ-loop → tie.Start Inv-loop μ-loop
 at-start c = c .before .before .before .before
 
 abbrev this : tie.In-loop Inv-loop μ-loop → List ℕ
-this c = gateLine (at-start c .args .s .now) (at-start c .args .h) (at-start c .args .net) (c .before .loop .k)
+this c = printedGateAt (at-start c .args .s .now) (at-start c .args .h) (at-start c .args .net) (c .before .loop .k)
 
 abbrev later : tie.In-loop Inv-loop μ-loop → List ℕ
 later c = linesFrom (at-start c .args .s .now) (at-start c .args .h) (at-start c .args .net) (c .before .loop .k + 1)
 
 turn : (c : tie.In-loop Inv-loop μ-loop)
     → NetLeft (c .before .loop .out) (c .before .loop .p) (this c ++ later c) (at-start c .args .out .now) (at-start c .args .at)
-    (gateLines (at-start c .args .s .now) (at-start c .args .h) (at-start c .args .net))
+    (printedGates (at-start c .args .s .now) (at-start c .args .h) (at-start c .args .net))
 turn c = rw (lines-next (at-start c .args .s .now) (at-start c .args .h) (at-start c .args .net) (c .before .loop .k) (c .loop-test .taken)) at (c .before .loop .inv)
 
 loop-holds : tie.Need-loop-holds Inv-loop μ-loop

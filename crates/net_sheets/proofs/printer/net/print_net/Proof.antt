@@ -8,7 +8,7 @@ use Rattle.rules.specs.Text.{space, newline, text, decimal}
 use Rattle.rules.specs.Sheets.Printed.{line, printedNet}
 use Rattle.net_sheets.specs.Text.Put.{NetLeft, parts-left, put-left, room-for, last-put, put-wrote}
 use Rattle.nets.specs.Forms.{namesIn, netIn}
-use Rattle.net_sheets.specs.Printer.Gates.{gateLines, net-parts}
+use Rattle.net_sheets.specs.Printer.Gates.{printedGates, net-parts}
 use Rattle.net_sheets.proofs.printer.net.print_net.Statement.{statement}
 use Rattle.net_sheets.proofs.printer.net.print_net.Tie as tie
 
@@ -45,7 +45,7 @@ abbrev fourth : List ℕ
 fourth = line (text "left" ∷ text "right" ∷ text "table" ∷ [])
 
 abbrev gates : tie.Start → List ℕ
-gates c = gateLines (c .args .s .now) (c .args .h) (c .args .net)
+gates c = printedGates (c .args .s .now) (c .args .h) (c .args .net)
 
 abbrev sheet : tie.Start → List ℕ
 sheet c = printedNet (netIn (c .args .s .now) (c .args .h) (c .args .net))

@@ -11,7 +11,7 @@ use lib.Seq.{take-set-le}
 use Rattle.rules.specs.Limits.{mostLevels, mostInputs}
 use Rattle.table_reader.specs.Fast.Rows.{TableReached}
 use Rattle.table_reader.specs.Fast.Due.{rowBytes}
-use Rattle.table_reader.specs.Fast.Block.{front-digits, block-next, block-done, block-left}
+use Rattle.table_reader.specs.Fast.Block.{front-digits, block-next, block-read, block-left}
 use Rattle.table_reader.proofs.fast.blocks.due_block.Statement.{statement}
 use Rattle.table_reader.proofs.fast.blocks.due_block.Tie as tie
 
@@ -110,7 +110,7 @@ loop-again c =
 returns-4 : tie.Need-returns-4 Inv-loop μ-loop
 returns-4 c =
     let l = c .before .loop in
-    block-done _ _ _ _ _ _ _ _ (l .l) (l .inv .3) (omega (arith, l .inv .0, c .loop-test .left)) (l .inv .1) (omega (arith, c .before .before .before .if2 .left, c .before .before .before .before .if1 .left)) (l .inv .4)
+    block-read _ _ _ _ _ _ _ _ (l .l) (l .inv .3) (omega (arith, l .inv .0, c .loop-test .left)) (l .inv .1) (omega (arith, c .before .before .before .if2 .left, c .before .before .before .before .if1 .left)) (l .inv .4)
 
 pub due-block-spec : {M : Type 1} → statement M
 due-block-spec =

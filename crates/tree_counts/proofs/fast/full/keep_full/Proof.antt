@@ -1,5 +1,5 @@
--- `tree_counts::fast::full::keep_full` meets its contract. The loop's invariant: what is kept is right, and the parts that are passed have mark 2, so that the next one, if it has
--- mark 2, is full. Assumes nothing.
+-- `tree_counts::fast::full::keep_full` meets its contract. The loop's invariant: what is kept is right, and the parts that are passed have mark 2, so
+-- that the next one, if it has mark 2, is full. Assumes nothing.
 use Prim.Native.Nat.{ℕ, _-_, _^_, _≤_, _<_}
 use mathlib.Core.Path.{_≡_, refl, ap, _∙_}
 use mathlib.Core.List.{List}
@@ -9,7 +9,7 @@ use lib.ListN.{length, length-set}
 use Rattle.rules.specs.Limits.{mostInputs}
 use Rattle.rules.specs.Groups.Marks.{markIn}
 use Rattle.trees.specs.Groups.Members.{size-le}
-use Rattle.trees.specs.Families.FamilyCounts.{counted}
+use Rattle.trees.specs.Families.FamilyCounts.{groupTrees}
 use Rattle.trees.specs.Families.FamilyBounds.{treesOn}
 use Rattle.tree_counts.specs.Counts.{CountsKnown, Countable, one-kept}
 use Rattle.tree_counts.specs.Fast.Full.{TwosTo, twos-none, twos-next, last-full, full-count}
@@ -96,7 +96,7 @@ module _ (c : tie.After-trees-on Inv-loop μ-loop) where
   twos : TwosTo (marks turn) (g turn) (part n)
   twos = twos-next (marks turn) (g turn) (turn .before .loop .part) (part n) (n .next-part .ensures) has-two (turn .before .loop .inv .3)
 
-  is-count : (k : ℕ) → part n < 2 ^ k → c .trees-on .result ≡ counted k (marks turn) (part n)
+  is-count : (k : ℕ) → part n < 2 ^ k → c .trees-on .result ≡ groupTrees k (marks turn) (part n)
   is-count k part< =
       c .trees-on .ensures
       ∙ ap treesOn (c .before .members-of .ensures k part<)

@@ -14,4 +14,6 @@ returns-2 : tie.Need-returns-2
 returns-2 c = floor-zeros (c .before .args .members) (omega (arith, c .if1 .left)) (omega arith)
 
 pub floor-of-spec : {M : Type 1} → statement M
-floor-of-spec = tie.close (tie.spec returns (λ c. search needs) (λ c. omega (arith, leading-le 64 (c .before .args .members - 1))) (λ c. omega (arith, leading-le 64 (c .before .args .members - 1))) returns-2)
+floor-of-spec = tie.close
+    (tie.spec returns (λ c. search needs) (λ c. omega (arith, leading-le 64 (c .before .args .members - 1)))
+    (λ c. omega (arith, leading-le 64 (c .before .args .members - 1))) returns-2)

@@ -31,7 +31,8 @@ loop-again c =
     let made = c .before in
     let head = made .before .before .before in
     let a = head .before .before .args in
-    idle-without (a .m) (a .n) (inkIn (a .cells .now)) (a .count) (head .loop .group) (head .loop .left) (head .loop .i) (made .before .before .loop-test .taken) (head .loop .inv)
+    idle-without (a .m) (a .n) (inkIn (a .cells .now)) (a .count) (head .loop .group) (head .loop .left) (head .loop .i)
+    (made .before .before .loop-test .taken) (head .loop .inv)
     (sym (made .matters .ensures) ∙ c .if2 .taken)
 
 power-requires : tie.Need-power-requires Inv-loop μ-loop
@@ -41,14 +42,21 @@ add-group : tie.Need-add-group Inv-loop μ-loop
 add-group c =
     let head = c .before .before .before .before .before in
     let s = head .before .before in
-    omega (arith, head .loop .inv .below, c .power .ensures, power-small (s .args .n) (head .loop .i) (sized (s .args .m) (s .args .n) (s .pre .0) .inputs-most) (c .before .before .before .before .loop-test .taken))
+    omega (
+      arith,
+      head .loop .inv .below,
+      c .power .ensures,
+      power-small (s .args .n) (head .loop .i)
+          (sized (s .args .m) (s .args .n) (s .pre .0) .inputs-most) (c .before .before .before .before .loop-test .taken),
+    )
 
 loop-again-2 : tie.Need-loop-again-2 Inv-loop μ-loop
 loop-again-2 c =
     let made = c .before .before in
     let head = made .before .before .before in
     let a = head .before .before .args in
-    idle-with (a .m) (a .n) (inkIn (a .cells .now)) (a .count) (head .loop .group) (head .loop .left) (head .loop .i) (made .before .before .loop-test .taken) (head .loop .inv)
+    idle-with (a .m) (a .n) (inkIn (a .cells .now)) (a .count) (head .loop .group) (head .loop .left) (head .loop .i)
+    (made .before .before .loop-test .taken) (head .loop .inv)
     (made .before .if1 .left) (c .power .result) (c .power .ensures) (sym (made .matters .ensures) ∙ c .before .if2 .left)
 
 returns-2 : tie.Need-returns-2 Inv-loop μ-loop

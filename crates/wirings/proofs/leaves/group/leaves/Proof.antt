@@ -17,7 +17,12 @@ returns c =
 add-result : tie.Need-add-result
 add-result c =
     let s = c .before .before .before .before .before .before .before in
-    omega (arith, c .before .before .before .before .before .mattering .ensures .below, c .before .idle-group .ensures .below, pow-mono {j = mostInputs} (sized _ _ (s .pre .0) .inputs-most))
+    omega (
+      arith,
+      c .before .before .before .before .before .mattering .ensures .below,
+      c .before .idle-group .ensures .below,
+      pow-mono {j = mostInputs} (sized _ _ (s .pre .0) .inputs-most),
+    )
 
 returns-2 : tie.Need-returns-2
 returns-2 c =

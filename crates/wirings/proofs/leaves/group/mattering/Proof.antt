@@ -27,14 +27,21 @@ add-group : tie.Need-add-group Inv-loop μ-loop
 add-group c =
     let head = c .before .before .before .before in
     let s = head .before .before in
-    omega (arith, head .loop .inv .below, c .power .ensures, power-small (s .args .n) (head .loop .i) (sized (s .args .m) (s .args .n) (s .pre .0) .inputs-most) (c .before .before .before .loop-test .taken))
+    omega (
+      arith,
+      head .loop .inv .below,
+      c .power .ensures,
+      power-small (s .args .n) (head .loop .i)
+          (sized (s .args .m) (s .args .n) (s .pre .0) .inputs-most) (c .before .before .before .loop-test .taken),
+    )
 
 loop-again : tie.Need-loop-again Inv-loop μ-loop
 loop-again c =
     let made = c .before .before in
     let head = made .before .before in
     let a = head .before .before .args in
-    gathered-with (a .m) (a .n) (inkIn (a .cells .now)) (head .loop .group) (head .loop .count) (head .loop .i) (made .before .loop-test .taken) (head .loop .inv)
+    gathered-with (a .m) (a .n) (inkIn (a .cells .now)) (head .loop .group) (head .loop .count) (head .loop .i) (made .before .loop-test .taken)
+    (head .loop .inv)
     (c .power .result) (c .power .ensures) (sym (made .matters .ensures) ∙ c .before .if1 .taken)
 
 loop-again-2 : tie.Need-loop-again-2 Inv-loop μ-loop
@@ -42,7 +49,8 @@ loop-again-2 c =
     let made = c .before in
     let head = made .before .before in
     let a = head .before .before .args in
-    gathered-without (a .m) (a .n) (inkIn (a .cells .now)) (head .loop .group) (head .loop .count) (head .loop .i) (made .before .loop-test .taken) (head .loop .inv)
+    gathered-without (a .m) (a .n) (inkIn (a .cells .now)) (head .loop .group) (head .loop .count) (head .loop .i) (made .before .loop-test .taken)
+    (head .loop .inv)
     (sym (made .matters .ensures) ∙ c .if1 .left)
 
 returns : tie.Need-returns Inv-loop μ-loop

@@ -27,8 +27,10 @@ same-blocks-requires c κs =
     let s = start c in
     let a = s .args in
     let weight = c .before .power .ensures in
-    let blocks = c .power2 .ensures in
-    (run-within (a .m) (a .n) (some s) (a .i) (s .pre .2) _ _ weight blocks, omega (arith, all-cells (a .m) (a .n) (some s) (a .i) (s .pre .2) _ _ weight blocks))
+    let blocks = c .power2 .ensures in (
+      run-within (a .m) (a .n) (some s) (a .i) (s .pre .2) _ _ weight blocks,
+      omega (arith, all-cells (a .m) (a .n) (some s) (a .i) (s .pre .2) _ _ weight blocks),
+    )
 
 returns : tie.Need-returns
 returns c =

@@ -35,8 +35,11 @@ returns c =
 loop-again : tie.Need-loop-again Inv-loop μ-loop
 loop-again c =
     let head = c .before .before .before in
-    let a = head .before .before .args in
-    (omega arith, each-next (SameBlock (inkIn (a .cells .now)) (a .block) (a .weight)) (head .loop .k) (head .loop .inv .1) (c .before .same-runs .ensures .all (not-false _ (c .if1 .left))))
+    let a = head .before .before .args in (
+      omega arith,
+      each-next (SameBlock (inkIn (a .cells .now)) (a .block) (a .weight)) (head .loop .k) (head .loop .inv .1)
+          (c .before .same-runs .ensures .all (not-false _ (c .if1 .left))),
+    )
 
 returns-2 : tie.Need-returns-2 Inv-loop μ-loop
 returns-2 c =

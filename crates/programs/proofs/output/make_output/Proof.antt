@@ -1,0 +1,26 @@
+-- `programs::output::make_output` meets its contract. Assumes nothing.
+use borrow.Author.Needs.{needs}
+use mathlib.Core.Path.{ap, _∙_, subst}
+use Rattle.rules.specs.Limits.{mostInputs, mostCells, mostSettled}
+use Rattle.rules.specs.Groups.Marks.{marksLength}
+use Rattle.rules.specs.Calls.Settling.{Made, makeCall}
+use Rattle.rules.specs.Calls.Programs.{programOutput, zeros, makeProgram}
+use Rattle.programs.specs.Prints.{Prints}
+use Rattle.programs.proofs.output.make_output.Statement.{statement}
+use Rattle.programs.proofs.output.make_output.Tie as tie
+
+returns : tie.Need-returns
+unfolding marksLength makeProgram
+returns c =
+    let did = c .before .before .before .before .before in
+    let read = did .before .before .before .before in
+    let printed = c .output-of .result in
+    subst (λ (made : Made). Prints (printed .bytes) (printed .length) (programOutput (made .answer) (made .output)))
+    (did .make .ensures ∙ ap (λ s. makeCall s (zeros mostCells) (zeros (marksLength mostInputs)) (zeros mostSettled)) (read .first-read .ensures))
+    (c .output-of .ensures)
+
+pub make-output-spec : {M : Type 1} → statement M
+make-output-spec =
+    tie.close
+    (tie.spec (λ c κs. search needs) (λ c. search needs) (λ c. search needs) (λ c. search needs) (λ c κs. search needs) (λ c. search needs)
+    (λ c κs. search needs) returns)
