@@ -83,9 +83,9 @@ fn heading(trees: &[(u64, Net)], all: u64) -> String {
     let unused = net.unused();
     let names: Vec<&str> = unused.iter().map(|&k| net.names()[k].as_str()).collect();
     match names.is_empty() {
-        true => format!("{which}, from number 0; {} levels", net.levels()),
+        true => format!("{which}; {} levels", net.levels()),
         false => format!(
-            "{which}, from number 0; {} levels; not used: {}",
+            "{which}; {} levels; not used: {}",
             net.levels(),
             names.join(", ")
         ),
