@@ -276,7 +276,9 @@ fn columns_by_name() {
         "sitgurp tidy: --drop goes with --csv\n",
     );
     let many = folder.run("tidy --csv -d out my.csv --drop no --names n.csv");
-    assert_eq!((many.status, many.out.as_str()), (2, ""));
+    assert_eq!(many.status, 2);
+    let said = "--names and -d do not go together";
+    assert!(many.err.contains(said), "{}", many.err);
     let stream = "{\"call\":\"tidy\",\"words\":[\"--csv\",\"--names\",\"x\"],\"sheets\":[\"a,b,c\\n0,0,0\\n0,1,1\\n1,0,1\\n1,1,1\\n\"]}\n";
     let stream = folder.run_on("stream", stream.as_bytes()).out;
     assert!(stream.contains("a stream writes no files"), "{stream}");

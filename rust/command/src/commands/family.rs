@@ -41,10 +41,9 @@ fn run(call: &Call) -> Result<Answer, Failure> {
     table.settled().map_err(refused)?;
     let family = table.family().map_err(refused)?;
     let all = family.size();
-    let end = from
-        .saturating_add(most)
-        .min(all)
-        .max(from.saturating_add(1));
+    // a number that no tree has is refused
+    family.tree(from).map_err(refused)?;
+    let end = from.saturating_add(most).min(all);
     let trees: Result<Vec<(u64, Net)>, _> = (from..end)
         .map(|number| Ok((number, family.tree(number)?)))
         .collect();
