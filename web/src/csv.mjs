@@ -40,7 +40,7 @@ export class Csv {
     this.inferred = null;
     // the columns of the sheet, each with its name there and as it is written
     this.columns = [];
-    const records = recordsFrom(file, start, this.separator);
+    const records = recordsFrom(file, start, said === null ? 1 : 2, this.separator);
     this.#end = records.length > 0 ? records[records.length - 1].next : start;
     this.#read(records);
     this.text = this.text.subarray(0, this.#length);

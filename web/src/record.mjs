@@ -21,10 +21,10 @@ export function usedCells(record) {
   return used;
 }
 
-// Reads the lines from a place on, each with its number in the file. Blank ones are left out.
-export function recordsFrom(file, start, separator) {
+// Reads the lines from a place on, which begins the line of this number. Blank lines are left out.
+export function recordsFrom(file, start, first, separator) {
   const records = [];
-  let line = start > 0 && file[start - 1] !== 0xbf ? 2 : 1;
+  let line = first;
   for (let at = start; at < file.length; ) {
     const record = { ...recordAt(file, at, separator), start: at, line };
     line += 1 + file.subarray(at, record.end).reduce((feeds, byte) => feeds + (byte === FEED ? 1 : 0), 0);

@@ -8,6 +8,7 @@ import { tmpdir } from 'node:os';
 import { join } from 'node:path';
 import { after, test } from 'node:test';
 import { isExplanation, isRefusal } from '../src/sitgurp.mjs';
+import { pictureOf, readPgm } from '../page/raster.mjs';
 import { example, sitgurp } from './library.mjs';
 
 const { SITGURP, SHEETS } = process.env;
@@ -223,6 +224,24 @@ test('exports without `levels inputs` are refused in the same words, and read as
     if (isExplanation(table)) continue;
     writeFileSync(join(folder, 'sheet'), change(sheet));
     assert.equal(spawnSync(SITGURP, ['tidy', '--csv', 'sheet'], { cwd: folder, encoding: 'utf8' }).stdout, table.sheet);
+  }
+});
+
+test('a graymap is the same picture on the page and for the command', () => {
+  const net = (levels) => `levels inputs\n${levels} 2\na b\nleft right table\na b ${'0'.repeat(levels * levels)}\n`;
+  for (const levels of [2, 3, 4, 7, 9]) {
+    writeFileSync(join(folder, 'net'), net(levels));
+    for (const white of [1, 5, 8, 100, 255, 256, 1000, 65535]) {
+      const grays = Array.from({ length: 64 * 8 }, (_, k) => Math.floor((k * (white + 1)) / 512));
+      const raw = grays.flatMap((gray) => (white > 255 ? [gray >> 8, gray & 255] : [gray]));
+      const files = [bytes(`P2\n64 8\n${white}\n${grays.join('\n')}\n`), Uint8Array.from([...bytes(`P5\n64 8\n${white}\n`), ...raw])];
+      for (const file of files) {
+        writeFileSync(join(folder, 'picture'), file);
+        const { stdout } = spawnSync(SITGURP, ['glyph', 'net', 'picture', '--source', '--text'], { cwd: folder, encoding: 'utf8' });
+        const due = stdout.replace(/\n/g, '').replace(/\./g, '0');
+        assert.equal([...pictureOf(readPgm(file), levels).cells].join(''), due, `${levels} levels, white ${white}`);
+      }
+    }
   }
 });
 

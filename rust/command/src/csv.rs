@@ -135,11 +135,11 @@ impl<'a> Csv<'a> {
         } else {
             0
         };
-        let (separator, start) = match Separator::said(&file[mark..]) {
-            Some((separator, length)) => (separator, mark + length),
-            None => (Separator::of(&file[mark..]), mark),
+        let (separator, start, line) = match Separator::said(&file[mark..]) {
+            Some((separator, length)) => (separator, mark + length, 2),
+            None => (Separator::of(&file[mark..]), mark, 1),
         };
-        let records = records(file, start, separator);
+        let records = records(file, start, line, separator);
         let mut csv = Csv {
             text: Vec::new(),
             separator,
@@ -159,7 +159,7 @@ impl<'a> Csv<'a> {
         let Some((names, rows)) = records[head..].split_first() else {
             return Ok(csv);
         };
-        let order = Order::of(file, [&records[head..=head], rows], choice, is_said)?;
+        let order = Order::of(file, names, rows, choice, is_said)?;
         if !is_said {
             csv.infer(names, rows, &order);
         }

@@ -1,6 +1,6 @@
 //! `family`: the trees of a table on one page.
 
-use crate::common::{examples, is_wrong, refuses, SUM_TABLE};
+use crate::common::{examples, is_wrong, refuses, repository, SUM_TABLE};
 
 /// The numbers of the tiles.
 fn numbers(svg: &str) -> Vec<&str> {
@@ -48,6 +48,10 @@ fn a_page_of_trees() {
         heading(&page("pair.table")),
         "The only tree; 2 levels; not used: b"
     );
+    let committed = repository().join("docs/pictures/family.svg");
+    let committed = std::fs::read_to_string(committed).expect("a committed picture");
+    let parity = repository().join("examples/theory/parity.table");
+    assert_eq!(page(parity.to_str().expect("a path")), committed);
     let json = page("sum.table --json --most 2");
     assert!(
         json.starts_with("{\"trees\":3,\"from\":0,\"drawn\":2,\"svg\":\"<svg "),

@@ -13,9 +13,9 @@ pub static COMMAND: Command = Command {
     usage: "[TABLE] [--from K] [--most N]",
     summary: "the trees of a table on one page (SVG)",
     help: "\
-Draws the wiring of each tree, with its number. A gate's disc has the gate's number; its table is not drawn. `sitgurp make TABLE --number K`
-writes the tree of number K, and `sitgurp count TABLE` says how many there are. Trees that differ only in which side is left, in gate numbers or in
-gate tables are one.
+Draws the wiring of each tree, with its number. A gate's disc has the gate's number; its table is not drawn. Trees that differ only in
+which side is left, in gate numbers or in gate tables are one. `sitgurp make TABLE --number K` writes the tree of number K, and
+`sitgurp count TABLE` says how many there are.
 ",
     sheets: 1,
     more: false,

@@ -17,9 +17,9 @@ pub static COMMAND: Command = Command {
     summary: "the glyph that a net prints from a picture",
     help: "\
 Each cell of the glyph is the net's shade, with each input read from the picture at an offset of its own from that cell; outside
-the picture the level is 0. A picture is text, a line for each row and a digit for each cell, `.` for 0; or a portable graymap (PGM, plain `P2` or
-raw `P5`, up to 16 bits), level 0 white. The grays of a graymap become levels by equal steps, or by --map. The glyph is written as the picture is,
-a graymap in plain text.
+the picture the level is 0. A picture is text, a line for each row and a digit for each cell, `.` for 0; or a portable graymap (PGM,
+plain `P2` or raw `P5`, up to 16 bits), level 0 white. The grays of a graymap become levels by equal steps, or by --map. The glyph is
+written as the picture is, a graymap in plain text.
 ",
     sheets: 2,
     more: true,

@@ -20,10 +20,10 @@ pub static COMMAND: Command = Command {
 Takes one or more spaces between fields, spaces at a line's end, and rows in any order; every row is there once. The ink `-` of
 a row that is left open stays.
 
-With --csv the first line may have the columns' names. Levels and inputs are then inferred: the highest digit is the highest level, and every
-column but the ink is an input. The ink is the column called ink, or else the last one. One separator is found for the whole file: the one that a first
-line `sep=;` names, or else the first comma, semicolon or tab that is not in quotes. A name with capitals, accents, spaces or too many letters
-becomes a valid one. All this is reported on standard error.
+With --csv the first line may have the columns' names. Levels and inputs are then inferred: the highest digit is the highest level,
+and every column but the ink is an input. The ink is the column called ink, or else the last one. A name with capitals, accents,
+spaces or too many letters becomes a valid one. One separator is found for the whole file: the one that a first line `sep=;` names,
+or else the first comma, semicolon or tab that is not in quotes. All this is reported on standard error.
 
 A blank cell is refused; an open cell has the ink `-`. `1.0` is 1. Blank lines and blank columns are left out.
 ",

@@ -34,11 +34,12 @@ impl Order {
     /// Chooses among the columns of the line of names. `is_said` where the file says how many inputs there are: then no column but one called ink is the ink.
     pub fn of(
         file: &[u8],
-        [names, rows]: [&[Record]; 2],
+        names: &Record,
+        rows: &[Record],
         choice: &Choice,
         is_said: bool,
     ) -> Result<Order, String> {
-        let cells = &names[0].cells[..names[0].used()];
+        let cells = &names.cells[..names.used()];
         let text = |cell: &Cell| match cell.flaw {
             Some(Flaw::Blank) => String::new(),
             _ => {
@@ -52,7 +53,7 @@ impl Order {
             let cell = record.cells.get(k);
             cell.is_none_or(|cell| cell.flaw == Some(Flaw::Blank))
         };
-        let is_spacer = |k: &usize| names.iter().chain(rows).all(|record| is_blank(record, *k));
+        let is_spacer = |&k: &usize| is_blank(names, k) && rows.iter().all(|row| is_blank(row, k));
         let mut kept: Vec<usize> = (0..cells.len()).filter(|k| !is_spacer(k)).collect();
         for name in &choice.drop {
             let dropped = all.listed(name, &kept)?;

@@ -63,11 +63,10 @@ impl Record {
     }
 }
 
-/// Reads the lines from a place on. Blank ones are left out.
-pub fn records(file: &[u8], start: usize, separator: Separator) -> Vec<Record> {
+/// Reads the lines from a place on, which begins the line of this number. Blank lines are left out.
+pub fn records(file: &[u8], start: usize, mut line: usize, separator: Separator) -> Vec<Record> {
     let mut records = Vec::new();
     let feeds = |bytes: &[u8]| bytes.iter().filter(|&&byte| byte == b'\n').count();
-    let mut line = 1 + usize::from(start > 0 && file[start - 1] != 0xbf);
     let mut at = start;
     while at < file.len() {
         let record = record(file, at, line, separator);
