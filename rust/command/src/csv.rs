@@ -330,6 +330,20 @@ impl<'a> Csv<'a> {
     }
 }
 
+/// Lists the first two cells of each line but the first, as `tidy --names` writes them: a name of the sheet, and how it is written.
+pub fn pairs(file: &[u8]) -> Vec<Column> {
+    let text = |cell: Option<&Cell>| {
+        let bytes = cell.map(|cell| cell.bytes(file).map(|(byte, _)| byte).collect::<Vec<u8>>());
+        names::written(&bytes.unwrap_or_default())
+    };
+    let column = |record: Record| Column {
+        name: text(record.cells.first()),
+        written: text(record.cells.get(1)),
+    };
+    let records = records(file, 0, 1, Separator::Comma);
+    records.into_iter().skip(1).map(column).collect()
+}
+
 #[cfg(test)]
 mod tests {
     use super::{Choice, Csv, Flaw, Separator};

@@ -98,6 +98,14 @@ fn lent<const N: usize>(call: &Call, sheets: &[Vec<u8>]) -> Result<[Sheet; N], F
         .map_err(|_| call.wrong(format!("it takes {takes}")))
 }
 
+/// Reads a file that an option names. A stream has none.
+pub fn beside(call: &Call, name: &str) -> Result<Sheet, Failure> {
+    match call.lent {
+        Some(_) => Err(call.wrong("a stream reads no files".to_string())),
+        None => read(call, name.as_ref()),
+    }
+}
+
 /// Opens a file, or standard input where the name is `-`, to be read line by line.
 pub fn lines(call: &Call, name: &OsStr) -> Result<Box<dyn BufRead>, Failure> {
     if name == "-" {

@@ -321,6 +321,28 @@ fn names_stay_different() {
     );
 }
 
+/// `why` reads the names back.
+#[test]
+fn why_with_the_names_of_the_spreadsheet() {
+    let folder = Folder::new("csv_why");
+    let rows = "0,0,0,0\n0,0,1,0\n0,1,0,0\n0,1,1,1\n1,0,0,0\n1,0,1,1\n1,1,0,1\n1,1,1,1\n";
+    folder.put("my.csv", format!("\"Left, near\",Right,c,Ink\n{rows}"));
+    folder.run("tidy --csv my.csv -o my.table --names my.names");
+    let why = folder.run("why my.table");
+    let named = folder.run("why my.table --names my.names");
+    let names =
+        "\nThe inputs in the spreadsheet:\n    leftnear: Left, near\n    right: Right\n    c: c\n";
+    answers(named, &format!("{}{names}", why.out));
+    is_wrong(
+        folder.run("why my.table --names other.names"),
+        "other.names: cannot be read: No such file or directory\n",
+    );
+    let stream = "{\"call\":\"why\",\"words\":[\"--names\",\"my.names\"],\"sheets\":[\"levels inputs\\n2 3\\na b c ink\\n\
+                  0 0 0 0\\n0 0 1 0\\n0 1 0 0\\n0 1 1 1\\n1 0 0 0\\n1 0 1 1\\n1 1 0 1\\n1 1 1 1\\n\"]}\n";
+    let stream = folder.run_on("stream", stream.as_bytes()).out;
+    assert!(stream.contains("a stream reads no files"), "{stream}");
+}
+
 /// The own files of spreadsheet programs, by their names and by their bytes.
 #[test]
 fn workbooks() {
