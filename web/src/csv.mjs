@@ -69,7 +69,9 @@ export class Csv {
       }
     }
     this.inferred = { levels: highest + 1, inputs: Math.max(0, kept.length - 1) };
-    for (const letter of `levels inputs\n${this.inferred.levels} ${this.inferred.inputs}\n`) this.#push(letter.charCodeAt(0), names.start);
+    // a name with a flaw may have swallowed others
+    const from = names.cells.find((cell) => cell.flaw !== null && cell.flaw !== Flaw.Blank)?.from ?? names.start;
+    for (const letter of `levels inputs\n${this.inferred.levels} ${this.inferred.inputs}\n`) this.#push(letter.charCodeAt(0), from);
     this.lines.push(names.line, names.line);
     this.#added = this.#length;
   }
@@ -154,8 +156,9 @@ export class Csv {
     return cell === null ? null : field(Uint8Array.from(cellBytes(cell, this.#file), ([byte]) => byte));
   }
 
-  // Returns why the cell at a place of the text is not what it looks like; null if it is.
+  // Returns why the cell at a place of the text is not what it looks like; null if it is. For inferred lines this is a name with a flaw.
   cause(place) {
+    if (place < this.#added) return CAUSES[cellAt(this.#file, this.#from[place], this.separator)[0].flaw] ?? null;
     const cell = this.#cell(place);
     if (cell === null || cell.flaw === Flaw.Blank) return null;
     return cell.flaw === null ? this.#noSeparator(cell, place) : CAUSES[cell.flaw];

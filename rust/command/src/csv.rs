@@ -184,8 +184,14 @@ impl<'a> Csv<'a> {
         let highest = rows.iter().flat_map(kept).max().unwrap_or(0);
         let levels = usize::from(highest.max(1)) + 1;
         let inputs = order.kept.len().saturating_sub(1);
+        // a name with a flaw may have swallowed others
+        let flawed = names
+            .cells
+            .iter()
+            .find(|cell| cell.flaw.is_some_and(|flaw| flaw != Flaw::Blank));
+        let from = flawed.map_or(names.start, |cell| cell.from);
         for byte in format!("levels inputs\n{levels} {inputs}\n").bytes() {
-            self.push(byte, names.start);
+            self.push(byte, from);
         }
         self.lines.extend([names.line; 2]);
         self.added = self.text.len();
@@ -283,19 +289,17 @@ impl<'a> Csv<'a> {
         Some(excerpt::field(&bytes))
     }
 
-    /// Says why the cell at a place of the text is not what it looks like, if it is not.
+    /// Says why the cell at a place of the text is not what it looks like, if it is not. For inferred lines this is a name with a flaw.
     pub fn cause(&self, place: usize) -> Option<String> {
+        if place < self.added {
+            let flaw = cell(self.file, self.from[place], self.separator).0.flaw;
+            return flaw.and_then(Flaw::words).map(str::to_string);
+        }
         let cell = self.cell(place)?;
-        let words = match cell.flaw {
-            Some(Flaw::Blank) => return None,
-            Some(Flaw::Unclosed) => "no quote closes the one that opens this field",
-            Some(Flaw::AfterQuote) => "something follows the quote that closes this field; a quote inside quotes is written twice",
-            Some(Flaw::QuoteInside) => {
-                "there is a quote inside this field; put quotes around all of it, and write a quote inside them twice"
-            }
-            None => return self.no_separator(&cell, place),
-        };
-        Some(words.to_string())
+        match cell.flaw {
+            Some(flaw) => flaw.words().map(str::to_string),
+            None => self.no_separator(&cell, place),
+        }
     }
 
     /// Says of a cell with a space or with another file's separator in it that these separate nothing here.

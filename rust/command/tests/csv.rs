@@ -211,7 +211,10 @@ fn a_plain_export() {
     );
     let json = folder.run("tidy --csv my.csv --json").out;
     assert!(
-        json.ends_with("\"inferred\":true,\"names\":[{\"name\":\"mystroke\",\"written\":\"My stroke\"},{\"name\":\"nahe\",\"written\":\"Nähe\"},{\"name\":\"ink\",\"written\":\"Tinte\"}]}\n"),
+        json.ends_with(
+            "\"inferred\":true,\"names\":[{\"name\":\"mystroke\",\"written\":\"My stroke\"},\
+             {\"name\":\"nahe\",\"written\":\"Nähe\"},{\"name\":\"ink\",\"written\":\"Tinte\"}]}\n"
+        ),
         "{json}"
     );
     // a table sheet is due elsewhere, and the hint says how to get one
@@ -313,11 +316,18 @@ fn names_stay_different() {
     );
     refuses(
         table("a,\"b,ink"),
-        &format!("my.csv:1:1: inputs should be a number from 2 to 12, not `1` (refusal 3)\n    a,\"b,ink\n    ^\n{}{drop}", head.replace("2 inputs", "1 input")),
+        &format!(
+            "my.csv:1:3: inputs should be a number from 2 to 12, not `1` (refusal 3)\n    a,\"b,ink\n      ^\n\
+             likely cause: no quote closes the one that opens this field\n{}{drop}",
+            head.replace("2 inputs", "1 input")
+        ),
     );
     refuses(
         table("a,,ink"),
-        &format!("my.csv:1:3: this cell is blank: line 1 should have the names of the 2 inputs and then `ink`, each in a cell of its own (refusal 4)\n    a,,ink\n      ^\n{head}{drop}"),
+        &format!(
+            "my.csv:1:3: this cell is blank: line 1 should have the names of the 2 inputs and then `ink`, each in a cell of its own \
+             (refusal 4)\n    a,,ink\n      ^\n{head}{drop}"
+        ),
     );
 }
 

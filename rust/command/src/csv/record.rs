@@ -14,6 +14,22 @@ pub enum Flaw {
     QuoteInside,
 }
 
+impl Flaw {
+    /// Says what is wrong with the cell, unless it is blank.
+    pub fn words(self) -> Option<&'static str> {
+        match self {
+            Flaw::Blank => None,
+            Flaw::Unclosed => Some("no quote closes the one that opens this field"),
+            Flaw::AfterQuote => {
+                Some("something follows the quote that closes this field; a quote inside quotes is written twice")
+            }
+            Flaw::QuoteInside => {
+                Some("there is a quote inside this field; put quotes around all of it, and write a quote inside them twice")
+            }
+        }
+    }
+}
+
 /// A cell of the file.
 pub struct Cell {
     /// Where it begins, at its quote where it has one.
