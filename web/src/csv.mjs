@@ -63,8 +63,8 @@ export class Csv {
   #infer(names, rows, kept) {
     let highest = 1;
     for (const row of rows) {
-      for (const k of kept) {
-        const bytes = k < row.cells.length ? numberBytes(row.cells[k], this.#file) : [];
+      for (const cell of keptCells(row, kept)) {
+        const bytes = cell === null ? [] : numberBytes(cell, this.#file);
         if (bytes.length === 1 && bytes[0] >= ZERO && bytes[0] <= ZERO + 8) highest = Math.max(highest, bytes[0] - ZERO);
       }
     }
@@ -97,8 +97,7 @@ export class Csv {
 
   // Writes a row: its kept cells in order, and then what follows the last of so many columns.
   #putRow(record, kept, count) {
-    const cells = [...kept.map((k) => record.cells[k] ?? null), ...record.cells.slice(count, Math.max(count, usedCells(record)))];
-    while (cells.length > 0 && cells[cells.length - 1] === null) cells.pop();
+    const cells = [...keptCells(record, kept), ...record.cells.slice(count, Math.max(count, usedCells(record)))];
     cells.forEach((cell, k) => {
       if (cell === null) this.#putBytes(k, record.end, [NONE]);
       else this.#putCell(k, cell, true);
@@ -185,6 +184,17 @@ export class Csv {
     const isField = place < this.#length && this.text[place] !== FEED;
     return isStart && isField ? cellAt(this.#file, this.#from[place], this.separator)[0] : null;
   }
+}
+
+// Returns the cells of a row in these columns, of which all but the last rise. One null stands for all that are missing before the last one.
+function keptCells(row, kept) {
+  const cells = [];
+  const last = kept[kept.length - 1];
+  let at = 0;
+  for (; at < kept.length - 1 && kept[at] < row.cells.length; at += 1) cells.push(row.cells[kept[at]]);
+  if (last >= row.cells.length || kept.length === 0) return cells;
+  if (at < kept.length - 1) cells.push(null);
+  return [...cells, row.cells[last]];
 }
 
 // Returns the separator that a first line such as `sep=;` names, with the length of that line; null if it names none.

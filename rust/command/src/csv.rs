@@ -173,15 +173,15 @@ impl<'a> Csv<'a> {
 
     /// Infers the first two lines: the levels from the highest digit, the inputs from the columns.
     fn infer(&mut self, names: &Record, rows: &[Record], order: &Order) {
-        let kept = |row: &'_ Record| -> Vec<u8> {
-            let cells = order.kept.iter().filter_map(|&k| row.cells.get(k));
+        let digits = |row: &Record| -> Vec<u8> {
+            let cells = kept_cells(row, &order.kept).into_iter().flatten();
             let digits = cells.filter_map(|cell| match number(cell, self.file)[..] {
                 [digit @ b'0'..=b'8'] => Some(digit - b'0'),
                 _ => None,
             });
             digits.collect()
         };
-        let highest = rows.iter().flat_map(kept).max().unwrap_or(0);
+        let highest = rows.iter().flat_map(digits).max().unwrap_or(0);
         let levels = usize::from(highest.max(1)) + 1;
         let inputs = order.kept.len().saturating_sub(1);
         // a name with a flaw may have swallowed others
@@ -223,15 +223,10 @@ impl<'a> Csv<'a> {
 
     /// Writes a row: its kept cells in order, and then what follows the last of so many columns.
     fn put_row(&mut self, record: &Record, kept: &[usize], count: usize) {
-        let mut cells: Vec<Option<&Cell>> = kept.iter().map(|&k| record.cells.get(k)).collect();
+        let mut cells = kept_cells(record, kept);
         let more = record.cells.iter().take(record.used()).skip(count);
         cells.extend(more.map(Some));
-        let last = cells.iter().rposition(Option::is_some);
-        for (k, cell) in cells
-            .iter()
-            .take(last.map_or(0, |last| last + 1))
-            .enumerate()
-        {
+        for (k, cell) in cells.into_iter().enumerate() {
             match cell {
                 Some(cell) => self.put_cell(k, cell, true),
                 None => self.put_bytes(k, record.end, [NONE]),
@@ -332,6 +327,22 @@ impl<'a> Csv<'a> {
         let is_field = !matches!(self.text.get(place), None | Some(b'\n'));
         (is_start && is_field).then(|| cell(self.file, self.from[place], self.separator).0)
     }
+}
+
+/// Lists the cells of a row in these columns, of which all but the last rise. One blank cell stands for all that are missing before the last one.
+fn kept_cells<'r>(row: &'r Record, kept: &[usize]) -> Vec<Option<&'r Cell>> {
+    let Some((&last, front)) = kept.split_last() else {
+        return Vec::new();
+    };
+    let there = front.partition_point(|&k| k < row.cells.len());
+    let mut cells: Vec<Option<&Cell>> = front[..there].iter().map(|&k| row.cells.get(k)).collect();
+    if let Some(cell) = row.cells.get(last) {
+        if there < front.len() {
+            cells.push(None);
+        }
+        cells.push(Some(cell));
+    }
+    cells
 }
 
 /// Lists the first two cells of each line but the first, as `tidy --names` writes them: a name of the sheet, and how it is written.

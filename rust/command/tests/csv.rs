@@ -1,6 +1,7 @@
 //! `tidy --csv`: what spreadsheets write, end to end. No field is ever joined, split or moved to another column.
 
 use crate::common::{answers, answers_with_note, is_wrong, refuses, Folder, SUM_TABLE};
+use std::time::{Duration, Instant};
 
 #[test]
 fn spreadsheets() {
@@ -351,6 +352,26 @@ fn why_with_the_names_of_the_spreadsheet() {
                   0 0 0 0\\n0 0 1 0\\n0 1 0 0\\n0 1 1 1\\n1 0 0 0\\n1 0 1 1\\n1 1 0 1\\n1 1 1 1\\n\"]}\n";
     let stream = folder.run_on("stream", stream.as_bytes()).out;
     assert!(stream.contains("a stream reads no files"), "{stream}");
+}
+
+/// The time grows with the file, and not with the square of its columns.
+#[test]
+fn very_many_columns() {
+    let folder = Folder::new("csv_columns_many");
+    let names: String = (0..100_000).map(|k| format!("A {k},")).collect();
+    let blank = ",".repeat(100_000);
+    for line in [format!("{names}ink\n"), format!("{blank}A\n")] {
+        folder.put("my.csv", line + &"0\n".repeat(50_000));
+        let start = Instant::now();
+        let refused = folder.run("tidy --csv my.csv");
+        let said = "my.csv:1:1: inputs should be a number from 2 to 12, not `";
+        assert!(refused.err.starts_with(said), "{}", &refused.err[..80]);
+        assert!(
+            start.elapsed() < Duration::from_secs(60),
+            "{:?}",
+            start.elapsed()
+        );
+    }
 }
 
 /// The own files of spreadsheet programs, by their names and by their bytes.

@@ -20,6 +20,9 @@ pub struct Column {
     pub name: String,
 }
 
+/// More inputs than any sheet has. The library refuses a sheet before it reads further names, so they stay as they are written.
+const MOST: usize = 64;
+
 /// The columns of a file as the sheet has them.
 pub struct Order {
     /// The numbers of the kept columns, from 0, the ink last.
@@ -49,12 +52,13 @@ impl Order {
         };
         let written: Vec<String> = cells.iter().map(text).collect();
         let all = Named { written: &written };
-        let is_blank = |record: &Record, k: usize| {
-            let cell = record.cells.get(k);
-            cell.is_none_or(|cell| cell.flaw == Some(Flaw::Blank))
-        };
-        let is_spacer = |&k: &usize| is_blank(names, k) && rows.iter().all(|row| is_blank(row, k));
-        let mut kept: Vec<usize> = (0..cells.len()).filter(|k| !is_spacer(k)).collect();
+        let mut is_used: Vec<bool> = cells.iter().map(is_filled).collect();
+        for (k, cell) in rows.iter().flat_map(|row| row.cells.iter().enumerate()) {
+            if k < cells.len() && is_filled(cell) {
+                is_used[k] = true;
+            }
+        }
+        let mut kept: Vec<usize> = (0..cells.len()).filter(|&k| is_used[k]).collect();
         for name in &choice.drop {
             let dropped = all.listed(name, &kept)?;
             kept.retain(|k| !dropped.contains(k));
@@ -65,22 +69,20 @@ impl Order {
             None => all.ink(&kept).or(kept.last().copied()),
         };
         kept.retain(|&k| Some(k) != ink);
-        let inputs: Vec<usize> = kept
-            .iter()
-            .copied()
-            .filter(|&k| cells[k].flaw.is_none())
-            .collect();
+        let inputs = kept.iter().copied().filter(|&k| cells[k].flaw.is_none());
+        let inputs: Vec<usize> = inputs.take(MOST).collect();
         let written_inputs: Vec<String> = inputs.iter().map(|&k| written[k].clone()).collect();
-        let valid = names::unique(&written_inputs);
+        let mut valid: Vec<String> = vec![String::new(); cells.len()];
+        for (&k, name) in inputs.iter().zip(names::unique(&written_inputs)) {
+            valid[k] = name;
+        }
+        if let Some(k) = ink.filter(|&k| cells[k].flaw.is_none()) {
+            valid[k] = "ink".to_string();
+        }
         kept.extend(ink);
-        let name = |k: usize| match inputs.iter().position(|&input| input == k) {
-            Some(input) => valid[input].clone(),
-            None if Some(k) == ink && cells[k].flaw.is_none() => "ink".to_string(),
-            None => String::new(),
-        };
         let column = |&k: &usize| Column {
             written: written[k].clone(),
-            name: name(k),
+            name: valid[k].clone(),
         };
         Ok(Order {
             columns: kept.iter().map(column).collect(),
@@ -88,6 +90,10 @@ impl Order {
             count: cells.len(),
         })
     }
+}
+
+fn is_filled(cell: &Cell) -> bool {
+    cell.flaw != Some(Flaw::Blank)
 }
 
 /// The columns by the names that are written in the file.
