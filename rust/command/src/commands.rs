@@ -5,6 +5,7 @@ mod check;
 mod count;
 mod draw;
 mod eval;
+mod family;
 mod fill;
 mod gates;
 mod glyph;
@@ -69,6 +70,7 @@ pub static ALL: &[&Command] = &[
     &keep::COMMAND,
     &gates::COMMAND,
     &count::COMMAND,
+    &family::COMMAND,
     &shallower::COMMAND,
     &arrivals::COMMAND,
     &draw::COMMAND,

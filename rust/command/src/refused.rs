@@ -1,7 +1,7 @@
 //! A refusal as it is said: the file, the line and the column, what is due there, the line itself with a caret, and the likely cause.
 
 use crate::cause::{causes, causes_in_csv};
-use crate::csv::{Csv, Flaw, Separator};
+use crate::csv::{narrow, Csv, Flaw, Separator};
 use crate::excerpt::{excerpt, line_start};
 use crate::input::Sheet;
 use crate::json::Json;
@@ -56,6 +56,7 @@ impl Refused {
     pub fn of_csv(sheet: &Sheet, csv: &Csv, refusal: Refusal) -> Refused {
         let mut front = Front::of(Due::Csv, &csv.text, &refusal, &[]);
         front.given = csv.shown(refusal.place);
+        front.lines = csv.lines.clone();
         let sentence = match csv.flaw(refusal.place) {
             Some(Flaw::Blank) => blank_cell(refusal.kind(), &front),
             _ => sentence(refusal.kind(), &front),
@@ -64,7 +65,17 @@ impl Refused {
         let causes = causes_in_csv(&sheet.bytes, csv, &refusal);
         let refused = Refused::at(sheet, place, Refusal { place, ..refusal }, sentence);
         let words = csv.separator.words();
-        Refused { causes, ..refused }.hinted(format!("{words} separate the fields of this file"))
+        let hint = format!("{words} separate the fields of this file");
+        Refused { causes, ..refused }.hinted(match csv.inferred {
+            None => hint,
+            Some([levels, inputs]) => {
+                let (inputs, program, operand) = (words::count(inputs, "input"), words::program(), sheet.operand());
+                format!(
+                    "{hint}; by its digits and columns it has {levels} levels and {inputs}\n\
+                     `{program} tidy --csv --drop NAME{operand}` leaves a column out, and `--ink NAME` says which is the ink"
+                )
+            }
+        })
     }
 
     /// Of two sheets together.
@@ -236,8 +247,9 @@ fn tidy(due: Due, sheet: &Sheet) -> Option<String> {
             "`{program} tidy{operand}` writes it as a table sheet"
         ));
     }
-    let is_mark = |byte: &u8| matches!(byte, b',' | b';' | b'\t' | b'\r' | b'"' | 0xef);
-    let csv = Csv::of(&sheet.bytes);
+    let is_mark = |byte: &u8| matches!(byte, b',' | b';' | b'\t' | b'\r' | b'"' | 0xef | 0xfe);
+    let text = narrow(&sheet.bytes);
+    let csv = Csv::of(&text);
     if sheet.bytes.iter().any(is_mark) && sitgurp::tidied(&csv.text).is_ok() {
         return Some(format!(
             "`{program} tidy --csv{operand}` writes it as a table sheet"

@@ -5,7 +5,7 @@ use std::fs::{self, File};
 use std::os::unix::fs::{symlink, PermissionsExt};
 use std::process::Stdio;
 
-const COMMANDS: [&str; 22] = [
+const COMMANDS: [&str; 23] = [
     "make",
     "why",
     "fill",
@@ -21,6 +21,7 @@ const COMMANDS: [&str; 22] = [
     "keep",
     "gates",
     "count",
+    "family",
     "shallower",
     "arrivals",
     "draw",
