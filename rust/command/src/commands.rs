@@ -5,9 +5,11 @@ mod check;
 mod count;
 mod draw;
 mod eval;
+mod export;
 mod fill;
 mod gates;
 mod glyph;
+mod import;
 mod invert;
 mod keep;
 mod larger;
@@ -75,6 +77,8 @@ pub static ALL: &[&Command] = &[
     &matrix::COMMAND,
     &page::COMMAND,
     &glyph::COMMAND,
+    &export::COMMAND,
+    &import::COMMAND,
     &stream::COMMAND,
 ];
 

@@ -6,6 +6,7 @@ mod batch;
 mod commands;
 mod csv;
 mod designer;
+mod formats;
 mod generated;
 mod glyph;
 mod install;

@@ -5,7 +5,7 @@ use std::fs::{self, File};
 use std::os::unix::fs::{symlink, PermissionsExt};
 use std::process::Stdio;
 
-const COMMANDS: [&str; 22] = [
+const COMMANDS: [&str; 24] = [
     "make",
     "why",
     "fill",
@@ -27,6 +27,8 @@ const COMMANDS: [&str; 22] = [
     "matrix",
     "page",
     "glyph",
+    "export",
+    "import",
     "stream",
 ];
 
