@@ -1,7 +1,7 @@
 //! BLIF, the Berkeley Logic Interchange Format, for nets of two levels.
 
 use crate::lines::fault;
-use crate::model::{Model, Node};
+use crate::model::{Model, Node, Rule};
 use crate::tree::{Cone, Tree};
 use crate::{wire_name, Fault, Read, OUTPUT};
 use sitgurp::{Net, Table, Wire};
@@ -15,14 +15,14 @@ pub fn blif(net: &Net, name: &str) -> Option<String> {
     for (k, gate) in net.gates().iter().enumerate() {
         let wires = [gate.left, gate.right, Wire::Gate(k)].map(|wire| wire_name(net, wire));
         text += &format!(".names {}\n", wires.join(" "));
-        for (row, _) in gate
+        let ones = gate
             .digits
             .iter()
             .enumerate()
-            .filter(|(_, &digit)| digit == 1)
-        {
-            text += &format!("{row:02b} 1\n");
-        }
+            .filter(|(_, &digit)| digit == 1);
+        let rows: String = ones.map(|(row, _)| format!("{row:02b} 1\n")).collect();
+        // a table without rows is 0 too, but ABC refuses it if it has inputs
+        text += if rows.is_empty() { "-- 0\n" } else { &rows };
     }
     Some(text + ".end\n")
 }
@@ -75,10 +75,10 @@ pub fn is_cover(model: &Model, node: &Node) -> bool {
     are_binary && !spaced
 }
 
-/// Returns the values of a cover: where a row holds its value, and elsewhere the other one. Without rows it is 0.
-pub fn values(model: &Model, node: &Node, cells: usize) -> Result<Vec<u8>, Fault> {
+/// Returns the rule of a cover: its value where a row holds, and elsewhere the other one. Without rows it is 0.
+pub fn rule<'a>(model: &Model<'a>, node: &Node<'a>) -> Result<Rule<'a>, Fault> {
     let count = node.inputs.len();
-    let mut listed = vec![false; cells];
+    let mut rows = Vec::new();
     let mut value = None;
     for row in &node.rows {
         let (plane, output) = match row[..] {
@@ -124,14 +124,8 @@ pub fn values(model: &Model, node: &Node, cells: usize) -> Result<Vec<u8>, Fault
                 "all rows of a table have the same output, 0 or 1, and this one has the other",
             ));
         }
-        for (index, is_listed) in listed.iter_mut().enumerate() {
-            let bit = |k: usize| b'0' + (index >> (count - 1 - k) & 1) as u8;
-            *is_listed |= (0..count).all(|k| plane[k] == b'-' || plane[k] == bit(k));
-        }
+        rows.push(plane);
     }
     let value = value.unwrap_or(1);
-    Ok(listed
-        .iter()
-        .map(|&is_listed| if is_listed { value } else { 1 - value })
-        .collect())
+    Ok(Rule::Cover { rows, value })
 }

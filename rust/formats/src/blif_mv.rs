@@ -2,7 +2,7 @@
 
 use crate::blif;
 use crate::lines::{fault, shown, Word};
-use crate::model::{Model, Node};
+use crate::model::{Model, Node, MOST_CELLS};
 use crate::{wire_name, Fault, OUTPUT};
 use sitgurp::{Net, Wire};
 
@@ -30,8 +30,15 @@ pub fn blif_mv(net: &Net, name: &str) -> String {
     text + ".end\n"
 }
 
-/// Returns the values of a table: each row has one, by a line or by `.default`.
-pub fn values(model: &Model, node: &Node, cells: usize) -> Result<Vec<u8>, Fault> {
+/// Returns the values of a table, its first input slowest: each row has one, by a line or by `.default`.
+pub fn values(model: &Model, node: &Node) -> Result<Vec<u8>, Fault> {
+    let sizes = node.inputs.iter().map(|input| model.count(input.text));
+    let cells = sizes.fold(1, |cells: usize, size| cells.saturating_mul(size));
+    if cells > MOST_CELLS {
+        let (output, count) = (node.output.shown(), node.inputs.len());
+        let words = format!("the table of {output} has {count} inputs and over {MOST_CELLS} rows, which is too large");
+        return Err(fault(model.file, node.output.place, words));
+    }
     let signals: Vec<&[u8]> = node.inputs.iter().map(|input| input.text).collect();
     let mut values = vec![None; cells];
     for row in &node.rows {

@@ -270,24 +270,37 @@ impl<'a> Model<'a> {
         }
     }
 
-    /// Returns the values of a node: one for each row, its first input slowest.
-    pub fn table(&self, node: &Node<'a>) -> Result<Vec<u8>, Fault> {
-        let sizes = node.inputs.iter().map(|input| self.count(input.text));
-        let cells = sizes.fold(1, |cells: usize, size| cells.saturating_mul(size));
-        if cells > MOST_CELLS {
-            return Err(fault(
-                self.file,
-                node.output.place,
-                format!(
-                    "the table of {} has {} inputs and over {MOST_CELLS} rows, which is too large",
-                    node.output.shown(),
-                    node.inputs.len()
-                ),
-            ));
-        }
+    /// Returns what a node does.
+    pub fn rule(&self, node: &Node<'a>) -> Result<Rule<'a>, Fault> {
         match node.is_cover && node.default.is_none() && blif::is_cover(self, node) {
-            true => blif::values(self, node, cells),
-            false => blif_mv::values(self, node, cells),
+            true => blif::rule(self, node),
+            false => blif_mv::values(self, node).map(Rule::Table),
+        }
+    }
+}
+
+/// What a node does.
+#[derive(Debug)]
+pub enum Rule<'a> {
+    /// A value for each row, the first input slowest.
+    Table(Vec<u8>),
+    /// A value where one of the rows holds, and the other one elsewhere.
+    Cover { rows: Vec<&'a [u8]>, value: u8 },
+}
+
+impl Rule<'_> {
+    /// Returns the value for levels of the inputs, which have so many values.
+    pub fn value(&self, counts: &[usize], levels: &[u8]) -> u8 {
+        match self {
+            Rule::Table(values) => {
+                let next = |row, (&count, &level): (&usize, &u8)| row * count + usize::from(level);
+                values[counts.iter().zip(levels).fold(0, next)]
+            }
+            Rule::Cover { rows, value } => {
+                let fits = |(&own, &level): (&u8, &u8)| own == b'-' || own == b'0' + level;
+                let holds = |row: &&[u8]| row.iter().zip(levels).all(fits);
+                value ^ u8::from(!rows.iter().any(holds))
+            }
         }
     }
 }

@@ -318,9 +318,7 @@ impl<'a> Pla<'a> {
                 ))
             }
         };
-        // every cell of the row: every part of its free bits
-        let mut part: usize = free;
-        loop {
+        for part in parts(free) {
             let index = ones | part;
             if let Some((before, at)) = cells[index].filter(|(before, _)| *before != ink) {
                 let line = fault(self.file, at, "").line;
@@ -333,10 +331,13 @@ impl<'a> Pla<'a> {
                 return Err(fault(self.file, row[0].place, words));
             }
             cells[index] = Some((ink, row[0].place));
-            if part == 0 {
-                return Ok(());
-            }
-            part = (part - 1) & free;
         }
+        Ok(())
     }
+}
+
+/// Lists the parts of a set of bits: all numbers that have only these.
+fn parts(bits: usize) -> impl Iterator<Item = usize> {
+    let below = move |part: &usize| part.checked_sub(1).map(|part| part & bits);
+    std::iter::successors(Some(bits), below)
 }

@@ -1,7 +1,7 @@
 //! From a model to a net: what an output hangs on, its table, and the tree of its tables.
 
 use crate::lines::{fault, shown, Word};
-use crate::model::{Model, Node, MOST_CELLS, MOST_INPUTS, MOST_LEVELS};
+use crate::model::{Model, Node, Rule, MOST_CELLS, MOST_INPUTS, MOST_LEVELS};
 use crate::names::valid_names;
 use crate::{Fault, Read};
 use sitgurp::{Net, Table};
@@ -13,8 +13,8 @@ pub struct Cone<'a> {
     output: Word<'a>,
     /// Its nodes, each after those that it reads.
     nodes: Vec<usize>,
-    /// The values of each of these.
-    tables: HashMap<usize, Vec<u8>>,
+    /// What each of these does.
+    rules: HashMap<usize, Rule<'a>>,
     /// The inputs of the sheet, by their numbers in the model.
     inputs: Vec<usize>,
     names: Vec<String>,
@@ -40,7 +40,7 @@ impl<'a> Cone<'a> {
         let mut cone = Cone {
             model,
             output: word,
-            tables: HashMap::new(),
+            rules: HashMap::new(),
             names: Vec::new(),
             levels: 2,
             nodes,
@@ -48,7 +48,7 @@ impl<'a> Cone<'a> {
         };
         cone.sized()?;
         for &node in &cone.nodes {
-            cone.tables.insert(node, model.table(&model.nodes[node])?);
+            cone.rules.insert(node, model.rule(&model.nodes[node])?);
         }
         let names: Vec<String> = cone.own_names().collect();
         cone.names = valid_names(&names);
@@ -116,12 +116,11 @@ impl<'a> Cone<'a> {
         }
         for node in &self.nodes {
             let Node { inputs, output, .. } = &self.model.nodes[*node];
-            let table = &self.tables[node];
+            let rule = &self.rules[node];
+            let counts = self.counts(inputs);
             let own = (0..cells).map(|index| {
-                let next = |row, input: &Word| {
-                    row * self.model.count(input.text) + usize::from(values[input.text][index])
-                };
-                table[inputs.iter().fold(0, next)]
+                let levels = inputs.iter().map(|input| values[input.text][index]);
+                rule.value(&counts, &levels.collect::<Vec<u8>>())
             });
             let own: Vec<u8> = own.collect();
             values.insert(output.text, own);
@@ -131,6 +130,12 @@ impl<'a> Cone<'a> {
             *inks.next().expect("an ink for each row")
         });
         Ok(table.expect("a size and names that a sheet can have"))
+    }
+
+    /// How many values some signals have.
+    fn counts(&self, signals: &[Word]) -> Vec<usize> {
+        let signals = signals.iter().map(|signal| signal.text);
+        signals.map(|signal| self.model.count(signal)).collect()
     }
 
     /// Returns what was read, with what its reader should know.
@@ -298,7 +303,7 @@ impl<'a> Tree<'a> {
         let cone = self.cone;
         let model = cone.model;
         let Node { inputs, output, .. } = &model.nodes[node];
-        let counts: Vec<usize> = inputs.iter().map(|input| model.count(input.text)).collect();
+        let counts = cone.counts(inputs);
         let own: Vec<Signal> = inputs
             .iter()
             .map(|input| self.signals[input.text].clone())
@@ -306,21 +311,22 @@ impl<'a> Tree<'a> {
         let live: Vec<usize> = (0..own.len())
             .filter(|&k| own[k].source != Source::Constant)
             .collect();
-        let values = &cone.tables[&node];
+        let rule = &cone.rules[&node];
         // the value for levels of the live inputs; 0 for a level that a signal never has
         let value = |levels: &[u8]| {
-            let mut row = 0;
-            for (k, &count) in counts.iter().enumerate() {
-                let level = match live.iter().position(|&input| input == k) {
-                    Some(at) => levels[at],
-                    None => own[k].map[0],
-                };
-                if usize::from(level) >= count {
-                    return 0;
-                }
-                row = row * count + usize::from(level);
+            let level = |k: usize| match live.iter().position(|&input| input == k) {
+                Some(at) => levels[at],
+                None => own[k].map[0],
+            };
+            let all: Vec<u8> = (0..own.len()).map(level).collect();
+            match all
+                .iter()
+                .zip(&counts)
+                .all(|(&level, &count)| usize::from(level) < count)
+            {
+                true => rule.value(&counts, &all),
+                false => 0,
             }
-            values[row]
         };
         let of = |at: usize| own[live[at]].clone();
         Ok(match live.len() {
