@@ -253,3 +253,24 @@ fn refusals_give_line_and_reason() {
         );
     }
 }
+
+/// A line of a stream exports a net, and another one imports a PLA.
+#[test]
+fn in_a_stream() {
+    let folder = Folder::new("formats_stream");
+    let quoted = |text: &str| format!("\"{}\"", text.replace('\n', "\\n"));
+    let pla = ".i 2\n.o 1\n11 1\n";
+    let lines = format!(
+        "{{\"id\":1,\"call\":\"export\",\"sheets\":[{}],\"words\":[\"--blif\"]}}\n{{\"id\":2,\"call\":\"import\",\"sheets\":[{}]}}\n",
+        quoted(SUM_NET),
+        quoted(pla)
+    );
+    let ended = folder.run_on("stream", lines.as_bytes());
+    let answers: Vec<&str> = ended.out.lines().collect();
+    let blif = format!(
+        "{{\"id\":1,\"status\":0,\"answer\":{{\"format\":\"blif\",\"text\":{}}}}}",
+        quoted(SUM_BLIF)
+    );
+    assert_eq!(answers[0], blif);
+    assert!(answers[1].starts_with("{\"id\":2,\"status\":0,\"answer\":{\"table\":{\"levels\":2,\"inputs\":[\"x0\",\"x1\"],\"inks\":[0,0,0,1],"), "{}", answers[1]);
+}

@@ -38,8 +38,8 @@ pub fn header(net: &Net, name: &str) -> String {
 /// Reads the net of a BLIF or BLIF-MV file: a tree of tables, in which each signal is read once.
 ///
 /// A table of one input is put into the gate beside it, and a constant into the gate that reads it. A table of more than two inputs is parted as the library
-/// parts it, if it has a tree. The gates stand in the order of their tables, as far as a sheet allows it. `output` names one of several outputs; the net then has
-/// just the inputs that this output reaches.
+/// parts it, if it has a tree. The gates stand in the order of their tables, as far as a sheet allows it. `output` names one of several outputs; the net
+/// then has just the inputs that this output reaches.
 pub fn net_of_blif(file: &[u8], output: Option<&str>) -> Result<Read<Net>, Fault> {
     let model = Model::read(file)?;
     let cone = Cone::of(&model, output)?;

@@ -7,6 +7,9 @@ use crate::{Fault, Read};
 use sitgurp::{Net, Table};
 use std::collections::{HashMap, HashSet};
 
+/// The most values of all signals at all assignments.
+const MOST_VALUES: usize = 1 << 28;
+
 /// The part of a model that one output hangs on.
 pub struct Cone<'a> {
     model: &'a Model<'a>,
@@ -100,6 +103,15 @@ impl<'a> Cone<'a> {
                 self.levels
             );
             return Err(fault(model.file, place, words));
+        }
+        // a byte for each of them is held
+        if cells.is_none_or(|cells| cells * self.nodes.len() > MOST_VALUES) {
+            let words = format!(
+                "the output {} hangs on {} tables, which are too many",
+                self.output.shown(),
+                self.nodes.len()
+            );
+            return Err(fault(model.file, self.output.place, words));
         }
         Ok(())
     }

@@ -85,39 +85,58 @@ fn process(net: &Net, gate: usize, content: &Gate) -> String {
 fn bench(net: &Net, name: &str) -> String {
     let (range, names) = (range(net), net.names());
     let inputs: Vec<String> = names.iter().map(|name| verilog_name(name)).collect();
-    let all = inputs.join(", ");
-    let bits = width(net) * inputs.len();
-    let connected: Vec<String> = inputs
+    let declared = inputs
         .iter()
-        .map(|name| format!(".{name}({name})"))
-        .collect();
+        .map(|input| format!("    reg {range}{input};\n"));
+    let connected = inputs.iter().map(|input| format!(".{input}({input}), "));
     let shown: Vec<String> = names.iter().map(|name| format!("{name}=%0d")).collect();
     let table = net.table();
-    let rows = table.inks().len();
-    let mut text = format!("module {name}_test;\n");
-    for input in &inputs {
-        text += &format!("    reg {range}{input};\n");
-    }
-    text += &format!("    wire {range}{OUTPUT};\n    integer wrong_rows;\n\n");
-    text += &format!(
-        "    {name} the_tree ({}, .{OUTPUT}({OUTPUT}));\n\n",
-        connected.join(", ")
-    );
-    text += &format!(
-        "    task check_row;\n        input [{}:0] the_levels;\n        input {range}due_ink;\n        begin\n            {{{all}}} = the_levels;\n            #1;\n            if ({OUTPUT} !== due_ink) begin\n                wrong_rows = wrong_rows + 1;\n                $display(\"wrong: {}: ink is %0d, due is %0d\", {all}, {OUTPUT}, due_ink);\n            end\n        end\n    endtask\n\n",
-        bits - 1,
-        shown.join(" ")
-    );
-    text += "    initial begin\n        wrong_rows = 0;\n";
-    for Row { levels, ink } in table.rows() {
+    let rows = table.rows().map(|Row { levels, ink }| {
         let levels: Vec<String> = levels.iter().map(|&level| constant(net, level)).collect();
-        text += &format!(
+        format!(
             "        check_row({{{}}}, {});\n",
             levels.join(", "),
             constant(net, ink)
-        );
-    }
-    text + &format!(
-        "        if (wrong_rows == 0)\n            $display(\"ok: all {rows} rows\");\n        else\n            $display(\"failed: %0d of {rows} rows\", wrong_rows);\n        $finish;\n    end\nendmodule\n"
-    )
+        )
+    });
+    BENCH
+        .replace("@NAME@", name)
+        .replace("@INPUTS@", &declared.collect::<String>())
+        .replace("@RANGE@", &range)
+        .replace("@PORTS@", &connected.collect::<String>())
+        .replace("@TOP@", &(width(net) * inputs.len() - 1).to_string())
+        .replace("@ALL@", &inputs.join(", "))
+        .replace("@SHOWN@", &shown.join(" "))
+        .replace("@ROWS@", &rows.collect::<String>())
+        .replace("@COUNT@", &table.inks().len().to_string())
 }
+
+const BENCH: &str = r#"module @NAME@_test;
+@INPUTS@    wire @RANGE@ink;
+    integer wrong_rows;
+
+    @NAME@ the_tree (@PORTS@.ink(ink));
+
+    task check_row;
+        input [@TOP@:0] the_levels;
+        input @RANGE@due_ink;
+        begin
+            {@ALL@} = the_levels;
+            #1;
+            if (ink !== due_ink) begin
+                wrong_rows = wrong_rows + 1;
+                $display("wrong: @SHOWN@: ink is %0d, due is %0d", @ALL@, ink, due_ink);
+            end
+        end
+    endtask
+
+    initial begin
+        wrong_rows = 0;
+@ROWS@        if (wrong_rows == 0)
+            $display("ok: all @COUNT@ rows");
+        else
+            $display("failed: %0d of @COUNT@ rows", wrong_rows);
+        $finish;
+    end
+endmodule
+"#;

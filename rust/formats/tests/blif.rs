@@ -255,3 +255,21 @@ fn a_long_chain() {
     lines += ".names n99999 y\n1 1\n";
     assert_eq!(gates("a b", &lines), "a b 1110");
 }
+
+/// More tables than are evaluated at once.
+#[test]
+fn too_many_tables() {
+    let names: Vec<String> = (0..12).map(|k| format!("i{k}")).collect();
+    let mut text = format!(
+        ".inputs {}\n.outputs y\n.names i0 i1 n0\n11 1\n",
+        names.join(" ")
+    );
+    for k in 1..70_000 {
+        text += &format!(".names n{} n{k}\n0 1\n", k - 1);
+    }
+    text += ".names n69999 y\n1 1\n";
+    assert_eq!(
+        refusal(&text),
+        "line 2: the output `y` hangs on 70001 tables, which are too many"
+    );
+}

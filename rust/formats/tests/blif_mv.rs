@@ -133,15 +133,21 @@ fn refusals_give_line_and_reason() {
     ] {
         assert_eq!(refusal(&format!("{FRONT}.table a b y\n{rows}.end\n")), said);
     }
+    let unequal = |name: &str| {
+        format!("line 1: the input `{name}` has 2 values, and others have 3: on a sheet all have the same")
+    };
     for (text, said) in [
-        (".inputs a b\n.outputs y\n.mv a 3\n.table a b y\n.default 0\n", "line 1: the input `b` has 2 values, and others have 3: on a sheet all have the same"),
-        (".inputs a b\n.outputs y\n.mv w 3\n.table a w\n0 2\n1 0\n.table w b y\n.default 0\n", "line 1: the input `a` has 2 values, and others have 3: on a sheet all have the same"),
+        (".inputs a b\n.outputs y\n.mv a 3\n.table a b y\n.default 0\n", unequal("b").as_str()),
+        (".inputs a b\n.outputs y\n.mv w 3\n.table a w\n0 2\n1 0\n.table w b y\n.default 0\n", unequal("a").as_str()),
         (".mv a 10\n", "line 1: `10` values are too many: a sheet has at most 9 levels"),
         (".mv a,b\n", "line 1: `.mv` has names of signals with commas between, and then how many values they have"),
         (".mv a 3 low high\n", "line 1: there are 2 names for 3 values"),
         (".mv a 3\n.mv a 2\n", "line 2: `a` has its values twice"),
         (".inputs a b\n.outputs y z\n.table a b -> y z\n0 0 0 0\n", "line 3: this table has 2 outputs, and a gate has one"),
-        (".inputs a b c d e f g h\n.outputs y\n.mv a,b,c,d,e,f,g,h,y 3\n.table a b y\n.default 0\n", "line 1: 3 levels and 8 inputs are over 4096 rows, and a sheet has no more"),
+        (
+            ".inputs a b c d e f g h\n.outputs y\n.mv a,b,c,d,e,f,g,h,y 3\n.table a b y\n.default 0\n",
+            "line 1: 3 levels and 8 inputs are over 4096 rows, and a sheet has no more",
+        ),
     ] {
         assert_eq!(refusal(text), said);
     }

@@ -4,6 +4,9 @@ use crate::tools::{abc, get, nets, put, spoiled, Tally};
 use reference::generate::{Generator, TableKind};
 use sitgurp::{Net, Row, Table};
 
+/// How a net is written.
+type Written = fn(&Net) -> String;
+
 /// How many pairs of files ABC calls equivalent, and how many not.
 fn compared(pairs: &[(String, String)]) -> (usize, usize) {
     let commands: Vec<String> = pairs
@@ -18,7 +21,7 @@ fn compared(pairs: &[(String, String)]) -> (usize, usize) {
 /// Writes a pair of files for each net: the second of the net itself, the first of it or of a net that is spoiled.
 fn pairs(
     nets: &[(&Net, &Net)],
-    first: fn(&Net) -> String,
+    first: Written,
     ending: &str,
     second: fn(&Table) -> String,
 ) -> Vec<(String, String)> {
@@ -41,7 +44,7 @@ pub fn equivalent() -> Tally {
         .iter()
         .filter_map(|net| Some((spoiled(net, &mut generator)?, net.clone())))
         .collect();
-    let formats: [(&str, fn(&Net) -> String); 2] = [
+    let formats: [(&str, Written); 2] = [
         ("blif", |net| {
             formats::blif(net, "tree").expect("two levels")
         }),

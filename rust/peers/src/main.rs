@@ -45,6 +45,7 @@ fn main() -> ExitCode {
             wrong += part().wrong;
         }
     }
+    std::fs::remove_dir_all(tools::folder()).ok();
     println!("\n{wrong} differences");
     ExitCode::from(u8::from(wrong > 0))
 }

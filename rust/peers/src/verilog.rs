@@ -61,7 +61,7 @@ pub fn benches() -> Tally {
     let nets: Vec<Net> = names
         .chunks(12)
         .filter(|names| names.len() > 1)
-        .map(|names| chain(names))
+        .map(chain)
         .collect();
     let good = nets
         .iter()

@@ -29,7 +29,8 @@ or a net, whose table is then written. BLIF, BLIF-MV, PLA and CSV are read again
         format("--csv", "csv").says("write a table for a spreadsheet; `tidy --csv` reads it back"),
         Opt::value("--name", "NAME").says("what the model, the module or the function is called; `tree` if this is not given"),
     ],
-    ending: Some("out"),
+    // each format has its own
+    ending: Some("FORMAT"),
     run,
 };
 

@@ -46,10 +46,11 @@ fn run(call: &Call) -> Result<Answer, Failure> {
         Some(Kind::Blif) => {
             let read = formats::net_of_blif(&sheet.bytes, output).map_err(|fault| {
                 let (program, operand) = (words::program(), sheet.operand());
+                let chosen = output.map_or(String::new(), |name| format!(" --output {}", words::quoted(name.as_ref())));
                 let has_table = formats::table_of_blif(&sheet.bytes, output).is_ok();
                 let refused = refused(fault);
                 match has_table {
-                    true => refused.hinted(format!("`{program} import --table{operand}` writes its table, which may have another tree")),
+                    true => refused.hinted(format!("`{program} import --table{chosen}{operand}` writes its table, which may have another tree")),
                     false => refused,
                 }
             })?;
