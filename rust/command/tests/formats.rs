@@ -272,5 +272,8 @@ fn in_a_stream() {
         quoted(SUM_BLIF)
     );
     assert_eq!(answers[0], blif);
-    assert!(answers[1].starts_with("{\"id\":2,\"status\":0,\"answer\":{\"table\":{\"levels\":2,\"inputs\":[\"x0\",\"x1\"],\"inks\":[0,0,0,1],"), "{}", answers[1]);
+    let front =
+        "{\"id\":2,\"status\":0,\"answer\":{\"table\":{\"levels\":2,\"inputs\":[\"x0\",\"x1\"],";
+    assert!(answers[1].starts_with(front), "{}", answers[1]);
+    assert!(answers[1].contains("\"inks\":[0,0,0,1]"), "{}", answers[1]);
 }

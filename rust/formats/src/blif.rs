@@ -27,7 +27,7 @@ pub fn blif(net: &Net, name: &str) -> Option<String> {
     Some(text + ".end\n")
 }
 
-/// The first lines of a model.
+/// Returns the first lines of a model.
 pub fn header(net: &Net, name: &str) -> String {
     format!(
         ".model {name}\n.inputs {}\n.outputs {OUTPUT}\n",
@@ -37,16 +37,16 @@ pub fn header(net: &Net, name: &str) -> String {
 
 /// Reads the net of a BLIF or BLIF-MV file: a tree of tables, in which each signal is read once.
 ///
-/// A table of one input is put into the gate beside it, and a constant into the gate that reads it. A table of more than two inputs is parted as the library
-/// parts it, if it has a tree. The gates stand in the order of their tables, as far as a sheet allows it. `output` names one of several outputs; the net
-/// then has just the inputs that this output reaches.
+/// A table of one input becomes part of the gate beside it, and a constant part of the gate that reads it. The library splits a table of more than two inputs,
+/// if it has a tree. The gates have the order of their tables, as far as a sheet allows it. `output` names one of several outputs; the net then has just
+/// the inputs that this output depends on.
 pub fn net_of_blif(file: &[u8], output: Option<&str>) -> Result<Read<Net>, Fault> {
     let model = Model::read(file)?;
     let cone = Cone::of(&model, output)?;
     let tree = Tree::of(&cone)?;
     let net = tree.net();
     // the library checks what was read
-    let table = cone.table()?;
+    let table = cone.table();
     let verdict = net.check(&table);
     assert_eq!(
         verdict,
@@ -60,7 +60,7 @@ pub fn net_of_blif(file: &[u8], output: Option<&str>) -> Result<Read<Net>, Fault
 pub fn table_of_blif(file: &[u8], output: Option<&str>) -> Result<Read<Table>, Fault> {
     let model = Model::read(file)?;
     let cone = Cone::of(&model, output)?;
-    let table = cone.table()?;
+    let table = cone.table();
     Ok(cone.read(table))
 }
 

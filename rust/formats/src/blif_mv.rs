@@ -93,7 +93,7 @@ pub fn values(model: &Model, node: &Node) -> Result<Vec<u8>, Fault> {
     Ok(all)
 }
 
-/// The levels of a row, the first signal slowest.
+/// Returns the levels of a row, the first signal slowest.
 fn levels(model: &Model, signals: &[&[u8]], mut index: usize) -> Vec<usize> {
     let mut levels = vec![0; signals.len()];
     for (level, signal) in levels.iter_mut().zip(signals).rev() {

@@ -58,7 +58,7 @@ fn value_name(net: &Net, wire: Wire) -> String {
     }
 }
 
-/// The constant table of a gate.
+/// Returns the constant table of a gate.
 fn table(net: &Net, name: &str, gate: usize, content: &Gate) -> String {
     let levels = net.levels();
     let rows: Vec<String> = content

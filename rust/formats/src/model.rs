@@ -132,7 +132,7 @@ impl<'a> Model<'a> {
                 self.file,
                 count.place,
                 format!(
-                    "{} values are too many: a sheet has at most {MOST_LEVELS} levels",
+                    "a signal can have 1 to {MOST_LEVELS} values, and not {}",
                     count.shown()
                 ),
             ));

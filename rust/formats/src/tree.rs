@@ -1,4 +1,4 @@
-//! From a model to a net: what an output hangs on, its table, and the tree of its tables.
+//! From a model to a net: what an output depends on, its table, and the tree of its tables.
 
 use crate::lines::{fault, shown, Word};
 use crate::model::{Model, Node, Rule, MOST_CELLS, MOST_INPUTS, MOST_LEVELS};
@@ -10,7 +10,7 @@ use std::collections::{HashMap, HashSet};
 /// The most values of all signals at all assignments.
 const MOST_VALUES: usize = 1 << 28;
 
-/// The part of a model that one output hangs on.
+/// The part of a model that one output depends on.
 pub struct Cone<'a> {
     model: &'a Model<'a>,
     output: Word<'a>,
@@ -29,17 +29,7 @@ impl<'a> Cone<'a> {
     pub fn of(model: &'a Model<'a>, output: Option<&str>) -> Result<Cone<'a>, Fault> {
         let word = model.output(output)?;
         let nodes = nodes_below(model, word)?;
-        let reads = |input: &Word| {
-            nodes
-                .iter()
-                .flat_map(|&node| &model.nodes[node].inputs)
-                .chain([&word])
-                .any(|read| read.text == input.text)
-        };
-        // without a choice of the output all inputs stay
-        let inputs: Vec<usize> = (0..model.inputs.len())
-            .filter(|&k| output.is_none() || reads(&model.inputs[k]))
-            .collect();
+        let inputs = inputs_of(model, &nodes, word, output.is_some());
         let mut cone = Cone {
             model,
             output: word,
@@ -58,7 +48,7 @@ impl<'a> Cone<'a> {
         Ok(cone)
     }
 
-    /// The names of the inputs in the file.
+    /// Lists the names of the inputs in the file.
     fn own_names(&self) -> impl Iterator<Item = String> + '_ {
         let names = self
             .inputs
@@ -75,8 +65,7 @@ impl<'a> Cone<'a> {
             .first()
             .map_or(self.output.place, |input| input.place);
         if !(2..=MOST_INPUTS).contains(&count) {
-            let words =
-                format!("a sheet has 2 to {MOST_INPUTS} inputs, and this model has {count}");
+            let words = format!("a sheet has 2 to {MOST_INPUTS} inputs, and not {count}");
             return Err(fault(model.file, place, words));
         }
         let outputs = self.nodes.iter().map(|&node| model.nodes[node].output);
@@ -107,7 +96,7 @@ impl<'a> Cone<'a> {
         // a byte for each of them is held
         if cells.is_none_or(|cells| cells * self.nodes.len() > MOST_VALUES) {
             let words = format!(
-                "the output {} hangs on {} tables, which are too many",
+                "the output {} depends on {} tables, which are too many",
                 self.output.shown(),
                 self.nodes.len()
             );
@@ -117,7 +106,7 @@ impl<'a> Cone<'a> {
     }
 
     /// Returns the table of the output, by the value of every signal at every assignment.
-    pub fn table(&self) -> Result<Table, Fault> {
+    pub fn table(&self) -> Table {
         let cells = self.levels.pow(self.inputs.len() as u32);
         let mut values: HashMap<&[u8], Vec<u8>> = HashMap::new();
         let mut step = cells;
@@ -141,10 +130,10 @@ impl<'a> Cone<'a> {
         let table = Table::from_rule(self.levels, &self.names, |_| {
             *inks.next().expect("an ink for each row")
         });
-        Ok(table.expect("a size and names that a sheet can have"))
+        table.expect("a size and names that a sheet can have")
     }
 
-    /// How many values some signals have.
+    /// Counts the values of some signals.
     fn counts(&self, signals: &[Word]) -> Vec<usize> {
         let signals = signals.iter().map(|signal| signal.text);
         signals.map(|signal| self.model.count(signal)).collect()
@@ -191,7 +180,24 @@ impl<'a> Cone<'a> {
     }
 }
 
-/// Lists the nodes that a signal hangs on, each after those that it reads. A signal that nothing defines, and a circle, are refused.
+/// Lists the inputs of the sheet: all, or just those that an output depends on, where it is one of several. Where these are fewer than two, the first-listed
+/// others make up two, as in a settled net.
+fn inputs_of(model: &Model, nodes: &[usize], output: Word, is_chosen: bool) -> Vec<usize> {
+    let all = 0..model.inputs.len();
+    if !is_chosen {
+        return all.collect();
+    }
+    let read = nodes.iter().flat_map(|&node| &model.nodes[node].inputs);
+    let read: HashSet<&[u8]> = read.chain([&output]).map(|word| word.text).collect();
+    let (mut inputs, others): (Vec<usize>, Vec<usize>) =
+        all.partition(|&input| read.contains(model.inputs[input].text));
+    let missing = 2_usize.saturating_sub(inputs.len());
+    inputs.extend(others.iter().take(missing));
+    inputs.sort_unstable();
+    inputs
+}
+
+/// Lists the nodes that a signal depends on, each after those that it reads. A signal that nothing defines, and a circle, are refused.
 fn nodes_below(model: &Model, output: Word) -> Result<Vec<usize>, Fault> {
     let mut order = Vec::new();
     let mut begun = HashSet::new();
@@ -217,7 +223,7 @@ fn nodes_below(model: &Model, output: Word) -> Result<Vec<usize>, Fault> {
                 return Err(fault(
                     model.file,
                     word.place,
-                    format!("{} hangs on itself", word.shown()),
+                    format!("{} depends on itself", word.shown()),
                 ));
             }
         }

@@ -17,13 +17,13 @@ pub fn verilog(net: &Net, name: &str) -> String {
     )
 }
 
-/// The bits of a level.
+/// Counts the bits of a level.
 fn width(net: &Net) -> usize {
     let highest = net.levels() - 1;
     highest.ilog2() as usize + 1
 }
 
-/// The range of a level's bits in a declaration, with a space behind it.
+/// Returns the range of a level's bits in a declaration, with a space behind it.
 fn range(net: &Net) -> String {
     match width(net) {
         1 => String::new(),
@@ -31,7 +31,7 @@ fn range(net: &Net) -> String {
     }
 }
 
-/// A level as a constant.
+/// Returns a level as a constant.
 fn constant(net: &Net, level: u8) -> String {
     format!("{}'d{level}", width(net))
 }
@@ -59,7 +59,7 @@ fn module(net: &Net, name: &str) -> String {
     text + "endmodule\n"
 }
 
-/// What a gate does.
+/// Returns what a gate does.
 fn process(net: &Net, gate: usize, content: &Gate) -> String {
     let name = value_name(net, Wire::Gate(gate));
     let [left, right] = [content.left, content.right].map(|wire| value_name(net, wire));
@@ -81,7 +81,7 @@ fn process(net: &Net, gate: usize, content: &Gate) -> String {
     )
 }
 
-/// The test bench. Its names have a `_`, so no input has one of them.
+/// Returns the test bench. Its names have a `_`, so no input has one of them.
 fn bench(net: &Net, name: &str) -> String {
     let (range, names) = (range(net), net.names());
     let inputs: Vec<String> = names.iter().map(|name| verilog_name(name)).collect();

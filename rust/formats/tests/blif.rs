@@ -78,12 +78,12 @@ fn tables_of_one_input_and_constants() {
 }
 
 #[test]
-fn tables_of_more_inputs_are_parted_by_the_library() {
+fn tables_of_more_inputs_are_split_by_the_library() {
     assert_eq!(
         gates("a b c", ".names a b c y\n111 1\n"),
         "b c 0001/a 1 0001"
     );
-    // one that does not matter is left out with all that it hangs on
+    // one that does not matter is left out with all that it depends on
     assert_eq!(
         gates("a b c d", ".names a b x\n11 1\n.names x c d y\n-11 1\n"),
         "c d 0001"
@@ -162,6 +162,17 @@ fn one_of_several_outputs() {
         read.notes,
         ["2 tables are left out, `x` first: the output does not read them"]
     );
+    // fewer than two inputs are made up to two
+    let text =
+        ".inputs a b c\n.outputs x y z\n.names c x\n0 1\n.names y\n1\n.names a b c z\n111 1\n";
+    for (output, gate) in [
+        ("x", "a c\nleft right table\na c 1010\n"),
+        ("y", "a b\nleft right table\na b 1111\n"),
+    ] {
+        let read = net_of_blif(text.as_bytes(), Some(output)).expect("a net");
+        assert_eq!(read.sheet.as_str(), format!("levels inputs\n2 2\n{gate}"));
+    }
+    let text = ".inputs a b c\n.outputs x y\n.names a b x\n11 1\n";
     let fault = net_of_blif(text.as_bytes(), Some("w")).expect_err("a refusal");
     assert_eq!(
         fault.to_string(),
@@ -205,8 +216,8 @@ fn refusals_give_line_and_reason() {
         (".names a b y\n11 1\n00 0\n", "line 6: all rows of a table have the same output, 0 or 1, and this one has the other"),
         (".names a b x\n11 1\n", "line 3: `y` is no input, and has no table"),
         (".names a z y\n11 1\n", "line 4: `z` is no input, and has no table"),
-        (".names a y y\n11 1\n", "line 4: `y` hangs on itself"),
-        (".names a x y\n11 1\n.names b y x\n11 1\n", "line 6: `y` hangs on itself"),
+        (".names a y y\n11 1\n", "line 4: `y` depends on itself"),
+        (".names a x y\n11 1\n.names b y x\n11 1\n", "line 6: `y` depends on itself"),
         (".names a b y\n11 1\n.names a b y\n11 1\n", "line 6: `y` has a second table here"),
         (".names b a\n1 1\n", "line 4: `a` is an input, and has a table too"),
         (".names a a y\n11 1\n", "line 4: `a` is read here and in line 4, and a tree uses each wire once"),
@@ -220,15 +231,15 @@ fn refusals_give_line_and_reason() {
         ("", "line 1: the model has no `.outputs`"),
         (
             ".inputs a\n.outputs y\n.names a y\n1 1\n",
-            "line 1: a sheet has 2 to 12 inputs, and this model has 1",
+            "line 1: a sheet has 2 to 12 inputs, and not 1",
         ),
         (
             ".outputs y\n.names y\n1\n",
-            "line 1: a sheet has 2 to 12 inputs, and this model has 0",
+            "line 1: a sheet has 2 to 12 inputs, and not 0",
         ),
         (
             ".outputs y\n.inputs a b c d e f g h i j k l m\n.names a b y\n11 1\n",
-            "line 2: a sheet has 2 to 12 inputs, and this model has 13",
+            "line 2: a sheet has 2 to 12 inputs, and not 13",
         ),
     ] {
         assert_eq!(refusal(text), said);
@@ -270,6 +281,6 @@ fn too_many_tables() {
     text += ".names n69999 y\n1 1\n";
     assert_eq!(
         refusal(&text),
-        "line 2: the output `y` hangs on 70001 tables, which are too many"
+        "line 2: the output `y` depends on 70001 tables, which are too many"
     );
 }

@@ -139,7 +139,7 @@ fn refusals_give_line_and_reason() {
     for (text, said) in [
         (".inputs a b\n.outputs y\n.mv a 3\n.table a b y\n.default 0\n", unequal("b").as_str()),
         (".inputs a b\n.outputs y\n.mv w 3\n.table a w\n0 2\n1 0\n.table w b y\n.default 0\n", unequal("a").as_str()),
-        (".mv a 10\n", "line 1: `10` values are too many: a sheet has at most 9 levels"),
+        (".mv a 10\n", "line 1: a signal can have 1 to 9 values, and not `10`"),
         (".mv a,b\n", "line 1: `.mv` has names of signals with commas between, and then how many values they have"),
         (".mv a 3 low high\n", "line 1: there are 2 names for 3 values"),
         (".mv a 3\n.mv a 2\n", "line 2: `a` has its values twice"),

@@ -98,3 +98,45 @@ fn tables() {
         }
     }
 }
+
+/// Damaged files are refused, or read as a sheet that the library accepts and checks. None of them stops the program.
+#[test]
+fn damaged_files() {
+    let mut generator = Generator::new(48);
+    let (mut read, mut refused) = (0, 0);
+    for round in 0..3_000 {
+        let (m, n) = [(2, 3), (2, 5), (3, 3), (4, 2)][round % 4];
+        let net = Net::read(&generator.net_sheet(m, n)).expect("a net");
+        let mut texts = vec![blif_mv(&net, "tree")];
+        texts.extend(blif(&net, "tree"));
+        texts.extend(pla(&net.table()));
+        for text in texts {
+            let mut text = text.into_bytes();
+            for _ in 0..1 + generator.rng.below(3) {
+                let (place, byte) = (
+                    generator.rng.below(text.len()),
+                    *generator.rng.pick(b"012-~ .\\#|\nabgx=(),{}!\xff"),
+                );
+                match generator.rng.below(3) {
+                    0 => text[place] = byte,
+                    1 => text.insert(place, byte),
+                    _ => drop(text.remove(place)),
+                }
+            }
+            let results = [
+                net_of_blif(&text, None).is_ok(),
+                table_of_blif(&text, None).is_ok(),
+                table_of_pla(&text, None).is_ok(),
+            ];
+            // what has a net has a table
+            assert!(
+                results[1] || !results[0],
+                "{}",
+                String::from_utf8_lossy(&text)
+            );
+            read += usize::from(results[1] || results[2]);
+            refused += usize::from(!results[1] && !results[2]);
+        }
+    }
+    assert!(read > 200 && refused > 2_000, "{read} {refused}");
+}

@@ -7,7 +7,7 @@ use sitgurp::{Net, Row, Table};
 /// How a net is written.
 type Written = fn(&Net) -> String;
 
-/// How many pairs of files ABC calls equivalent, and how many not.
+/// Counts the pairs of files that ABC calls equivalent, and those that it does not.
 fn compared(pairs: &[(String, String)]) -> (usize, usize) {
     let commands: Vec<String> = pairs
         .iter()
@@ -66,24 +66,24 @@ pub fn equivalent() -> Tally {
     tally
 }
 
-/// The bits of a level.
+/// Counts the bits of a level.
 fn width(levels: usize) -> usize {
     (levels - 1).ilog2() as usize + 1
 }
 
-/// The names that ABC gives the bits of a signal.
+/// Lists the names that ABC gives the bits of a signal.
 fn bits(name: &str, width: usize) -> Vec<String> {
     (0..width).map(|bit| format!("{name}[{bit}]")).collect()
 }
 
-/// A level, its lowest bit first.
+/// Returns a level, its lowest bit first.
 fn digits(level: u8, width: usize) -> String {
     (0..width)
         .map(|bit| if level >> bit & 1 == 1 { '1' } else { '0' })
         .collect()
 }
 
-/// A table of 4 or 8 levels as a PLA of its bits.
+/// Returns a table of 4 or 8 levels as a PLA of its bits.
 fn pla_of_bits(table: &Table) -> String {
     let width = width(table.levels());
     let inputs: Vec<String> = table
@@ -138,7 +138,7 @@ pub fn many_levels() -> Tally {
     tally
 }
 
-/// Whether the BLIF that ABC writes of a net has the net's ink in every row.
+/// Returns whether the BLIF that ABC writes of a net has the net's ink in every row.
 fn rows_agree(net: &Net) -> bool {
     put("net.mv", &formats::blif_mv(net, "tree"));
     abc("read_blif_mv net.mv\nstrash\nwrite_blif net.blif");
@@ -169,7 +169,7 @@ fn rows_agree(net: &Net) -> bool {
     })
 }
 
-/// What ABC writes is read: the table of a PLA after ABC has factored and mapped it.
+/// Reads what ABC writes: the table of a PLA after ABC has factored and mapped it.
 pub fn read_back() -> Tally {
     let mut tally = Tally::default();
     let mut generator = Generator::new(3);

@@ -4,7 +4,7 @@ use crate::tools::{folder, nets, put, run, spoiled, Tally};
 use reference::generate::Generator;
 use sitgurp::{Net, Row};
 
-/// A program that calls the functions of nets, and prints how many rows differ from these tables, and how many there are.
+/// Returns a program that calls the functions of nets, and prints how many rows differ from these tables, and how many there are.
 fn program(nets: &[(Net, Net)]) -> String {
     let mut text = String::from("#include <stdio.h>\n");
     let mut calls = String::new();
@@ -32,7 +32,7 @@ fn program(nets: &[(Net, Net)]) -> String {
     text + &format!("int main(void)\n{{\n    int row, wrong = 0, all = 0;\n{calls}    printf(\"%d %d\\n\", wrong, all);\n    return 0;\n}}\n")
 }
 
-/// How many rows differ, and how many there are, by a compiler that takes the program without a warning.
+/// Counts the rows that differ, and all rows, by a compiler that takes the program without a warning.
 fn compared(compiler: &str, words: &[&str]) -> Option<(usize, usize)> {
     let mut all = vec!["-Wall", "-Wextra", "-Werror", "-pedantic", "-o", "rows"];
     all.extend(words);

@@ -1,5 +1,5 @@
 //! Which functions of two levels have a tree, by the library and by ABC's disjoint-support decomposition: a tree of two-input gates is a decomposition
-//! in which no node is prime, for a prime node has three inputs or more, and AND and XOR of any number of inputs part into gates of two.
+//! in which no node is prime, for a prime node has three inputs or more, and AND and XOR of any number of inputs split into gates of two.
 
 use crate::tools::{put, run, Tally};
 use reference::rng::Rng;
@@ -60,7 +60,7 @@ fn functions() -> Vec<Function> {
     all
 }
 
-/// The values of a random tree. So many of its gates have three inputs, with any digits.
+/// Returns the values of a random tree. So many of its gates have three inputs, with any digits.
 fn tree(rng: &mut Rng, inputs: usize, larger: usize) -> Vec<u8> {
     let cells = 1 << inputs;
     let wire = |input: usize| {
@@ -100,7 +100,7 @@ fn tree(rng: &mut Rng, inputs: usize, larger: usize) -> Vec<u8> {
     wires.remove(0)
 }
 
-/// A random function of three or four of the inputs.
+/// Returns a random function of three or four of the inputs.
 fn few(rng: &mut Rng, inputs: usize) -> Vec<u8> {
     let mut chosen: Vec<usize> = (0..inputs).collect();
     rng.shuffle(&mut chosen);
@@ -114,7 +114,7 @@ fn few(rng: &mut Rng, inputs: usize) -> Vec<u8> {
     (0..1 << inputs).map(|index| digits[row(index)]).collect()
 }
 
-/// The function for ABC: hexadecimal, its last value first. ABC takes six inputs or more, so a smaller one is repeated.
+/// Returns the function for ABC: hexadecimal, its last value first. ABC takes six inputs or more, so a smaller one is repeated.
 fn hexadecimal(function: &Function) -> String {
     let bits = function
         .values
@@ -174,7 +174,7 @@ fn decomposed(functions: &[&Function], algorithm: usize) -> Vec<Option<String>> 
     all
 }
 
-/// Whether a formula of algorithm 3 has only AND and XOR: `CA(a,b,c)` is a prime node.
+/// Returns whether a formula of algorithm 3 has only AND and XOR: `CA(a,b,c)` is a prime node.
 fn is_tree_3(formula: &str) -> bool {
     let bytes = formula.as_bytes();
     let is_prime =
@@ -182,7 +182,7 @@ fn is_tree_3(formula: &str) -> bool {
     !bytes.windows(2).any(is_prime)
 }
 
-/// The same of algorithm 4: `<abc>` is a multiplexer, and `E8{abc}` another prime node.
+/// Returns the same of algorithm 4: `<abc>` is a multiplexer, and `E8{abc}` another prime node.
 fn is_tree_4(formula: &str) -> bool {
     !formula.contains(['<', '{'])
 }

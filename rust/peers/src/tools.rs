@@ -21,14 +21,14 @@ impl Tally {
     }
 }
 
-/// A folder for the files of a run.
+/// Creates a folder for the files of a run.
 pub fn folder() -> PathBuf {
     let folder = std::env::temp_dir().join(format!("sitgurp_peers_{}", std::process::id()));
     fs::create_dir_all(&folder).expect("a folder");
     folder
 }
 
-/// What a program writes to standard output and standard error, and whether it ended well.
+/// Runs a program, and returns what it writes to standard output and standard error, and whether it ended well.
 pub fn run(program: &str, words: &[&str]) -> (bool, String) {
     let mut command = Command::new(program);
     let ended = command.args(words).current_dir(folder()).output();
@@ -40,7 +40,7 @@ pub fn run(program: &str, words: &[&str]) -> (bool, String) {
     )
 }
 
-/// What ABC says to these commands. It has to get to the end.
+/// Returns what ABC says to these commands. It has to get to the end.
 pub fn abc(commands: &str) -> String {
     put("script", &format!("{commands}\necho the end\n"));
     let (_, said) = run("berkeley-abc", &["-q", "source script"]);
@@ -83,7 +83,7 @@ pub fn nets(generator: &mut Generator, levels: &[usize], count: usize) -> Vec<Ne
     nets
 }
 
-/// The net with another digit in a gate, so that its table is another; None where no change of one digit does that.
+/// Returns the net with another digit in a gate, so that its table is another; None where no change of one digit does that.
 pub fn spoiled(net: &Net, generator: &mut Generator) -> Option<Net> {
     let sheet = net.as_str();
     for _ in 0..100 {

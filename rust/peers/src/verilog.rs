@@ -4,7 +4,7 @@ use crate::tools::{nets, put, run, spoiled, Tally};
 use reference::generate::Generator;
 use sitgurp::Net;
 
-/// What the test bench of a source says.
+/// Returns what the test bench of a source says.
 fn said(source: &str, standard: &str) -> String {
     put("net.v", source);
     let (good, said) = run("iverilog", &["-Wall", standard, "-o", "net.vvp", "net.v"]);
@@ -90,7 +90,7 @@ fn words() -> Vec<&'static str> {
         .collect()
 }
 
-/// A chain over these inputs.
+/// Returns a chain over these inputs.
 fn chain(names: &[&str]) -> Net {
     let mut sheet = format!(
         "levels inputs\n2 {}\n{}\nleft right table\n{} {} 0110\n",

@@ -15,7 +15,7 @@ pub static COMMAND: Command = Command {
     summary: "a net sheet from BLIF or BLIF-MV, a table sheet from a PLA",
     help: "\
 The format is found in the file. In BLIF and BLIF-MV the tables are a tree: every input and every table is read once. Tables of one input and
-constants become part of the gates beside them; a table of more inputs is parted in gates of two, if that is possible. Names that no sheet can
+constants become part of the gates beside them; a table of more inputs is split into gates of two, if that is possible. Names that no sheet can
 have are changed, which is reported on standard error. In a PLA a don't-care is an open cell. The library checks the table of what is written.
 ",
     sheets: 1,
