@@ -5,10 +5,12 @@ mod check;
 mod count;
 mod draw;
 mod eval;
+mod export;
 mod family;
 mod fill;
 mod gates;
 mod glyph;
+mod import;
 mod invert;
 mod keep;
 mod larger;
@@ -77,6 +79,8 @@ pub static ALL: &[&Command] = &[
     &matrix::COMMAND,
     &page::COMMAND,
     &glyph::COMMAND,
+    &export::COMMAND,
+    &import::COMMAND,
     &stream::COMMAND,
 ];
 

@@ -7,8 +7,11 @@ use crate::input::Sheet;
 use crate::json::Json;
 use crate::sentence::{blank_cell, sentence, Due, Front};
 use crate::words::{self, thousands};
-use sitgurp::{Kind, Net, Refusal, Table};
+use sitgurp::{Kind, Named, Net, Refusal, Table};
 use std::fmt;
+
+/// The number of a refusal that is not the library's.
+const NO_NUMBER: usize = 0;
 
 /// A refusal in words.
 pub struct Refused {
@@ -107,6 +110,18 @@ impl Refused {
         }
     }
 
+    /// Of a place in a file of another format, which the library does not judge: it has no number.
+    pub fn of_format(file: &Sheet, place: usize, sentence: String) -> Refused {
+        let refusal = Refusal {
+            number: NO_NUMBER,
+            place,
+            named: Named::Neither,
+            position: None,
+            inputs: Vec::new(),
+        };
+        Refused::at(file, place, refusal, sentence)
+    }
+
     /// Of a file as a whole.
     pub fn of_file(file: &Sheet, refusal: Refusal, sentence: String) -> Refused {
         Refused {
@@ -197,10 +212,15 @@ impl Refused {
     pub fn json(&self) -> Json {
         let optional = |number: Option<usize>| number.map_or(Json::Null, Json::number);
         let position = self.refusal.position;
+        let number = Some(self.refusal.number).filter(|&number| number != NO_NUMBER);
+        let kind = match number {
+            Some(_) => format!("{:?}", self.refusal.kind()),
+            None => "Format".to_string(),
+        };
         Json::object([
             ("file", Json::text(&self.file)),
-            ("number", Json::number(self.refusal.number)),
-            ("kind", Json::text(format!("{:?}", self.refusal.kind()))),
+            ("number", optional(number)),
+            ("kind", Json::text(kind)),
             ("place", Json::number(self.refusal.place)),
             ("line", optional(position.map(|(line, _)| line))),
             ("column", optional(position.map(|(_, column)| column))),
@@ -216,7 +236,10 @@ impl fmt::Display for Refused {
         if let Some((line, column)) = self.refusal.position {
             write!(f, "{line}:{column}:")?;
         }
-        writeln!(f, " {} (refusal {})", self.sentence, self.refusal.number)?;
+        match self.refusal.number {
+            NO_NUMBER => writeln!(f, " {}", self.sentence)?,
+            number => writeln!(f, " {} (refusal {number})", self.sentence)?,
+        }
         f.write_str(&self.excerpt)?;
         for cause in &self.causes {
             writeln!(f, "likely cause: {cause}")?;

@@ -7,6 +7,7 @@ mod commands;
 mod csv;
 mod designer;
 mod family;
+mod formats;
 mod generated;
 mod glyph;
 mod install;

@@ -5,7 +5,7 @@ use std::fs::{self, File};
 use std::os::unix::fs::{symlink, PermissionsExt};
 use std::process::Stdio;
 
-const COMMANDS: [&str; 23] = [
+const COMMANDS: [&str; 25] = [
     "make",
     "why",
     "fill",
@@ -28,6 +28,8 @@ const COMMANDS: [&str; 23] = [
     "matrix",
     "page",
     "glyph",
+    "export",
+    "import",
     "stream",
 ];
 
