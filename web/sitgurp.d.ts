@@ -241,7 +241,9 @@ export class Sitgurp {
 
 /** What `open` has read. */
 export type Opened =
-  | { readonly kind: 'table' | 'loose' | 'csv'; readonly table: Table }
+  | { readonly kind: 'table' | 'loose'; readonly table: Table }
+  /** `columns` are the inputs and then the ink, each with its name in the sheet and as the file has it. */
+  | { readonly kind: 'csv'; readonly table: Table; readonly columns: readonly { readonly name: string; readonly written: string }[] }
   | { readonly kind: 'net'; readonly net: Net };
 
 /** A refusal in the command's words. */

@@ -139,7 +139,9 @@ export class Model {
     this.#choice = 'settled';
     const pinned = opened.kind === 'net' ? opened.net.sheet : null;
     this.replace({ m: table.levels, names: table.names, cells: table.inks, across: [], down: [] }, `opened ${file}`, pinned);
-    this.say(pinned ? `Opened the net of ${file}. Its wiring is pinned.` : `Opened ${file}.`);
+    const renamed = (opened.columns ?? []).filter(({ name, written }) => name !== written);
+    const names = renamed.map(({ name, written }) => ` ${name} is \`${written}\`.`).join('');
+    this.say(pinned ? `Opened the net of ${file}. Its wiring is pinned.` : `Opened ${file}.${names}`);
     return null;
   }
 

@@ -1,5 +1,6 @@
 // Pictures of levels: reads graymaps, reduces an image to few cells and few levels, and finds the cells that a stroke passes.
-// A picture has width, height and cells, one level per cell, row by row. A gray picture has darkness instead: 0 is white, 1 is black.
+// A picture has width, height and cells, one level per cell, row by row. A gray picture has darkness instead: 0 is white, 1 is black. One from a graymap has
+// its grays too, 0 for black.
 
 export const MOST_SIDE = 64;
 // A graymap of more pixels is not read.
@@ -43,7 +44,7 @@ export function readPgm(bytes) {
   const { plain, width, height, white, start } = header;
   const values = plain ? plainValues(text.slice(start), width * height) : binaryValues(bytes.subarray(start), width * height, white);
   if (!values || values.some((value) => value > white)) return null;
-  return { width, height, darkness: Float64Array.from(values, (value) => (white - value) / white) };
+  return { width, height, darkness: Float64Array.from(values, (value) => (white - value) / white), grays: Uint16Array.from(values), white };
 }
 
 // Returns the gray picture of an image's pixels: red, green, blue and opacity, a byte each. What is see-through lies on white.
@@ -93,10 +94,14 @@ function spans(pixels, cells) {
   });
 }
 
-// Returns the picture of a gray one: every cell takes the nearest of the levels, level 0 white.
+// Returns the picture of a gray one by equal steps: every level has the same number of grays, level 0 the lightest. Follows `picture` of
+// rust/sitgurp/src/graymap.rs.
 export function reduced(gray, levels) {
-  const { width, height } = gray;
-  return { width, height, cells: Uint8Array.from(gray.darkness, (dark) => Math.round(dark * (levels - 1))) };
+  const { width, height, grays, white } = gray;
+  const cells = grays
+    ? Uint8Array.from(grays, (value) => levels - 1 - Math.floor((value * levels) / (white + 1)))
+    : Uint8Array.from(gray.darkness, (dark) => Math.min(levels - 1, Math.floor(dark * levels)));
+  return { width, height, cells };
 }
 
 // Returns a picture of at most 64 cells a side from a gray picture of any size.

@@ -11,7 +11,8 @@ import { MOST_FILE } from './limits.mjs';
 import { Flaw } from './record.mjs';
 import { isRefusal } from './refusal.mjs';
 import { blankCell, sentence } from './sentence.mjs';
-import { fileName, list, operand, PROGRAM, STANDARD, thousands } from './words.mjs';
+import { narrow } from './wide.mjs';
+import { count, fileName, list, operand, PROGRAM, STANDARD, thousands } from './words.mjs';
 
 export class Explanation {
   constructor(file, refusal, parts) {
@@ -52,7 +53,7 @@ function ofSheet(sitgurp, due, bytes, file, refusal, inputs = []) {
 
 // Explains CSV that was turned into a loose table. The place is the one in the file.
 function ofCsv(sitgurp, bytes, csv, file, refusal) {
-  const front = new Front(Due.Csv, csv.text, refusal, [], csv.shown(refusal.place));
+  const front = new Front(Due.Csv, csv.text, refusal, [], csv.shown(refusal.place), csv.lines);
   const isBlank = csv.flaw(refusal.place) === Flaw.Blank;
   const place = csv.source(refusal.place);
   return new Explanation(file, refusal, {
@@ -60,8 +61,17 @@ function ofCsv(sitgurp, bytes, csv, file, refusal) {
     position: positionOf(bytes, place),
     excerpt: excerpt(bytes, place),
     causes: causesInCsv(sitgurp, bytes, csv, refusal),
-    hint: `${csv.separatorWords()} separate the fields of this file`,
+    hint: csvHint(csv, file),
   });
+}
+
+// Returns how a file was read that is refused.
+function csvHint(csv, file) {
+  const fields = `${csv.separatorWords()} separate the fields of this file`;
+  if (csv.inferred === null) return fields;
+  const { levels, inputs } = csv.inferred;
+  const options = `\`${PROGRAM} tidy --csv --drop NAME${operand(file)}\` leaves a column out, and \`--ink NAME\` says which is the ink`;
+  return `${fields}; by its digits and columns it has ${levels} levels and ${count(inputs, 'input')}\n${options}`;
 }
 
 // Returns which command reads a table that is laid loosely or is CSV; null if none does.
@@ -69,15 +79,15 @@ function tidyHint(sitgurp, due, bytes, file) {
   const isTable = due === Due.Table || due === Due.Loose;
   if (!isTable || !isRefusal(sitgurp.gateLine(bytes, 0))) return null;
   if (due === Due.Table && !isRefusal(sitgurp.tidy(bytes))) return `\`${PROGRAM} tidy${operand(file)}\` writes it as a table sheet`;
-  const csv = new Csv(bytes);
+  const csv = new Csv(narrow(bytes));
   const command = `\`${PROGRAM} tidy --csv${operand(file)}\``;
   if (bytes.some((byte) => SPREADSHEET.includes(byte)) && !isRefusal(sitgurp.tidy(csv.text))) return `${command} writes it as a table sheet`;
   const isCsv = due === Due.Loose && csv.separatorWords() !== 'spaces';
   return isCsv ? `${command} takes commas, semicolons or tabs between fields` : null;
 }
 
-// Bytes that a spreadsheet writes and no sheet has: comma, semicolon, tab, carriage return, quote, the first of a byte order mark.
-const SPREADSHEET = [44, 59, 9, 13, 34, 0xef];
+// Bytes that a spreadsheet writes and no sheet has: comma, semicolon, tab, carriage return, quote, and bytes of byte order marks.
+const SPREADSHEET = [44, 59, 9, 13, 34, 0xef, 0xfe];
 
 // Returns the bytes of a file, which is not longer than any sheet.
 function limited(given) {
@@ -100,7 +110,7 @@ export function readNet(sitgurp, given, file = STANDARD) {
 
 // Reads a loose sheet, or with `csv` what a spreadsheet wrote.
 export function readLoose(sitgurp, given, file = STANDARD, csv = false) {
-  const bytes = limited(given);
+  const bytes = csv ? narrow(limited(given)) : limited(given);
   const cells = csv ? new Csv(bytes) : null;
   const tidied = sitgurp.tidy(cells ? cells.text : bytes);
   if (!isRefusal(tidied)) return sitgurp.table(tidied.sheet);
@@ -122,14 +132,23 @@ export function open(sitgurp, given, file = STANDARD) {
   if (!isRefusal(net)) return { kind: 'net', net };
   const loose = sitgurp.tidy(bytes);
   if (!isRefusal(loose)) return { kind: 'loose', table: sitgurp.table(loose.sheet) };
-  const csv = new Csv(bytes);
+  const text = narrow(bytes);
+  const csv = new Csv(text);
   const tidied = sitgurp.tidy(csv.text);
-  if (!isRefusal(tidied)) return { kind: 'csv', table: sitgurp.table(tidied.sheet) };
+  if (!isRefusal(tidied)) return { kind: 'csv', table: sitgurp.table(tidied.sheet), columns: csv.columns };
+  if (isWorkbook(bytes)) return new Explanation(file, table, { sentence: WORKBOOK });
   if (isNetLike(bytes)) return ofSheet(sitgurp, Due.Net, bytes, file, net);
-  if (csv.separatorWords() !== 'spaces') return ofCsv(sitgurp, bytes, csv, file, tidied);
+  if (csv.separatorWords() !== 'spaces') return ofCsv(sitgurp, text, csv, file, tidied);
   // spaces too many are no mistake in a loose sheet, which is read further then
   const isLoose = table.number === Kind.Layout && loose.place > table.place;
   return isLoose ? ofSheet(sitgurp, Due.Loose, bytes, file, loose) : ofSheet(sitgurp, Due.Table, bytes, file, table);
+}
+
+const WORKBOOK = "this is a spreadsheet program's own file: export it as CSV";
+
+// Tells whether bytes are those of a spreadsheet program's own file: a zip archive, or an older workbook.
+function isWorkbook(bytes) {
+  return [[0x50, 0x4b, 3, 4], [0xd0, 0xcf, 0x11, 0xe0]].some((start) => start.every((byte, k) => bytes[k] === byte));
 }
 
 // Tells whether a file has the fourth line of a net sheet.

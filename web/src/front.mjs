@@ -15,10 +15,12 @@ export const Due = Object.freeze({
 });
 
 export class Front {
-  // `inputs` are the names that an arrival sheet is for. `given` is the field at the place as it is in the file, if the sheet was made from one.
-  constructor(due, sheet, refusal, inputs, given = null) {
+  // `inputs` are the names that an arrival sheet is for. If the sheet was made from a file, `given` is the field at the place as it is there, and `lines` has
+  // the file's line of each line.
+  constructor(due, sheet, refusal, inputs, given = null, lines = []) {
     this.due = due;
     this.given = given;
+    this.lines = lines;
     this.sheet = sheet;
     this.place = Math.min(refusal.place, sheet.length);
     this.linesBefore = linesOf(sheet.subarray(0, this.place));
@@ -37,9 +39,18 @@ export class Front {
     return this.line > line ? fieldsIn(this.due, this.linesBefore[line]) : [];
   }
 
-  // Returns the field that begins at the place.
+  // Returns the number of a line in the file.
+  number(line) {
+    return this.lines[line - 1] ?? line;
+  }
+
+  // Returns the field that begins at the place, as it is in the file.
   field() {
-    if (this.given !== null) return this.given;
+    return this.given ?? this.ownField();
+  }
+
+  // Returns the field that begins at the place of the sheet.
+  ownField() {
     const rest = this.sheet.subarray(this.place);
     const end = rest.findIndex((byte) => byte === SPACE || byte === LINE_FEED);
     return field(end < 0 ? rest : rest.subarray(0, end));

@@ -1,6 +1,6 @@
 // The lines and cells of CSV. Quotes are as in RFC 4180. Follows rust/command/src/csv/record.rs.
 
-const [FEED, RETURN, SPACE, QUOTE] = [10, 13, 32, 34];
+const [FEED, RETURN, SPACE, QUOTE, COMMA, POINT, ZERO, NINE] = [10, 13, 32, 34, 44, 46, 48, 57];
 
 // What is wrong with a cell, whatever is due there.
 export const Flaw = Object.freeze({ Blank: 'blank', Unclosed: 'unclosed', AfterQuote: 'after quote', QuoteInside: 'quote inside' });
@@ -21,8 +21,37 @@ export function usedCells(record) {
   return used;
 }
 
+// Reads the lines from a place on, which begins the line of this number. Blank lines are left out.
+export function recordsFrom(file, start, first, separator) {
+  const records = [];
+  let line = first;
+  for (let at = start; at < file.length; ) {
+    const record = { ...recordAt(file, at, separator), start: at, line };
+    line += 1 + file.subarray(at, record.end).reduce((feeds, byte) => feeds + (byte === FEED ? 1 : 0), 0);
+    at = record.next;
+    if (usedCells(record) > 0) records.push(record);
+  }
+  return records;
+}
+
+// Tells whether the first line says that the size follows: its letters are `levels` and `inputs`, or it has none, so it has no names.
+export function saysSize(file, first) {
+  const line = Array.from(file.subarray(first.start, first.end), (byte) => String.fromCharCode(byte)).join('');
+  const letters = line.replace(/[^A-Za-z0-9\u0080-\u00ff]/g, '').toLowerCase();
+  return letters === 'levelsinputs' || /^[0-9]*$/.test(letters);
+}
+
+// Returns what a cell without a flaw means in a line without names: a whole number without the zeros behind its point or comma, a word in lowercase.
+export function numberBytes(cell, file) {
+  const bytes = cellBytes(cell, file).map(([byte]) => (byte >= 65 && byte <= 90 ? byte + 32 : byte));
+  const point = bytes.findIndex((byte) => byte === POINT || byte === COMMA);
+  const zeros = bytes.slice(point + 1);
+  const isWhole = point > 0 && bytes.slice(0, point).every((byte) => byte >= ZERO && byte <= NINE);
+  return isWhole && zeros.length > 0 && zeros.every((byte) => byte === ZERO) ? bytes.slice(0, point) : bytes;
+}
+
 // Reads the line at a place: its cells, where it ends, and where the next one begins.
-export function recordAt(file, start, separator) {
+function recordAt(file, start, separator) {
   const cells = [];
   let at = start;
   for (;;) {

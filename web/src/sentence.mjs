@@ -63,12 +63,15 @@ function layout(front) {
   if (sizeKnown && line > front.linesDue()) return afterLast(front);
   if (front.atEnd()) return earlyEnd(front);
   const names = front.namesTooMany();
-  if (names !== null) return `line 3 has ${count(names, 'name')}${front.due.isTable ? ' before `ink`' : ''}, and line 2 says ${count(front.inputs, 'input')}`;
+  if (names !== null) {
+    const ink = front.due.isTable ? ' before `ink`' : '';
+    return `line ${front.number(3)} has ${count(names, 'name')}${ink}, and line ${front.number(2)} says ${count(front.inputs, 'input')}`;
+  }
   const allNames = front.fieldsOfLine().length === front.inputs;
   if (front.due.isTable && line === 3 && allNames && front.field() !== '') {
     return `\`${front.field()}\` is where \`ink\` should be, after the names of the ${count(front.inputs, 'input')}`;
   }
-  if (front.atLineStart() && front.sheet[front.place] === 10) return `line ${line} is blank: ${lineDue(front)}`;
+  if (front.atLineStart() && front.sheet[front.place] === 10) return `line ${front.number(line)} is blank: ${lineDue(front)}`;
   return lineDue(front);
 }
 
@@ -136,9 +139,11 @@ function lineDue(front) {
   const { due, line, inputs } = front;
   const { apart } = due;
   if (due === Due.Arrivals) return line === 1 ? 'line 1 should be `name from to`' : `a line should have an input's name and two times, ${apart}`;
-  if (line === 1) return due === Due.Csv ? `line 1 should be \`levels\` and \`inputs\`, ${apart}` : 'line 1 should be `levels inputs`';
-  if (line === 2) return `line 2 should have two numbers, levels and inputs, ${apart}`;
-  if (line === 3) return `line 3 should have the names of the ${inputs} inputs${due === Due.Net ? '' : ' and then `ink`'}, ${apart}`;
+  const number = front.number(line);
+  if (line === 1 && due === Due.Csv) return `line ${number} should have the columns' names, or be \`levels\` and \`inputs\`, ${apart}`;
+  if (line === 1) return 'line 1 should be `levels inputs`';
+  if (line === 2) return `line ${number} should have two numbers, levels and inputs, ${apart}`;
+  if (line === 3) return `line ${number} should have the names of the ${inputs} inputs${due === Due.Net ? '' : ' and then `ink`'}, ${apart}`;
   if (due !== Due.Net) return `a row should have ${count(inputs, 'level')} and an ink, ${apart}`;
   return line === 4 ? 'line 4 should be `left right table`' : `a gate line should have left, right and table, ${apart}`;
 }
@@ -154,13 +159,14 @@ function inputs(front, field) {
 
 function name(front, field) {
   const earlier = front.fieldsOfLine();
-  if (field === 'ink') {
+  const own = front.ownField();
+  if (own === 'ink') {
     const there = earlier.length === 1 ? 'is 1 name' : `are ${count(earlier.length, 'name')}`;
     return front.due.isTable
-      ? `\`ink\` is where a name should be: line 2 says ${count(front.inputs, 'input')}, and there ${there}`
+      ? `\`ink\` is where a name should be: line ${front.number(2)} says ${count(front.inputs, 'input')}, and there ${there}`
       : "`ink` is no input's name";
   }
-  if (earlier.includes(field)) return `the name \`${field}\` is there twice`;
+  if (earlier.includes(own)) return `the name \`${field}\` is there twice`;
   const rule = 'a name has 1 to 8 lowercase letters and digits, a letter first';
   return field.length > 8 && /^[A-Za-z0-9]*$/.test(field) ? `the name \`${field}\` is too long: ${rule}` : `\`${field}\` is no name: ${rule}`;
 }
@@ -176,7 +182,7 @@ function repeated(front) {
   const levels = fieldsIn(front.due, line).slice(0, front.inputs).join(' ');
   const index = front.indexOf(line);
   const earlier = rowsAbove(front).find(([one]) => one === index);
-  return earlier ? `the row \`${levels}\` is already in line ${earlier[1]}` : `the row \`${levels}\` is already above`;
+  return earlier ? `the row \`${levels}\` is already in line ${front.number(earlier[1])}` : `the row \`${levels}\` is already above`;
 }
 
 // Returns the rows of a loose sheet above the place's line, each with its line.

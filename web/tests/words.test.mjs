@@ -8,6 +8,7 @@ import { tmpdir } from 'node:os';
 import { join } from 'node:path';
 import { after, test } from 'node:test';
 import { isExplanation, isRefusal } from '../src/sitgurp.mjs';
+import { pictureOf, readPgm } from '../page/raster.mjs';
 import { example, sitgurp } from './library.mjs';
 
 const { SITGURP, SHEETS } = process.env;
@@ -159,6 +160,89 @@ test('usual mistakes are refused in the same words', () => {
   }
   console.log(`usual mistakes: ${refused} refused`);
   assert.ok(refused > 300);
+});
+
+// Exports of a table with columns of its own, and mistakes in them.
+const EXPORTS = [
+  (sheet) => sheet,
+  (sheet) => sheet.replace('Weight', '"My weight, in mm"').replace('Near', 'Nähe'),
+  (sheet) => sheet.replace('Weight', 'a').replace('Near', 'A').replace('Light', 'á'),
+  (sheet) => sheet.replace('Weight', '重さ').replace('Near', '2nd near'),
+  (sheet) => sheet.replace('Weight', 'Near'),
+  (sheet) => sheet.replace('Weight', 'My weight').replace('Near', 'My weight'),
+  (sheet) => sheet.replace('Weight', ''),
+  (sheet) => sheet.replace('Weight', '"Weight'),
+  (sheet) => sheet.replace('Weight', 'We"ight'),
+  (sheet) => sheet.replace('Weight', 'Ink'),
+  (sheet) => sheet.replace('Tone', 'INK'),
+  (sheet) => sheet.replace('Weight,', ''),
+  (sheet) => sheet.replace(/\n/g, ',\n'),
+  (sheet) => sheet.replace(/\n/g, ',x\n'),
+  (sheet) => sheet.replace(/\n/g, '\n\n,,,\n'),
+  (sheet) => sheet.replace(/,/g, ',,'),
+  (sheet) => sheet.replace(/(\d)/g, '$1.0'),
+  (sheet) => sheet.replace(/,/g, ';').replace(/(\d)/g, '$1,0'),
+  (sheet) => sheet.replace(/(\d)\n/, '$1.5\n'),
+  (sheet) => `sep=;\r\n${sheet.replace(/,/g, ';')}`,
+  (sheet) => `sep=;\n${sheet}`,
+  (sheet) => `"sep=,"\n${sheet}`,
+  (sheet) => `sep=|\n${sheet.replace(/,/g, '|')}`,
+  (sheet) => `sep=,\nlevels,inputs\n4,3\n${sheet}`,
+  (sheet) => `sep=,\nlevels,inputs\n4,3\n${sheet.replace('Tone', 'ink')}`,
+  (sheet) => `sep=,\n\nlevels,inputs\n4,3\n${sheet.replace('Tone', 'ink')}0,0,0,0\n`,
+  (sheet) => `Levels,Inputs\n4,2\n${sheet.replace('Tone', 'ink')}`,
+  (sheet) => `level,inputs\n4,3\n${sheet}`,
+  (sheet) => sheet.replace('\n0', '\n9'),
+  (sheet) => sheet.replace('\n0', '\n12'),
+  (sheet) => sheet.replace('\n0', '\n'),
+  (sheet) => sheet.replace('\n0,0', '\n0;0'),
+  (sheet) => sheet.replace('\n0,0', '\n0 0'),
+  (sheet) => sheet.replace('\n0,0,0,0', ''),
+  (sheet) => sheet.replace('\n0,0,0,0', '\n0,0,0'),
+  (sheet) => `${sheet}\n0,0,0,0\n`,
+  (sheet) => sheet.split('\n').slice(1).join('\n'),
+  (sheet) => sheet.split('\n')[0],
+  (sheet) => sheet.split('\n').map((line) => line.split(',').slice(0, 2).join(',')).join('\n'),
+  (sheet) => sheet.split('\n').map((line) => line.split(',').reverse().join(',')).join('\n').replace('Tone', 'ink'),
+  (sheet) => sheet.split('\n').map((line) => line.split(',').reverse().join(',').slice(0, -1)).join('\n').replace('Tone', 'ink'),
+];
+
+test('exports without `levels inputs` are refused in the same words, and read as the same table', () => {
+  const rows = text(example('shade.table')).split('\n').slice(3).join('\n').replace(/ /g, ',');
+  const sheet = `Weight,Light,Near,Tone\n${rows}`;
+  const encoder = new TextEncoder();
+  const encodings = [(words) => encoder.encode(words), (words) => wide(words, false), (words) => wide(words, true)];
+  let refused = 0;
+  for (const change of EXPORTS) {
+    for (const encode of encodings) refused += compared('tidy --csv', [encode(change(sheet))]);
+    for (const command of ['tidy', 'make']) compared(command, [encoder.encode(change(sheet))]);
+    compared('tidy --csv', [bytes(change(sheet).replace('Light', 'L\xe4cht'))]);
+  }
+  assert.ok(refused > 3 * 20 && refused < 3 * EXPORTS.length, String(refused));
+  for (const change of EXPORTS) {
+    const table = sitgurp.readLoose(encoder.encode(change(sheet)), 'sheet', true);
+    if (isExplanation(table)) continue;
+    writeFileSync(join(folder, 'sheet'), change(sheet));
+    assert.equal(spawnSync(SITGURP, ['tidy', '--csv', 'sheet'], { cwd: folder, encoding: 'utf8' }).stdout, table.sheet);
+  }
+});
+
+test('a graymap is the same picture on the page and for the command', () => {
+  const net = (levels) => `levels inputs\n${levels} 2\na b\nleft right table\na b ${'0'.repeat(levels * levels)}\n`;
+  for (const levels of [2, 3, 4, 7, 9]) {
+    writeFileSync(join(folder, 'net'), net(levels));
+    for (const white of [1, 5, 8, 100, 255, 256, 1000, 65535]) {
+      const grays = Array.from({ length: 64 * 8 }, (_, k) => Math.floor((k * (white + 1)) / 512));
+      const raw = grays.flatMap((gray) => (white > 255 ? [gray >> 8, gray & 255] : [gray]));
+      const files = [bytes(`P2\n64 8\n${white}\n${grays.join('\n')}\n`), Uint8Array.from([...bytes(`P5\n64 8\n${white}\n`), ...raw])];
+      for (const file of files) {
+        writeFileSync(join(folder, 'picture'), file);
+        const { stdout } = spawnSync(SITGURP, ['glyph', 'net', 'picture', '--source', '--text'], { cwd: folder, encoding: 'utf8' });
+        const due = stdout.replace(/\n/g, '').replace(/\./g, '0');
+        assert.equal([...pictureOf(readPgm(file), levels).cells].join(''), due, `${levels} levels, white ${white}`);
+      }
+    }
+  }
 });
 
 test('files of any name are named in the same way', () => {

@@ -1,18 +1,20 @@
-//! A picture of levels as it stands in a file, as text or as a portable graymap, and what is refused of it in words.
+//! A picture of levels in a file, as text or as a portable graymap, and what is refused of it in words.
 
 use crate::excerpt::field;
 use crate::input::Sheet;
 use crate::refused::Refused;
 use crate::words::count;
-use sitgurp::{Kind, Named, Net, Picture, Refusal, Table};
+use sitgurp::{Graymap, GraymapFault, Kind, Named, Net, Picture, Refusal, Table};
 
 /// How a picture is written.
 #[derive(Clone, Copy, PartialEq, Eq)]
 pub enum Format {
     /// A line for each row, a digit for each cell, `.` for level 0.
     Text,
-    /// A plain portable graymap (PGM, `P2`), level 0 white.
+    /// A portable graymap (PGM), level 0 white. It is written in plain text (`P2`).
     Graymap,
+    /// A drawing, a square for each cell.
+    Svg,
 }
 
 impl Format {
@@ -28,6 +30,7 @@ impl Format {
         match self {
             Format::Text => picture.to_text(),
             Format::Graymap => picture.to_pgm(levels as u8),
+            Format::Svg => picture::cells::draw(picture, levels as u8),
         }
     }
 }
@@ -37,21 +40,28 @@ pub struct Cells<'a> {
     pub picture: Picture,
     pub format: Format,
     file: &'a Sheet,
-    /// Where each cell stands.
+    /// Where each cell of a text stands.
     places: Vec<usize>,
     /// Where the width and the height are told, or are passed.
     sides: [usize; 2],
 }
 
+/// A gray, and the level from that gray on.
+pub type Step = (u16, u8);
+
 /// The longest side, which is the library's to judge and told here.
 const LONGEST: usize = 64;
 
 impl<'a> Cells<'a> {
-    /// Reads a picture for a net of so many levels, or says in words why it is none.
-    pub fn read(file: &'a Sheet, levels: usize) -> Result<Cells<'a>, Box<Refused>> {
+    /// Reads a picture for a net of so many levels, or says in words why it is none. The grays of a graymap become levels by these steps, or by equal ones.
+    pub fn read(
+        file: &'a Sheet,
+        levels: usize,
+        steps: Option<&[Step]>,
+    ) -> Result<Cells<'a>, Box<Refused>> {
         match Format::of(&file.bytes) {
-            Format::Text => Cells::of_text(file, levels),
-            Format::Graymap => Cells::of_graymap(file, levels),
+            Format::Graymap => Cells::of_graymap(file, levels, steps),
+            _ => Cells::of_text(file, levels),
         }
     }
 
@@ -73,18 +83,24 @@ impl<'a> Cells<'a> {
         })
     }
 
-    fn of_graymap(file: &'a Sheet, levels: usize) -> Result<Cells<'a>, Box<Refused>> {
-        let text = std::str::from_utf8(&file.bytes).ok();
-        let (picture, _) = text
-            .and_then(Picture::from_pgm)
-            .ok_or_else(|| Box::new(graymap_fault(file, levels)))?;
-        let places: Vec<usize> = fields(&file.bytes).iter().map(|(at, _)| *at).collect();
+    fn of_graymap(
+        file: &'a Sheet,
+        levels: usize,
+        steps: Option<&[Step]>,
+    ) -> Result<Cells<'a>, Box<Refused>> {
+        let graymap =
+            Graymap::read(&file.bytes).map_err(|flaw| Box::new(graymap_fault(file, flaw)))?;
+        let picture = match steps {
+            Some(steps) => graymap.picture_by(steps),
+            None => graymap.picture(levels as u8),
+        };
+        let places = fields(&file.bytes);
         Ok(Cells {
             picture,
             format: Format::Graymap,
             file,
             sides: [places[1], places[2]],
-            places: places[4..].to_vec(),
+            places: Vec::new(),
         })
     }
 
@@ -105,15 +121,12 @@ impl<'a> Cells<'a> {
             let words = refusal.words().to_string();
             return Refused::of_file(self.file, refusal, words);
         };
-        let most = levels - 1;
-        match self.format {
-            Format::Text => Refused::at(self.file, place, refusal, cell(most, &level.to_string())),
-            Format::Graymap => {
-                let words = format!("this gray is level {level}, counted down from the highest gray, and the net has levels 0 to {most}");
-                Refused::at(self.file, place, refusal, words)
-                    .caused(format!("the file's highest gray is not {most}"))
-            }
-        }
+        Refused::at(
+            self.file,
+            place,
+            refusal,
+            cell(levels - 1, &level.to_string()),
+        )
     }
 }
 
@@ -181,72 +194,28 @@ fn other_file(file: &Sheet, byte: u8) -> Option<String> {
             Some("cells are written side by side, with nothing between them".to_string())
         }
         0xef => Some("the file begins with a byte order mark; save it without one".to_string()),
-        0x80.. => Some(
-            "this is no text; a picture is text or a portable graymap (PGM) in plain text"
-                .to_string(),
-        ),
+        0x80.. => {
+            Some("this is no text; a picture is text or a portable graymap (PGM)".to_string())
+        }
         _ => None,
     }
 }
 
-/// The first field of a graymap that is not as it should be.
-fn graymap_fault(file: &Sheet, levels: usize) -> Refused {
-    let fields = fields(&file.bytes);
-    let at = |k: usize| match fields.get(k) {
-        Some((place, bytes)) => (*place, field(bytes)),
-        None => (file.bytes.len(), String::new()),
-    };
-    let (place, kind) = at(0);
-    if kind != "P2" {
-        let words = format!("a portable graymap in plain text begins `P2`, not `{kind}`");
-        return fault(file, place, words)
-            .caused("save the picture as a graymap (PGM) in plain text, ASCII".to_string());
+/// The first byte of a graymap that is not as it should be.
+fn graymap_fault(file: &Sheet, flaw: GraymapFault) -> Refused {
+    let is_other = !file.bytes.starts_with(b"P2") && !file.bytes.starts_with(b"P5");
+    let refused = fault(file, flaw.place, flaw.words);
+    match is_other {
+        true => refused.caused("save the picture as a graymap (PGM)".to_string()),
+        false => refused,
     }
-    let mut numbers = [0; 3];
-    let names = ["the width", "the height", "the highest gray"];
-    for ((k, number), name) in numbers.iter_mut().enumerate().zip(names) {
-        let (place, text) = at(k + 1);
-        *number = match text.parse() {
-            Ok(number) => number,
-            Err(_) => {
-                let words = match text.is_empty() {
-                    true => format!("{name} is missing"),
-                    false => format!("{name} should be a whole number, not `{text}`"),
-                };
-                return fault(file, place, words);
-            }
-        };
-    }
-    let [width, height, highest] = numbers;
-    if highest >= usize::from(u8::MAX) {
-        let most = levels - 1;
-        let words = format!(
-            "the net has {levels} levels, so the highest gray should be {most}, not `{highest}`"
-        );
-        return fault(file, at(3).0, words)
-            .caused(format!("reduce the picture to {levels} grays, 0 to {most}"));
-    }
-    for (place, bytes) in fields.iter().skip(4) {
-        let text = field(bytes);
-        if !matches!(text.parse::<usize>(), Ok(gray) if gray <= highest) {
-            let words =
-                format!("a gray should be a whole number from 0 to {highest}, not `{text}`");
-            return fault(file, *place, words);
-        }
-    }
-    let due = width.saturating_mul(height);
-    let words = format!(
-        "the picture has {}, and {width} times {height} are due",
-        count(fields.len().saturating_sub(4), "gray")
-    );
-    fault(file, at(due.saturating_add(4)).0, words)
 }
 
-/// The fields of a graymap, each with its place; a `#` begins a comment.
-fn fields(bytes: &[u8]) -> Vec<(usize, &[u8])> {
+/// The places of the first fields of a graymap; a `#` begins a comment.
+fn fields(bytes: &[u8]) -> Vec<usize> {
     let mut fields = Vec::new();
     let mut at = 0;
-    while at < bytes.len() {
+    while at < bytes.len() && fields.len() < 3 {
         let rest = &bytes[at..];
         let is_end = |byte: &u8| match rest[0] {
             b'#' => *byte == b'\n',
@@ -254,7 +223,7 @@ fn fields(bytes: &[u8]) -> Vec<(usize, &[u8])> {
         };
         let length = rest.iter().position(is_end).unwrap_or(rest.len());
         if rest[0] != b'#' && length > 0 {
-            fields.push((at, &rest[..length]));
+            fields.push(at);
         }
         at += length.max(1);
     }

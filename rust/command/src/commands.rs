@@ -5,9 +5,12 @@ mod check;
 mod count;
 mod draw;
 mod eval;
+mod export;
+mod family;
 mod fill;
 mod gates;
 mod glyph;
+mod import;
 mod invert;
 mod keep;
 mod larger;
@@ -69,12 +72,15 @@ pub static ALL: &[&Command] = &[
     &keep::COMMAND,
     &gates::COMMAND,
     &count::COMMAND,
+    &family::COMMAND,
     &shallower::COMMAND,
     &arrivals::COMMAND,
     &draw::COMMAND,
     &matrix::COMMAND,
     &page::COMMAND,
     &glyph::COMMAND,
+    &export::COMMAND,
+    &import::COMMAND,
     &stream::COMMAND,
 ];
 

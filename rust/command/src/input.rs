@@ -5,10 +5,11 @@ use crate::closed::input_is_closed;
 use crate::identity::Identity;
 use crate::outcome::Failure;
 use crate::output::to_error;
-use crate::words::{count, file_name, quoted};
+use crate::words::{count, file_name, program, quoted};
 use std::ffi::{OsStr, OsString};
 use std::fs::File;
 use std::io::{self, BufRead, BufReader, IsTerminal, Read};
+use std::path::Path;
 
 /// What was read, and what it is called in messages.
 pub struct Sheet {
@@ -24,6 +25,15 @@ impl Sheet {
         match &self.file {
             Some(file) => file.to_string_lossy().into_owned(),
             None => self.name.clone(),
+        }
+    }
+
+    /// Returns the sheet with other bytes, such as its text in another encoding.
+    pub fn with(&self, bytes: Vec<u8>) -> Sheet {
+        Sheet {
+            name: self.name.clone(),
+            bytes,
+            file: self.file.clone(),
         }
     }
 
@@ -88,6 +98,14 @@ fn lent<const N: usize>(call: &Call, sheets: &[Vec<u8>]) -> Result<[Sheet; N], F
         .map_err(|_| call.wrong(format!("it takes {takes}")))
 }
 
+/// Reads a file that an option names. A stream has none.
+pub fn beside(call: &Call, name: &str) -> Result<Sheet, Failure> {
+    match call.lent {
+        Some(_) => Err(call.wrong("a stream reads no files".to_string())),
+        None => read(call, name.as_ref()),
+    }
+}
+
 /// Opens a file, or standard input where the name is `-`, to be read line by line.
 pub fn lines(call: &Call, name: &OsStr) -> Result<Box<dyn BufRead>, Failure> {
     if name == "-" {
@@ -122,10 +140,35 @@ fn read(call: &Call, name: &OsStr) -> Result<Sheet, Failure> {
     let shown = file_name(name);
     let file = File::open(name).map_err(|error| cannot("read", &shown, &error))?;
     noted(call, &shown, Identity::of_open(&file))?;
+    if has_workbook_name(name) {
+        return Err(workbook(&shown));
+    }
     Ok(Sheet {
         file: Some(name.to_owned()),
         ..whole(shown, file)?
     })
+}
+
+/// Returns whether a file is called as spreadsheet programs call their own files.
+fn has_workbook_name(name: &OsStr) -> bool {
+    let ending = Path::new(name).extension().and_then(OsStr::to_str);
+    let ending = ending.map(str::to_ascii_lowercase);
+    let endings = ["xlsx", "xlsm", "xlsb", "xls", "ods", "numbers"];
+    ending.is_some_and(|ending| endings.contains(&ending.as_str()))
+}
+
+/// Returns whether bytes are those of a spreadsheet program's own file: a zip archive, or an older workbook.
+fn is_workbook(bytes: &[u8]) -> bool {
+    bytes.starts_with(b"PK\x03\x04") || bytes.starts_with(b"\xd0\xcf\x11\xe0\xa1\xb1\x1a\xe1")
+}
+
+/// A spreadsheet program's own file.
+fn workbook(name: &str) -> Failure {
+    let program = program();
+    Failure::File(format!(
+        "{name}: cannot be read: it is a spreadsheet program's own file\n\
+         export it as CSV; `{program} tidy --csv FILE.csv` reads that"
+    ))
 }
 
 /// Notes that a file is read. One that is standard output too has been emptied already, or would grow while it is read.
@@ -151,6 +194,9 @@ fn whole(name: String, from: impl Read) -> Result<Sheet, Failure> {
         return Err(Failure::File(format!(
             "{name}: cannot be a sheet: it is longer than {MOST} bytes"
         )));
+    }
+    if is_workbook(&bytes) {
+        return Err(workbook(&name));
     }
     let file = None;
     Ok(Sheet { name, bytes, file })

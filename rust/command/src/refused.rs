@@ -1,14 +1,17 @@
 //! A refusal as it is said: the file, the line and the column, what is due there, the line itself with a caret, and the likely cause.
 
 use crate::cause::{causes, causes_in_csv};
-use crate::csv::{Csv, Flaw, Separator};
+use crate::csv::{narrow, Csv, Flaw, Separator};
 use crate::excerpt::{excerpt, line_start};
 use crate::input::Sheet;
 use crate::json::Json;
 use crate::sentence::{blank_cell, sentence, Due, Front};
 use crate::words::{self, thousands};
-use sitgurp::{Kind, Net, Refusal, Table};
+use sitgurp::{Kind, Named, Net, Refusal, Table};
 use std::fmt;
+
+/// The number of a refusal that is not the library's.
+const NO_NUMBER: usize = 0;
 
 /// A refusal in words.
 pub struct Refused {
@@ -56,6 +59,7 @@ impl Refused {
     pub fn of_csv(sheet: &Sheet, csv: &Csv, refusal: Refusal) -> Refused {
         let mut front = Front::of(Due::Csv, &csv.text, &refusal, &[]);
         front.given = csv.shown(refusal.place);
+        front.lines = csv.lines.clone();
         let sentence = match csv.flaw(refusal.place) {
             Some(Flaw::Blank) => blank_cell(refusal.kind(), &front),
             _ => sentence(refusal.kind(), &front),
@@ -64,7 +68,17 @@ impl Refused {
         let causes = causes_in_csv(&sheet.bytes, csv, &refusal);
         let refused = Refused::at(sheet, place, Refusal { place, ..refusal }, sentence);
         let words = csv.separator.words();
-        Refused { causes, ..refused }.hinted(format!("{words} separate the fields of this file"))
+        let hint = format!("{words} separate the fields of this file");
+        Refused { causes, ..refused }.hinted(match csv.inferred {
+            None => hint,
+            Some([levels, inputs]) => {
+                let (inputs, program, operand) = (words::count(inputs, "input"), words::program(), sheet.operand());
+                format!(
+                    "{hint}; by its digits and columns it has {levels} levels and {inputs}\n\
+                     `{program} tidy --csv --drop NAME{operand}` leaves a column out, and `--ink NAME` says which is the ink"
+                )
+            }
+        })
     }
 
     /// Of two sheets together.
@@ -94,6 +108,18 @@ impl Refused {
                 ..refusal
             },
         }
+    }
+
+    /// Of a place in a file of another format, which the library does not judge: it has no number.
+    pub fn of_format(file: &Sheet, place: usize, sentence: String) -> Refused {
+        let refusal = Refusal {
+            number: NO_NUMBER,
+            place,
+            named: Named::Neither,
+            position: None,
+            inputs: Vec::new(),
+        };
+        Refused::at(file, place, refusal, sentence)
     }
 
     /// Of a file as a whole.
@@ -186,10 +212,15 @@ impl Refused {
     pub fn json(&self) -> Json {
         let optional = |number: Option<usize>| number.map_or(Json::Null, Json::number);
         let position = self.refusal.position;
+        let number = Some(self.refusal.number).filter(|&number| number != NO_NUMBER);
+        let kind = match number {
+            Some(_) => format!("{:?}", self.refusal.kind()),
+            None => "Format".to_string(),
+        };
         Json::object([
             ("file", Json::text(&self.file)),
-            ("number", Json::number(self.refusal.number)),
-            ("kind", Json::text(format!("{:?}", self.refusal.kind()))),
+            ("number", optional(number)),
+            ("kind", Json::text(kind)),
             ("place", Json::number(self.refusal.place)),
             ("line", optional(position.map(|(line, _)| line))),
             ("column", optional(position.map(|(_, column)| column))),
@@ -205,7 +236,10 @@ impl fmt::Display for Refused {
         if let Some((line, column)) = self.refusal.position {
             write!(f, "{line}:{column}:")?;
         }
-        writeln!(f, " {} (refusal {})", self.sentence, self.refusal.number)?;
+        match self.refusal.number {
+            NO_NUMBER => writeln!(f, " {}", self.sentence)?,
+            number => writeln!(f, " {} (refusal {number})", self.sentence)?,
+        }
         f.write_str(&self.excerpt)?;
         for cause in &self.causes {
             writeln!(f, "likely cause: {cause}")?;
@@ -236,8 +270,9 @@ fn tidy(due: Due, sheet: &Sheet) -> Option<String> {
             "`{program} tidy{operand}` writes it as a table sheet"
         ));
     }
-    let is_mark = |byte: &u8| matches!(byte, b',' | b';' | b'\t' | b'\r' | b'"' | 0xef);
-    let csv = Csv::of(&sheet.bytes);
+    let is_mark = |byte: &u8| matches!(byte, b',' | b';' | b'\t' | b'\r' | b'"' | 0xef | 0xfe);
+    let text = narrow(&sheet.bytes);
+    let csv = Csv::of(&text);
     if sheet.bytes.iter().any(is_mark) && sitgurp::tidied(&csv.text).is_ok() {
         return Some(format!(
             "`{program} tidy --csv{operand}` writes it as a table sheet"

@@ -56,6 +56,8 @@ pub struct Front<'a> {
     pub names: Vec<String>,
     /// The field at the place as it is in the file, where the sheet was made from one.
     pub given: Option<String>,
+    /// The file's line of each line, where the sheet was made from one.
+    pub lines: Vec<usize>,
 }
 
 impl<'a> Front<'a> {
@@ -87,14 +89,23 @@ impl<'a> Front<'a> {
             },
             names: names.into_iter().take(count.max(inputs.len())).collect(),
             given: None,
+            lines: Vec::new(),
         }
     }
 
-    /// Returns the field that begins at the place.
+    /// Returns the number of a line in the file.
+    fn number(&self, line: usize) -> usize {
+        self.lines.get(line - 1).copied().unwrap_or(line)
+    }
+
+    /// Returns the field that begins at the place, as it is in the file.
     pub fn field(&self) -> String {
-        if let Some(given) = &self.given {
-            return given.clone();
-        }
+        let given = self.given.clone();
+        given.unwrap_or_else(|| self.own_field())
+    }
+
+    /// Returns the field that begins at the place of the sheet.
+    fn own_field(&self) -> String {
         let is_end = |&byte: &u8| byte == b' ' || byte == b'\n';
         let rest = &self.sheet[self.place..];
         let length = rest.iter().position(is_end).unwrap_or(rest.len());
@@ -279,8 +290,10 @@ fn layout(front: &Front) -> String {
             ""
         };
         return format!(
-            "line 3 has {}{ink}, and line 2 says {}",
+            "line {} has {}{ink}, and line {} says {}",
+            front.number(3),
             count(names, "name"),
+            front.number(2),
             count(front.inputs, "input")
         );
     }
@@ -293,6 +306,7 @@ fn layout(front: &Front) -> String {
         );
     }
     if front.at_line_start() && front.sheet[front.place] == b'\n' {
+        let line = front.number(line);
         return format!("line {line} is blank: {}", line_due(front));
     }
     line_due(front)
@@ -364,17 +378,24 @@ fn come(number: usize, one: &str) -> String {
 /// Says what the line of the place should be.
 fn line_due(front: &Front) -> String {
     let (inputs, apart) = (front.inputs, front.due.apart());
+    let line = front.number(front.line);
     match (front.due, front.line) {
         (Due::Arrivals, 1) => "line 1 should be `name from to`".to_string(),
         (Due::Arrivals, _) => {
             format!("a line should have an input's name and two times, {apart}")
         }
-        (Due::Csv, 1) => format!("line 1 should be `levels` and `inputs`, {apart}"),
+        (Due::Csv, 1) => {
+            format!(
+                "line {line} should have the columns' names, or be `levels` and `inputs`, {apart}"
+            )
+        }
         (_, 1) => "line 1 should be `levels inputs`".to_string(),
-        (_, 2) => format!("line 2 should have two numbers, levels and inputs, {apart}"),
+        (_, 2) => format!("line {line} should have two numbers, levels and inputs, {apart}"),
         (Due::Net, 3) => format!("line 3 should have the names of the {inputs} inputs, {apart}"),
         (_, 3) => {
-            format!("line 3 should have the names of the {inputs} inputs and then `ink`, {apart}")
+            format!(
+                "line {line} should have the names of the {inputs} inputs and then `ink`, {apart}"
+            )
         }
         (Due::Net, 4) => "line 4 should be `left right table`".to_string(),
         (Due::Net, _) => format!("a gate line should have left, right and table, {apart}"),
@@ -415,10 +436,12 @@ fn fields_of_line(front: &Front) -> Vec<String> {
 
 fn name(front: &Front, field: &str) -> String {
     let earlier = fields_of_line(front);
-    if field == "ink" {
+    let own = front.own_field();
+    if own == "ink" {
         return match front.due {
             Due::Table | Due::Loose | Due::Csv => format!(
-                "`ink` is where a name should be: line 2 says {}, and there {}",
+                "`ink` is where a name should be: line {} says {}, and there {}",
+                front.number(2),
                 count(front.inputs, "input"),
                 match earlier.len() {
                     1 => "is 1 name".to_string(),
@@ -428,7 +451,7 @@ fn name(front: &Front, field: &str) -> String {
             _ => "`ink` is no input's name".to_string(),
         };
     }
-    if earlier.iter().any(|other| other == field) {
+    if earlier.contains(&own) {
         return format!("the name `{field}` is there twice");
     }
     let rule = "a name has 1 to 8 lowercase letters and digits, a letter first";
@@ -455,7 +478,10 @@ fn repeated(front: &Front) -> String {
         .find(|(one, _)| Some(*one) == row);
     let levels: Vec<String> = levels.into_iter().take(front.inputs).collect();
     match earlier {
-        Some((_, line)) => format!("the row `{}` is already in line {line}", levels.join(" ")),
+        Some((_, line)) => {
+            let line = front.number(line);
+            format!("the row `{}` is already in line {line}", levels.join(" "))
+        }
         None => format!("the row `{}` is already above", levels.join(" ")),
     }
 }

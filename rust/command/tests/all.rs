@@ -6,6 +6,8 @@ mod batch;
 mod commands;
 mod csv;
 mod designer;
+mod family;
+mod formats;
 mod generated;
 mod glyph;
 mod install;

@@ -1,6 +1,7 @@
 //! `tidy --csv`: what spreadsheets write, end to end. No field is ever joined, split or moved to another column.
 
-use crate::common::{answers, answers_with_note, refuses, Folder, SUM_TABLE};
+use crate::common::{answers, answers_with_note, is_wrong, refuses, Folder, SUM_TABLE};
+use std::time::{Duration, Instant};
 
 #[test]
 fn spreadsheets() {
@@ -141,11 +142,11 @@ fn blank_cells() {
         "0,  ,1\n",
         &format!("my.csv:4:5: {level}    0,  ,1\n        ^\n"),
     );
+    // a blank line is no row, and the lines below it keep their numbers
     refused(
         "blank_row",
-        "0,0,0\n,,\n0,1,1\n",
-        "my.csv:5:1: line 5 is blank: a row should have 2 levels and an ink, each in a cell of its own (refusal 1)\n    ,,\n    ^\n\
-         likely cause: there is a blank line; delete it\n",
+        "0,0,0\n,,\n0,1,1\n\n0,1,0\n",
+        "my.csv:8:1: the row `0 1` is already in line 6 (refusal 20)\n    0,1,0\n    ^\n",
     );
 }
 
@@ -161,30 +162,238 @@ fn one_separator() {
     folder.put("my.csv", "levels inputs\n2 2\na;b;ink\n0;0;0\n");
     refuses(
         folder.run("tidy --csv my.csv"),
-        "my.csv:1:1: line 1 should be `levels` and `inputs`, each in a cell of its own (refusal 1)\n    levels inputs\n    ^\n\
+        "my.csv:1:1: line 1 should have the columns' names, or be `levels` and `inputs`, each in a cell of its own (refusal 1)\n    levels inputs\n    ^\n\
          likely cause: semicolons separate the fields of this file, so a space is part of this field\n\
          semicolons separate the fields of this file\n",
     );
 }
 
-/// A name with a space in it is one cell, and is itself what is refused.
+/// What is not said in the file is inferred and reported, and the columns get valid names.
 #[test]
-fn names_with_spaces() {
-    let words = "my.csv:3:1: `my stroke` is no name: a name has 1 to 8 lowercase letters and digits, a letter first (refusal 4)\n";
-    let cause =
-        "likely cause: commas separate the fields of this file, so a space is part of this field\n\
-                 commas separate the fields of this file\n";
+fn a_plain_export() {
+    let folder = Folder::new("csv_plain");
+    let due = "levels inputs\n2 2\nmystroke nahe ink\n0 0 0\n0 1 1\n1 0 1\n1 1 -\n";
+    let names = "my.csv: mystroke is `My stroke`\nmy.csv: nahe is `Nähe`\nmy.csv: ink is `Tinte`\n";
+    let report = |separator: &str| {
+        format!("my.csv: {separator} separate the fields\nmy.csv: 2 levels and 2 inputs, by its digits and columns\n{names}")
+    };
+    let text = "My stroke,Nähe,Tinte\r\n0,0,0\r\n1,0,1\r\n0,1,1.0\r\n1,1,-\r\n";
+    let semicolons = format!("sep=;\r\n{}", text.replace(',', ";").replace("1.0", "1,0"));
+    let latin: Vec<u8> = text.chars().map(|letter| letter as u8).collect();
+    let wide = |bytes: fn(u16) -> [u8; 2]| -> Vec<u8> {
+        let text = format!("\u{feff}{}", text.replace(',', "\t"));
+        text.encode_utf16().flat_map(bytes).collect()
+    };
+    for (file, separator) in [
+        (text.as_bytes().to_vec(), "commas"),
+        (format!("\u{feff}{text}").into_bytes(), "commas"),
+        (latin, "commas"),
+        (semicolons.into_bytes(), "semicolons"),
+        (wide(u16::to_le_bytes), "tabs"),
+        (wide(u16::to_be_bytes), "tabs"),
+        (
+            text.replace("\r\n", ",,\r\n,,,,\r\n").into_bytes(),
+            "commas",
+        ),
+    ] {
+        folder.put("my.csv", file);
+        answers_with_note(folder.run("tidy --csv my.csv"), due, &report(separator));
+    }
+    folder.put("my.csv", text);
+    answers_with_note(
+        folder.run("tidy --csv my.csv -o my.table --names my.names"),
+        "",
+        &report("commas"),
+    );
+    assert_eq!(folder.get("my.table"), due);
+    assert_eq!(
+        folder.get("my.names"),
+        "name,written\nmystroke,My stroke\nnahe,Nähe\nink,Tinte\n"
+    );
+    let json = folder.run("tidy --csv my.csv --json").out;
+    assert!(
+        json.ends_with(
+            "\"inferred\":true,\"names\":[{\"name\":\"mystroke\",\"written\":\"My stroke\"},\
+             {\"name\":\"nahe\",\"written\":\"Nähe\"},{\"name\":\"ink\",\"written\":\"Tinte\"}]}\n"
+        ),
+        "{json}"
+    );
+    // a table sheet is due elsewhere, and the hint says how to get one
+    let hint = "`sitgurp tidy --csv my.csv` writes it as a table sheet\n";
+    assert!(folder.run("make my.csv").err.ends_with(hint));
+}
+
+#[test]
+fn columns_by_name() {
+    let folder = Folder::new("csv_columns");
+    folder.put(
+        "my.csv",
+        "no,ink,\"a, b\",c\n1,0,0,0\n2,1,0,1\n3,1,1,0\n4,0,1,1\n",
+    );
+    let due = "levels inputs\n2 2\nab c ink\n0 0 0\n0 1 1\n1 0 1\n1 1 0\n";
+    let note = "my.csv: commas separate the fields\nmy.csv: 2 levels and 2 inputs, by its digits and columns\nmy.csv: ab is `a, b`\n";
+    answers_with_note(folder.run("tidy --csv my.csv --drop no"), due, note);
+    answers_with_note(
+        folder.run("tidy --csv my.csv --drop=NO --names n.csv"),
+        due,
+        note,
+    );
+    assert_eq!(
+        folder.get("n.csv"),
+        "name,written\nab,\"a, b\"\nc,c\nink,ink\n"
+    );
+    let inks = "levels inputs\n2 2\nink2 ab ink\n0 0 0\n0 1 1\n1 0 1\n1 1 0\n";
+    let other = folder.run("tidy --csv my.csv --drop no --ink c");
+    assert_eq!((other.status, other.out.as_str()), (0, inks));
+    let refused = folder.run("tidy --csv my.csv");
+    refuses(
+        refused,
+        "my.csv:6:1: the sheet ends here, and 121 rows are missing, `0 0 0` the first of them (refusal 1)\n\
+         commas separate the fields of this file; by its digits and columns it has 5 levels and 3 inputs\n\
+         `sitgurp tidy --csv --drop NAME my.csv` leaves a column out, and `--ink NAME` says which is the ink\n",
+    );
+    for (words, said) in [
+        (
+            "--drop z",
+            "my.csv: no column is called `z`; the columns are `no`, `ink`, `a, b` and `c`",
+        ),
+        (
+            "--drop no,z",
+            "my.csv: no column is called `z`; the columns are `no`, `ink`, `a, b` and `c`",
+        ),
+        (
+            "--drop no --ink no",
+            "my.csv: no column is called `no`; the columns are `ink`, `a, b` and `c`",
+        ),
+        (
+            "--drop no --names my.csv",
+            "`my.csv` is a sheet that it reads, and would be written over: name another file",
+        ),
+        ("--drop no --names x -o x", "--names and -o name one file"),
+    ] {
+        let front = format!("sitgurp tidy: {said}\n");
+        is_wrong(folder.run(&format!("tidy --csv my.csv {words}")), &front);
+    }
+    assert!(!folder.0.join("x").exists());
+    is_wrong(
+        folder.run("tidy my.csv --drop no"),
+        "sitgurp tidy: --drop goes with --csv\n",
+    );
+    let many = folder.run("tidy --csv -d out my.csv --drop no --names n.csv");
+    assert_eq!(many.status, 2);
+    let said = "--names and -d do not go together";
+    assert!(many.err.contains(said), "{}", many.err);
+    let stream = "{\"call\":\"tidy\",\"words\":[\"--csv\",\"--names\",\"x\"],\"sheets\":[\"a,b,c\\n0,0,0\\n0,1,1\\n1,0,1\\n1,1,1\\n\"]}\n";
+    let stream = folder.run_on("stream", stream.as_bytes()).out;
+    assert!(stream.contains("a stream writes no files"), "{stream}");
+    assert!(!folder.0.join("x").exists());
+}
+
+/// Names that are written differently stay different, and those that are written alike are refused.
+#[test]
+fn names_stay_different() {
     let folder = Folder::new("csv_names");
-    for name in ["my stroke", "\"my stroke\""] {
-        folder.put(
-            "my.csv",
-            format!("levels,inputs\n2,2\n{name},near,ink\n0,0,0\n"),
+    let table = |names: &str| {
+        let rows = "0,0,0\n0,1,1\n1,0,1\n1,1,1\n";
+        folder.put("my.csv", format!("{names}\n{rows}"));
+        folder.run("tidy --csv my.csv")
+    };
+    let third = |names: &str| {
+        let sheet = table(names).out;
+        sheet.lines().nth(2).map(str::to_string).unwrap_or_default()
+    };
+    assert_eq!(third("A,a,ink"), "a2 a ink");
+    assert_eq!(
+        third("stroke weight,stroke weigher,x"),
+        "strokewe strokew2 ink"
+    );
+    assert_eq!(third("1st,2nd,tone"), "x1st x2nd ink");
+    assert_eq!(third("重さ,近さ,色"), "in1 in2 ink");
+    let head = "commas separate the fields of this file; by its digits and columns it has 2 levels and 2 inputs\n";
+    let drop = "`sitgurp tidy --csv --drop NAME my.csv` leaves a column out, and `--ink NAME` says which is the ink\n";
+    refuses(
+        table("My a,My a,ink"),
+        &format!("my.csv:1:6: the name `My a` is there twice (refusal 4)\n    My a,My a,ink\n         ^\n{head}{drop}"),
+    );
+    refuses(
+        table("a,\"b,ink"),
+        &format!(
+            "my.csv:1:3: inputs should be a number from 2 to 12, not `1` (refusal 3)\n    a,\"b,ink\n      ^\n\
+             likely cause: no quote closes the one that opens this field\n{}{drop}",
+            head.replace("2 inputs", "1 input")
+        ),
+    );
+    refuses(
+        table("a,,ink"),
+        &format!(
+            "my.csv:1:3: this cell is blank: line 1 should have the names of the 2 inputs and then `ink`, each in a cell of its own \
+             (refusal 4)\n    a,,ink\n      ^\n{head}{drop}"
+        ),
+    );
+}
+
+/// `why` reads the names back.
+#[test]
+fn why_with_the_names_of_the_spreadsheet() {
+    let folder = Folder::new("csv_why");
+    let rows = "0,0,0,0\n0,0,1,0\n0,1,0,0\n0,1,1,1\n1,0,0,0\n1,0,1,1\n1,1,0,1\n1,1,1,1\n";
+    folder.put("my.csv", format!("\"Left, near\",Right,c,Ink\n{rows}"));
+    folder.run("tidy --csv my.csv -o my.table --names my.names");
+    let why = folder.run("why my.table");
+    let named = folder.run("why my.table --names my.names");
+    let names =
+        "\nThe inputs in the spreadsheet:\n    leftnear: Left, near\n    right: Right\n    c: c\n";
+    answers(named, &format!("{}{names}", why.out));
+    is_wrong(
+        folder.run("why my.table --names other.names"),
+        "other.names: cannot be read: No such file or directory\n",
+    );
+    let stream = "{\"call\":\"why\",\"words\":[\"--names\",\"my.names\"],\"sheets\":[\"levels inputs\\n2 3\\na b c ink\\n\
+                  0 0 0 0\\n0 0 1 0\\n0 1 0 0\\n0 1 1 1\\n1 0 0 0\\n1 0 1 1\\n1 1 0 1\\n1 1 1 1\\n\"]}\n";
+    let stream = folder.run_on("stream", stream.as_bytes()).out;
+    assert!(stream.contains("a stream reads no files"), "{stream}");
+}
+
+/// The time grows with the file, and not with the square of its columns.
+#[test]
+fn very_many_columns() {
+    let folder = Folder::new("csv_columns_many");
+    let names: String = (0..100_000).map(|k| format!("A {k},")).collect();
+    let blank = ",".repeat(100_000);
+    for line in [format!("{names}ink\n"), format!("{blank}A\n")] {
+        folder.put("my.csv", line + &"0\n".repeat(50_000));
+        let start = Instant::now();
+        let refused = folder.run("tidy --csv my.csv");
+        let said = "my.csv:1:1: inputs should be a number from 2 to 12, not `";
+        assert!(refused.err.starts_with(said), "{}", &refused.err[..80]);
+        assert!(
+            start.elapsed() < Duration::from_secs(60),
+            "{:?}",
+            start.elapsed()
         );
-        let excerpt = format!("    {name},near,ink\n    ^\n");
-        refuses(
-            folder.run("tidy --csv my.csv"),
-            &format!("{words}{excerpt}{cause}"),
-        );
+    }
+}
+
+/// The own files of spreadsheet programs, by their names and by their bytes.
+#[test]
+fn workbooks() {
+    let folder = Folder::new("csv_workbooks");
+    let said = |file: &str| {
+        format!("{file}: cannot be read: it is a spreadsheet program's own file\nexport it as CSV; `sitgurp tidy --csv FILE.csv` reads that\n")
+    };
+    for name in ["my.xlsx", "my.XLSX", "my.xls", "my.ods"] {
+        folder.put(name, SUM_TABLE);
+        for command in ["tidy --csv", "tidy", "make"] {
+            is_wrong(folder.run(&format!("{command} {name}")), &said(name));
+        }
+    }
+    for bytes in [
+        &b"PK\x03\x04rest"[..],
+        b"\xd0\xcf\x11\xe0\xa1\xb1\x1a\xe1rest",
+    ] {
+        folder.put("my.csv", bytes);
+        is_wrong(folder.run("tidy --csv my.csv"), &said("my.csv"));
+        is_wrong(folder.run_on("tidy --csv", bytes), &said("standard input"));
     }
 }
 
@@ -226,13 +435,11 @@ fn quotes_as_in_rfc_4180() {
 }
 
 /// Whatever separator, quote or space is put anywhere into a file, and whichever cell is blanked: it is refused, or the table is the same.
-#[test]
-fn no_cell_ever_moves() {
-    let folder = Folder::new("csv_moves");
-    let csv = SUM_TABLE.replace(' ', ",");
+fn no_cell_moves(folder: &str, csv: &str, accepted: std::ops::Range<usize>) {
+    let folder = Folder::new(folder);
     let mut files = Vec::new();
     for place in 0..=csv.len() {
-        for mark in [",", ";", "\t", "\"", " ", "\"\"", ",,"] {
+        for mark in [",", ";", "\t", "\"", " ", "\"\"", ",,", "\n", ",\n"] {
             files.push(format!("{}{mark}{}", &csv[..place], &csv[place..]));
         }
     }
@@ -247,20 +454,40 @@ fn no_cell_ever_moves() {
         let sheet = quoted(file);
         format!("{{\"call\":\"tidy\",\"words\":[\"--csv\"],\"sheets\":[\"{sheet}\"]}}\n")
     };
-    let lines: String = files.iter().map(line).collect();
-    let answers = folder.run_on("stream", lines.as_bytes()).out;
+    // a stream is written before its answers are read, so it is short
+    let answers = files.chunks(200).map(|some| {
+        let lines: String = some.iter().map(line).collect();
+        folder.run_on("stream", lines.as_bytes()).out
+    });
+    let answers: String = answers.collect();
     assert_eq!(answers.lines().count(), files.len());
-    let mut accepted = 0;
+    let mut good = 0;
     for (answer, file) in answers.lines().zip(&files) {
         if answer.starts_with("{\"id\":null,\"status\":0,") {
             assert!(answer.contains(&quoted(SUM_TABLE)), "{file:?}: {answer}");
-            accepted += 1;
+            good += 1;
         }
     }
-    // spaces around fields, and padding
-    assert!(
-        (50..400).contains(&accepted),
-        "{accepted} of {}",
-        files.len()
-    );
+    // spaces around fields, padding and blank lines
+    assert!(accepted.contains(&good), "{good} of {}", files.len());
+}
+
+#[test]
+fn no_cell_ever_moves() {
+    let csv = SUM_TABLE.replace(' ', ",");
+    no_cell_moves("csv_moves", &csv, 50..400);
+    // the same table without its first two lines, and with its columns in another order
+    let (_, plain) = csv.split_once("2,3\n").expect("two lines before the names");
+    no_cell_moves("csv_moves_plain", plain, 50..400);
+    let (ink, inputs): (Vec<String>, Vec<String>) = plain
+        .lines()
+        .map(|line| line.rsplit_once(',').expect("an ink"))
+        .map(|(inputs, ink)| (ink.to_string(), inputs.to_string()))
+        .unzip();
+    let first: Vec<String> = ink
+        .iter()
+        .zip(&inputs)
+        .map(|(ink, inputs)| format!("{ink},{inputs}\n"))
+        .collect();
+    no_cell_moves("csv_moves_ink", &first.concat(), 50..400);
 }

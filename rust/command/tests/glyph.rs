@@ -1,6 +1,6 @@
 //! `glyph`: what a net prints from a text picture and from a graymap, and pictures and offsets that are refused.
 
-use crate::common::{answers, example, is_wrong, refuses, Folder};
+use crate::common::{answers, example, is_wrong, refuses, repository, Folder};
 
 const NET: &str = "levels inputs\n2 2\nown left\nleft right table\nown left 0110\n";
 
@@ -32,6 +32,81 @@ fn the_letter_of_the_examples() {
     answers(piped, &text);
     answers(run(&format!("letter.txt {at} -o shaded.txt")), "");
     assert_eq!(folder.get("shaded.txt"), text);
+}
+
+/// The pictures of docs/COMMANDS.md are what the command writes.
+#[test]
+fn the_letter_is_drawn() {
+    let folder = glyphs("glyph_svg");
+    let drawn = |name: &str| {
+        let path = repository().join(format!("docs/pictures/{name}.svg"));
+        std::fs::read_to_string(path).expect("a committed picture")
+    };
+    let at = "--at light=0,-1 --at near=-1,0";
+    for letter in ["letter.txt", "letter.pgm"] {
+        let run = |words: &str| folder.run(&format!("glyph shade.net {letter} {words}"));
+        answers(run(&format!("--svg {at}")), &drawn("shaded"));
+        answers(run("--svg --source"), &drawn("letter"));
+        answers(
+            run(&format!("--text --source {at}")),
+            &example("letter.txt"),
+        );
+        let json = run("--svg --json").out;
+        assert!(json.contains("},\"svg\":\"<svg xmlns="), "{json}");
+    }
+}
+
+/// The same picture as a graymap of any kind and depth.
+#[test]
+fn graymaps() {
+    let folder = glyphs("glyph_depths");
+    let read = |name: &str, words: &str, bytes: Vec<u8>, due: &str| {
+        folder.put(name, bytes);
+        answers(
+            folder.run(&format!("glyph shade.net {name} --source --text {words}")),
+            due,
+        );
+    };
+    let text =
+        |kind: &str, highest: u16| format!("{kind}\n# four grays\n4 2\n{highest}\n").into_bytes();
+    let due = ".123\n3.12\n";
+    for highest in [3, 7, 255, 256, 1000, 65535] {
+        let last = u32::from(highest);
+        let steps = [last, last / 2 + 1, last / 2, 0].map(|gray| gray as u16);
+        let grays = [steps, [0, steps[0], steps[1], steps[2]]].concat();
+        let plain: Vec<String> = grays.iter().map(u16::to_string).collect();
+        let plain = [text("P2", highest), plain.join(" ").into_bytes()].concat();
+        let bytes = |gray: &u16| match highest {
+            256.. => gray.to_be_bytes().to_vec(),
+            _ => vec![*gray as u8],
+        };
+        let raw = [text("P5", highest), grays.iter().flat_map(bytes).collect()].concat();
+        read("plain.pgm", "", plain, due);
+        read("raw.pgm", "", raw, due);
+    }
+    let grays = || [text("P5", 255), vec![0, 63, 64, 127, 128, 191, 192, 255]].concat();
+    read("steps.pgm", "", grays(), "3322\n11..\n");
+    read("steps.pgm", "--map 0=3,64=2,200=0", grays(), "3322\n222.\n");
+    read("steps.pgm", "--map=0=0,255=3", grays(), "....\n...3\n");
+    for (map, said) in [
+        ("0=4", "--map takes GRAY=LEVEL with a gray up to 65535 and a level from 0 to 3, and not `0=4`"),
+        ("0=1,x", "--map takes GRAY=LEVEL with a gray up to 65535 and a level from 0 to 3, and not `x`"),
+        ("65536=1", "--map takes GRAY=LEVEL with a gray up to 65535 and a level from 0 to 3, and not `65536=1`"),
+        ("1=1", "the grays of --map begin at 0 and rise"),
+        ("0=1,9=2,9=3", "the grays of --map begin at 0 and rise"),
+    ] {
+        let ended = folder.run(&format!("glyph shade.net steps.pgm --map {map}"));
+        is_wrong(ended, &format!("sitgurp glyph: {said}\n"));
+    }
+    is_wrong(
+        folder.run("glyph shade.net letter.txt --map 0=1"),
+        "sitgurp glyph: --map is for the grays of a graymap, and this picture is text\n",
+    );
+    let wide = [b"P5\n65 1\n255\n".to_vec(), vec![7; 65]].concat();
+    folder.put("wide.pgm", wide);
+    let ended = folder.run("glyph shade.net wide.pgm");
+    let said = "wide.pgm:2:1: the picture is 65 cells wide, and a side has 1 to 64 (refusal 24)\n    65 1\n    ^\n";
+    refuses(ended, said);
 }
 
 #[test]
@@ -128,16 +203,20 @@ fn graymaps_that_are_refused() {
         refuses(ended, &format!("standard input:{said}"));
     };
     refused(
-        "P5\n2 1\n1\n",
-        "1:1: a portable graymap in plain text begins `P2`, not `P5` (refusal 24)\n    P5\n    ^\nlikely cause: save the picture as a graymap (PGM) in plain text, ASCII\n",
+        "P6\n2 1\n1\n",
+        "1:1: a portable graymap begins `P2` or `P5`, not `P6` (refusal 24)\n    P6\n    ^\nlikely cause: save the picture as a graymap (PGM)\n",
     );
     refused(
-        "P2\n2 1\n255\n255 0\n",
-        "3:1: the net has 2 levels, so the highest gray should be 1, not `255` (refusal 24)\n    255\n    ^\nlikely cause: reduce the picture to 2 grays, 0 to 1\n",
+        "P2\n2 1\n65536\n255 0\n",
+        "3:1: the highest gray should be from 1 to 65535, not `65536` (refusal 24)\n    65536\n    ^\n",
     );
     refused(
-        "P2\n2 1\n3\n3 0\n",
-        "4:3: this gray is level 3, counted down from the highest gray, and the net has levels 0 to 1 (refusal 24)\n    3 0\n      ^\nlikely cause: the file's highest gray is not 1\n",
+        "P5\n2 1\n3\n\x01",
+        "4:2: the picture has 1 gray, and 2 times 1 are due (refusal 24)\n    \\x01<end of file>\n        ^\n",
+    );
+    refused(
+        "P5\n2 1\n3\n\x01\x04",
+        "4:2: a gray should be a whole number from 0 to 3, not `4` (refusal 24)\n    \\x01\\x04\n        ^\n",
     );
     refused(
         "P2\n2 1\n1\n1\n",
@@ -198,10 +277,11 @@ fn offsets() {
         ("--at left=0,0 --at left=1,0", "left is given twice"),
         ("--at", "--at needs a value: NAME=ACROSS,DOWN"),
         ("--pgm --text", "--pgm and --text do not go together"),
+        ("--text --svg", "--svg and --text do not go together"),
     ] {
         is_wrong(
             folder.run(&format!("glyph edge.net small.txt {at}")),
-            &format!("sitgurp glyph: {said}\nusage: sitgurp glyph NET [PICTURE] [--at NAME=ACROSS,DOWN ..] [--pgm | --text]\n"),
+            &format!("sitgurp glyph: {said}\nusage: sitgurp glyph NET [PICTURE] [--at NAME=ACROSS,DOWN ..] [--map GRAY=LEVEL,..] [--source] [--pgm | --svg | --text]\n"),
         );
     }
 }

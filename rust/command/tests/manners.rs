@@ -5,7 +5,7 @@ use std::fs::{self, File};
 use std::os::unix::fs::{symlink, PermissionsExt};
 use std::process::Stdio;
 
-const COMMANDS: [&str; 22] = [
+const COMMANDS: [&str; 25] = [
     "make",
     "why",
     "fill",
@@ -21,12 +21,15 @@ const COMMANDS: [&str; 22] = [
     "keep",
     "gates",
     "count",
+    "family",
     "shallower",
     "arrivals",
     "draw",
     "matrix",
     "page",
     "glyph",
+    "export",
+    "import",
     "stream",
 ];
 

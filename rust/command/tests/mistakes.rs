@@ -91,7 +91,8 @@ fn utf16() {
     let folder = Folder::new("utf16");
     folder.put("my.table", sheet);
     let refused = folder.run("make my.table");
-    let due = "likely cause: the file is UTF-16; save it as plain text, UTF-8 or ASCII\n";
+    let due = "likely cause: the file is UTF-16; save it as plain text, UTF-8 or ASCII\n\
+               `sitgurp tidy --csv my.table` writes it as a table sheet\n";
     assert!(refused.err.ends_with(due), "{}", refused.err);
 }
 

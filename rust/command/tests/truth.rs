@@ -99,8 +99,14 @@ fn wide_encodings() {
             [vec![0xff, 0xfe], little(text)].concat(),
             [vec![0xfe, 0xff], big(text)].concat(),
         ] {
+            let is_marked = matches!(sheet[..], [0xff, 0xfe, ..] | [0xfe, 0xff, ..]);
             folder.put("my.table", sheet);
             for words in ["make my.table", "tidy my.table", "tidy --csv my.table"] {
+                if is_marked && words.contains("--csv") {
+                    // with a byte order mark it is read
+                    assert_eq!(folder.run(words).out, SUM_TABLE);
+                    continue;
+                }
                 let err = folder.run(words).err;
                 let causes: Vec<&str> = err
                     .lines()

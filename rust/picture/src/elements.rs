@@ -75,6 +75,12 @@ impl Elements {
         ));
     }
 
+    pub fn circle(&mut self, class: &str, x: i32, y: i32, radius: i32) {
+        self.lines.push(format!(
+            "<circle class=\"{class}\" cx=\"{x}\" cy=\"{y}\" r=\"{radius}\"/>"
+        ));
+    }
+
     /// A wire along these commands.
     pub fn wire(&mut self, commands: &str) {
         self.lines

@@ -11,6 +11,7 @@
 //! | `matrix`    | that matrix drawn                                                 |
 //! | `larger`    | a tree with gates of more than two inputs                         |
 //! | `cells`     | a picture of levels, one square a cell                            |
+//! | `family`    | many trees of one table on one page                               |
 //!
 //! Whether a sheet is good is the library's to say: a sheet that it refuses is not drawn.
 
@@ -20,6 +21,7 @@
 pub mod cells;
 pub mod dot;
 pub mod elements;
+pub mod family;
 pub mod larger;
 pub mod layout;
 pub mod matrix;

@@ -4,6 +4,7 @@ mod common;
 
 mod dot;
 mod drawn;
+mod family;
 mod letter;
 mod partition;
 mod places;

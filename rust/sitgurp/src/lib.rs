@@ -23,7 +23,7 @@
 //! table sheet of one that a spreadsheet exported.
 //! [`Job`] marks a table one group a step, so that its caller can do other things in between.
 //! [`kept`] keeps a net's wiring, and fills its gates anew for another table.
-//! [`glyph`] prints a picture by a net.
+//! [`glyph`] prints a picture by a net. A [`Graymap`] becomes such a picture.
 //!
 //! ```
 //! let sheet = b"levels inputs\n2 3\na b c\nleft right table\na b 0110\n1 c 0110\n";
@@ -67,6 +67,7 @@ mod counting;
 mod family;
 mod ffi;
 mod glyph;
+mod graymap;
 mod job;
 mod keep;
 mod lister;
@@ -79,6 +80,7 @@ pub use arrivals::{arrivals, Settling};
 pub use counting::{fewest_levels, multiplicities};
 pub use family::{family_count, family_tree, Family};
 pub use glyph::{glyph, glyph_of};
+pub use graymap::{Graymap, GraymapFault};
 pub use job::{Job, Passing};
 pub use keep::{keep, kept, Kept};
 pub use lister::{gate_line, line_at, Lister};

@@ -91,6 +91,9 @@ test('tables, loose sheets, CSV and nets open; a refused file leaves the work', 
   }
   assert.equal(model.open('levels,inputs\r\n2,2\r\nx,y,ink\r\n0,0,0\r\n1,1,1\r\n0,1,0\r\n1,0,0\r\n', 'x.csv'), null);
   assert.equal(cellsOf(model), '0001');
+  assert.equal(model.open('sep=;\r\nMy x;Y;Tone\r\n0;0;0\r\n1;1;1.0\r\n0;1;0\r\n\r\n1;0;1\r\n', 'x.csv'), null);
+  assert.deepEqual([cellsOf(model), model.doc.names], ['0011', ['myx', 'y']]);
+  assert.equal(model.open('PK\u0003\u0004', 'x.xlsx').sentence, "this is a spreadsheet program's own file: export it as CSV");
   let words = null;
   model.on('complain', (text) => {
     words = text;

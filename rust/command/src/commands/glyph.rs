@@ -2,7 +2,7 @@
 
 use super::Command;
 use crate::call::{Call, Opt};
-use crate::cells::{Cells, Format};
+use crate::cells::{Cells, Format, Step};
 use crate::input::{of_names, Sheet};
 use crate::json::Json;
 use crate::outcome::{Answer, Failure};
@@ -13,12 +13,13 @@ use std::ffi::OsStr;
 
 pub static COMMAND: Command = Command {
     name: "glyph",
-    usage: "NET [PICTURE] [--at NAME=ACROSS,DOWN ..] [--pgm | --text]",
+    usage: "NET [PICTURE] [--at NAME=ACROSS,DOWN ..] [--map GRAY=LEVEL,..] [--source] [--pgm | --svg | --text]",
     summary: "the glyph that a net prints from a picture",
     help: "\
 Each cell of the glyph is the net's shade, with each input read from the picture at an offset of its own from that cell; outside
-the picture the level is 0. A picture is text, a line for each row and a digit for each cell, `.` for 0; or a portable graymap in plain
-text (PGM, `P2`), level 0 white. The glyph is written as the picture is.
+the picture the level is 0. A picture is text, a line for each row and a digit for each cell, `.` for 0; or a portable graymap (PGM,
+plain `P2` or raw `P5`, up to 16 bits), level 0 white. The grays of a graymap become levels by equal steps, or by --map. The glyph is
+written as the picture is, a graymap in plain text.
 ",
     sheets: 2,
     more: true,
@@ -30,7 +31,12 @@ text (PGM, `P2`), level 0 white. The glyph is written as the picture is.
                  an input that is not named is read from the cell itself",
             )
         },
+        Opt::value("--map", "GRAY=LEVEL,..").says(
+            "the level of each gray of a graymap: `0=3,64=2,200=0` makes grays 0 to 63 level 3, 64 to 199 level 2, and 200 or more level 0",
+        ),
+        Opt::flag("--source").says("write the picture as it is read, instead of the glyph"),
         Opt::flag("--pgm").says("write a graymap, whatever the picture is"),
+        Opt::flag("--svg").says("draw it, a square for each cell"),
         Opt::flag("--text").says("write text, whatever the picture is"),
     ],
     ending: None,
@@ -41,11 +47,17 @@ text (PGM, `P2`), level 0 white. The glyph is written as the picture is.
 type Offset = [i64; 2];
 
 fn run(call: &Call) -> Result<Answer, Failure> {
-    let format = match (call.has("--pgm"), call.has("--text")) {
-        (true, true) => return Err(call.wrong("--pgm and --text do not go together".to_string())),
-        (true, _) => Some(Format::Graymap),
-        (_, true) => Some(Format::Text),
-        _ => None,
+    let formats = [
+        ("--pgm", Format::Graymap),
+        ("--svg", Format::Svg),
+        ("--text", Format::Text),
+    ];
+    let mut given = formats.into_iter().filter(|(option, _)| call.has(option));
+    let format = match (given.next(), given.next()) {
+        (Some((one, _)), Some((other, _))) => {
+            return Err(call.wrong(format!("{one} and {other} do not go together")))
+        }
+        (one, _) => one.map(|(_, format)| format),
     };
     // behind one `--at` there may be more than one input
     let is_offset = |word: &&OsStr| call.has("--at") && word.to_string_lossy().contains('=');
@@ -56,7 +68,16 @@ fn run(call: &Call) -> Result<Answer, Failure> {
     let mut given = call.values("--at");
     given.extend(more.iter().map(|word| word.to_string_lossy().into_owned()));
     let offsets = offsets(call, &net, &given)?;
-    let cells = Cells::read(&file, net.levels())?;
+    let steps = call
+        .value("--map")
+        .map(|map| steps(call, &net, &map))
+        .transpose()?;
+    let cells = Cells::read(&file, net.levels(), steps.as_deref())?;
+    if steps.is_some() && cells.format == Format::Text {
+        return Err(
+            call.wrong("--map is for the grays of a graymap, and this picture is text".to_string())
+        );
+    }
     let glyph =
         sitgurp::glyph_of(net.as_ref(), &cells.picture, &lent(&offsets)).map_err(|refusal| {
             match refusal.kind() {
@@ -64,14 +85,48 @@ fn run(call: &Call) -> Result<Answer, Failure> {
                 _ => cells.refused(net.levels(), refusal),
             }
         })?;
+    let shown = if call.has("--source") {
+        &cells.picture
+    } else {
+        &glyph
+    };
     let picture = Json::object([
-        ("width", Json::number(glyph.width)),
-        ("height", Json::number(glyph.height)),
+        ("width", Json::number(shown.width)),
+        ("height", Json::number(shown.height)),
         ("levels", Json::number(net.levels())),
-        ("cells", Json::numbers(&glyph.cells)),
+        ("cells", Json::numbers(&shown.cells)),
     ]);
-    let text = format.unwrap_or(cells.format).written(&glyph, net.levels());
-    Ok(Answer::new(text, Json::object([("picture", picture)])))
+    let text = format.unwrap_or(cells.format).written(shown, net.levels());
+    let json = match format {
+        Some(Format::Svg) => Json::object([("picture", picture), ("svg", Json::text(&text))]),
+        _ => Json::object([("picture", picture)]),
+    };
+    Ok(Answer::new(text, json))
+}
+
+/// The steps of `--map`: rising grays from 0, each with the level from it on.
+fn steps(call: &Call, net: &Net, map: &str) -> Result<Vec<Step>, Failure> {
+    let most = net.levels() - 1;
+    let mut steps: Vec<Step> = Vec::new();
+    for word in map.split(',') {
+        let parts = word.split_once('=');
+        let step = parts.and_then(|(gray, level)| {
+            Some((gray.trim().parse().ok()?, level.trim().parse().ok()?))
+        });
+        let Some((gray, level)) = step.filter(|(_, level)| usize::from(*level) <= most) else {
+            return Err(call.wrong(format!(
+                "--map takes GRAY=LEVEL with a gray up to 65535 and a level from 0 to {most}, and not `{word}`"
+            )));
+        };
+        if steps
+            .last()
+            .map_or(gray != 0, |(before, _)| *before >= gray)
+        {
+            return Err(call.wrong("the grays of --map begin at 0 and rise".to_string()));
+        }
+        steps.push((gray, level));
+    }
+    Ok(steps)
 }
 
 /// An offset for each input, in the net's order.

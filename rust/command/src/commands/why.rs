@@ -3,18 +3,19 @@
 use super::Command;
 use crate::call::{Call, Opt};
 use crate::changes;
+use crate::csv;
 use crate::fault::{Apart, Fault, Split};
-use crate::input::sheets;
+use crate::input::{beside, sheets};
 use crate::json::Json;
 use crate::outcome::{Answer, Failure};
 use crate::refused;
-use crate::words::{assignment, count, levels, list, wrapped};
+use crate::words::{assignment, count, file_name, levels, list, wrapped};
 use search::{changed, larger, nearest, Nearest};
 use sitgurp::{Table, MOST_CELLS};
 
 pub static COMMAND: Command = Command {
     name: "why",
-    usage: "[TABLE] [--all | --apply K]",
+    usage: "[TABLE] [--all | --apply K] [--names FILE]",
     summary: "why a table has no tree, and what to change",
     help: "\
 Tells which inputs want too much together, how many levels each way of joining them would need, rows that no gate can keep apart,
@@ -25,6 +26,7 @@ how many levels would do, how large a gate would do, and the fewest changed rows
     options: &[
         Opt::flag("--all").says("list every way and every pair of rows; long lists are cut otherwise"),
         Opt::value("--apply", "K").says("write the table with change K of the list, from 1; it has a tree"),
+        Opt::value("--names", "FILE").says("list the inputs as they are written in the spreadsheet, from the file of `tidy --names`"),
     ],
     ending: None,
     run,
@@ -56,12 +58,32 @@ fn run(call: &Call) -> Result<Answer, Failure> {
     }
     let most = if call.has("--all") { usize::MAX } else { FEW };
     let mut text = String::new();
-    for paragraph in paragraphs(&fault, nearest.as_ref(), most) {
+    let names = call
+        .value("--names")
+        .map(|file| written(call, &table, &file));
+    let last = names.transpose()?;
+    for paragraph in paragraphs(&fault, nearest.as_ref(), most)
+        .into_iter()
+        .chain(last)
+    {
         text += &paragraph.text();
         text.push('\n');
     }
     text.pop();
     Ok(Answer::new(text, json(&fault, nearest.as_ref())))
+}
+
+/// The inputs as they are written in a spreadsheet, by a file of names.
+fn written(call: &Call, table: &Table, file: &str) -> Result<Paragraph, Failure> {
+    let columns = csv::pairs(&beside(call, file)?.bytes);
+    let line = |name: &String| {
+        let column = columns.iter().find(|column| column.name == *name)?;
+        Some(format!("{name}: {}", file_name(column.written.as_ref())))
+    };
+    Ok(Paragraph {
+        words: "The inputs in the spreadsheet:".to_string(),
+        lines: table.names().iter().filter_map(line).collect(),
+    })
 }
 
 /// The table with a change of the list.

@@ -14,6 +14,22 @@ pub enum Flaw {
     QuoteInside,
 }
 
+impl Flaw {
+    /// Says what is wrong with the cell, unless it is blank.
+    pub fn words(self) -> Option<&'static str> {
+        match self {
+            Flaw::Blank => None,
+            Flaw::Unclosed => Some("no quote closes the one that opens this field"),
+            Flaw::AfterQuote => {
+                Some("something follows the quote that closes this field; a quote inside quotes is written twice")
+            }
+            Flaw::QuoteInside => {
+                Some("there is a quote inside this field; put quotes around all of it, and write a quote inside them twice")
+            }
+        }
+    }
+}
+
 /// A cell of the file.
 pub struct Cell {
     /// Where it begins, at its quote where it has one.
@@ -42,9 +58,12 @@ impl Cell {
     }
 }
 
-/// A line of the file: its cells and where it ends.
+/// A line of the file: its cells, where it begins and where it ends.
 pub struct Record {
     pub cells: Vec<Cell>,
+    pub start: usize,
+    /// Its number in the file, from 1.
+    pub line: usize,
     /// The place of its line end, or the file's length.
     pub end: usize,
     /// The place behind its line end.
@@ -60,8 +79,49 @@ impl Record {
     }
 }
 
+/// Reads the lines from a place on, which begins the line of this number. Blank lines are left out.
+pub fn records(file: &[u8], start: usize, mut line: usize, separator: Separator) -> Vec<Record> {
+    let mut records = Vec::new();
+    let feeds = |bytes: &[u8]| bytes.iter().filter(|&&byte| byte == b'\n').count();
+    let mut at = start;
+    while at < file.len() {
+        let record = record(file, at, line, separator);
+        line += 1 + feeds(&file[at..record.end]);
+        at = record.next;
+        if record.used() > 0 {
+            records.push(record);
+        }
+    }
+    records
+}
+
+/// Returns whether the first line says that the size follows: its letters are `levels` and `inputs`, or it has none, so it has no names.
+pub fn says_size(file: &[u8], first: &Record) -> bool {
+    let line = &file[first.start..first.end];
+    let letters: Vec<u8> = line
+        .iter()
+        .filter(|byte| byte.is_ascii_alphanumeric() || !byte.is_ascii())
+        .map(u8::to_ascii_lowercase)
+        .collect();
+    letters == b"levelsinputs" || letters.iter().all(u8::is_ascii_digit)
+}
+
+/// Returns what a cell without a flaw means in a line without names: a whole number without the zeros behind its point or comma, a word in lowercase.
+pub fn number(cell: &Cell, file: &[u8]) -> Vec<u8> {
+    let mut bytes: Vec<u8> = cell.bytes(file).map(|(byte, _)| byte).collect();
+    bytes.make_ascii_lowercase();
+    if let Some(point) = bytes.iter().position(|byte| matches!(byte, b'.' | b',')) {
+        let (whole, zeros) = (&bytes[..point], &bytes[point + 1..]);
+        let is_whole = !whole.is_empty() && whole.iter().all(u8::is_ascii_digit);
+        if is_whole && !zeros.is_empty() && zeros.iter().all(|&byte| byte == b'0') {
+            bytes.truncate(point);
+        }
+    }
+    bytes
+}
+
 /// Reads the line at a place.
-pub fn record(file: &[u8], start: usize, separator: Separator) -> Record {
+fn record(file: &[u8], start: usize, line: usize, separator: Separator) -> Record {
     let mut cells = Vec::new();
     let mut at = start;
     loop {
@@ -83,6 +143,8 @@ pub fn record(file: &[u8], start: usize, separator: Separator) -> Record {
     };
     Record {
         cells,
+        start,
+        line,
         end: at,
         next: at + length,
     }
