@@ -31,7 +31,7 @@ fn is_byte(s: &[u8], at: usize, j: usize, byte: u8) -> bool {
     s[at + j] == byte
 }
 
-// Fills in the frame of the row at `at` and returns its width. No place has bounds or a weight yet.
+// Fills in the frame of the row at `at`, where no place has a weight yet, and returns its width.
 fn lay(
     s: &[u8],
     at: usize,
