@@ -1,8 +1,8 @@
-//! A drawing as SVG, one element a line.
+//! A drawing as SVG, one element per line.
 
 use crate::layout::Area;
 
-/// Dark on light, and digits dark enough on the darkest cell.
+/// Dark on light; digits are dark enough to read on the darkest cell.
 const STYLE: &str = "\
 text { font-family: 'DejaVu Sans Mono', Menlo, Consolas, monospace; fill: #1f2933; text-anchor: middle; }
 .page { fill: #fbfcfd; }
@@ -20,11 +20,11 @@ text { font-family: 'DejaVu Sans Mono', Menlo, Consolas, monospace; fill: #1f293
 /// The grey of the highest level's cells; level 0 is white.
 const DARKEST: usize = 172;
 
-/// The grey of a level, which a digit can be read on.
+/// Returns the grey of a level, light enough to read a digit on it.
 ///
 /// # Panics
 ///
-/// Where there are fewer than 2 levels, or the level is not one of them.
+/// If there are fewer than 2 levels, or the level is not one of them.
 pub fn shade(level: u8, levels: usize) -> String {
     let grey = 255 - (255 - DARKEST) * usize::from(level) / (levels - 1);
     format!("rgb({grey},{grey},{grey})")
@@ -36,7 +36,7 @@ pub struct Elements {
 }
 
 impl Elements {
-    /// `style` is added to what every drawing has.
+    /// Starts a drawing. `style` is added to the style of every drawing.
     pub fn open(width: i32, height: i32, title: &str, style: &str) -> Elements {
         let lines = vec![
             format!(
@@ -68,20 +68,20 @@ impl Elements {
         ));
     }
 
-    /// Text around a middle height; the shift is that of a digit's half height.
+    /// Adds text centred on a height; the shift is half the height of a digit.
     pub fn text(&mut self, class: &str, x: i32, y: i32, text: &str) {
         self.lines.push(format!(
             "<text class=\"{class}\" x=\"{x}\" y=\"{y}\" dy=\"0.35em\">{text}</text>"
         ));
     }
 
-    /// A wire along these commands.
+    /// Adds a wire along these commands.
     pub fn wire(&mut self, commands: &str) {
         self.lines
             .push(format!("<path class=\"wire\" d=\"{commands}\"/>"));
     }
 
-    /// A cell shaded by its level, with its digit.
+    /// Adds a cell shaded by its level, with its digit.
     pub fn cell(&mut self, level: u8, levels: usize, cell: &Area) {
         let fill = format!(" fill=\"{}\"", shade(level, levels));
         self.rect("cell", cell, &fill);
