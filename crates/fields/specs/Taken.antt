@@ -131,7 +131,7 @@ inputs-told m n w e = go (inputsOf w) refl e
         let found = inputs-found w k q in
         (rw (told .1) at (found .0), rw (told .1) at (found .1), rw (told .1) at (told .0))
 
--- ---- the same for a step that goes on
+-- ---- the same for a step `On`
 
 -- in a strict sheet
 pub record Taken {A : Type 0} (judge : Judge A) (a : A) (s : List ℕ) (at next : ℕ) : Type 0 where

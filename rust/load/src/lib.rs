@@ -2,7 +2,7 @@
 //!
 //! | module     | idea                                                                |
 //! |------------|---------------------------------------------------------------------|
-//! | `inputs`   | the arguments of a call: sheets good and damaged, bare cells, buffers |
+//! | `inputs`   | a call's arguments: good and damaged sheets, bare cells, buffers    |
 //! | `given`    | the result of a call: its answer and every byte of its buffers      |
 //! | `calls`    | one call of each kind by both implementations                       |
 //! | `tally`    | how many calls of each kind ended in each way                       |

@@ -139,7 +139,7 @@ impl Generator {
     }
 
     /// Returns a gate's digits. Random digits alone would make deep nets nearly
-    /// constant, so many gates pass on all their information; some give only two levels,
+    /// constant. Therefore many gates pass on all their information; some give only two levels,
     /// so that the gate after them has digits that no assignment reaches.
     fn digits(&mut self, m: usize) -> Vec<u8> {
         let kind = self.rng.below(6);

@@ -24,7 +24,7 @@ use nets::forms::Header;
 use nets::names::name_of;
 use radix::limits::MOST_INPUTS;
 
-// The result of reading one line. The two times are set if the step goes on.
+// The result of reading one line. The two times are set if the step is `On`.
 pub struct LineRead {
     pub step: Step,
     pub from: usize,
@@ -37,7 +37,7 @@ pub struct Times {
     pub to: [u16; MOST_INPUTS],
 }
 
-// The result of reading the lines. The times are complete if the step goes on.
+// The result of reading the lines. The times are complete if the step is `On`.
 pub struct TimesRead {
     pub step: Step,
     pub times: Times,

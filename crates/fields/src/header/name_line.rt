@@ -17,7 +17,7 @@ use crate::steps::Step;
 use nets::forms::Header;
 use nets::forms::no_names;
 
-// The result of reading line 3. The header is complete if the step goes on.
+// The result of reading line 3. The header is complete if the step is `On`.
 pub struct HeaderRead {
     pub step: Step,
     pub header: Header,

@@ -26,7 +26,7 @@ pub enum RowRead {
     },
 }
 
-// Reads the n input fields one after the other. If the step goes on, its value is the index.
+// Reads the n input fields one after the other. If the step is `On`, its value is the index.
 fn judged_index(s: &[u8], at: usize, m: usize, n: usize) -> Step
     requires { ⌜ sizeFits m n ≡ true ⌝ }
     ensures { λ r. ⌜ IndexRead (now (s .entry)) at m n r ⌝ }

@@ -19,7 +19,7 @@ use nets::forms::no_gates;
 // Stands for no reference: every reference is below it.
 const NO_REFERENCE: usize = 255;
 
-// The result of reading gate lines. If the step goes on, the net has the gates that were read.
+// The result of reading gate lines. If the step is `On`, the net has the gates that were read.
 pub struct GatesRead {
     pub step: Step,
     pub net: Net,
