@@ -1,6 +1,6 @@
 -- Document 01, section 'Settling and making': the two calls, with what is 'Turned back because of the state'. Their answer, and what each buffer lent to
--- them holds afterwards, on accepted and on refused inputs alike. What follows the reading is said of any net that may be made of a table, so
--- that a call which makes another net has the same order of refusals.
+-- them holds afterwards, on accepted and on refused inputs. Everything after the reading is stated for any net that may be made of a table, so
+-- a call that makes another net has the same order of refusals.
 -- Assumes nothing.
 use Prim.Native.Nat.{ℕ, _^_}
 use mathlib.Core.Bool.{true, false}
@@ -63,7 +63,7 @@ roomFor t cells marks =
       | false ↦ elim (ltb (length marks) marks-need) [ true ↦ refused 14 marks-need | false ↦ accepted tt ]
     ]
 
--- "Every other refusal changes no buffer.": 13 and 14 end a call. `rest` is what the call comes to where there is room.
+-- "Every other refusal changes no buffer.": 13 and 14 end a call. `rest` is the result of the call if there is room.
 unfoldable pub inRoom : Table → List ℕ → List ℕ → List ℕ → Made → Made
 inRoom t cells marks output rest =
     elim (roomFor t cells marks) [
@@ -71,7 +71,7 @@ inRoom t cells marks output rest =
       | accepted room ↦ rest
     ]
 
--- .. then 16, then 15, which needs "the settled sheet's length". `netFor` is the net that is made of a table.
+-- .. then 16, then 15, which needs "the settled sheet's length". `netFor` is the net made of a table.
 abbrev pub madeInto : (Table → Net) → Table → List ℕ → List ℕ → List ℕ → Made
 madeInto netFor t cells marks output = inRoom t cells marks output (afterMarks netFor t cells marks output)
 

@@ -42,7 +42,7 @@ pub none-changed-case : Keeps "levels inputs/3 3/a b c/left right table/c b 0211
 unfolding computing writing weighted
 none-changed-case = (refl, refl)
 
--- 1 when at least two of a + b, c and d are 1, where a + b is of 2 levels
+-- 1 when at least two of a + b, c and d are 1, where a + b is taken modulo 2
 unfoldable pub twoOfThree : Table
 twoOfThree = abcd 2 (λ a b c d. oneIf (leb 2 ((a + b) % 2 + c + d)))
 

@@ -1,4 +1,4 @@
--- Document 02, K12: which inputs matter, and which inputs a tree that is made of a table has as leaves.
+-- Document 02, K12: which inputs matter, and which inputs are the leaves of a tree made of a table.
 -- Assumes nothing.
 use Prim.Native.Nat.{ℕ, _-_, _^_}
 use mathlib.Core.Bool.{Bool, not}
