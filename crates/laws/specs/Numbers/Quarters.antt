@@ -1,4 +1,4 @@
--- Whole numbers of quarters as doubles. Below 2 to the power 53 each is exact, so the sum of two is that of the whole numbers, and so is their order.
+-- Whole numbers of quarters as doubles. Below 2 to the power 53 each is exact, so sums and order of doubles are those of the whole numbers.
 -- Assumes nothing.
 use Prim.Native.Nat.{ℕ, _+_, _*_, _^_, _≤_, _<_, max}
 use mathlib.Core.Path.{_≡_, refl, sym, ap, ap₂, _∙_, subst}
@@ -19,7 +19,7 @@ use lib.Ieee.Scale.{round-same}
 use lib.Ieee.Back.{round-whole}
 use Rattle.rules.specs.Nets.Arrivals.{quarter}
 
--- what is exact
+-- numbers below this are exact
 abbrev pub exactBelow : ℕ
 exactBelow = 2 ^ 53
 

@@ -1,4 +1,4 @@
--- The bounds of levels, inputs and cells as orders of numbers.
+-- The bounds of levels, inputs and cells as inequalities.
 -- Assumes nothing.
 use Prim.Native.Nat.{ℕ, _+_, _-_, _^_, _≤_}
 use mathlib.Core.Path.{_≡_}
@@ -44,7 +44,7 @@ sized m n e =
       cells-most = leb-true _ _ cells;
     }
 
--- a header that keeps the rules is within the bounds
+-- a header that follows the rules is within the bounds
 pub kept-fits : (h : Header) → HeaderRules h → sizeFits (h .levels) (h .inputs) ≡ true
 unfolding sizeFits
 kept-fits h kept =
@@ -61,7 +61,7 @@ everySize test =
     all (λ m. all (λ n. not (cellsFit m n) || test m n) (range fewestInputs (mostInputs + 1 - fewestInputs)))
     (range fewestLevels (mostLevels + 1 - fewestLevels))
 
--- what it finds holds at each
+-- what it tests holds at each
 pub at-size : (test : ℕ → ℕ → Bool) → everySize test ≡ true → (m n : ℕ) → Size m n → test m n ≡ true
 unfolding everySize cellsFit
 at-size test every m n size =

@@ -1,5 +1,5 @@
--- Document 02, K4, by small cases: inputs a b c of two levels, and the two assignments of b, whose indices are 0 and 2. The other inputs, a and c, are
--- counted with a slowest, so the columns of the two are the cells 0 1 4 5 and 2 3 6 7.
+-- Document 02, K4, by small cases: inputs a b c of two levels, and the two assignments of b, whose indices are 0 and 2. The other inputs, a and c,
+-- are counted with a slowest, so the columns of the two are the cells 0 1 4 5 and 2 3 6 7.
 -- Assumes nothing.
 use Prim.Native.Nat.{ℕ}
 use mathlib.Core.Path.{_≡_, refl}

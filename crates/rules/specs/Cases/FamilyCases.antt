@@ -74,7 +74,7 @@ by-halves = (refl, refl, refl)
 unfoldable pub joining : ℕ → ℕ → Gate
 joining l r = record { left = l; right = r; digits = [] }
 
--- over a b c d: `a b`, `c d`, `1 2` and, with other sides and other gate numbers, `d c`, `b a`, `2 1` have the same groups; `a b`, `1 c`, `2 d` does not
+-- over a b c d: `a b`, `c d`, `1 2` and, with other sides and gate numbers, `d c`, `b a`, `2 1` have the same groups; `a b`, `1 c`, `2 d` does not
 pub groups-joined-case : (gateGroups 4 (joining 0 1 ∷ joining 2 3 ∷ joining 4 5 ∷ []) ≡ 3 ∷ 12 ∷ 15 ∷ [])
     × (gateGroups 4 (joining 3 2 ∷ joining 1 0 ∷ joining 5 4 ∷ []) ≡ 12 ∷ 3 ∷ 15 ∷ [])
     × (gateGroups 4 (joining 0 1 ∷ joining 4 2 ∷ joining 5 3 ∷ []) ≡ 3 ∷ 7 ∷ 15 ∷ [])
