@@ -1,5 +1,5 @@
--- Entries that are added one by one, each computed from all before it: for two lists of items, how many there are, and which stay. Used for the wires of a
--- gate list: one law for a step over its gates.
+-- Entries that are added one by one, each computed from all before it: for two lists of items, how many there are, and which stay. Used for the wires
+-- of a gate list: one law for a step over its gates.
 -- Assumes nothing.
 use Prim.Native.Nat.{ℕ, _+_, _<_}
 use mathlib.Core.Path.{_≡_, refl, _∙_}
