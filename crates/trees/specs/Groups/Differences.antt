@@ -1,5 +1,5 @@
--- Two assignments of a group compared (document 02, K4): the result is `none` exactly if they are alike, and a place exactly if it is the least at which the
--- inks differ.
+-- Two assignments of a group compared (document 02, K4): the result is `none` exactly if they are alike, and a place exactly if it is the least
+-- at which the inks differ.
 -- Assumes nothing.
 use Prim.Native.Nat.{ℕ, _+_, _-_, _^_, _≤_, _<_}
 use mathlib.Core.Path.{_≡_, refl, sym, ap, _∙_, subst}

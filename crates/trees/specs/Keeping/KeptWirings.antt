@@ -47,7 +47,7 @@ use Rattle.trees.specs.Families.NormalWirings.{Joins, joins-cases, joins
 use Rattle.trees.specs.Filling.GateGroups.{net-joins}
 use Rattle.trees.specs.Keeping.KeptLinks.{same-used, same-net, gate-groups-length, gate-group-at, same-groups, filled-keeps, kept-links}
 
--- A filling of a wiring that computes the table: the same left and right at every gate line, with any tables such that the value is the ink at every assignment.
+-- A filling of a wiring that computes the table: each gate line keeps its left and right, and the tables make the value the ink at every assignment.
 pub record Filling (m n : ℕ) (f : ℕ → ℕ) (gates filling : List Gate) : Type 0 where
   pub wiring : gateLinks filling ≡ gateLinks gates
   pub tables : Tables m filling

@@ -1,5 +1,5 @@
--- Idle inputs (document 02, K12) and marks: a group has the mark of the group of its members that matter, and mark 2 if none of them does. So only groups
--- of inputs that matter need to be marked by document 01's rule.
+-- Idle inputs (document 02, K12) and marks: a group has the mark of the group of its members that matter, and mark 2 if none of them does. So only
+-- groups of inputs that matter need to be marked by document 01's rule.
 -- Assumes nothing.
 use Prim.Native.Nat.{ℕ, _^_, _≤_, _<_}
 use mathlib.Core.Path.{_≡_, refl, sym, _∙_, ap}

@@ -46,8 +46,8 @@ module _ (m n : ℕ) (pos : 0 < m) (several : 1 < n) (f : ℕ → ℕ) where
 
   -- ---- no tree has fewer layers
 
-  -- With few classes at each gate and with every input that matters: inputs that do not matter may be cut out, and if fewer than two inputs matter, one layer is
-  -- the least possible.
+  -- With few classes at each gate and with every input that matters: inputs that do not matter may be cut out, and if fewer than two inputs
+  -- matter, one layer is the least possible.
   wiring-at-least : (w : Wiring) → EachOnce n w → 0 < gatesIn w → EachGate (Few m n f) w → Holding m n pos f (groupOf w) → fewestLeaves ≤ depth w
   wiring-at-least w once some few holds =
       by-cases (decLt 1 (length (mattering m n f)))
