@@ -26,8 +26,8 @@ pub record Went {A : Type 0} (r : Reader A) (s : List ℕ) (at : ℕ) (a : A) (r
 abbrev pub Goes : {A : Type 0} → Reader A → Type 0
 Goes {A} r = (s : List ℕ) (at : ℕ) (a : A) (rest : List ℕ) (place : ℕ) → r s at ≡ read a rest place → Went r s at a rest place
 
--- what was refused: with 1 at the end, or, for a text of fewer than `b` bytes, with `late` there; or before the end, and then in the same way however a
--- text of `b` bytes or more continues
+-- what was refused: with 1 at the end, or, for a text of fewer than `b` bytes, with `late` there; or before the end, and then in the same way however
+-- a text of `b` bytes or more continues
 pub data Stopped {A : Type 0} (late : ℕ) (r : Reader A) (b : ℕ) (s : List ℕ) (at number place : ℕ) : Type 0 where
   at-end : number ≡ 1 → place ≡ at + length s → Stopped late r b s at number place
   late-end : number ≡ late → length s < b → place ≡ at + length s → Stopped late r b s at number place

@@ -1,5 +1,5 @@
--- One walk over the readers of every sheet. If a property of readers is preserved by giving a value, by chaining two readers and by reading a field, it
--- holds for the reader of a sheet, since that is built from these. `Among`, `FromFront` and `Goes` are such properties.
+-- One walk over the readers of every sheet. If a property of readers is preserved by giving a value, by chaining two readers and by reading a field,
+-- it holds for the reader of a sheet, since that is built from these. `Among`, `FromFront` and `Goes` are such properties.
 -- Assumes nothing.
 use Prim.Native.Nat.{ℕ, zero, suc, _-_, _^_}
 use Prim.Native.String.{String}
