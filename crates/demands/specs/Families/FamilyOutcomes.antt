@@ -1,5 +1,5 @@
--- Making and the two calls of a family first judge the same: the sheet, then room for the cells and for the marks. So either all three refuse in the same
--- way and change no buffer, or each continues with the same table.
+-- Making and the two calls of a family first judge the same: the sheet, then room for the cells and for the marks. So either all three refuse in the
+-- same way and change no buffer, or each continues with the same table.
 -- Assumes nothing.
 use Prim.Native.Nat.{ℕ, _^_, _≤_, _<_}
 use mathlib.Core.Path.{_≡_, refl, ap, _∙_}

@@ -1,7 +1,7 @@
 -- Document 02, K3, the sheets of a family: "Every wiring that computes the table turns up under just one number", where "a family numbers the wirings on
--- just these" leaves (K12). What the call for a number below the count writes is an accepted net sheet with exactly the table, on just its leaves; the sheets
--- of two numbers have different wirings; every net on the leaves that has the table is one wiring with what the call for exactly one number writes, and no
--- other net is.
+-- just these" leaves (K12). What the call for a number below the count writes is an accepted net sheet with exactly the table, on just its leaves.
+-- The sheets of two numbers have different wirings. Every net on the leaves that has the table is one wiring with what the call for exactly one
+-- number writes, and no other net is.
 -- Assumes nothing.
 use Prim.Native.Nat.{ℕ, _≤_, _<_}
 use mathlib.Core.Path.{_≡_, sym, ap, _∙_, subst, subst₂}

@@ -1,5 +1,5 @@
--- Document 02, K9: what is promised about jobs. "For every list of steps and askings from a newly opened job, the marks passed are those of document 01 and
--- every other mark in the job is 0."
+-- Document 02, K9: the promises about jobs. "For every list of steps and askings from a newly opened job, the marks passed are those of document 01
+-- and every other mark in the job is 0."
 -- Assumes nothing.
 use Prim.Native.Nat.{ℕ, _+_, _-_, _^_, _≤_, _<_}
 use mathlib.Core.Path.{_≡_, refl, sym, ap, _∙_, subst}

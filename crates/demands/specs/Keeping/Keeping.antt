@@ -1,7 +1,7 @@
 -- Document 02, K10, stated for the call. "Past 12 and 13 it is refused with 23 exactly when no filling of that wiring computes the table": no
--- digits at all. "A kept wiring that leaves out an input that matters is refused with 23 at place 0, before its gates are judged." (K12) Otherwise the
--- sheet written is an accepted net with the given wiring and exactly the table, and the set is exactly the gates that changed. Keeping again changes
--- nothing; keeping the wiring of the settled net gives making's sheet; keeping leaves every sheet of a family as it is.
+-- digits at all. "A kept wiring that leaves out an input that matters is refused with 23 at place 0, before its gates are judged." (K12) Otherwise
+-- the sheet written is an accepted net with the given wiring and exactly the table, and the set is exactly the gates that changed. Keeping again
+-- changes nothing; keeping the wiring of the settled net gives making's sheet; keeping leaves every sheet of a family as it is.
 -- Assumes nothing.
 use Prim.Native.Nat.{ℕ, suc, _-_, _^_, _≤_, _<_}
 use mathlib.Core.Path.{_≡_, refl, sym, ap, ap₂, _∙_, subst, subst⁻¹}
@@ -182,8 +182,8 @@ module _ (s r cells : List ℕ) (past : Past s r cells) where
   abbrev pub classesAt : ℕ → ℕ
   classesAt k = multiplicity (net .header .levels) (net .header .inputs) (inkIn (t .inks)) (getD (gateGroups (net .header .inputs) (net .gates)) (k - 1) 0)
 
-  -- "place the number of the first gate whose group has more than m classes", if not at place 0: every input that matters is used; that gate's group has
-  -- more, no earlier gate's has; and what 23 leaves
+  -- "place the number of the first gate whose group has more than m classes", if not at place 0: every input that matters is used; that gate's group
+  -- has more, no earlier gate's has; and what 23 leaves
   pub record FirstCrowded (output : List ℕ) (place : ℕ) : Type 0 where
     pub uses : UsesMattering (net .header .levels) (net .header .inputs) (inkIn (t .inks)) (net .gates)
     pub gate : place ≤ length (net .gates)

@@ -1,6 +1,6 @@
--- Document 02, K12: which inputs matter and which are leaves, stated without the tests that find them. "An input matters when some two assignments differing only
--- there differ in ink." The leaves are "just the inputs that matter .. if fewer than two do, the first-listed others make up two": each input that matters, at
--- least two and otherwise no more, and another input only if no earlier one is left out.
+-- Document 02, K12: which inputs matter and which are leaves, stated without the tests that find them. "An input matters when some two assignments
+-- differing only there differ in ink." The leaves are "just the inputs that matter .. if fewer than two do, the first-listed others make up two":
+-- each input that matters, at least two and otherwise no more, and another input only if no earlier one is left out.
 -- Assumes nothing.
 use Prim.Native.Nat.{ℕ, zero, suc, _-_, _<_, max}
 use mathlib.Core.Path.{_≡_, refl, sym, ap, _∙_}

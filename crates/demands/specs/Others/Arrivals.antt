@@ -1,5 +1,5 @@
--- Document 02, K5: the answer of the call for arrival times, and what it says about all arrivals inside the ranges. "Arrival times count used inputs only."
--- (K12): the ranges of the others do not matter.
+-- Document 02, K5: the answer of the call for arrival times, and what it says about all arrivals inside the ranges. "Arrival times count used inputs
+-- only." (K12): the ranges of the others do not matter.
 -- Assumes nothing.
 use Prim.Native.Nat.{ℕ, _+_, _-_, _*_, _≤_, _<_}
 use mathlib.Core.Path.{_≡_, refl, sym, ap, _∙_, subst}
@@ -111,7 +111,7 @@ module _ (net : Net) (arrivals : List Arrival) (delay : ℕ) where
   used-alone k times others same =
       settles-same inputs (net .gates) (delay * k) times others (λ i listed. same i (listed-used inputs (net .gates) i listed))
 
-  -- "For any arrivals inside the ranges it lies within the answer", in quarters (k is 1) and in any finer unit; only the used inputs have to be inside
+  -- "For any arrivals inside the ranges it lies within the answer", in quarters (k is 1) and in any finer unit; only used inputs have to be inside
   pub settles-within : (k : ℕ) (times : List ℕ) → Inside (Used net) arrivals k times
       → (earliestSettling net arrivals delay * k ≤ settledAt k times) × (settledAt k times ≤ latestSettling net arrivals delay * k)
   settles-within k times inside = (

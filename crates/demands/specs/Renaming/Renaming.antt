@@ -1,7 +1,7 @@
--- Document 02, K14, stated for the calls that make a net of a table sheet: "Show that, given long enough buffers, two full table sheets with the same first three
--- lines, one got from the other by a one-to-one renaming of the ink levels, are both refused or both made. When made, their gate lines agree in left and
--- right throughout and in every table but the last. The last tables differ by that renaming at each digit that some assignment reaches. Shallow nets keep
--- it too." They are refused with the same number and place, and leave the same marks.
+-- Document 02, K14, stated for the calls that make a net of a table sheet: "Show that, given long enough buffers, two full table sheets with the same
+-- first three lines, one got from the other by a one-to-one renaming of the ink levels, are both refused or both made. When made, their gate lines
+-- agree in left and right throughout and in every table but the last. The last tables differ by that renaming at each digit that some assignment
+-- reaches. Shallow nets keep it too." They are refused with the same number and place, and leave the same marks.
 -- Assumes nothing.
 use Prim.Native.Nat.{ℕ, _^_, _≤_, _<_}
 use mathlib.Core.Path.{_≡_, refl, sym, ap, _∙_, subst, subst⁻¹}

@@ -1,6 +1,6 @@
 -- Demand 3, making: "For every accepted table sheet, making refuses the table as having no tree exactly when no fanout-free tree of
 -- two-input gates .. computes it, whatever the tree's wiring and gate tables", and whatever its leaves: "inputs may stay unused" (document 02, K12).
--- `LeafTrees` says on which leaves there is one. "Otherwise making writes the very sheet that settling writes from every accepted net sheet with that
+-- `LeafTrees` says which leaves are possible. "Otherwise making writes the very sheet that settling writes from every accepted net sheet with that
 -- table, the same levels and the same input names in the same order." "Demand 3 now speaks of full tables" (document 02, K13).
 -- Assumes nothing.
 use Prim.Native.Nat.{ℕ, _^_, _≤_, _<_}

@@ -35,8 +35,8 @@ sheetIn (refused number place) output = refused number place
 abbrev pub sheetOf : Made → Answer (List ℕ)
 sheetOf made = sheetIn (made .answer) (made .output)
 
--- "Needed: m to the n bytes, .. and the settled sheet's length", for the marks "2 to the n, divided by 4" (document 02, K7): for any net that may be made
--- of a table, ..
+-- "Needed: m to the n bytes, .. and the settled sheet's length", for the marks "2 to the n, divided by 4" (document 02, K7): for any net that may be
+-- made of a table, ..
 pub record LongFor (netFor : Table → Net) (t : Table) (cells marks output : List ℕ) : Type 0 where
   pub cells-fit : t .header .levels ^ t .header .inputs ≤ length cells
   pub marks-fit : marksLength (t .header .inputs) ≤ length marks

@@ -1,6 +1,6 @@
 -- The demands for Section I's trees themselves, at assignments. Demand 2: "The table of a net is Section I's value on every assignment".
 -- Demand 3: "making refuses the table as having no tree exactly when no fanout-free tree of two-input gates .. computes it, whatever the
--- tree's wiring and gate tables", and whatever its leaves: "inputs may stay unused" (document 02, K12). `LeafTrees` says on which leaves there is one.
+-- tree's wiring and gate tables", and whatever its leaves: "inputs may stay unused" (document 02, K12). `LeafTrees` says which leaves are possible.
 -- Assumes nothing.
 use Prim.Native.Nat.{ℕ, _^_, _≤_, _<_}
 use mathlib.Core.Path.{_≡_, sym, _∙_}

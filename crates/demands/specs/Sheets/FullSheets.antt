@@ -1,4 +1,4 @@
--- An accepted sheet of a full table (document 02, K13): which sheets these are, which rules their tables follow, and the numbers with which others are refused.
+-- An accepted sheet of a full table (document 02, K13): which sheets these are, which rules their tables follow, and the numbers that refuse others.
 -- Assumes nothing.
 use Prim.Native.Nat.{ℕ, _^_}
 use mathlib.Core.Path.{_≡_, refl, sym, ap, _∙_, subst}
