@@ -1,5 +1,5 @@
--- Document 02, K3: "One call takes a table sheet with making's cells and marks buffers, no output, and answers the count of the trees." "A table with no
--- tree gets count 0, never 16." What the count counts is in `FamilySheets`.
+-- Document 02, K3: "One call takes a table sheet with making's cells and marks buffers, no output, and answers the count of the trees." "A table with
+-- no tree gets count 0, never 16." What the count counts is in `FamilySheets`.
 -- Assumes nothing.
 use Prim.Native.Nat.{ℕ, _^_, _≤_, _<_}
 use mathlib.Core.Path.{_≡_, refl, sym, ap, _∙_}

@@ -1,6 +1,6 @@
--- Document 02, K3, the rules by which the sheets of a family are chosen and ordered: "A split is counted once, with the first-listed input on the left. The
--- order is by A's number, then A's tree, then B's. Gate tables follow the settled net's rule.", and all "on just these" leaves (K12). Stated for what is
--- written, without counts.
+-- Document 02, K3, the rules by which the sheets of a family are chosen and ordered: "A split is counted once, with the first-listed input on the
+-- left. The order is by A's number, then A's tree, then B's. Gate tables follow the settled net's rule.", and all "on just these" leaves (K12).
+-- Stated for what is written, without counts.
 -- Assumes nothing.
 use Prim.Native.Nat.{ℕ, _^_, _<_}
 use mathlib.Core.Path.{_≡_, refl, sym, ap, _∙_, subst, subst₂}

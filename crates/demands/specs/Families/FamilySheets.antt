@@ -1,5 +1,5 @@
--- Document 02, K3, the sheets of a family: "Every wiring that computes the table turns up under just one number", where "a family numbers the wirings on
--- just these" leaves (K12). What the call for a number below the count writes is an accepted net sheet with exactly the table, on just its leaves.
+-- Document 02, K3, the sheets of a family: "Every wiring that computes the table turns up under just one number", where "a family numbers the wirings
+-- on just these" leaves (K12). What the call for a number below the count writes is an accepted net sheet with exactly the table, on just its leaves.
 -- The sheets of two numbers have different wirings. Every net on the leaves that has the table is one wiring with what the call for exactly one
 -- number writes, and no other net is.
 -- Assumes nothing.
@@ -161,8 +161,8 @@ module _ (s : List ℕ) (t : Table) (reads : readFull s ≡ accepted t) where
             is .only r (tree-written r cells marks output sheet e .0) (one-wiring r cells marks output sheet e gates one);
       }
 
-  -- .. and every accepted net sheet with the table's levels and inputs that has the table and uses just the leaves, whatever its names, sides, gate numbers
-  -- and gate tables
+  -- .. and every accepted net sheet with the table's levels and inputs that has the table and uses just the leaves, whatever its names, sides, gate
+  -- numbers and gate tables
   pub every-sheet : (q : List ℕ) (net : Net) → readNet q ≡ accepted net → net .header .levels ≡ t .header .levels → net .header .inputs ≡ t .header .inputs
       → UsesJust (t .header .inputs) (net .gates) (leavesOfTable t) → tableOfNet net .inks ≡ t .inks
       → UnderOneNumber (OneWiring (t .header .inputs) (net .gates))

@@ -1,6 +1,6 @@
 -- The sheets of a family, for Section I's trees themselves: "Nets that differ only in which side is left, in gate numbers or in gate tables are one
--- wiring. Every wiring that computes the table turns up under just one number". Every tree on just the table's leaves that computes it, whatever its digits,
--- differs only in which side is left from the tree that the call for exactly one number writes; no tree on other leaves does.
+-- wiring. Every wiring that computes the table turns up under just one number". Every tree on just the table's leaves that computes it, whatever its
+-- digits, differs only in which side is left from the tree that the call for exactly one number writes; no tree on other leaves does.
 -- Assumes nothing.
 use Prim.Native.Nat.{ℕ, _+_, _-_}
 use mathlib.Core.Path.{_≡_, sym, ap, _∙_, subst}

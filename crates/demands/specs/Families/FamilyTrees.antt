@@ -1,5 +1,5 @@
--- Document 02, K3: "The other takes a table sheet, an order number and all of making's buffers, and writes the tree of that number, from 0." 17: "order
--- number not below the count, place the number, judged after 14 and before 15; it takes the place of 16 in the second call and leaves what 16
+-- Document 02, K3: "The other takes a table sheet, an order number and all of making's buffers, and writes the tree of that number, from 0." 17:
+-- "order number not below the count, place the number, judged after 14 and before 15; it takes the place of 16 in the second call and leaves what 16
 -- leaves." For every other number the call has the same result as making, except for the sheet; for number 0 exactly the same result.
 -- Assumes nothing.
 use Prim.Native.Nat.{ℕ, _≤_}
@@ -58,8 +58,8 @@ module _ (s cells marks output : List ℕ) where
             let left = sheet-leaves (printedNet (familyNet r t)) (written cells (t .inks)) (written marks (storedMarks (marksOfTable t))) output in
             rw (e, is .makes output) (left .cells ∙ sym (made .cells), left .marks ∙ sym (made .marks))
 
-    -- "17, order number not below the count, place the number": and it "leaves what 16 leaves", the cells and the marks that the count call and making leave
-    -- (`count-leaves`) and the output unchanged
+    -- "17, order number not below the count, place the number": and it "leaves what 16 leaves", the cells and the marks that the count call and
+    -- making leave (`count-leaves`) and the output unchanged
     pub past-count : (count : ℕ) → familyCountCall s cells marks .answer ≡ accepted count → count ≤ r
         → familyTreeCall s r cells marks output
         ≡ record { answer = refused 17 r; cells = familyCountCall s cells marks .cells; marks = familyCountCall s cells marks .marks; output = output }

@@ -137,8 +137,8 @@ module _ (s r cells : List ℕ) (past : Past s r cells) where
       go false takes (yes roomy) (yes fits) =
           ends-written (takes, roomy) fits (judged output ∙ keep-written net t cells output same (full-t .1) cells-long takes roomy fits)
 
-  -- "Past 12 and 13 it is refused with 23 exactly when no filling of that wiring computes the table.": no gate lines with the same left and right, whatever
-  -- their tables, and whatever the output
+  -- "Past 12 and 13 it is refused with 23 exactly when no filling of that wiring computes the table.": no gate lines with the same left and right,
+  -- whatever their tables, and whatever the output
   pub refuses-23 : (output : List ℕ)
       → ((place : ℕ) × (keepCall s r cells output .answer ≡ turnedAway neither 23 place)) ↔ ((filling : List Gate) → FillingFor net t filling → ⊥)
   refuses-23 output = go (past-ends output)
@@ -162,8 +162,8 @@ module _ (s r cells : List ℕ) (past : Past s r cells) where
         λ none. absurd (not-roomy roomy none),
       )
 
-  -- "A kept wiring that leaves out an input that matters is refused with 23 at place 0, before its gates are judged.": whatever the output, and "leaves the
-  -- cells written", the output untouched, ..
+  -- "A kept wiring that leaves out an input that matters is refused with 23 at place 0, before its gates are judged.": whatever the output, and
+  -- "leaves the cells written", the output untouched, ..
   pub refuses-23-0 : LeftOut net t → (output : List ℕ)
       → keepCall s r cells output ≡ record { answer = turnedAway neither 23 0; cells = written cells (t .inks); output = output }
   refuses-23-0 is output = judged output ∙ keep-23-0 net t cells output same (full-t .1) cells-long (left-out net t .1 is)

@@ -36,7 +36,7 @@ use Rattle.demands.specs.Sheets.FullSheets.{FullTableRules, full-accepte
 use Rattle.demands.specs.Settling.Makes.{TableLetters, tableLetters, leavesOfTable, HasTree, two-tree, netWith, gates-sheet, sheet-gates, make-refuses}
 use Rattle.demands.specs.Settling.TreeClause.{TreeFor, TreeAgrees, agrees-all}
 
--- some gate list that uses just the inputs of group g, whatever its wiring and digits, is a net of the table's levels and inputs and computes its inks
+-- some gate list that uses just the inputs of group g, whatever its wiring and digits, is a net with the table's levels and inputs and has its inks
 abbrev pub HasTreeOn : Table → ℕ → Type 0
 HasTreeOn t g =
     (gates : List Gate) × IsNet (t .header .levels) (t .header .inputs) gates × Computes (t .header .levels) (t .header .inputs) gates (inkIn (t .inks))

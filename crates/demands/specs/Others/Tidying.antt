@@ -1,5 +1,5 @@
--- Document 02, K8, on tidying: "A strict sheet comes back unchanged, and a tidied sheet has, at each assignment, the ink of the row that named it. Two
--- accepted loose sheets with the same first three lines, spaces aside, tidy to equal bytes exactly when they give every assignment the same ink."
+-- Document 02, K8, on tidying: "A strict sheet comes back unchanged, and a tidied sheet has, at each assignment, the ink of the row that named it.
+-- Two accepted loose sheets with the same first three lines, spaces aside, tidy to equal bytes exactly when they give every assignment the same ink."
 -- Assumes nothing.
 use Prim.Native.Nat.{ℕ, _^_, _≤_, _<_}
 use mathlib.Core.Path.{_≡_, refl, sym, ap, _∙_, subst, subst⁻¹}

@@ -1,5 +1,5 @@
--- Document 02, K14, for the family of a table's trees: two full table sheets, one a renaming of the other's inks, have equally many trees, and under every
--- number sheets that differ only by the renaming in the last table.
+-- Document 02, K14, for the family of a table's trees: two full table sheets, one a renaming of the other's inks, have equally many trees, and under
+-- every number sheets that differ only by the renaming in the last table.
 -- Assumes nothing.
 use Prim.Native.Nat.{ℕ, _^_, _≤_, _<_}
 use mathlib.Core.Path.{_≡_, ap, _∙_, subst}

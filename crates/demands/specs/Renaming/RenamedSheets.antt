@@ -1,6 +1,6 @@
 -- Document 02, K14, the notions: "two full table sheets with the same first three lines, one got from the other by a one-to-one renaming of the ink
--- levels", and two net sheets where "their gate lines agree in left and right throughout and in every table but the last. The last tables differ by that
--- renaming at each digit that some assignment reaches." Stated for the sheets' bytes.
+-- levels", and two net sheets where "their gate lines agree in left and right throughout and in every table but the last. The last tables differ by
+-- that renaming at each digit that some assignment reaches." Stated for the sheets' bytes.
 -- Assumes nothing.
 use Prim.Native.Nat.{ℕ, _^_, _<_}
 use mathlib.Core.Path.{_≡_, refl, sym, ap, _∙_, subst⁻¹}
@@ -97,8 +97,8 @@ module _ (r : ℕ → ℕ) (s other : List ℕ) (both : RenamedTables r s other)
 
 -- ---- two net sheets
 
--- Both are accepted. They are the same bytes except for the last line's table field. The two last tables differ by the renaming at each digit that some
--- assignment reaches, and are 0 elsewhere.
+-- Both are accepted. They are the same bytes except for the last line's table field. The two last tables differ by the renaming at each digit that
+-- some assignment reaches, and are 0 elsewhere.
 pub record RenamedNets (r : ℕ → ℕ) (sheet other : List ℕ) : Type 0 where
   pub net : Net
   pub renamed : Net

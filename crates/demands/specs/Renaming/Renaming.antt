@@ -38,8 +38,8 @@ pub record Enough (netFor : Table → Net) (t : Table) (cells marks output : Lis
   pub marks-fit : marksLength (t .header .inputs) ≤ length marks
   pub output-fits : HasTree t → length (printedNet (netFor t)) ≤ length output
 
--- The results of the two calls: the same answer, which is a refusal's number and place or a sheet's length; the same marks, for n inputs; and if sheets
--- are made, sheets that differ only by the renaming.
+-- The results of the two calls: the same answer, which is a refusal's number and place or a sheet's length; the same marks, for n inputs; and if
+-- sheets are made, sheets that differ only by the renaming.
 pub record AlikeMade (r : ℕ → ℕ) (n : ℕ) (made other : Made) : Type 0 where
   pub answers : made .answer ≡ other .answer
   pub marks : take (marksLength n) (made .marks) ≡ take (marksLength n) (other .marks)

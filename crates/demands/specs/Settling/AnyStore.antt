@@ -1,7 +1,7 @@
 -- How marks are stored affects nothing else that a call returns or writes. Document 02, K7: "Settled nets, refusal 16 and its place must come out the
--- same bytes as before." Each call that writes marks is stated for any way to store them; the calls of `rules` use one way and document 01 used another. For
--- two ways, with a marks buffer that is long enough for each, the answer, the cells and the output are the same. If the buffer is short, each refuses with
--- 14, at the length that its own way needs.
+-- same bytes as before." Each call that writes marks is stated for any way to store them; the calls of `rules` use one way and document 01 used
+-- another. For two ways, with a marks buffer that is long enough for each, the answer, the cells and the output are the same. If the buffer is short,
+-- each refuses with 14, at the length that its own way needs.
 -- Assumes nothing.
 use Prim.Native.Nat.{ℕ, _^_, _≤_, _<_}
 use mathlib.Core.Path.{_≡_, refl, sym, ap, _∙_, subst⁻¹, subst₂}

@@ -1,5 +1,5 @@
--- Sheets that are longer than what a program reads: "A table sheet of 2 with 12 is longer than the making program's 65,536 bytes: the library takes it, and
--- the program refuses with 1 at 65,536 a sheet without an earlier fault that hasn't ended by then." (document 02, K6)
+-- Sheets that are longer than what a program reads: "A table sheet of 2 with 12 is longer than the making program's 65,536 bytes: the library takes
+-- it, and the program refuses with 1 at 65,536 a sheet without an earlier fault that hasn't ended by then." (document 02, K6)
 -- Assumes nothing.
 use Prim.Native.Nat.{ℕ, _≤_, _<_}
 use mathlib.Core.Path.{_≡_, ap}

@@ -1,5 +1,5 @@
--- A table sheet's first three lines, as bytes. They determine its header: two accepted table sheets have the same first three lines exactly if they have
--- the same levels, inputs and names.
+-- A table sheet's first three lines, as bytes. They determine its header: two accepted table sheets have the same first three lines exactly if they
+-- have the same levels, inputs and names.
 -- Assumes nothing.
 use Prim.Native.Nat.{ℕ, _<_}
 use mathlib.Core.Path.{_≡_, refl, sym, ap, _∙_}

@@ -1,5 +1,5 @@
--- The settling time of a gate list, whatever its wiring: with later arrivals at the used inputs it is no earlier, and in a finer unit it is the same time.
--- "Arrival times count used inputs only." (document 02, K12)
+-- The settling time of a gate list, whatever its wiring: with later arrivals at the used inputs it is no earlier, and in a finer unit it is the same
+-- time. "Arrival times count used inputs only." (document 02, K12)
 -- Assumes nothing.
 use Prim.Native.Nat.{ℕ, _+_, _*_, _≤_}
 use mathlib.Core.Path.{_≡_, sym, ap, _∙_}

@@ -1,4 +1,4 @@
--- When each reference of a gate list settles, one number for each: an input when it arrives, a gate one delay after the later of the two that it joins.
+-- When each reference of a gate list settles, one number for each: an input when it arrives, a gate one delay after the later of the two it joins.
 -- Assumes nothing.
 use Prim.Native.Nat.{ℕ, zero, suc, _+_, _*_, _≤_, max}
 use mathlib.Core.List.{List, [], _∷_, _++_}

@@ -1,5 +1,5 @@
--- "26, an earlier gate is never used, place the sheet's length, judged last in the net sheet" (document 02, K12): a net sheet is refused with 26 exactly
--- if it follows every other rule and some earlier gate is never used; the place is its length.
+-- "26, an earlier gate is never used, place the sheet's length, judged last in the net sheet" (document 02, K12): a net sheet is refused with 26
+-- exactly if it follows every other rule and some earlier gate is never used; the place is its length.
 -- Assumes nothing.
 use Prim.Native.Nat.{ℕ}
 use mathlib.Core.Path.{_≡_, refl, sym, _∙_, ap, subst}

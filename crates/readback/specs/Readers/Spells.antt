@@ -7,8 +7,8 @@ use mathlib.Core.List.{List, [], _++_, append-assoc}
 use native.Mathlib.Omega.{arith}
 use Rattle.rules.specs.Sheets.Fields.{Read, read, turnedBack, Reader, then, _>>=_, give}
 
--- `r` reads the texts `print x`, with value `value x`, if what follows such a text satisfies `Before`; it reads no others, and what it leaves satisfies
--- `After`
+-- `r` reads the texts `print x`, with value `value x`, if what follows such a text satisfies `Before`; it reads no others, and what it leaves
+-- satisfies `After`
 pub record SpellsBetween (Before After : List ℕ → Type 0) {A : Type 0} (r : Reader A) (X : Type 0) (value : X → A) (print : X → List ℕ) : Type 0 where
   pub back : (x : X) (rest : List ℕ) (at : ℕ) → Before rest → (place : ℕ) × (r (print x ++ rest) at ≡ read (value x) rest place)
   pub only : (s : List ℕ) (at : ℕ) (a : A) (rest : List ℕ) (place : ℕ) → r s at ≡ read a rest place

@@ -1,7 +1,7 @@
 -- A sheet that is cut at some byte. Its refusal at the cut is 1, or 26 if a net sheet is cut after one of its gate lines. After the first lines every
--- earlier fault of the part is also a fault of the sheet, and an accepted part has ended there (for a net sheet, if it has all n − 1 gate lines). A part
--- with fewer gate lines says nothing about the sheet, which may be accepted too, as another net. So "a sheet without an earlier fault that hasn't ended by
--- then" (document 02, K6), cut there, is refused with 1 at the cut: for every sheet, and every cut after the first lines.
+-- earlier fault of the part is also a fault of the sheet, and an accepted part has ended there (for a net sheet, if it has all n − 1 gate lines). A
+-- part with fewer gate lines says nothing about the sheet, which may be accepted too, as another net. So "a sheet without an earlier fault that
+-- hasn't ended by then" (document 02, K6), cut there, is refused with 1 at the cut: for every sheet, and every cut after the first lines.
 -- Assumes nothing.
 use Prim.Native.Nat.{ℕ, zero, suc, _+_, _-_, _*_, _^_, _≤_, _<_}
 use Prim.Native.String.{String}

@@ -1,5 +1,5 @@
--- Document 02, K10: a wiring kept. "On a masked panel only gate tables can be rewritten. Take a net sheet and a table sheet with the same m, n and names.
--- Fill the gates anew by the settled net's class rule over the given wiring, and write the sheet."
+-- Document 02, K10: a wiring kept. "On a masked panel only gate tables can be rewritten. Take a net sheet and a table sheet with the same m, n and
+-- names. Fill the gates anew by the settled net's class rule over the given wiring, and write the sheet."
 -- Assumes nothing.
 use Prim.Native.Nat.{ℕ, suc, _-_, _^_}
 use mathlib.Core.Bool.{Bool, true, false, not, _&&_}

@@ -1,5 +1,5 @@
--- Document 02, K13: "Some assignments cannot occur on a given panel, and its maker writes `-` as their ink. Table sheets take it, and a cell holds m for it."
--- What needs a table without such cells.
+-- Document 02, K13: "Some assignments cannot occur on a given panel, and its maker writes `-` as their ink. Table sheets take it, and a cell holds m
+-- for it." What needs a table without such cells.
 -- Assumes nothing.
 use Prim.Native.Nat.{ℕ}
 use mathlib.Core.Bool.{Bool, true, false}

@@ -1,5 +1,5 @@
--- Document 01, section 'Settling and making': the two calls, with what is 'Turned back because of the state'. Their answer, and what each buffer lent to
--- them holds afterwards, on accepted and on refused inputs. Everything after the reading is stated for any net that may be made of a table, so
+-- Document 01, section 'Settling and making': the two calls, with what is 'Turned back because of the state'. Their answer, and what each buffer lent
+-- to them holds afterwards, on accepted and on refused inputs. Everything after the reading is stated for any net that may be made of a table, so
 -- a call that makes another net has the same order of refusals.
 -- Assumes nothing.
 use Prim.Native.Nat.{ℕ, _^_}
@@ -52,8 +52,8 @@ afterMarks netFor t cells marks output =
       | true ↦ writtenSheet (printedNet (netFor t)) cells-then marks-then output
     ]
 
--- "Judged in this order after the input": 13: cells buffer short; 14: marks buffer short. "Needed: m to the n bytes, ..", and for the marks "2 to the n,
--- divided by 4, and 14 reports that number" (document 02, K7)
+-- "Judged in this order after the input": 13: cells buffer short; 14: marks buffer short. "Needed: m to the n bytes, ..", and for the marks "2 to the
+-- n, divided by 4, and 14 reports that number" (document 02, K7)
 unfoldable pub roomFor : Table → List ℕ → List ℕ → Answer (Unit {0})
 roomFor t cells marks =
     let need = t .header .levels ^ t .header .inputs in

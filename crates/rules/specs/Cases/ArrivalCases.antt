@@ -1,5 +1,5 @@
--- Document 02, K5, by small cases: when an output settles, in quarters of a microsecond and as doubles; which sheet is judged first. Sheets are written
--- as in `Cases`, with `/` for the line feed.
+-- Document 02, K5, by small cases: when an output settles, in quarters of a microsecond and as doubles; which sheet is judged first. Sheets are
+-- written as in `Cases`, with `/` for the line feed.
 -- Assumes nothing.
 use Prim.Native.Nat.{ℕ}
 use Prim.Native.String.{String}

@@ -127,8 +127,8 @@ starred-hold =
     refl also refl also refl also refl also (refl, refl) also refl also refl also refl also (refl, refl) also (refl, refl) also (refl, refl)
     also (refl, refl) also refl also refl also refl also tt
 
--- Cases 9 and 10, which the document leaves to tests. "2 with 12, 4 with 6, 5 with 5, 7 with 4 and 8 with 4 come in. Refusals 3 and 9 and case 10 move
--- with it; 2 with 13 is the new refused side." (document 02, K6)
+-- Cases 9 and 10, which the document leaves to tests. "2 with 12, 4 with 6, 5 with 5, 7 with 4 and 8 with 4 come in. Refusals 3 and 9 and case 10
+-- move with it; 2 with 13 is the new refused side." (document 02, K6)
 abbrev pub unstarred : List Case
 unstarred =
     refuses "levels inputs/2 2/a b/left right table/a a 0001/" 8 41

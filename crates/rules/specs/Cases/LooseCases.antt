@@ -1,5 +1,5 @@
--- Document 02, K8, by small cases: what tidying makes of a loose sheet, and why it refuses one. Sheets are written as in `Cases`, with `/` for the line
--- feed.
+-- Document 02, K8, by small cases: what tidying makes of a loose sheet, and why it refuses one. Sheets are written as in `Cases`, with `/` for the
+-- line feed.
 -- Assumes nothing.
 use Prim.Native.Nat.{ℕ}
 use Prim.Native.String.{String}

@@ -43,8 +43,8 @@ indexFields m (suc count) before = fieldIn loose (anyLevel m) space >>= λ l. in
 abbrev pub isOf : ℕ → Row → Bool
 isOf p row = eqb (row .index) p
 
--- 20: "assignment given in an earlier row, placed at the row's first field, judged just before its ink field, even an empty one". `first` is the place
--- of that field.
+-- 20: "assignment given in an earlier row, placed at the row's first field, judged just before its ink field, even an empty one". `first` is the
+-- place of that field.
 unfoldable pub notGiven : ℕ → List Row → ℕ → Reader (Unit {0})
 notGiven first earlier p s at = elim (any (isOf p) earlier) [ true ↦ turnedBack 20 first | false ↦ read tt s at ]
 

@@ -54,7 +54,7 @@ pub record GateRules (m n : ℕ) (gates : List Gate) : Type 0 where
 abbrev pub EarlierUsed : ℕ → List Gate → Type 0
 EarlierUsed n gates = (k : ℕ) → suc k < length gates → any (eqb (n + k)) (usedBy gates) ≡ true
 
--- "A net sheet may have from 1 to n − 1 gate lines .. inputs may stay unused, earlier gates may not." (document 02, K12): a net of m levels and n inputs
+-- "A net sheet may have from 1 to n − 1 gate lines .. inputs may stay unused, earlier gates may not." (document 02, K12): a net of m levels, n inputs
 pub record IsNet (m n : ℕ) (gates : List Gate) : Type 0 where
   pub some : 0 < length gates
   pub count : length gates < n

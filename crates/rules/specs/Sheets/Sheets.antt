@@ -29,8 +29,8 @@ levelsField (b ∷ c ∷ w) = bad 2
 unfoldable pub inputsOf : List ℕ → Option ℕ
 inputsOf w = find (λ n. same w (decimal n)) (range fewestInputs (mostInputs + 1 - fewestInputs))
 
--- "Inputs, written n," is a number "without leading zero. m to the power n, the number of cells, is at most" the cell limit. "The cell limit rises to 4,096
--- and inputs to 12 .. Refusals 3 and 9 and case 10 move with it" (document 02, K6). 3: inputs field, or over 4,096 cells
+-- "Inputs, written n," is a number "without leading zero. m to the power n, the number of cells, is at most" the cell limit. "The cell limit rises to
+-- 4,096 and inputs to 12 .. Refusals 3 and 9 and case 10 move with it" (document 02, K6). 3: inputs field, or over 4,096 cells
 unfoldable pub inputsField : ℕ → Judge ℕ
 inputsField m w = elim (inputsOf w) [ none ↦ bad 3 | some n ↦ judged (cellsFit m n) n 3 ]
 

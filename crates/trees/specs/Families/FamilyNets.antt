@@ -1,7 +1,7 @@
--- "Every wiring that computes the table turns up under just one number, and number 0 is the settled net." "A family numbers the wirings on just these" leaves
--- (document 02, K12). Stated for nets: the net of each number below the count is on just the leaves and computes the table; nets of different numbers
--- are different wirings; and each net on just the leaves that computes the table is one wiring with the net of exactly one number. The count is 0
--- exactly if no net computes the table, whatever its leaves.
+-- "Every wiring that computes the table turns up under just one number, and number 0 is the settled net." "A family numbers the wirings on just
+-- these" leaves (document 02, K12). Stated for nets: the net of each number below the count is on just the leaves and computes the table; nets of
+-- different numbers are different wirings; and each net on just the leaves that computes the table is one wiring with the net of exactly one number.
+-- The count is 0 exactly if no net computes the table, whatever its leaves.
 -- Assumes nothing.
 use Prim.Native.Nat.{ℕ, _^_, _<_}
 use mathlib.Core.Path.{_≡_, sym, ap, _∙_, subst, subst⁻¹}

@@ -1,5 +1,5 @@
--- Representatives: assignments that cover a group, no two of them alike. There are as many as classes. Given rows that cover the group and columns that
--- cover the other inputs, the first row of each class is such a list.
+-- Representatives: assignments that cover a group, no two of them alike. There are as many as classes. Given rows that cover the group and columns
+-- that cover the other inputs, the first row of each class is such a list.
 -- Assumes nothing.
 use Prim.Native.Nat.{ℕ, _+_, _^_, _<_}
 use mathlib.Core.Path.{_≡_, refl, sym, _∙_}

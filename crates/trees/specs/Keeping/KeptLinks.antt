@@ -1,4 +1,4 @@
--- What depends only on a net's wiring: its references, the groups of its gates, and so whether gates with other tables are a net. Filling keeps the wiring.
+-- What depends only on a net's wiring: its references, its gates' groups, and so whether gates with other tables are a net. Filling keeps the wiring.
 -- Assumes nothing.
 use Prim.Native.Nat.{ℕ, zero, suc, _+_, _<_}
 use mathlib.Core.Path.{_≡_, refl, sym, ap, ap₂, _∙_, subst⁻¹}

@@ -1,6 +1,6 @@
--- "refused with 23 exactly when no filling of that wiring computes the table" (document 02, K10): for any net, whatever its leaves, its line order and its
--- sides, some digits at its gates compute the table exactly if every input that matters is used (document 02, K12) and each gate's group has at most m
--- classes; in that case the class rule's digits do.
+-- "refused with 23 exactly when no filling of that wiring computes the table" (document 02, K10): for any net, whatever its leaves, its line order
+-- and its sides, some digits at its gates compute the table exactly if every input that matters is used (document 02, K12) and each gate's group has
+-- at most m classes; in that case the class rule's digits do.
 -- Assumes nothing.
 use Prim.Native.Nat.{ℕ, suc, _+_, _-_, _^_, _≤_, _<_}
 use mathlib.Core.Path.{_≡_, refl, sym, ap, _∙_, subst⁻¹}
@@ -253,7 +253,7 @@ module _ (m n : ℕ) (pos : 0 < m) (f : ℕ → ℕ) (gates : List Gate) (net : 
       go few (yes all) = all
       go few (no some) = let at = crowded-at (lt-of-not-le some) in absurd (omega (arith, few (roomyGates m n f gates) (lt-of-not-le some)))
 
-  -- "refused with 23 exactly when no filling of that wiring computes the table": an input that matters is not used, or a gate's group has too many classes
+  -- "refused with 23 exactly when no filling of that wiring computes the table": an input that matters is unused, or a gate's group has over m classes
   pub no-filling : ((p : ℕ) → p < m ^ n → f p < m)
       → ((UsesMattering m n f gates → ⊥) ⊎ (roomyGates m n f gates < length gates)) ↔ ((filling : List Gate) → Filling m n f gates filling → ⊥)
   no-filling inks = (

@@ -1,5 +1,5 @@
--- Document 02, K12: "Panel makers now charge extra for a gate that ignores an input." The settled net has one gate fewer than leaves; every leaf matters
--- if two or more inputs do; and no net that computes the table, whatever its leaves, its wiring and its digits, has fewer gates.
+-- Document 02, K12: "Panel makers now charge extra for a gate that ignores an input." The settled net has one gate fewer than leaves; every leaf
+-- matters if two or more inputs do; and no net that computes the table, whatever its leaves, its wiring and its digits, has fewer gates.
 -- Assumes nothing.
 use Prim.Native.Nat.{ℕ, suc, _^_, _≤_, _<_}
 use mathlib.Core.Path.{_≡_, sym, ap, _∙_}

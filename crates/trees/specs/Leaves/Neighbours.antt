@@ -1,5 +1,5 @@
--- One input of a table: its assignments, and how neighbours decide whether it matters. Two indices are neighbours at an input if they differ only there,
--- and by one level: their difference is the input's weight.
+-- One input of a table: its assignments, and how neighbours decide whether it matters. Two indices are neighbours at an input if they differ only
+-- there, and by one level: their difference is the input's weight.
 -- Assumes nothing.
 use Prim.Native.Nat.{ℕ, zero, suc, _+_, _-_, _*_, _/_, _%_, _^_, _<_}
 use mathlib.Core.Path.{_≡_, refl, sym, ap, _∙_}

@@ -1,5 +1,5 @@
--- Two gate lists that agree "in left and right throughout and in every table but the last" (document 02, K14), and what follows: they are one wiring, every
--- gate but the last has changed in both or in neither, and their sheets are the same bytes except for the last line's table field.
+-- Two gate lists that agree "in left and right throughout and in every table but the last" (document 02, K14), and what follows: they are one wiring,
+-- every gate but the last has changed in both or in neither, and their sheets are the same bytes except for the last line's table field.
 -- Assumes nothing.
 use Prim.Native.Nat.{ℕ, _+_, _-_, _<_}
 use mathlib.Core.Path.{_≡_, sym, _∙_, ap}

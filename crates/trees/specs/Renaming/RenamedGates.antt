@@ -1,5 +1,5 @@
--- "When made, their gate lines agree in left and right throughout and in every table but the last. The last tables differ by that renaming at each digit that
--- some assignment reaches." (document 02, K14): for any wiring that can be filled.
+-- "When made, their gate lines agree in left and right throughout and in every table but the last. The last tables differ by that renaming at each
+-- digit that some assignment reaches." (document 02, K14): for any wiring that can be filled.
 -- Assumes nothing.
 use Prim.Native.Nat.{ℕ, _+_, _-_, _*_, _/_, _%_, _^_, _<_}
 use mathlib.Core.Path.{_≡_, refl, sym, _∙_, ap, ap₂, subst, fun-ext}

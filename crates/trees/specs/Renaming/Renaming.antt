@@ -1,5 +1,5 @@
--- "two full table sheets with the same first three lines, one got from the other by a one-to-one renaming of the ink levels" (document 02, K14). Alike
--- compares inks only for equality, so everything derived from it is the same for both tables: classes, marks, the inputs that matter.
+-- "two full table sheets with the same first three lines, one got from the other by a one-to-one renaming of the ink levels" (document 02, K14).
+-- Alike compares inks only for equality, so everything derived from it is the same for both tables: classes, marks, the inputs that matter.
 -- Assumes nothing.
 use Prim.Native.Nat.{ℕ, zero, suc, _+_, _^_, _<_}
 use mathlib.Core.Path.{_≡_, refl, sym, _∙_, ap}

@@ -1,5 +1,5 @@
--- The shallow net: if the whole group has mark 2, it is a net with the table, on the same leaves as the settled net, and "Every other tree computing that
--- table has at least as many layers", whatever its leaves.
+-- The shallow net: if the whole group has mark 2, it is a net with the table, on the same leaves as the settled net, and "Every other tree computing
+-- that table has at least as many layers", whatever its leaves.
 -- Assumes nothing.
 use Prim.Native.Nat.{ℕ, _^_, _≤_, _<_}
 use mathlib.Core.Path.{_≡_, sym, _∙_}
