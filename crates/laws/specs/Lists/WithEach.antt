@@ -43,7 +43,7 @@ module _ {A B : Type 0} (next : List A → B → A) where
   with-each-last d es xs x k e =
       rw (with-each-snoc, e, ← with-each-length es xs) (getD-append-seam (withEach next es xs) (next (withEach next es xs) x) [] d)
 
--- One step over a gate list: if f of a gate's wire follows from f of the gate's two references, this holds along the whole list.
+-- One step over a gate list: if `f` of a gate's wire follows from `f` of the gate's two references, this holds along the whole list.
 pub gates-step : {A B : Type 0} (f : A → B) (own : List A → Gate → A) (next : List B → Gate → B)
     → ((wires : List A) (g : Gate) → g .left < length wires → g .right < length wires → next (map f wires) g ≡ f (own wires g))
     → (gates : List Gate) (wires : List A) → RefersBack (length wires) gates → withEach next (map f wires) gates ≡ map f (withEach own wires gates)
