@@ -49,7 +49,7 @@ unfoldable pub find : {A : Type 0} → (A → Bool) → List A → Option A
 find test [] = none
 find test (x ∷ xs) = elim (test x) [ true ↦ some x | false ↦ find test xs ]
 
--- the sum of some numbers
+-- the sum of a list of numbers
 unfoldable pub total : List ℕ → ℕ
 total [] = 0
 total (x ∷ xs) = x + total xs

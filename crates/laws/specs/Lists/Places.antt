@@ -20,7 +20,7 @@ map-at f [] i d e h = absurd (not-suc-le-zero h)
 map-at f (x ∷ xs) zero d e h = refl
 map-at f (x ∷ xs) (suc i) d e h = map-at f xs i d e (le-of-suc-le-suc h)
 
--- one element more at the end
+-- one more element at the end
 module _ {A : Type 0} where
   pub length-snoc : (xs : List A) (x : A) → length (xs ++ (x ∷ [])) ≡ suc (length xs)
   length-snoc xs x = omega (arith, length-append xs (x ∷ []))

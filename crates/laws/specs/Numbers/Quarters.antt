@@ -111,7 +111,7 @@ quarter-later p q hp hq = rw (quarter-order p q hp hq) (go (decLt p q))
     go (yes h) = rw (lt-ltb p q h, max-eq-right (le-of-lt h)) refl
     go (no h) = let most : q ≤ p = omega arith in rw (le-ltb p q most, max-eq-left most) refl
 
--- .. and one delay more
+-- .. plus one delay
 pub quarter-joined : (p q d : ℕ) → max p q < exactBelow → d < exactBelow → add binary64 (laterOf (quarter p) (quarter q)) (quarter d) ≡ quarter (max p q + d)
 quarter-joined p q d h k =
     ap (λ (x : Float). add binary64 x (quarter d)) (quarter-later p q (lt-of-le-of-lt (le-max-left p q) h) (lt-of-le-of-lt (le-max-right p q) h))

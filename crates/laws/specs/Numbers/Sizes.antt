@@ -71,6 +71,6 @@ at-size test every m n size =
     (all-mem (λ n. not (cellsFit m n) || test m n)
     (mem-range fewestInputs (mostInputs + 1 - fewestInputs) n (size .inputs-least) (omega (arith, size .inputs-most))) row)
 
--- a bound on what depends on the size alone
+-- a bound on what depends only on the size
 pub bounded-at : (bound : ℕ → ℕ → ℕ) (most : ℕ) → everySize (λ m n. leb (bound m n) most) ≡ true → (m n : ℕ) → Size m n → bound m n ≤ most
 bounded-at bound most every m n size = leb-true (bound m n) most (at-size (λ m n. leb (bound m n) most) every m n size)

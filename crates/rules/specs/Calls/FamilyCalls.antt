@@ -35,7 +35,7 @@ familyNet number t =
 
 -- ---- the count
 
--- what the count call answers, and what its two buffers hold afterwards
+-- what the count call returns, and what its two buffers hold afterwards
 pub record Counted : Type 0 where
   pub answer : Answer ℕ
   pub cells : List ℕ

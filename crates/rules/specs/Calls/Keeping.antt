@@ -74,7 +74,7 @@ pub data Keeping : Type 0 where
   rewritten : ℕ → ℕ → Keeping
   turnedAway : Named → ℕ → ℕ → Keeping
 
--- what the call answers, and what its two buffers hold afterwards
+-- what the call returns, and what its two buffers hold afterwards
 pub record KeptWiring : Type 0 where
   pub answer : Keeping
   pub cells : List ℕ

@@ -16,7 +16,7 @@ use Rattle.rules.specs.Calls.Answers.{Answer, accepted, inkIn, refused, 
 use Rattle.rules.specs.Sheets.Reading.{readNet, tableOfNet}
 use Rattle.rules.specs.Calls.OpenCells.{readFull}
 
--- what settling and making answer, and what their three buffers hold afterwards
+-- what settling and making return, and what their three buffers hold afterwards
 pub record Made : Type 0 where
   pub answer : Answer ℕ
   pub cells : List ℕ

@@ -29,7 +29,7 @@ pub record Layered : Type 0 where
   pub length : ℕ
   pub layers : ℕ
 
--- what the two calls answer, and what their three buffers hold afterwards
+-- what the two calls return, and what their three buffers hold afterwards
 pub record LayeredMade : Type 0 where
   pub answer : Answer Layered
   pub cells : List ℕ

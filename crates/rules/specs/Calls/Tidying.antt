@@ -13,7 +13,7 @@ use Rattle.rules.specs.Calls.Answers.{Answer, accepted, refused, written
 use Rattle.rules.specs.Calls.Programs.{programOutput, zeros}
 use Rattle.rules.specs.Sheets.LooseSheet.{readLoose, tableOfLoose}
 
--- what tidying answers, and what its two buffers hold afterwards
+-- what tidying returns, and what its two buffers hold afterwards
 pub record Tidied : Type 0 where
   pub answer : Answer ℕ
   pub cells : List ℕ

@@ -121,7 +121,7 @@ AnswersAs (shallower first second handed) = shallowerCall (paper first) (paper s
 AnswersAs (timing net-sheet arrival-sheet delay earliest latest) =
     bitsIn (arrivalsCall (paper net-sheet) (paper arrival-sheet) delay) ≡ earliest ∷ latest ∷ []
 AnswersAs (arrivalsBack sheet number place) = readArrivals (letterNames "ab") (paper sheet) ≡ refused number place
--- one more step after so many, and the mark of a group after so many steps
+-- one more step after a number of steps, and the mark of a group after a number of steps
 AnswersAs (stepping sheet steps) = stepJob (jobStepped sheet steps) ≡ record { job = jobStepped sheet (steps + 1); answer = accepted tt }
 AnswersAs (asking sheet steps g reached) = askJob (jobStepped sheet steps) g ≡ record { job = jobStepped sheet steps; answer = accepted reached }
 AnswersAs (finishing sheet steps made inks marks) =
@@ -138,7 +138,7 @@ AnswersAs (glyph sheet width height picture offsets new) =
     ≡ record { answer = accepted (length (digits (text new))); output = held (digits (text new)) }
 AnswersAs (settlingProgram sheet output) = settleProgram (paper sheet) ≡ paper output
 AnswersAs (makingProgram sheet output) = makeProgram (paper sheet) ≡ paper output
--- an accepted net sheet has so many gates; a net sheet is refused
+-- an accepted net sheet has this number of gates; a net sheet is refused
 AnswersAs (gates sheet count) = gateCount (readNet (paper sheet)) ≡ accepted count
 AnswersAs (netBack sheet number place) = gateCount (readNet (paper sheet)) ≡ refused number place
 -- a number that the documents fix

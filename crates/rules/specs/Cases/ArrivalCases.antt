@@ -43,7 +43,7 @@ ArrivalHolds (settlesBetween net-sheet arrival-sheet delay earliest latest) =
 -- the call's answer by the bits of the two doubles
 ArrivalHolds (answers net-sheet arrival-sheet delay earliest latest) =
     bitsIn (arrivalsCall (paper net-sheet) (paper arrival-sheet) delay) ≡ earliest ∷ latest ∷ []
--- the bits of so many quarters as a double
+-- the bits of a number of quarters as a double
 ArrivalHolds (double quarters bits) = toBits binary64 (quarter quarters) ≡ bits
 -- the sheet that is refused, for every delay
 ArrivalHolds (netBack net-sheet arrival-sheet number place) = (delay : ℕ) → arrivalsCall (paper net-sheet) (paper arrival-sheet) delay ≡ netRefused number place
@@ -69,7 +69,7 @@ arrivalCases =
     settlesBetween three "name from to/a 0 0/b 4 6/c 5 5/" 2 9 10
     -- a, which arrives late, determines the earliest time: 10 and one gate, against 0 and two
     ∷ settlesBetween three "name from to/a 10 10/b 0 20/c 0 0/" 4 14 28
-    -- fixed times alone: one time
+    -- only fixed times: one time
     ∷ settlesBetween three "name from to/a 7 7/b 7 7/c 7 7/" 0 7 7
     -- all at 0 and a delay of 1: the layers
     ∷ settlesBetween three "name from to/a 0 0/b 0 0/c 0 0/" 1 2 2

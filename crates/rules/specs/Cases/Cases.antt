@@ -97,7 +97,7 @@ Holds (computes sheet t) = onward (readNet (paper sheet)) (λ net. accepted (tab
 Holds (marks t due bytes) = (marksOfCase t ≡ due) × (storedMarks (marksOfCase t) ≡ bytes)
 Holds (mark t g due) = (markIn (marksOfCase t) g ≡ due) × (markStored (storedMarks (marksOfCase t)) g ≡ due)
 Holds (multiplicity t g due) = multiplicityCall (t .header .levels) (t .header .inputs) (t .inks) g ≡ accepted due
--- a net sheet is refused, or accepted, with so many gates
+-- a net sheet is refused, or accepted with this number of gates
 Holds (refuses sheet number place) = gateCount (readNet (paper sheet)) ≡ refused number place
 Holds (accepts sheet gates) = gateCount (readNet (paper sheet)) ≡ accepted gates
 

@@ -127,7 +127,7 @@ cells-back e = record { counting = λ g. rw (e, multiplicityCall); marking = λ 
 unfoldable pub namedBy : ℕ → Named
 namedBy number = elim (eqb number 27) [ true ↦ tableNamed | false ↦ neither ]
 
--- The job on a sheet after so many steps.
+-- The job on a sheet after a number of steps.
 unfoldable pub jobStepped : String → ℕ → Job
 jobStepped sheet steps = afterMoves (replicate steps step) (openJob (paper sheet) .job)
 
@@ -206,7 +206,7 @@ Comes (loose sheet number place) = LooseBack (paper sheet) number place
 Comes (tidy sheet cells output number place cells-then) =
     tidyCall (paper sheet) (nines cells) (nines output)
     ≡ record { answer = refused number place; cells = digits (text cells-then); output = nines output }
--- a job after so many steps: one step further, the mark of a group, finishing; the job comes back unchanged
+-- a job after a number of steps: one step further, the mark of a group, finishing; the job comes back unchanged
 Comes (further sheet steps number place) =
     stepJob (jobStepped sheet steps) ≡ record { job = jobStepped sheet steps; answer = refused number place }
 Comes (ask sheet steps g number place) =

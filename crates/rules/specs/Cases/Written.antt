@@ -55,7 +55,7 @@ abcd m rule = byRule m 4 (letterNames "abcd") (λ ls. rule (getD ls 0 0) (getD l
 unfoldable pub oneIf : Bool → ℕ
 oneIf b = cond b 1 0
 
--- a buffer before a call: so many nines, a byte that none of the calls in the cases writes
+-- a buffer before a call: the given number of nines, a byte that none of the calls in the cases writes
 unfoldable pub nines : ℕ → List ℕ
 nines k = replicate k 9
 

@@ -120,7 +120,7 @@ looseFields t =
     ∷ (h .names ++ (text "ink" ∷ []))
     ∷ map (rowFields (h .levels) (h .inputs)) (t .rows)
 
--- a row names an assignment and has an ink below m, or m where it is open
+-- a row names an assignment and has an ink below m, or m if it is open
 abbrev pub EachRow : ℕ → ℕ → List Row → Type 0
 EachRow m n [] = Unit {0}
 EachRow m n (row ∷ rows) = (row .index < m ^ n) × (row .ink ≤ m) × EachRow m n rows

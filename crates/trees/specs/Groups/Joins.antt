@@ -44,7 +44,7 @@ module _ (m n : ℕ) (pos : 0 < m) (a b : ℕ) (a< : a < 2 ^ n) (b< : b < 2 ^ n)
       out : (i : ℕ) → i < n → member i b ≡ true → member i a ≡ false
       out i h k = sym (and-true (member i a)) ∙ (rw k at (apart i h))
 
-  -- a mix over a, mixed over the join with the same y, is as it was
+  -- a mix over a, mixed over the join with the same y, stays the same
   mix-again : (p y : ℕ) → mix m n (a + b) (mix m n a p y) y ≡ mix m n a p y
   mix-again p y = level-ext m n pos (mix m n (a + b) (mix m n a p y) y) (mix m n a p y)
       (mix-below m n pos (a + b) (mix m n a p y) y g<) (mix-below m n pos a p y a<) (λ i h. same i h (member i (a + b)) refl)

@@ -44,7 +44,7 @@ pub record Grown (m n : ℕ) (used : List ℕ) (forest : List Tree) : Type 0 whe
   pub fresh : (r : ℕ) → length forest ≤ r → NotIn r used
   pub home : (i : ℕ) → i < n → Home used forest i
 
--- ---- the inputs alone
+-- ---- only the inputs
 
 -- each input is its own home
 pub grown-inputs : (m n : ℕ) → Grown m n [] (inputTrees n)
