@@ -1,5 +1,5 @@
 -- Demand 2, checking and table writing: "the check of a net against a table says yes exactly when they agree on every
--- assignment", now for "the assignments that aren't open" (document 02, K13). The table sheet written from a net sheet is accepted and agrees with it.
+-- assignment", now for "the assignments that aren't open" (document 02, K13). The table sheet written from a net sheet is accepted, and agrees.
 -- Assumes nothing.
 use Prim.Native.Nat.{ℕ, _^_, _≤_, _<_}
 use mathlib.Core.Path.{_≡_, refl, sym, ap, _∙_, subst, subst⁻¹}

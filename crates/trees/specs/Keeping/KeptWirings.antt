@@ -253,7 +253,7 @@ module _ (m n : ℕ) (pos : 0 < m) (f : ℕ → ℕ) (gates : List Gate) (net : 
       go few (yes all) = all
       go few (no some) = let at = crowded-at (lt-of-not-le some) in absurd (omega (arith, few (roomyGates m n f gates) (lt-of-not-le some)))
 
-  -- "refused with 23 exactly when no filling of that wiring computes the table": an input that matters is unused, or a gate's group has over m classes
+  -- "refused with 23 exactly when no filling of that wiring computes the table": an input that matters is unused, or some group has over m classes
   pub no-filling : ((p : ℕ) → p < m ^ n → f p < m)
       → ((UsesMattering m n f gates → ⊥) ⊎ (roomyGates m n f gates < length gates)) ↔ ((filling : List Gate) → Filling m n f gates filling → ⊥)
   no-filling inks = (
