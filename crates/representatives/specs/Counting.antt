@@ -112,7 +112,7 @@ module _ {m n : ℕ} {f : ℕ → ℕ} {g : ℕ} (pos : 0 < m) (g< : g < 2 ^ n) 
         columns-some : {k : ℕ} → k < length vs → 0 < length vs
         columns-some h = omega arith
 
-    -- .. so larger groups have too many classes too
+    -- .. so their columns are witness columns, also for larger groups
     pub counting-many : m < count → {s : ℕ} → ToldAll m n f vs fs s → Told m n f g s (m + 1)
     counting-many over {s} told =
         record {

@@ -107,7 +107,7 @@ pub record ToldAll (m n : ℕ) (f : ℕ → ℕ) (ys firsts : List ℕ) (r : ℕ
   pub there : Column ys base
   pub tells : (j k : ℕ) → j < k → k ≤ m → Distinguishes m n f ys base (getD firsts k 0) (getD firsts j 0) r
 
--- columns distinguish the rows after the first k from those before them
+-- columns distinguish each row after row k from all rows before it
 pub record ToldFrom (m n : ℕ) (f : ℕ → ℕ) (ys firsts : List ℕ) (base k r : ℕ) : Type 0 where
   pub low : r < 2 ^ 16
   pub most : k ≤ m
