@@ -23,7 +23,7 @@ fn given(cells: &[u8], ys: &[u16], firsts: &[u16], last: bool, p: usize) -> u8
     }
 }
 
-// Returns the digit at (u, v): what the gate gives where left carries u and right v, and 0 if no assignment has them carry that.
+// Returns the digit at (u, v): what the gate gives if left carries u and right carries v, or 0 if no assignment gives them these values.
 fn digit(
     cells: &[u8],
     ys: &[u16],

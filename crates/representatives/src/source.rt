@@ -1,4 +1,4 @@
-// The member that is removed from a group, so that the group can be classified from the rest.
+// The member to remove from a group, so that the group can be classified from the rest.
 ghost use mathlib.Core.Path.{_≡_};
 ghost use Prim.Native.Nat.{ℕ, _*_, _^_, _≤_, _<_};
 ghost use lib.ListN.{length, getD};

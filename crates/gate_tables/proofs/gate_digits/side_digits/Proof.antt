@@ -1,5 +1,5 @@
--- `gate_tables::gate_digits::side_digits` meets its contract: what the last gate gives does not depend on the lists; for any other gate these are the
--- other inputs' assignments and the group's classes. Assumes nothing.
+-- `gate_tables::gate_digits::side_digits` meets its contract: what the last gate gives does not depend on the lists; for any other gate they are the
+-- assignments of the other inputs and the group's classes. Assumes nothing.
 use mathlib.Core.Path.{refl}
 use borrow.Author.Needs.{needs}
 use Rattle.rules.specs.Calls.Answers.{inkIn}

@@ -23,7 +23,7 @@ loop-holds c = (omega arith, λ j z h. absurd (omega arith))
 cast-h : tie.Need-cast-h Inv-loop μ-loop
 cast-h c = omega (arith, c .shared-slice-known3 .given (c .before .before .loop .k))
 
--- the run of a turn's head is there, in both rows
+-- the run of a turn's head exists in both rows
 in-cells : (c : tie.In-loop Inv-loop μ-loop) →
     let a = at-start (c .before) .args in
     let h = getD (a .heads .now) (c .before .loop .k) 0 in
