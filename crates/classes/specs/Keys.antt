@@ -1,5 +1,5 @@
--- A key of an assignment: a number made of its inks at some assignments of the other inputs. Alike assignments have the same key, so only those with the
--- same key are compared.
+-- A key of an assignment: a number made of its inks at some assignments of the other inputs. Alike assignments have the same key, so only those with
+-- the same key are compared.
 -- Assumes nothing.
 use Prim.Native.Nat.{ℕ, zero, suc, _+_, _*_, _%_, _≤_, _<_}
 use mathlib.Core.Path.{_≡_, refl, ap, _∙_}

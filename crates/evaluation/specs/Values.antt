@@ -145,7 +145,7 @@ module _ (net : Net) (starts₀ : List ℕ) (base count : ℕ) (before : List �
             let inside : u * m + v < m * m = digits-lt (known-below (getD (net .left) k 0) (back .0)) (known-below (getD (net .right) k 0) (back .1)) in
             omega (arith, gate-value, table .below (u * m + v) (rw (table .count) inside))
 
-      -- one gate more has its values
+      -- one more gate has its values
       pub gates-more : GatesDone net starts₀ base count before (k + 1) (set starts (net .inputs + k) to) (to + count) after
       gates-more =
           record {

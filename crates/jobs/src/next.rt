@@ -24,7 +24,7 @@ pub enum Next {
     Mark(u8),
 }
 
-// Returns whether g is the whole group and every ink is a level. Such a group has at most m classes, since its classes are the inks.
+// Returns whether g is the whole group and every ink is a level. Such a group has at most m classes, because its classes are the inks.
 fn is_whole_of_full(m: usize, n: usize, inks: &[u8], g: usize) -> bool
     requires { ⌜ (sizeFits m n ≡ true) × (length (now inks) ≡ m ^ n) ⌝ }
     ensures { λ r. ⌜ (r ≡ true → (g ≡ wholeGroup n) × ((p : ℕ) → p < m ^ n → inkIn (now (inks .entry)) p < m)) ⌝ }

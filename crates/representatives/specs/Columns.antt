@@ -91,7 +91,7 @@ abbrev pub SameHeads : (ℕ → ℕ) → ℕ → List ℕ → ℕ → ℕ → �
 SameHeads f run hs p q k = (j z : ℕ) → j < k → z < run → f (p + (getD hs j 0 + z)) ≡ f (q + (getD hs j 0 + z))
 
 module _ (f : ℕ → ℕ) (run : ℕ) (hs : List ℕ) (p q k : ℕ) {z : ℕ} (apart : RunApart f (p + getD hs k 0) (q + getD hs k 0) run z) where
-  -- one head more
+  -- one more head
   pub heads-next : run ≤ z → SameHeads f run hs p q k → SameHeads f run hs p q (k + 1)
   heads-next all so-far j i h i< = go (ℕ-discrete j k)
     where

@@ -16,7 +16,7 @@ pub fn passes_on(m: usize, counts: &[u8], kept: &[u16], h: usize, bit: usize) ->
     kept[h * m] as usize & bit != 0
 }
 
-// Returns a member of g, as a group: preferably one whose removal leaves too many classes that pass on to g, else one whose removal leaves few classes.
+// Returns a member of g, as a group: preferably one whose removal leaves too many classes that pass on to g, else one whose removal leaves few.
 pub fn source(m: usize, counts: &[u8], kept: &[u16], g: usize) -> usize
     requires { ⌜ (0 < m) × (0 < g) × (g ≤ length (now counts)) × (g * m ≤ length (now kept)) ⌝ }
     ensures { λ r. ⌜ ((n : ℕ) → g < 2 ^ n → OneOf n g r) ⌝ }

@@ -11,7 +11,7 @@ use borrow.Author.Needs.{needs}
 use Rattle.representatives.proofs.group.keep_group.Statement.{statement}
 use Rattle.representatives.proofs.group.keep_group.Tie as tie
 
--- the start, from the test of the group and from the member that is taken off; that member, from what is kept where too many pass on
+-- the start, from the test of the group and from the removed member; that member, from what is recorded if too many classes pass on
 abbrev at-start : tie.After-slice-known4 → tie.Start
 at-start c = c .before .before .before .before .before .before .before
 

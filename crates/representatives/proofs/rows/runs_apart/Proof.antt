@@ -1,4 +1,4 @@
--- `representatives::rows::runs_apart` meets its contract. The loop's invariant: the cells are the same in the runs of the heads so far. Assumes nothing.
+-- `representatives::rows::runs_apart` meets its contract. Loop invariant: the cells are the same in the runs of the heads so far. Assumes nothing.
 use Prim.Native.Nat.{_+_, _-_, _≤_, _<_}
 use native.Mathlib.Omega.{arith}
 use lib.ListN.{length, getD}
