@@ -43,13 +43,13 @@ readBoth net-sheet table-sheet =
       ]
     ]
 
--- ---- what reading both answers
+-- ---- the result of reading both
 
 abbrev pub pairingAs : Pair → Pairing → Pair
 pairingAs both Accepted = both
 pairingAs both (Refused named number place) = turnedBack (namedOf named) number place
 
--- the header of two accepted sheets and the net; the table's inks stand at the front of `inks`
+-- the header of two accepted sheets and the net; the table's inks are at the front of `inks`
 pub record BothTaken (s t : List ℕ) (h : Header) (net : Net) (inks : List ℕ) : Type 0 where
   pub own : NetTaken s h net
   pub table : readTable t ≡ accepted (tableIn s h (inksIn inks h))
@@ -74,7 +74,7 @@ module _ (s t inks : List ℕ) (h : Header) (net : Net) where
     unfolding readBoth
     both-table-refused number place e = turned named.Table number place (rw (taken .reads, e, readBoth))
 
-    -- the headers compared
+    -- the comparison of the headers
     module _ (k : Header) (other : TableTaken t k inks) (same : Bool) (told : same ≡ sameHeader (headerOf s h) (headerOf t k)) where
       pub both-differ : not same ≡ true → BothReads s t inks (record { outcome = Refused named.Neither 12 0; header = h; net = net })
       unfolding readBoth
@@ -97,7 +97,7 @@ module _ (s t inks : List ℕ) (h : Header) (net : Net) where
 
 -- ---- a call on two sheets
 
--- what a call does that goes on with both, or refuses as reading them does
+-- the result of a call that continues with both sheets, or refuses as reading them does
 unfoldable pub onBoth : {A : Type 0} → (answers.Named → ℕ → ℕ → A) → (sheets.Net → Table → A) → Pair → A
 onBoth refusal onward (pair net t) = onward net t
 onBoth refusal onward (turnedBack who number place) = refusal who number place

@@ -1,4 +1,4 @@
--- A sheet that was read, by value: its refusal, or its parts and what the calls on them ask.
+-- A sheet that was read, by value: its refusal, or its parts and what the calls on them require.
 -- Assumes nothing.
 use Prim.Native.Nat.{ℕ, _-_, _^_, _≤_, _<_}
 use mathlib.Core.Path.{_≡_, sym, ap, ap₂, _∙_, subst⁻¹}
@@ -40,23 +40,23 @@ pub record NetTaken (s : List ℕ) (h : Header) (net : Net) : Type 0 where
   pub levels : net .levels ≡ h .levels
   pub inputs : net .inputs ≡ h .inputs
 
--- the header of an accepted table sheet, whose inks stand at the front of `cells`
+-- the header of an accepted table sheet, whose inks are at the front of `cells`
 pub record TableTaken (s : List ℕ) (h : Header) (cells : List ℕ) : Type 0 where
   pub reads : readTable s ≡ accepted (tableIn s h (inksIn cells h))
   pub header : HeaderHeld s h
 
--- the same of a sheet of a full table
+-- the same for a sheet of a full table
 pub record FullTaken (s : List ℕ) (h : Header) (cells : List ℕ) : Type 0 where
   pub reads : readFull s ≡ accepted (tableIn s h (inksIn cells h))
   pub header : HeaderHeld s h
 
--- the table that the header's names in the sheet s and the inks make keeps the rules and is full, and the names are in the sheet
+-- the table made of the header's names in the sheet s and the inks keeps the rules and is full, and the names are in the sheet
 pub record Given (s : List ℕ) (h : Header) (inks : List ℕ) : Type 0 where
   pub names : NamesInside s h
   pub kept : TableRules (tableIn s h inks)
   pub full : FullTable (tableIn s h inks)
 
--- ---- what reading answers
+-- ---- the results of reading
 
 module _ (s : List ℕ) (r : NetRead) (read : NetReads s r) where
   pub net-taken : r .outcome ≡ Accepted → NetTaken s (r .header) (r .net)
@@ -86,7 +86,7 @@ module _ (s cells : List ℕ) (r : TableRead) (read : FullReads s cells r) where
   pub read-full-refused : (number place : ℕ) → r .outcome ≡ Refused number place → readFull s ≡ refused number place
   read-full-refused number place e = sym (read .answer) ∙ ap (outcomeAs (tableIn s (r .header) (inksIn cells (r .header)))) e
 
--- ---- what the calls ask
+-- ---- what the calls require
 
 module _ (s : List ℕ) (h : Header) (held : HeaderHeld s h) where
   pub held-size : Size (h .levels) (h .inputs)

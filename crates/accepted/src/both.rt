@@ -12,7 +12,7 @@ use nets::forms::Header;
 use nets::forms::Net;
 use table_reader::sheet::read_table;
 
-// Whether both sheets are accepted, or a refusal's number and place, and the sheet that it names.
+// The outcome for both sheets: accepted, or the number and place of a refusal and the sheet that it names.
 pub enum Pairing {
     Accepted,
     Refused {
@@ -22,7 +22,7 @@ pub enum Pairing {
     },
 }
 
-// What reading two sheets answers: if both are accepted, their header and the net.
+// The result of reading two sheets. The header and the net are set if both sheets are accepted.
 pub struct BothRead {
     pub outcome: Pairing,
     pub header: Header,
@@ -69,7 +69,7 @@ fn read_beside(s: &[u8], header: Header, net: Net, t: &[u8], inks: &mut [u8]) ->
     }
 }
 
-// Reads a net sheet, then a table sheet, and compares their headers (12). Any bytes may come in. The table's inks go to the front of `inks`.
+// Reads a net sheet and a table sheet, and compares their headers (12). Both may be any bytes. The table's inks go to the front of `inks`.
 pub fn read_both(net_sheet: &[u8], table_sheet: &[u8], inks: &mut [u8]) -> BothRead
     requires { ⌜ mostCells ≤ length (now inks) ⌝ }
     ensures { λ r. ⌜ BothReads (now («net_sheet» .entry)) (now («table_sheet» .entry)) (now (inks .exit)) r ⌝ }

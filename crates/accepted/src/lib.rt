@@ -1,2 +1,2 @@
-// What reading a sheet gives a call that works on it, in specs/; and the two sheets of a call, read and compared.
+// Reads the two sheets of a call and compares them. specs/ states what a call may use once a sheet is read.
 pub mod both;

@@ -1,4 +1,4 @@
--- What the answers that calls share stand for in the definitions: the number and values for each case.
+-- How the answers that calls share map to the definitions: the number and values for each case.
 -- Assumes nothing.
 use Prim.Native.Nat.{ℕ}
 use mathlib.Core.List.{List}

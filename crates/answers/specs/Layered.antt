@@ -1,4 +1,4 @@
--- What an answer with a count of layers stands for in the definitions, and with it the three buffers.
+-- How an answer with a count of layers maps to the definitions, and with it the three buffers.
 -- Assumes nothing.
 use Prim.Native.Nat.{ℕ}
 use mathlib.Core.List.{List}

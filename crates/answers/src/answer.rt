@@ -1,4 +1,4 @@
-// What a call answers: a value, or a refusal's number and place.
+// What a call returns: a value, or a refusal's number and place.
 pub enum Answer {
     Accepted(usize),
     Refused { number: usize, place: usize },

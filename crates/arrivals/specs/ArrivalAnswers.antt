@@ -1,4 +1,4 @@
--- What the answer of the call stands for in the definitions: its number and values for each case. And what it is by what was read.
+-- The meaning of the call's answer in the definitions: its number and values in each case. And the answer as a function of what was read.
 -- Assumes nothing.
 use Prim.Native.Nat.{ℕ}
 use mathlib.Core.Path.{_≡_, sym, ap, _∙_, subst}

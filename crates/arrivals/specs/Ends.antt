@@ -1,4 +1,4 @@
--- What an arrival and two ends in f64 stand for: exact quarters of a microsecond.
+-- The meaning of an arrival and of two ends in f64: exact quarters of a microsecond.
 -- Assumes nothing.
 use Prim.Native.Nat.{ℕ, _+_, _<_, max}
 use mathlib.Core.Path.{_≡_, refl, ap₂}
@@ -21,7 +21,7 @@ abbrev pub endsIn : Arrival → Ends
 endsIn (Fixed time) = record { earliest = time; latest = time }
 endsIn (Between earliest latest) = record { earliest = earliest; latest = latest }
 
--- two ends, each so many quarters
+-- two ends, given in quarters
 abbrev pub endsAt : ℕ → ℕ → Ends
 endsAt earliest latest = record { earliest = quarter earliest; latest = quarter latest }
 
@@ -29,7 +29,7 @@ pub ends-timed : (a : sheet.Arrival) → endsIn (timed a) ≡ endsAt (earliestOf
 ends-timed (fixed time) = refl
 ends-timed (between from to) = refl
 
--- at each end, the later of the two and one delay more
+-- at each end, the later of the two plus one delay
 abbrev pub joinedEnds : Ends → Ends → Float → Ends
 joinedEnds left right delay =
     record {
@@ -37,7 +37,7 @@ joinedEnds left right delay =
       latest = add binary64 (laterOf (left .latest) (right .latest)) delay;
     }
 
--- of quarters that is a whole number's maximum and sum
+-- on quarters, this is the maximum and the sum of whole numbers
 pub joined-at : (a b c d delay : ℕ) → max a c < exactBelow → max b d < exactBelow → delay < exactBelow
     → joinedEnds (endsAt a b) (endsAt c d) (quarter delay) ≡ endsAt (max a c + delay) (max b d + delay)
 joined-at a b c d delay first second small =

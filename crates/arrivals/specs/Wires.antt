@@ -38,7 +38,7 @@ pub record WiresAt (early late : List ℕ) (ends : List Ends) : Type 0 where
   pub many : length early ≡ length late
   pub each : (d : Ends) (i : ℕ) → i < length early → getD ends i d ≡ endsAt (getD early i 0) (getD late i 0)
 
--- one wire more
+-- one more wire
 pub wires-snoc : (early late : List ℕ) (ends : List Ends) → WiresAt early late ends → (k : ℕ) → k ≡ length early → k < mostWires
     → (e l : ℕ) (more : Ends) → more ≡ endsAt e l → WiresAt (early ++ (e ∷ [])) (late ++ (l ∷ [])) (set ends k more)
 wires-snoc early late ends wires k is few e l more ends-more =
@@ -97,12 +97,12 @@ pub wired-none : (net : Net) (times : Times) (delay : ℕ) (ends : List Ends) �
 unfolding range withEach
 wired-none net times delay ends wires = record { low = omega arith; wires = wires }
 
--- the same from the inputs' ends, for whichever times they are of
+-- the same given only the inputs' ends, for any times that have these ends
 abbrev pub ArrivalTurned : Net → ℕ → List Ends → ℕ → List Ends → Type 0
 ArrivalTurned net delay inputs-ends k ends =
     (times : Times) → TimesHeld times (net .inputs) → WiresAt (firstTimes (times .from) (net .inputs)) (firstTimes (times .to) (net .inputs)) inputs-ends → Wired net times delay k ends
 
--- no time at one end is past the exact ones
+-- no time at one end is beyond the exact ones
 first-most : (b : ℕ) (end : List ℕ) (n : ℕ) → ((i : ℕ) → i < n → getD end i 0 ≤ b) → (i : ℕ) → getD (firstTimes end n) i 0 ≤ b
 first-most b end n most i = go (decLt i n)
   where
@@ -154,7 +154,7 @@ module _ (net : Net) (sound : Sound net) (delay : ℕ) (byte : delay ≤ mostDel
     at-reference d i h = wired .wires .each d i (rw (to-length net sound delay byte (times .from) from-most k) h)
 
     module _ (turn : k < net .gates) where
-      -- two of them, joined
+      -- joining two of them
       gate-ends : (left right : ℕ)
           → joinedEnds (endsAt (getD early left 0) (getD late left 0)) (endsAt (getD early right 0) (getD late right 0)) (quarter delay)
           ≡ endsAt (max (getD early left 0) (getD early right 0) + delay) (max (getD late left 0) (getD late right 0) + delay)

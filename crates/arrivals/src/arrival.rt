@@ -1,4 +1,4 @@
-// The arrival at an input, in microseconds. specs/Ends.antt says what each form stands for.
+// The arrival at an input, in microseconds. specs/Ends.antt defines each form.
 ghost use mathlib.Core.Path.{_≡_};
 ghost use Rattle.rules.specs.Sheets.ArrivalSheet.{arrivalOf};
 ghost use Rattle.rules.specs.Nets.Arrivals.{quarter};

@@ -18,7 +18,7 @@ pub enum Timing {
     ArrivalsRefused { number: usize, place: usize },
 }
 
-// The accepted net sheet s with the arrival sheet t.
+// Reads the arrival sheet t for the accepted net sheet s.
 fn settle_by(s: &[u8], header: Header, net: Net, t: &[u8], delay: u8) -> Timing
     requires { ⌜ NetTaken (now s) header net ⌝ }
     ensures { λ r. ⌜ timingAs r ≡ arrivalsCall (now (s .entry)) (now (t .entry)) delay ⌝ }
@@ -32,7 +32,7 @@ fn settle_by(s: &[u8], header: Header, net: Net, t: &[u8], delay: u8) -> Timing
     }
 }
 
-// Returns when the output of a net settles, the earliest and the latest, in microseconds. Any bytes may come in.
+// Returns the earliest and the latest time at which a net's output settles, in microseconds. Both sheets may be any bytes.
 pub fn arrivals(s: &[u8], t: &[u8], delay: u8) -> Timing
     ensures { λ r. ⌜ timingAs r ≡ arrivalsCall (now (s .entry)) (now (t .entry)) delay ⌝ }
 {

@@ -1,4 +1,4 @@
-// A gate settles one delay after the later of the two that it joins: one comparison and one addition at each end.
+// A gate settles one delay after the later of its two wires: one comparison and one addition at each end.
 ghost use mathlib.Core.Path.{_≡_};
 ghost use Rattle.laws.specs.Numbers.Quarters.{laterOf};
 ghost use Rattle.arrivals.specs.Ends.{joinedEnds};

@@ -14,7 +14,7 @@ use crate::sheet::lines::Times;
 use nets::forms::MOST_WIRES;
 use nets::forms::Net;
 
-// The ends of the inputs, before room for those of the gates.
+// Returns the ends of the inputs, followed by room for those of the gates.
 fn input_ends(times: Times, inputs: usize) -> [Ends; MOST_WIRES]
     requires { ⌜ (inputs ≤ mostInputs) × TimesHeld times inputs ⌝ }
     ensures { λ r. ⌜ WiresAt (firstTimes (times .from) inputs) (firstTimes (times .to) inputs) r ⌝ }

@@ -1,6 +1,6 @@
--- "For every list of steps and askings from a newly opened job" (document 02, K9), of the calls for C: the bytes that opening wrote and that steps
+-- "For every list of steps and askings from a newly opened job" (document 02, K9), for the calls for C: the bytes that opening wrote and that steps
 -- changed are the job after these moves.
--- What such a job's marks are is said of the definitions (`marks-passed` and `marks-ahead` in demands/Jobs).
+-- `marks-passed` and `marks-ahead` in demands/Jobs say what the marks of such a job are.
 -- Assumes nothing.
 use Prim.Native.Nat.{ℕ}
 use mathlib.Core.Path.{_≡_, sym, ap, _∙_}
@@ -12,8 +12,8 @@ use Rattle.capi.specs.declared.numbers.flat.SitgurpAnswer.{SitgurpAnswer
 use Rattle.capi.specs.JobOpen.{FlatOpened}
 use Rattle.capi.specs.JobStep.{FlatStepped}
 
--- The four parts of a job, got from the sheet s by the C calls: opened, brought on by steps, and asked. Each case has what the contract of the call
--- says of the memory lent to it; an asking and a finishing only read the parts.
+-- The four parts of a job that came from the sheet s by the C calls: opened, advanced by steps, and asked. Each case has what the call's contract
+-- says about the memory lent to it; asking and finishing only read the parts.
 pub data FlatGot (s : List ℕ) : List Move → List ℕ → List ℕ → List ℕ → ℕ → Type 0 where
   opened : {lines cells marks : List ℕ} {passed : ℕ} (r : SitgurpAnswer) → FlatOpened s r lines cells marks passed → FlatGot s [] lines cells marks passed
   stepped : {moves : List Move} {lines cells marks marks-after : List ℕ} {passed passed-after : ℕ} → FlatGot s moves lines cells marks passed

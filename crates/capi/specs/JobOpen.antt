@@ -1,4 +1,4 @@
--- Opening a job as the call for C gives it: two numbers, and every byte of the job.
+-- Opening a job as the call for C returns it: two numbers, and every byte of the job.
 -- Assumes nothing.
 use Prim.Native.Nat.{ℕ}
 use mathlib.Core.Path.{_≡_, ap, _∙_}

@@ -1,4 +1,4 @@
--- A step of a job as the call for C gives it: two numbers, the marks and how many groups have been passed.
+-- A step of a job as the call for C returns it: two numbers, the marks and how many groups have been passed.
 -- Assumes nothing.
 use Prim.Native.Nat.{ℕ, _+_, _<_}
 use mathlib.Core.Path.{_≡_, sym, ap, _∙_}

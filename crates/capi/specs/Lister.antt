@@ -1,5 +1,5 @@
--- A gate lister whose caller keeps the position: `sitgurp_lister_open` gives the first, and `sitgurp_lister_next` the line at a position and the next position.
--- Followed from the first position, turn k is turn k of `listing`, which is what `sitgurp_gate_line` answers.
+-- A gate lister whose caller keeps the position: `sitgurp_lister_open` returns the first, `sitgurp_lister_next` the line at a position and the next
+-- position. Followed from the first position, turn k is turn k of `listing`, which is what `sitgurp_gate_line` returns.
 -- Assumes nothing.
 use Prim.Native.Nat.{ℕ, zero, suc, _+_, _-_, _≤_, _<_, min}
 use mathlib.Core.Path.{_≡_, refl, sym, ap, _∙_}
@@ -25,11 +25,11 @@ abbrev pub flatLine : Turn → ℕ → SitgurpLine
 flatLine noneLeft next = record { kind = 0; start = 0; length = 0; next = next }
 flatLine (gateAt part) next = record { kind = 1; start = part .start; length = part .count; next = next }
 
--- what `sitgurp_lister_next` answers at a position
+-- what `sitgurp_lister_next` returns at a position
 abbrev pub lineFrom : List ℕ → ℕ → SitgurpLine
 lineFrom s at = flatLine (turnAt s at) (lineAfter s at)
 
--- the position of turn k, from the first on
+-- the position of turn k, counted from the first
 unfoldable pub followed : List ℕ → ℕ → ℕ → ℕ
 followed s first zero = first
 followed s first (suc k) = lineFrom s (followed s first k) .next
@@ -85,7 +85,7 @@ module _ (s : List ℕ) where
   turn-flat noneLeft next = refl
   turn-flat (gateAt part) next = refl
 
-  -- started by opening and followed, turn k is what `sitgurp_gate_line` answers for k
+  -- started by opening and followed, turn k is what `sitgurp_gate_line` returns for k
   pub followed-turn : (first : ℕ) → opening s ≡ accepted first → (k : ℕ) → asTurn (lineFrom s (followed s first k)) ≡ flatTurn (listing s k)
   unfolding listing onward turnIn
   followed-turn first e k =

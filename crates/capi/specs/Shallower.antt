@@ -1,4 +1,4 @@
--- The shallower of two sheets as two numbers: which, and the length of what is handed back.
+-- The shallower of two sheets as two numbers: which, and the length of what is returned.
 -- Assumes nothing.
 use Prim.Native.Nat.{ℕ}
 use mathlib.Core.List.{List}

@@ -1,4 +1,4 @@
--- What a call that writes an output alone answers as two numbers, and its output: table writing, and glyphs.
+-- The answer as two numbers, and the output, of a call that writes only an output: table writing and glyphs.
 -- Assumes nothing.
 use Prim.Native.Nat.{ℕ}
 use mathlib.Core.Path.{_≡_}

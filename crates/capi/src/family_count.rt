@@ -4,7 +4,7 @@ ghost use Rattle.capi.specs.Counted.{FlatCounted};
 use crate::numbers::flat::SitgurpAnswer;
 use crate::numbers::flat::flat;
 
-// How many trees the table of a table sheet has, with the cells and the marks written.
+// Returns how many trees the table of a table sheet has, and writes the cells and the marks.
 #[no_mangle]
 pub extern "C" fn sitgurp_family_count(
     sheet: &[u8],

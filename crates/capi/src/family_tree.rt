@@ -4,7 +4,7 @@ ghost use Rattle.capi.specs.Made.{FlatMade};
 use crate::numbers::flat::SitgurpAnswer;
 use crate::numbers::flat::flat;
 
-// Makes the net sheet of a number among the trees of a table sheet, with making's buffers.
+// Makes the net sheet of one number among the trees of a table sheet, with the buffers of making.
 #[no_mangle]
 pub extern "C" fn sitgurp_family_tree(
     sheet: &[u8],

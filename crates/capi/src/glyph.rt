@@ -4,7 +4,7 @@ ghost use Rattle.capi.specs.WriteTable.{FlatWritten};
 use crate::numbers::flat::SitgurpAnswer;
 use crate::numbers::flat::flat;
 
-// Writes the glyph that a net sheet prints from a picture. The answer is the number of its cells.
+// Writes the glyph that a net sheet prints from a picture. Returns the number of its cells.
 #[no_mangle]
 pub extern "C" fn sitgurp_glyph(
     sheet: &[u8],

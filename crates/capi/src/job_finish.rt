@@ -10,7 +10,7 @@ use jobs::finishing;
 use jobs::job;
 use radix::limits;
 
-// What making comes to from the job's own table, of which `own` are the cells; or refusal 9, 10, 27 or 22.
+// Returns what making returns for the job's own table, with the cells `own`; or refusal 9, 10, 27 or 22.
 #[no_mangle]
 pub extern "C" fn sitgurp_job_finish_parts(
     lines: &[u8; job::MOST_LINES],

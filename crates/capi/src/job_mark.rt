@@ -1,4 +1,4 @@
-// A job asked for a group's mark, for C, by its parts.
+// Asks a job for a group's mark, for C, by its parts.
 ghost use mathlib.Core.Path.{_≡_};
 ghost use mathlib.Core.List.{List};
 ghost use Prim.Native.Nat.{ℕ};
@@ -11,7 +11,7 @@ use jobs::asking;
 use jobs::job;
 use marks::own;
 
-// The final mark of a group that has been passed, that it is not reached, or refusal 11.
+// Returns the final mark of a group that has been passed, or that the group is not reached, or refusal 11.
 #[no_mangle]
 pub extern "C" fn sitgurp_job_mark_parts(
     lines: &[u8; job::MOST_LINES],

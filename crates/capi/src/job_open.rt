@@ -1,4 +1,4 @@
-// Opening a job for C. The caller owns a job, and lends its parts; include/sitgurp.h has them in one struct.
+// Opens a job for C. The caller owns the job, and lends its parts; include/sitgurp.h has them in one struct.
 ghost use Rattle.capi.specs.JobOpen.{FlatOpened};
 use crate::numbers::done::flat_done;
 use crate::numbers::flat::SitgurpAnswer;
@@ -7,7 +7,7 @@ use jobs::opening;
 use marks::own;
 use radix::limits;
 
-// Opens a job on a table sheet; beside a refusal the empty job. Number 0: accepted, with value 0.
+// Opens a job on a table sheet. The job is empty if the sheet is refused. Number 0: accepted, with value 0.
 #[no_mangle]
 pub extern "C" fn sitgurp_job_open_parts(
     sheet: &[u8],

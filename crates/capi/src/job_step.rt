@@ -7,7 +7,7 @@ use jobs::next::Next;
 use marks::own;
 use radix::limits;
 
-// One group further, or refusal 21.
+// Marks the next group of a job, or returns refusal 21.
 #[no_mangle]
 pub extern "C" fn sitgurp_job_step_parts(
     lines: &[u8; job::MOST_LINES],

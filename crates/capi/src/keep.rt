@@ -4,7 +4,7 @@ ghost use Rattle.capi.specs.Keep.{FlatKept};
 use crate::numbers::kept::SitgurpKept;
 use crate::numbers::kept::flat_kept;
 
-// Fills the gates of a net sheet anew for a table sheet, whose inks go to the cells buffer, and writes the sheet.
+// Fills the gates of a net sheet again for a table sheet, whose inks go to the cells buffer, and writes the sheet.
 #[no_mangle]
 pub extern "C" fn sitgurp_keep(
     net: &[u8],

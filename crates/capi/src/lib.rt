@@ -1,4 +1,4 @@
-// The calls for C and Rust, over numbers and byte slices, a file for each. include/sitgurp.h declares them.
+// The calls for C and Rust, over numbers and byte slices, one file for each. include/sitgurp.h declares them.
 pub mod arrival_times;
 pub mod check;
 pub mod family_count;

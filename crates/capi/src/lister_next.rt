@@ -5,7 +5,7 @@ use crate::numbers::line::SitgurpLine;
 use net_sheets::lister::places::line_end;
 use net_sheets::lister::places::past_feed;
 
-// Returns the line that starts at byte `at`, and the position of the line after it. Looks at no byte before `at`.
+// Returns the line that starts at byte `at`, and the position of the line after it. Reads no byte before `at`.
 #[no_mangle]
 pub extern "C" fn sitgurp_lister_next(sheet: &[u8], at: usize) -> SitgurpLine
     ensures { λ r. ⌜ r ≡ lineFrom (now (sheet .entry)) at ⌝ }

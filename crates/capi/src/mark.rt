@@ -4,7 +4,7 @@ ghost use Rattle.capi.specs.Marking.{FlatMarked};
 use crate::numbers::flat::SitgurpAnswer;
 use crate::numbers::flat::flat;
 
-// The marks of every group of bare cells, written to `marks`, and the whole group's mark.
+// Writes the marks of every group of bare cells to `marks`, and returns the whole group's mark.
 #[no_mangle]
 pub extern "C" fn sitgurp_marking(
     m: usize,

@@ -5,7 +5,7 @@ ghost use Rattle.capi.specs.Numbers.Flat.{flatOf};
 use crate::numbers::flat::SitgurpAnswer;
 use crate::numbers::flat::flat;
 
-// The multiplicity of a group of bare cells.
+// Returns the multiplicity of a group of bare cells.
 #[no_mangle]
 pub extern "C" fn sitgurp_multiplicity(
     m: usize,

@@ -4,7 +4,7 @@ ghost use Rattle.capi.specs.Made.{FlatMade};
 use crate::numbers::flat::SitgurpAnswer;
 use crate::numbers::flat::flat;
 
-// Settles a net sheet: its table, its marks and its settled net sheet. The answer is the sheet's length.
+// Settles a net sheet: writes its table, its marks and its settled net sheet. Returns the sheet's length.
 #[no_mangle]
 pub extern "C" fn sitgurp_settle(
     sheet: &[u8],

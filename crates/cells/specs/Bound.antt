@@ -1,4 +1,4 @@
--- The first cell that is at least a bound, and what it says of refusals 10 and 27.
+-- The first cell that is at least a bound, and what it means for refusals 10 and 27.
 -- Assumes nothing.
 use Prim.Native.Nat.{ℕ, _+_, _≤_, _<_}
 use mathlib.Core.Path.{_≡_, sym, ap, _∙_}
@@ -21,7 +21,7 @@ pub record FirstAtLeast (bound : ℕ) (cells : List ℕ) (place : ℕ) : Type 0 
   pub below : (p : ℕ) → p < place → getD cells p 0 < bound
   pub reached : place < length cells → bound ≤ getD cells place 0
 
--- a place before which no element passes, and at which one does unless it is the end, is the first place
+-- a place is the first that passes if no place before it passes, and it passes itself or is the end
 pub first-is : (test : ℕ → Bool) (xs : List ℕ) (place : ℕ) → place ≤ length xs → ((p : ℕ) → p < place → test (getD xs p 0) ≡ false)
     → (place < length xs → test (getD xs place 0) ≡ true) → place ≡ firstPlace test xs
 first-is test xs place most before at = go (decLt (firstPlace test xs) place) (decLt place (firstPlace test xs))
@@ -41,7 +41,7 @@ module _ (m : ℕ) (cells : List ℕ) (place : ℕ) where
       first-is (λ c. not (leb c m)) cells place (first .most) (λ p h. ap not (le-leb _ m (omega (arith, first .below p h))))
       (λ h. ap not (lt-leb _ m (omega (arith, first .reached h))))
 
-  -- with the bound m, where no cell is above m, it is the first open cell
+  -- with the bound m, if no cell is above m, it is the first open cell
   pub first-open : FirstAtLeast m cells place → ((p : ℕ) → p < length cells → getD cells p 0 ≤ m) → place < length cells → refused 27 place ≡ full m cells
   first-open first within h =
       let is : place ≡ firstPlace (isOpen m) cells =

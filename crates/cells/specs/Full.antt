@@ -17,7 +17,7 @@ pub record FullCells (m n : ℕ) (cells : List ℕ) : Type 0 where
   pub count : m ^ n ≤ length cells
   pub levels : (p : ℕ) → p < m ^ n → inkIn cells p < m
 
--- bare cells that are accepted
+-- bare cells that are accepted are the cells of a full table
 pub accepted-full : (m n : ℕ) (cells : List ℕ) → accepted tt ≡ fullCells m n cells → FullCells m n cells
 accepted-full m n cells e =
     let (fits, count) = cells-sized m n cells e in

@@ -1,4 +1,4 @@
-// Bare cells of a full table: m, n and one byte for each cell in index order. Any numbers and bytes may come in.
+// Bare cells of a full table: m, n and one byte for each cell in index order. The caller may pass any numbers and bytes.
 ghost use mathlib.Core.Path.{_≡_};
 ghost use Rattle.rules.specs.Calls.OpenCells.{fullCells};
 ghost use Rattle.answers.specs.AnswerMaps.{outcomeAs};
@@ -6,7 +6,7 @@ use crate::bound::first_at_least;
 use answers::outcome::Outcome;
 use radix::powers;
 
-// Returns refusal 9, 10 or 27, or that the cells are those of a full table.
+// Returns refusal 9, 10 or 27, or accepts the cells as those of a full table.
 pub fn full_cells(m: usize, n: usize, cells: &[u8]) -> Outcome
     ensures { λ r. ⌜ outcomeAs tt r ≡ fullCells m n (now (cells .entry)) ⌝ }
 {

@@ -1,4 +1,4 @@
-// The first cell that is at least a bound. Refusal 10 has the bound m + 1, refusal 27 the bound m.
+// The first cell that is at least a bound. Refusal 10 uses the bound m + 1, refusal 27 the bound m.
 ghost use mathlib.Core.Path.{_≡_};
 ghost use mathlib.Core.Bool.{false};
 ghost use Prim.Native.Nat.{ℕ, _+_, _≤_, _<_};
@@ -6,7 +6,7 @@ ghost use lib.ListN.{length, getD};
 ghost use Rattle.rules.specs.Limits.{mostLevels};
 ghost use Rattle.cells.specs.Bound.{FirstAtLeast};
 
-// Returns false only if every cell is below `bound`. The loop has no early exit, so that the compiler can vectorise it.
+// Returns false only if every cell is below `bound`. The loop has no early exit, so the compiler can vectorise it.
 fn some_at_least(bound: usize, cells: &[u8]) -> bool
     requires { ⌜ bound ≤ mostLevels + 1 ⌝ }
     ensures { λ r. ⌜ (r ≡ false → (p : ℕ) → p < length (now (cells .entry)) → getD (now (cells .entry)) p 0 < bound) ⌝ }

@@ -8,7 +8,7 @@ ghost use Rattle.answers.specs.AnswerMaps.{outcomeAs};
 use crate::bound::first_at_least;
 use answers::outcome::Outcome;
 
-// Returns refusal 27 with the index of the first open cell, or that there is none.
+// Returns refusal 27 with the index of the first open cell, or accepts the cells if none is open.
 pub fn judge_full(m: usize, cells: &[u8]) -> Outcome
     requires { ⌜ (m ≤ mostLevels) × ((p : ℕ) → p < length (now cells) → getD (now cells) p 0 ≤ m) ⌝ }
     ensures { λ r. ⌜ outcomeAs tt r ≡ full m (now (cells .entry)) ⌝ }

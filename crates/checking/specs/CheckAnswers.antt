@@ -1,4 +1,4 @@
--- What the code's answers and buffers stand for in document 01's definitions.
+-- What the code's answers and buffers represent in document 01's definitions.
 -- Assumes nothing.
 use Prim.Native.Nat.{ℕ}
 use mathlib.Core.List.{List}
@@ -18,6 +18,6 @@ verdictOf (Refused named number place) = checking.turnedDown (namedOf named) num
 abbrev pub checkedOf : Verdict → List ℕ → Checked
 checkedOf r cells = record { answer = verdictOf r; cells = cells }
 
--- a net's table held against a table sheet's inks, which are put in the cells buffer whether they agree or not
+-- a net's table compared with a table sheet's inks, which go to the cells buffer whether they agree or not
 abbrev pub comparedInto : ℕ → List ℕ → List ℕ → List ℕ → Checked
 comparedInto m table inks cells = record { answer = checking.compared m table inks; cells = answers.written cells inks }

@@ -11,7 +11,7 @@ use Rattle.net_sheets.specs.Text.Put.{Put, put-wrote}
 use Rattle.laws.specs.Calls.Checking.{AgreeAt, Compared, all-agree, first-differs, comparison}
 use Rattle.checking.specs.CheckAnswers.{comparedInto}
 
--- the two agree at every index below i, where the second is not open
+-- the two agree at every index below i at which the second is not open
 abbrev pub AgreeTo : ℕ → List ℕ → List ℕ → ℕ → Type 0
 AgreeTo m xs ys i = (p : ℕ) → p < i → AgreeAt m xs ys p
 

@@ -11,7 +11,7 @@ use evaluation::table;
 use radix::limits::MOST_CELLS;
 use radix::powers::power;
 
-// Compares a net sheet with a table sheet, and puts the table sheet's inks in the cells buffer. Any bytes may come in.
+// Compares a net sheet with a table sheet, and puts the table sheet's inks in the cells buffer. The caller may pass any bytes.
 pub fn check(net_sheet: &[u8], table_sheet: &[u8], cells: &mut [u8]) -> Verdict
     ensures { λ r. ⌜ checkedOf r (now (cells .exit)) ≡ checkCall (now («net_sheet» .entry)) (now («table_sheet» .entry)) (now (cells .entry)) ⌝ }
 {

@@ -1,4 +1,4 @@
-// What a check answers; a net's table held against a table sheet's inks.
+// The answer of a check, and the comparison of a net's table with a table sheet's inks.
 ghost use mathlib.Core.Path.{_≡_};
 ghost use mathlib.Core.Bool.{true, false};
 ghost use Prim.Native.Nat.{_≤_, _<_};
@@ -20,7 +20,7 @@ pub enum Verdict {
     },
 }
 
-// Do a net's ink x and a table's ink y differ? An open cell, which holds m, differs from none.
+// Returns whether a net's ink x and a table's ink y differ. An open cell, which holds m, differs from no ink.
 fn differs(m: usize, x: u8, y: u8) -> bool
     ensures { λ r. ⌜ (r ≡ true → (y ≡ m → ⊥) × (x ≡ y → ⊥)) × (r ≡ false → (y ≡ m → ⊥) → x ≡ y) ⌝ }
 {
@@ -30,7 +30,7 @@ fn differs(m: usize, x: u8, y: u8) -> bool
     y as usize != m
 }
 
-// Holds xs against ys, the inks of a table of m levels.
+// Compares xs with ys, the inks of a table of m levels.
 fn compare(xs: &[u8], ys: &[u8], m: usize) -> Verdict
     requires { ⌜ (0 < length (now xs)) × (length (now xs) ≤ length (now ys)) ⌝ }
     ensures { λ r. ⌜ verdictOf r ≡ compared m (now (xs .entry)) (now (ys .entry)) ⌝ }
@@ -46,7 +46,7 @@ fn compare(xs: &[u8], ys: &[u8], m: usize) -> Verdict
     Verdict::Agree
 }
 
-// Puts the inks in the cells buffer, and holds the net's table against them. Mostly the two are the same, which is told quickly.
+// Puts the inks in the cells buffer, and compares the net's table with them. Usually the two are the same, so a quick test for that comes first.
 pub fn compare_into(table: &[u8], inks: &[u8], cells: &mut [u8], m: usize) -> Verdict
     requires { ⌜ (0 < length (now table)) × (length (now table) ≤ length (now inks)) × (length (now inks) ≤ length (now cells)) ⌝ }
     ensures { λ r. ⌜ checkedOf r (now (cells .exit)) ≡ comparedInto m (now (table .entry)) (now (inks .entry)) (now (cells .entry)) ⌝ }

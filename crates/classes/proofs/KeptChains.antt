@@ -1,4 +1,4 @@
--- The first of each class in chains, a chain for each key.
+-- The first of each class in chains, one chain for each key.
 -- Assumes nothing.
 use Prim.Native.Nat.{ℕ, _+_, _≤_, _<_}
 use mathlib.Core.Path.{_≡_, refl, sym, ap, _∙_, subst, subst⁻¹}
@@ -19,7 +19,7 @@ use Rattle.classes.specs.Keys.{keyOf, alike-key}
 abbrev pub Backward : List ℕ → ℕ → Type 0
 Backward links count = (j : ℕ) → j < count → getD links j 0 ≤ j
 
--- a chain passes only places before its head, so a later link does not change it
+-- a chain visits only places before its head, so a later link does not change it
 pub chain-kept : (links : List ℕ) (count head v j : ℕ) → Backward links count → head ≤ count → InChain links j head → InChain (set links count v) j head
 chain-kept links count head v j back low (here _ e) = here head e
 chain-kept links count head v j back low (later _ i e rest) =
@@ -69,7 +69,7 @@ module _ (m : ℕ) (f : ℕ → ℕ) (ys : List ℕ) (width : ℕ) where
               go (yes e) = rw e (omega (arith, getD-set-same heads key (count + 1) 0 room-heads))
               go (no other) = omega (arith, getD-set-other heads key b (count + 1) 0 other, chains .low b)
 
-          -- an earlier one, in a chain that may have got a new head
+          -- an earlier one, in a chain that may have a new head
           old : (j : ℕ) → j < count → (b : ℕ) → InChain links j (getD heads b 0) → InChain links′ j (getD heads′ b 0)
           old j h b chain = go (ℕ-discrete b key)
             where
@@ -94,7 +94,7 @@ module _ (m : ℕ) (f : ℕ → ℕ) (ys : List ℕ) (width : ℕ) where
                   let at : keyAt (set fs count p) j ≡ keyAt fs j = ap (keyOf m f ys width) (getD-set-other fs count j p 0 other) in
                   subst⁻¹ (λ (k : ℕ). InChain links′ j (getD heads′ k 0)) at (old j (omega (arith, other)) (keyAt fs j) (chains .reached j (omega (arith, other))))
 
-    -- what a search of its chain says of its class
+    -- what a search of its chain says about its class
     module _ {r : Bool} (long : count ≤ length fs) (searched : Searched (alikeOver f ys p) fs links head r) where
       pub known : r ≡ true → firstPlace (alikeOver f ys p) (take count fs) < count
       known e = go (decLt (firstPlace (alikeOver f ys p) (take count fs)) count)

@@ -1,4 +1,4 @@
--- A key made column by column.
+-- A key computed column by column.
 -- Assumes nothing.
 use Prim.Native.Nat.{ℕ, _+_, _*_, _%_, _<_}
 use mathlib.Core.Path.{_≡_}
@@ -7,7 +7,7 @@ use lib.ListN.{length, getD, drop}
 use Rattle.laws.specs.Lists.Walks.{rest}
 use Rattle.classes.specs.Keys.{keyFrom}
 
--- one column more
+-- one more column
 pub key-next : (m : ℕ) (f : ℕ → ℕ) (p key : ℕ) (ys : List ℕ) (k : ℕ) → k < length ys
     → keyFrom m f p ((key * m + f (p + getD ys k 0)) % 256) (drop (k + 1) ys) ≡ keyFrom m f p key (drop k ys)
 unfolding keyFrom

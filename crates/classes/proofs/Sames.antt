@@ -1,4 +1,4 @@
--- Places at which a test fails: four in a row, one more than so many, and a search that begins behind them.
+-- Places at which a test fails: four in a row, one more than before, and a search that begins after them.
 -- Assumes nothing.
 use Prim.Native.Nat.{ℕ, zero, suc, _+_, _-_, _≤_, _<_}
 use mathlib.Core.Path.{_≡_, refl, sym, ap, _∙_}
@@ -29,7 +29,7 @@ module _ (test : ℕ → Bool) where
       go (yes low) = so-far j low
       go (no past) = next j (omega (arith, past)) high
 
-  -- the search finds the same from there on
+  -- a search from there on gives the same result
   pub find-behind : (end k : ℕ) → k ≤ end → ((j : ℕ) → j < k → test j ≡ false) → find test (range k (end - k)) ≡ find test (range 0 (end - 0))
   find-behind end zero le none = refl
   find-behind end (suc k) le none =

@@ -7,12 +7,12 @@ use mathlib.Core.List.{List}
 use native.Mathlib.Omega.{arith}
 use lib.ListN.{getD, replicate}
 
--- place j is in the chain from a head on
+-- place j is in the chain that starts at a head
 pub data InChain (links : List ℕ) (j : ℕ) : ℕ → Type 0 where
   here : (head : ℕ) → head ≡ j + 1 → InChain links j head
   later : (head i : ℕ) → head ≡ i + 1 → InChain links j (getD links i 0) → InChain links j head
 
--- no head leads anywhere
+-- every head is 0
 abbrev pub NoChains : List ℕ → Type 0
 NoChains heads = (b : ℕ) → getD heads b 0 ≡ 0
 
@@ -27,13 +27,13 @@ pub record Passing (test : ℕ → Bool) (xs : List ℕ) (end : ℕ) : Type 0 wh
   pub below : place < end
   pub passes : test (getD xs place 0) ≡ true
 
--- what a search of a chain says
+-- the result r of searching a chain
 pub record Searched (test : ℕ → Bool) (xs links : List ℕ) (head : ℕ) (r : Bool) : Type 0 where
   pub found : r ≡ true → Passing test xs head
   pub missed : r ≡ false → (j : ℕ) → InChain links j head → test (getD xs j 0) ≡ false
 
 module _ (test : ℕ → Bool) (xs links : List ℕ) (head : ℕ) where
-  -- a search on its way: what passes is in the rest of the chain
+  -- during the search: what passes is in the rest of the chain
   abbrev pub Rest : ℕ → Type 0
   Rest at = (j : ℕ) → InChain links j head → test (getD xs j 0) ≡ true → InChain links j at
 

@@ -1,5 +1,5 @@
--- A loop that keeps the first of each class until there are enough, over plain lists: what is kept, and the assignments that are left, give the
--- classes of all.
+-- A loop that keeps the first of each class until there are enough, over plain lists: the classes of what is kept and of the assignments not yet
+-- visited are the classes of all.
 -- Assumes nothing.
 use Prim.Native.Nat.{ℕ, _+_, _≤_, _<_}
 use mathlib.Core.Path.{_≡_, refl, sym, ap, ap₂, _∙_, subst⁻¹}
@@ -17,7 +17,7 @@ use Rattle.radix.specs.Fronts.{Front}
 use Rattle.classes.specs.Within.{Within}
 
 module _ (f : ℕ → ℕ) (b : ℕ) (ys xs : List ℕ) (enough : ℕ) where
-  -- what is kept before assignment i is looked at
+  -- what is kept before assignment i is visited
   pub record FirstsFound (fs : List ℕ) (count i : ℕ) : Type 0 where
     pub low : i ≤ length xs
     pub few : count ≤ enough
@@ -33,7 +33,7 @@ module _ {f : ℕ → ℕ} {b : ℕ} {ys xs : List ℕ} {enough : ℕ} {fs : Lis
   kept-length : length (take count fs) ≡ count
   kept-length = length-take-le count fs (omega (arith, kept .few, kept .room))
 
-  -- all are looked at
+  -- all are visited
   pub kept-all : length xs ≤ i → Front (take enough (classesOver f ys xs)) count fs
   unfolding firsts
   kept-all h =
@@ -52,7 +52,7 @@ module _ {f : ℕ → ℕ} {b : ℕ} {ys xs : List ℕ} {enough : ℕ} {fs : Lis
       record { count = sym (ap length front ∙ kept-length); is = sym front }
 
   module _ (more : i < length xs) {k : ℕ} (place : k ≡ firstPlace (alikeOver f ys (getD xs i 0)) (take count fs)) where
-    -- one of a class that is kept
+    -- an assignment whose class is already kept
     pub kept-known : k < count → FirstsFound f b ys xs enough fs count (i + 1)
     kept-known h =
         record {
@@ -66,7 +66,7 @@ module _ {f : ℕ → ℕ} {b : ℕ} {ys xs : List ℕ} {enough : ℕ} {fs : Lis
         }
 
     module _ (new : count ≤ k) where
-      -- the first of its class joins those that are kept
+      -- the first of its class is added to those kept
       joins : firsts (alikeOver f ys) (take count fs ++ (getD xs i 0 ∷ [])) (drop (i + 1) xs) ≡ classesOver f ys xs
       joins =
           sym (firsts-new (alikeOver f ys) (take count fs) (getD xs i 0) (drop (i + 1) xs) (omega (arith, kept-length)))

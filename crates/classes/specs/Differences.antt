@@ -1,4 +1,4 @@
--- What the comparison of two assignments answers, in the definitions.
+-- The answer of comparing two assignments, in the definitions.
 -- Assumes nothing.
 use Prim.Native.Nat.{ℕ}
 use mathlib.Core.Option.{Option, none, some}

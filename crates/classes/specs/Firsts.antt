@@ -19,16 +19,16 @@ use Rattle.radix.specs.Fronts.{Front}
 use Rattle.trees.specs.Groups.Members.{size-le}
 use Rattle.trees.specs.Groups.Points.{points-length}
 
--- the first of each class of the assignments xs, where ys are those of the other inputs
+-- the first of each class of the assignments xs; ys are the assignments of the other inputs
 unfoldable pub classesOver : (ℕ → ℕ) → List ℕ → List ℕ → List ℕ
 classesOver f ys xs = firsts (alikeOver f ys) [] xs
 
--- the lists of a group's assignments and of the other inputs' give the group's classes
+-- the lists of the assignments of a group and of the other inputs give the group's classes
 pub group-over : (m n g : ℕ) (f : ℕ → ℕ) (xs ys : List ℕ) → xs ≡ points m n g → ys ≡ points m n (others n g) → classesOver f ys xs ≡ classes m n f g
 unfolding classesOver classes
 group-over m n g f xs ys e h = ap₂ (λ (us vs : List ℕ). classesOver f us vs) h e
 
--- the place of the first that passes, among the first `count` of a list: none before j passes, and the one at j does unless j is the end
+-- the first that passes among the first `count` of a list: none before j passes, and the one at j does unless j is the end
 pub search-is : (test : ℕ → Bool) (xs : List ℕ) (count j : ℕ) → count ≤ length xs → j ≤ count → ((p : ℕ) → p < j → test (getD xs p 0) ≡ false)
     → (j < count → test (getD xs j 0) ≡ true) → j ≡ firstPlace test (take count xs)
 search-is test xs count j room low before at =
@@ -37,7 +37,7 @@ search-is test xs count j room low before at =
     (λ h. ap test (getD-take count xs j 0 (omega arith)) ∙ at (omega arith))
 
 module _ (same : ℕ → ℕ → Bool) where
-  -- one of a class that is kept
+  -- an assignment whose class is already kept
   pub firsts-known : (kept : List ℕ) (p : ℕ) (ps : List ℕ) → firstPlace (same p) kept < length kept
       → firsts same kept (p ∷ ps) ≡ firsts same kept ps
   unfolding firsts
@@ -63,7 +63,7 @@ module _ (same : ℕ → ℕ → Bool) where
           ∙ ap (take (length kept)) new
           ∙ take-at kept (p ∷ []) (length kept) refl
 
-  -- there are no more than were kept and are left
+  -- there are at most as many as those kept and those left together
   pub firsts-fewer : (kept ps : List ℕ) → length (firsts same kept ps) ≤ length kept + length ps
   unfolding firsts
   firsts-fewer kept [] = omega arith
@@ -75,11 +75,11 @@ module _ (same : ℕ → ℕ → Bool) where
       go true old new = omega arith
       go false old new = omega (arith, length-append kept (p ∷ []))
 
--- the first `enough` of the classes: all of them where they are no more, ..
+-- the first `enough` of the classes are all of them if there are no more, ..
 pub front-all : (enough : ℕ) (classes : List ℕ) {count : ℕ} {kept : List ℕ} → Front (take enough classes) count kept → length classes ≤ enough → Front classes count kept
 front-all enough classes {count} {kept} front few = subst (λ (l : List ℕ). Front l count kept) (take-all enough classes few) front
 
--- .. and of m + 1, more than m exactly where the classes are
+-- .. and the first m + 1 are more than m exactly when the classes are
 module _ (m : ℕ) (classes : List ℕ) {count : ℕ} {kept : List ℕ} (front : Front (take (m + 1) classes) count kept) where
   pub front-over : m < count → m < length classes
   front-over h = omega (arith, front .count, length-take (m + 1) classes)

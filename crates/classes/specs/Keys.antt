@@ -1,5 +1,5 @@
--- A key of an assignment: a number made of its inks at some assignments of the other inputs. Alike assignments have the same key, so only those with the
--- same key are compared.
+-- A key of an assignment: a number made of its inks at some assignments of the other inputs. Alike assignments have the same key, so only those with
+-- the same key are compared.
 -- Assumes nothing.
 use Prim.Native.Nat.{ℕ, zero, suc, _+_, _*_, _%_, _≤_, _<_}
 use mathlib.Core.Path.{_≡_, refl, ap, _∙_}
@@ -11,11 +11,11 @@ use borrow.Author.Tests.{eqb-true}
 use Rattle.rules.specs.Groups.Groups.{alikeOver}
 use Rattle.laws.specs.Lists.Tests.{all-iff}
 
--- keys are below it
+-- every key is below this
 abbrev pub keyBound : ℕ
 keyBound = 256
 
--- the key so far, and the columns that are left
+-- the key, given the key so far and the remaining columns
 unfoldable pub keyFrom : ℕ → (ℕ → ℕ) → ℕ → ℕ → List ℕ → ℕ
 keyFrom m f p key [] = key
 keyFrom m f p key (y ∷ ys) = keyFrom m f p ((key * m + f (p + y)) % 256) ys
@@ -54,11 +54,11 @@ module _ (m : ℕ) (f : ℕ → ℕ) where
     unfolding keyOf
     alike-key ys width h = from-alike ys width 0 h
 
--- every key has its place among so many heads
+-- every key is below the number of heads
 abbrev pub Keys : ℕ → (ℕ → ℕ) → List ℕ → ℕ → ℕ → Type 0
 Keys m f ys width heads = (p : ℕ) → keyOf m f ys width p < heads
 
--- heads for keys of so many columns: one if there are none
+-- enough heads for keys of at most `columns` columns: one if there are no columns
 pub record HeadsFor (columns heads : ℕ) : Type 0 where
   pub one : 0 < heads
   pub all : 0 < columns → keyBound ≤ heads

@@ -31,13 +31,13 @@ pub points-within : (m n : ℕ) → 0 < m → (g : ℕ) → g < 2 ^ n → (b : �
 points-within m n pos g g< b room i i< =
     part-within m n pos g g< b room _ (points-are-parts m n pos g _ (mem-getD (points m n g) i 0 i<) .0)
 
--- the same of two lists that are those
+-- the same for two lists that equal those
 pub lists-within : (m n : ℕ) → 0 < m → (g : ℕ) → g < 2 ^ n → (b : ℕ) → m ^ n ≤ b → (xs ys : List ℕ) → xs ≡ points m n g → ys ≡ points m n (others n g)
     → (i : ℕ) → i < length xs → Within b ys (getD xs i 0)
 lists-within m n pos g g< b room xs ys e h =
     subst₂ (λ (us vs : List ℕ). (i : ℕ) → i < length us → Within b vs (getD us i 0)) (sym e) (sym h) (points-within m n pos g g< b room)
 
--- Room to count the classes of a group of m levels and n inputs: the cells, and work arrays for the group's assignments and those of
+-- Room to count the classes of a group of m levels and n inputs: the cells, and work arrays for the assignments of the group and of
 -- the other inputs. Offsets are below 2 to the 16.
 pub record OffsetRoom (m n : ℕ) (cells xs ys : List ℕ) : Type 0 where
   pub some : 0 < m
@@ -47,11 +47,11 @@ pub record OffsetRoom (m n : ℕ) (cells xs ys : List ℕ) : Type 0 where
   pub for-xs : m ^ n ≤ length xs
   pub for-ys : m ^ n ≤ length ys
 
--- the cells of a small table
+-- the most cells of a small table
 abbrev pub fewCells : ℕ
 fewCells = 256
 
--- room to list a few classes, with work arrays of its own: the cells of a table within a sheet's bounds, and a place for each class
+-- room to list a few classes, without work arrays from the caller: the cells of a table within a sheet's bounds, and a place for each class
 pub record ListRoom (m n : ℕ) (cells : List ℕ) (enough : ℕ) (out : List ℕ) : Type 0 where
   pub some : 0 < m
   pub levels : m ≤ mostLevels

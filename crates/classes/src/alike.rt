@@ -21,7 +21,7 @@ pub fn alike(cells: &[u8], ys: &[u16], p: usize, q: usize) -> bool
     }
 }
 
-// Returns the number of p's class, where the first `count` of `firsts` are the first of each class; `count` if p is in none.
+// Returns the number of p's class, or `count` if p is in none. The first `count` of `firsts` are the first assignments of the classes.
 pub fn class_of(cells: &[u8], ys: &[u16], firsts: &[u16], count: usize, p: usize) -> usize
     requires { ⌜ (count ≤ length (now firsts)) × (Within (length (now cells)) (now ys) p)
         × ((j : ℕ) → j < count → Within (length (now cells)) (now ys) (getD (now firsts) j 0)) ⌝ }

@@ -15,8 +15,8 @@ use crate::keys;
 use radix::limits::MOST_LEVELS;
 use radix::offsets;
 
-// Puts the first of each class among the assignments xs to the front of `firsts`, until there are `enough`, and returns how many these are. `heads` and
-// `links` take the chains of these, by their keys over the first `width` columns.
+// Puts the first of each class among the assignments xs to the front of `firsts`, stops at `enough` of them, and returns how many it put. `heads` and
+// `links` store the chains of these, by their keys over the first `width` columns.
 fn class_firsts(
     m: usize,
     cells: &[u8],
@@ -55,8 +55,8 @@ fn class_firsts(
     count
 }
 
-// Puts the first of each class of group g to the front of `firsts`, until there are `enough`, and returns how many these are. `xs`, `ys`, `links` and
-// `heads` are work arrays. A key has at most `columns` columns: many where many classes are expected, 0 for one chain of all.
+// Puts the first of each class of group g to the front of `firsts`, stops at `enough` of them, and returns how many it put. `xs`, `ys`, `links` and
+// `heads` are work arrays. A key has at most `columns` columns: many if many classes are expected, 0 for a single chain.
 pub fn group_firsts(
     m: usize,
     n: usize,
@@ -90,7 +90,7 @@ pub fn group_firsts(
     )
 }
 
-// Returns whether group g has more than m classes. Counts no further. `xs` and `ys` are work arrays.
+// Returns whether group g has more than m classes. Stops counting as soon as it does. `xs` and `ys` are work arrays.
 pub fn more_classes_than_levels(
     m: usize,
     n: usize,

@@ -1,4 +1,4 @@
-// Two assignments of a group compared. Assignments of the group and of the other inputs are offsets into the cells.
+// Compares two assignments of a group. Assignments of the group and of the other inputs are offsets into the cells.
 ghost use mathlib.Core.Path.{_≡_};
 ghost use mathlib.Core.Bool.{true, false, not};
 ghost use Prim.Native.Nat.{ℕ, _+_, _≤_, _<_};
@@ -8,13 +8,13 @@ ghost use Rattle.rules.specs.Groups.Differences.{differAt, differenceOver};
 ghost use Rattle.classes.specs.Differences.{differenceAs};
 ghost use Rattle.classes.specs.Within.{Within};
 
-// The first place among the other inputs' assignments where the inks differ, or that there is none.
+// The first index into the other inputs' assignments at which the inks differ, or `None`.
 pub enum Difference {
     None,
     At(usize),
 }
 
-// Is the ink the same at p and at q, with the assignment at place k added to both?
+// Returns whether the ink is the same at p and at q, with assignment k of the other inputs added to both.
 fn same_at(cells: &[u8], ys: &[u16], k: usize, p: usize, q: usize) -> bool
     requires { ⌜ (k < length (now ys)) × (Within (length (now cells)) (now ys) p) × (Within (length (now cells)) (now ys) q) ⌝ }
     ensures { λ r. ⌜ differAt (inkIn (now (cells .entry))) (now (ys .entry)) p q k ≡ not r ⌝ }
@@ -23,7 +23,7 @@ fn same_at(cells: &[u8], ys: &[u16], k: usize, p: usize, q: usize) -> bool
     cells[p + y] == cells[q + y]
 }
 
-// Is it with each of four, from place k on?
+// Returns whether the inks are the same for each of the four assignments from k on.
 fn four_same(cells: &[u8], ys: &[u16], k: usize, p: usize, q: usize) -> bool
     requires { ⌜ (k + 3 < length (now ys)) × (Within (length (now cells)) (now ys) p) × (Within (length (now cells)) (now ys) q) ⌝ }
     ensures { λ r. ⌜ (r ≡ true → (j : ℕ) → k ≤ j → j < k + 4 → differAt (inkIn (now (cells .entry))) (now (ys .entry)) p q j ≡ false) ⌝ }
@@ -40,7 +40,7 @@ fn four_same(cells: &[u8], ys: &[u16], k: usize, p: usize, q: usize) -> bool
     same_at(cells, ys, k + 3, p, q)
 }
 
-// A place before which the inks are the same, found four places at a time.
+// Returns an index before which all inks are the same. Compares four at a time.
 fn same_front(cells: &[u8], ys: &[u16], p: usize, q: usize) -> usize
     requires { ⌜ (Within (length (now cells)) (now ys) p) × (Within (length (now cells)) (now ys) q) ⌝ }
     ensures { λ r. ⌜ (r ≤ length (now (ys .entry))) × ((j : ℕ) → j < r → differAt (inkIn (now (cells .entry))) (now (ys .entry)) p q j ≡ false) ⌝ }
@@ -55,7 +55,7 @@ fn same_front(cells: &[u8], ys: &[u16], p: usize, q: usize) -> usize
     k
 }
 
-// Compares p and q over the assignments ys of the other inputs, and ends at the first cell that differs.
+// Compares p and q over the assignments ys of the other inputs, and stops at the first cell that differs.
 pub fn first_difference(cells: &[u8], ys: &[u16], p: usize, q: usize) -> Difference
     requires { ⌜ (Within (length (now cells)) (now ys) p) × (Within (length (now cells)) (now ys) q) ⌝ }
     ensures { λ r. ⌜ differenceAs r ≡ differenceOver (inkIn (now (cells .entry))) (now (ys .entry)) p q ⌝ }

@@ -1,4 +1,4 @@
-// The first classes of a group, a few of them, with work arrays by the table's size: clearing large ones takes longer than counting in a small table.
+// The first few classes of a group. The work arrays are sized by the table: in a small table, clearing large ones takes longer than counting.
 ghost use Prim.Native.Nat.{_^_, _≤_, _<_};
 ghost use lib.ListN.{length, take};
 ghost use Rattle.rules.specs.Limits.{mostCells, mostInputs, mostLevels};
@@ -10,10 +10,10 @@ use crate::counting;
 use radix::limits;
 use radix::powers;
 
-// The cells of a small table.
+// The most cells of a small table.
 pub const FEW_CELLS: usize = 256;
 
-// The classes that are a few: one more than there are levels.
+// The most classes that `few_firsts` counts: one more than there are levels.
 const FEW: usize = limits::MOST_LEVELS + 1;
 
 // Does what `few_firsts` does, in a small table.
@@ -64,7 +64,7 @@ fn few_large(m: usize, n: usize, cells: &[u8], g: usize, enough: usize, out: &mu
     )
 }
 
-// Writes the first of each class of group g to the front of `out`, until there are `enough`, and returns how many these are.
+// Writes the first of each class of group g to the front of `out`, stops at `enough` of them, and returns how many it wrote.
 pub fn few_firsts(
     m: usize,
     n: usize,

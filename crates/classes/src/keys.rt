@@ -1,5 +1,5 @@
-// The kept assignments by key. A key is a number made of an assignment's first inks. Alike assignments have the same key, so only kept ones of the same key
-// are compared. These form a chain, the last one kept first: a head has 1 more than its place, each link the same for the next, and 0 ends the chain.
+// The kept assignments by key. A key is a number made of an assignment's first inks. Alike assignments have the same key, so only kept ones with the
+// same key are compared. They form a chain, newest first: a head stores 1 + its index, a link 1 + the next index, and 0 ends the chain.
 ghost use mathlib.Core.Path.{_≡_};
 ghost use Prim.Native.Nat.{ℕ, _≤_, _<_};
 ghost use lib.ListN.{length, getD};
@@ -11,13 +11,13 @@ ghost use Rattle.classes.specs.Keys.{keyOf};
 ghost use Rattle.classes.specs.Within.{Within};
 use crate::alike;
 
-// Keys are below it.
+// Every key is below this.
 pub const KEYS: usize = 256;
 
-// The columns of a key where many classes are expected.
+// The number of columns of a key if many classes are expected.
 pub const MOST_COLUMNS: usize = 8;
 
-// Returns how many of `other` columns a key has, `columns` at most.
+// Returns how many of `other` columns a key uses, at most `columns`.
 pub fn key_width(columns: usize, other: usize) -> usize
     ensures { λ r. ⌜ (r ≤ other) × (r ≤ columns) ⌝ }
 {
@@ -39,7 +39,7 @@ pub fn key(m: usize, cells: &[u8], ys: &[u16], width: usize, p: usize) -> usize
     made
 }
 
-// Returns whether p is alike to one of `firsts` in the chain from `head` on.
+// Returns whether p is alike to one of `firsts` in the chain that starts at `head`.
 pub fn in_chain(
     cells: &[u8],
     ys: &[u16],

@@ -116,7 +116,7 @@ fn group_answer(m: usize, n: usize, cells: &[u8], group: usize) -> Answer
     Answer::Accepted(counted_large(m, n, cells, group))
 }
 
-// Returns the number of classes of a group, or refusal 9, 10, 27 or 11. Any arguments may come in.
+// Returns the number of classes of a group, or refusal 9, 10, 27 or 11. The caller may pass any arguments.
 pub fn multiplicity(m: usize, n: usize, cells: &[u8], group: usize) -> Answer
     ensures { λ r. ⌜ answerOf r ≡ multiplicityCall m n (now (cells .entry)) group ⌝ }
 {

@@ -1,4 +1,4 @@
--- The user's demands as theorems about the definitions of the calls. docs/PROMISES.md quotes each sentence beside its theorem.
+-- The user's demands as theorems about the definitions of the calls. docs/PROMISES.md quotes each sentence next to its theorem.
 pub mod Families
 pub mod Jobs
 pub mod Keeping

@@ -1,4 +1,4 @@
--- One gate at many assignments: what is asked, what is promised, and one assignment after the other.
+-- One gate at many assignments: what is required, what is promised, and the step to the next assignment.
 -- Assumes nothing.
 use Prim.Native.Nat.{ℕ, _+_, _*_, _≤_, _<_}
 use mathlib.Core.Path.{_≡_, refl, _∙_}
@@ -9,7 +9,7 @@ use lib.ListN.{length, getD, set, length-set}
 use lib.Seq.{getD-set-same, getD-set-other}
 use lib.Arith.{digits-lt}
 
--- the gate's digits lie within `digits`, and the levels of its left and its right, all below m, before `to`, where its values are to go
+-- the gate's digits are inside `digits`; the levels of its left and right are below m and come before `to`, where its values will go
 pub record GateReady (m : ℕ) (digits : List ℕ) (from left right to count : ℕ) (wires : List ℕ) : Type 0 where
   pub digits-there : from + m * m ≤ length digits
   pub left-there : left + count ≤ to
@@ -22,13 +22,13 @@ pub record GateReady (m : ℕ) (digits : List ℕ) (from left right to count : �
 abbrev pub digitAt : ℕ → List ℕ → ℕ → List ℕ → ℕ → ℕ → ℕ
 digitAt m digits from wires left right = getD digits (from + getD wires left 0 * m + getD wires right 0) 0
 
--- what stands before `to` is kept, and the gate has its first `count` values
+-- everything before `to` is unchanged, and the gate has its first `count` values
 pub record GateDone (m : ℕ) (digits : List ℕ) (from left right to count : ℕ) (before after : List ℕ) : Type 0 where
   pub same : length after ≡ length before
   pub kept : (q : ℕ) → q < to → getD after q 0 ≡ getD before q 0
   pub new : (p : ℕ) → p < count → getD after (to + p) 0 ≡ digitAt m digits from before (left + p) (right + p)
 
--- the places of a turn lie within the wires
+-- the places of a turn are within the wires
 abbrev pub Places : (left right to count p : ℕ) → List ℕ → Type 0
 Places left right to count p wires = (left + p < length wires) × (right + p < length wires) × (to + p < length wires) × (p < count)
 
@@ -40,7 +40,7 @@ module _ (m : ℕ) (digits : List ℕ) (from left right to count : ℕ) (before 
   pub places-there : Places left right to count p after
   places-there = omega (arith, ready .left-there, ready .right-there, ready .room, done .same)
 
-  -- the turn's reads: a level of the left, one of the right, a digit
+  -- what a turn reads: a level of the left, one of the right, a digit
   pub left-read : getD after (left + p) 0 ≡ getD before (left + p) 0
   left-read = done .kept (left + p) (omega (arith, ready .left-there))
 
@@ -56,7 +56,7 @@ module _ (m : ℕ) (digits : List ℕ) (from left right to count : ℕ) (before 
   pub read-below : (getD after (left + p) 0 < m) × (getD after (right + p) 0 < m)
   read-below = (rw left-read (ready .left-levels p turn), rw right-read (ready .right-levels p turn))
 
-  -- one value more
+  -- one more value
   pub gate-more : (v : ℕ) → v ≡ digitAt m digits from after (left + p) (right + p) → GateDone m digits from left right to (p + 1) before (set after (to + p) v)
   gate-more v is =
       record {

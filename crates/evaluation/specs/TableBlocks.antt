@@ -1,4 +1,4 @@
--- A net's table block by block: in a block the last inputs run through all their assignments, and the first ones stay.
+-- A net's table block by block: in a block the last inputs take all their assignments, and the first inputs do not change.
 -- Assumes nothing.
 use Prim.Native.Nat.{ℕ, _+_, _-_, _*_, _^_, _≤_, _<_}
 use mathlib.Core.Path.{_≡_, sym, ap, ap₂, _∙_}
@@ -28,7 +28,7 @@ use Rattle.evaluation.specs.Inputs.Places.{place, place-below, place-abo
 use Rattle.evaluation.specs.Inputs.Laying.{mostBlock, LevelsLaid, HighReady, HighLaid}
 use Rattle.evaluation.specs.Inputs.Starts.{StartsOf}
 
--- the columns of the inputs, and with them those of the gates
+-- the cells of the inputs' columns, and of these and the gates' columns together
 abbrev pub inputCells : ℕ
 inputCells = mostInputs * mostBlock
 
@@ -39,7 +39,7 @@ blockCells = inputCells + mostColumns * mostBlock
 abbrev pub valueOf : Net → ℕ → ℕ
 valueOf net p = value (net .levels) (net .inputs) (gatesOf net) p
 
--- the last inputs' columns are laid, and `levels` has those of the first `high` inputs in block q
+-- the last inputs' columns are filled, and `levels` has the levels of the first `high` inputs in block q
 pub record BlockReady (net : Net) (starts levels : List ℕ) (high count q : ℕ) (wires cells : List ℕ) : Type 0 where
   pub sound : Sound net
   pub part : high ≤ net .inputs
@@ -52,7 +52,7 @@ pub record BlockReady (net : Net) (starts levels : List ℕ) (high count q : ℕ
   pub low : LevelsLaid (net .levels) (net .inputs - high) count wires
   pub room : q * count + count ≤ length cells
 
--- the block's cells have the net's values; the last inputs' columns are as they were
+-- the block's cells have the net's values; the last inputs' columns are unchanged
 pub record BlockDone (net : Net) (high count q : ℕ) (wires-before cells-before wires cells : List ℕ) : Type 0 where
   pub same : length wires ≡ length wires-before
   pub low : LevelsLaid (net .levels) (net .inputs - high) count wires
@@ -115,7 +115,7 @@ module _ (net : Net) (starts levels : List ℕ) (high count q : ℕ) (before cel
         }
 
     module _ (after : List ℕ) (from : ℕ) (done : ValuesDone net starts inputCells count wires after from) where
-      -- the values, as the part of the wires that is lent
+      -- the values, as the lent slice of the wires
       abbrev lent : List ℕ
       lent = take (from + count - from) (drop from after)
 

@@ -1,4 +1,4 @@
--- A net at many assignments: what is asked, what is promised, and one gate after the other.
+-- A net at many assignments: what is required, what is promised, and the step to the next gate.
 -- Assumes nothing.
 use Prim.Native.Nat.{ℕ, suc, _+_, _-_, _*_, _≤_, _<_}
 use mathlib.Core.Path.{_≡_, refl, sym, ap, ap₂, _∙_}
@@ -26,7 +26,7 @@ use Rattle.evaluation.specs.Gates.{GateReady, GateDone}
 abbrev pub levelsIn : List ℕ → List ℕ → ℕ → ℕ → List ℕ
 levelsIn wires starts count p = map (λ j. getD wires (getD starts j 0 + p) 0) (range 0 count)
 
--- the inputs' levels stand before `base`, and there is room for the gates' values behind it
+-- the inputs' levels come before `base`, and there is room for the gates' values after it
 pub record ValuesReady (net : Net) (starts : List ℕ) (base count : ℕ) (wires : List ℕ) : Type 0 where
   pub sound : Sound net
   pub inputs-there : (i : ℕ) → i < net .inputs → getD starts i 0 + count ≤ base
@@ -37,7 +37,7 @@ pub record ValuesReady (net : Net) (starts : List ℕ) (base count : ℕ) (wires
 abbrev pub mostColumns : ℕ
 mostColumns = mostGates
 
--- so many columns have room for the values of every net
+-- this many columns have room for the values of every net
 pub columns-room : (net : Net) → Sound net → (base count most : ℕ) (wires : List ℕ) → count ≤ most → base + mostColumns * most ≤ length wires
     → base + net .gates * count ≤ length wires
 columns-room net sound base count most wires small room =
@@ -45,7 +45,7 @@ columns-room net sound base count most wires small room =
     let all : net .gates * count ≤ mostColumns * most = mul-le-mul few small in
     omega (arith, all, room)
 
--- what stands before `base` is kept, and from `last` on stands the net's value at each assignment
+-- everything before `base` is unchanged, and the net's values at the assignments start at `last`
 pub record ValuesDone (net : Net) (starts : List ℕ) (base count : ℕ) (before after : List ℕ) (last : ℕ) : Type 0 where
   pub same : length after ≡ length before
   pub kept : (q : ℕ) → q < base → getD after q 0 ≡ getD before q 0
@@ -125,7 +125,7 @@ module _ (net : Net) (starts₀ : List ℕ) (base count : ℕ) (before : List �
         known-below : (j : ℕ) → j < net .inputs + k → getD known j 0 < m
         known-below j h = rw (known-at j h) (done .levels j p h low)
 
-        -- the digit that stands there is the gate's value
+        -- the digit there is the gate's value
         gate-value : getD after (to + p) 0 ≡ gateValue m known (gateOf net k)
         unfolding gateValue gateOf
         gate-value =
@@ -145,7 +145,7 @@ module _ (net : Net) (starts₀ : List ℕ) (base count : ℕ) (before : List �
             let inside : u * m + v < m * m = digits-lt (known-below (getD (net .left) k 0) (back .0)) (known-below (getD (net .right) k 0) (back .1)) in
             omega (arith, gate-value, table .below (u * m + v) (rw (table .count) inside))
 
-      -- one gate more has its values
+      -- one more gate has its values
       pub gates-more : GatesDone net starts₀ base count before (k + 1) (set starts (net .inputs + k) to) (to + count) after
       gates-more =
           record {

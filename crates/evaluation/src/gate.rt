@@ -25,7 +25,7 @@ fn looked_up_values(
     }
 }
 
-// Puts the digit for the levels at left + p and right + p to to + p, for each p below `count`. The gate's digits begin at `from`.
+// Puts the digit for the levels at left + p and right + p at to + p, for each p below `count`. The gate's digits begin at `from`.
 pub fn gate_values(
     m: usize,
     digits: &[u8],

@@ -1,4 +1,4 @@
-// The table of a net, block by block: the wires of a whole table would take too much room.
+// The table of a net, block by block: holding the wires of a whole table would take too much memory.
 ghost use Prim.Native.Nat.{_^_, _≤_};
 ghost use lib.ListN.{length};
 ghost use Rattle.nets.specs.Sound.{Sound};
@@ -18,8 +18,8 @@ use radix::levels::next_levels;
 use radix::limits::MOST_INPUTS;
 use radix::powers::power;
 
-// Writes the net's values at the `count` cells of block q. The columns of the last inputs are there already, and `levels` has the levels of the first `high`
-// inputs in it.
+// Writes the net's values at the `count` cells of block q. The columns of the last inputs are already filled, and `levels` has the levels of the
+// first `high` inputs in the block.
 fn block(
     net: Net,
     starts: [usize; MOST_WIRES],

@@ -5,11 +5,11 @@ use nets::forms::MOST_WIRES;
 use nets::forms::Net;
 use radix::limits::MOST_GATES;
 
-// The most columns that `values` fills, one for each gate: so many times `count` is room enough behind `base` for every net.
+// The most columns that `values` fills, one for each gate. This many times `count` cells after `base` are room enough for every net.
 pub const MOST_COLUMNS: usize = MOST_GATES;
 
-// Computes the value of a net at `count` assignments. The levels of input i are at starts[i] and after it, one for each assignment, all before
-// `base`; the values of the gates are put from `base` on. Returns where the net's values begin.
+// Computes the value of a net at `count` assignments. The levels of input i start at starts[i], one for each assignment, all before `base`. Puts the
+// values of the gates from `base` on. Returns where the net's values begin.
 pub fn values(
     net: Net,
     starts: [usize; MOST_WIRES],

@@ -40,7 +40,7 @@ module _ (m n : ℕ) (fit : sizeFits m n ≡ true) (f : ℕ → ℕ) (own : List
         number = subst⁻¹ (λ (l : List ℕ). r < groupTrees n l (leavesOf m n f)) front below;
       }
 
-  -- what its wiring is
+  -- what its wiring gives
   gives : OfFamily m n pos f (leavesOf m n f) r (wiringNumbered m n pos f (leavesOf m n f) r)
   unfolding treeCount
   gives = number-gives m n pos f (leavesOf m n f) (leaves-below m n pos f) r below
@@ -52,11 +52,11 @@ module _ (m n : ℕ) (fit : sizeFits m n ≡ true) (f : ℕ → ℕ) (own : List
     number-links : linksIn w ≡ linksOf n 0 (wired n (marksOf m n f) n (leavesOf m n f) r)
     number-links = found .links ∙ (λ i. linksOf n 0 (wired n (front i) n (leavesOf m n f) r))
 
-    -- can be filled, ..
+    -- the wiring can be filled, ..
     pub number-fills : Fillable m n f (inputGroups n) (linksIn w)
     number-fills = wiring-fills m n f fit _ (gives .of) (gives .few) w number-links
 
-    -- .. and filled it is the number's net
+    -- .. and filled, it is the number's net
     pub number-net : ((p : ℕ) → p < m ^ n → f p < m) → (net : Net) → Filled m n f w net → NetOf m n (familyGates m n f (marksOf m n f) r) net
     unfolding familyGates
     number-net inks net done = wiring-net m n f fit _ (gives .of) (gives .few) w number-links inks net done

@@ -28,7 +28,7 @@ none-known zero g = refl
 none-known (suc k) zero = refl
 none-known (suc k) (suc g) = none-known k g
 
--- as many as the most inputs have are enough for every group
+-- an array for the most inputs has room for every group
 pub groups-room : (m n : ℕ) → sizeFits m n ≡ true → 2 ^ n ≤ 2 ^ mostInputs
 groups-room m n fit = pow-mono {i = n} {j = mostInputs} (sized m n fit .inputs-most)
 
@@ -44,7 +44,7 @@ module _ (m n : ℕ) (fit : sizeFits m n ≡ true) (f : ℕ → ℕ) where
   pos : 0 < m
   pos = some-level m n fit
 
-  -- the front of the call's own marks, by the number past the groups
+  -- the front of the call's own marks, up to the number of groups
   pub marks-front : (own : List ℕ) → take (2 ^ n) own ≡ marksOf m n f → (end : ℕ) → end ≡ 2 ^ n → take (end - 0) own ≡ marksOf m n f
   marks-front own front end is = ap (λ (k : ℕ). take k own) (sub-zero end ∙ is) ∙ front
 
@@ -61,7 +61,7 @@ module _ (m n : ℕ) (fit : sizeFits m n ≡ true) (f : ℕ → ℕ) where
           kept = kept;
         }
 
-  -- .. and are the table's
+  -- .. and their count is the table's
   pub leaves-counted : (own : List ℕ) → own ≡ marksOf m n f → (g : ℕ) → g ≡ leavesOf m n f → (r : ℕ) (counts : List ℕ) → CountKnown own g r counts
       → r ≡ treeCount n (marksOf m n f) (leavesOf m n f)
   unfolding treeCount

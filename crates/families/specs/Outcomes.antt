@@ -1,4 +1,4 @@
--- What the two calls' answers and buffers stand for, and their outcomes as the code comes to them.
+-- What the answers and buffers of the two calls represent, and their outcomes in the order of the code.
 -- Assumes nothing.
 use Prim.Native.Nat.{ℕ, _≤_, _<_}
 use mathlib.Core.Path.{_≡_, sym, _∙_, subst}
@@ -43,7 +43,7 @@ module _ (s : List ℕ) (h : Header) (inks cells marks : List ℕ) (r : ℕ) (ce
       (λ i. record { answer = accepted (counted-is i); cells = did .copied i; marks = did .marked i }) ∙ sym (counted-room (tableIn s h inks) cells marks room)
 
   module _ (order : ℕ) (output : List ℕ) where
-    -- 17
+    -- refusal 17
     pub order-past : r ≤ order
         → record { answer = refused 17 order; cells = cells-then; marks = marks-then; output = output } ≡ afterCount order (tableIn s h inks) cells marks output
     unfolding headerOf
@@ -51,7 +51,7 @@ module _ (s : List ℕ) (h : Header) (inks cells marks : List ℕ) (r : ℕ) (ce
         (λ i. record { answer = refused 17 order; cells = did .copied i; marks = did .marked i; output = output })
         ∙ sym (count-17 order (tableIn s h inks) cells marks output (subst (λ (k : ℕ). k ≤ order) counted-is past))
 
-    -- 15, or the sheet
+    -- refusal 15, or the sheet
     module _ (given : Given s h inks) (below : order < r) (net : own.Net)
         (is : NetOf (h .levels) (h .inputs) (familyGates (h .levels) (h .inputs) (inkIn inks) (marksOf (h .levels) (h .inputs) (inkIn inks)) order) net) where
       tree-is : netIn s h net ≡ familyNet order (tableIn s h inks)
@@ -67,7 +67,7 @@ module _ (s : List ℕ) (h : Header) (inks cells marks : List ℕ) (r : ℕ) (ce
           ∙ (λ i. writtenSheet (printedNet (tree-is i)) (did .copied i) (did .marked i) output)
           ∙ sym (count-tree order (tableIn s h inks) cells marks output (subst (λ (k : ℕ). order < k) counted-is below))
 
--- ---- a table sheet, turned back or with room for its table
+-- a table sheet that is refused, or has room for its table
 
 module _ (s cells marks : List ℕ) where
   pub count-turned : {number place : ℕ} → SettlingTurnedBack s cells marks number place

@@ -1,4 +1,4 @@
-// The count of a table sheet's trees. Any sheet and buffers of any length may come in.
+// The count of a table sheet's trees. The caller may pass any sheet, and buffers of any length.
 ghost use mathlib.Core.Path.{_≡_};
 ghost use Rattle.rules.specs.Calls.FamilyCalls.{familyCountCall};
 ghost use Rattle.families.specs.Outcomes.{countedOf};

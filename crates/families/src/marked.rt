@@ -1,4 +1,4 @@
-// What both calls do with a table: its cells and its marks into the buffers, and the count of its trees.
+// What both calls do with a table: write its cells and its marks to the buffers, and count its trees.
 ghost use mathlib.Core.Path.{_≡_};
 ghost use mathlib.Core.Bool.{true};
 ghost use Prim.Native.Nat.{ℕ, _^_, _≤_, _<_};

@@ -1,4 +1,4 @@
-// The tree of an order number. Any sheet, number and buffers of any length may come in.
+// The tree of an order number. The caller may pass any sheet and number, and buffers of any length.
 ghost use mathlib.Core.Path.{_≡_};
 ghost use Prim.Native.Nat.{_≤_};
 ghost use lib.ListN.{length};
@@ -48,7 +48,7 @@ fn tree_marked(
     output::write_sheet(s, header, net, out)
 }
 
-// Reads a table sheet, and writes its table, its marks and the sheet of the tree of that number, from 0.
+// Reads a table sheet, and writes its table, its marks and the sheet of the tree with that number, counted from 0.
 pub fn family_tree(
     s: &[u8],
     order: u64,

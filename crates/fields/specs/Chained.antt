@@ -1,4 +1,4 @@
--- One reader after another, by the steps of the code.
+-- One reader after another, expressed by the steps of the code.
 -- Assumes nothing.
 use Prim.Native.Nat.{ℕ, _≤_, _<_}
 use mathlib.Core.Path.{_≡_, refl, sym, _∙_}
@@ -28,7 +28,7 @@ module _ {A B : Type 0} (f : ℕ → A) (one : Reader A) (rest : A → Reader B)
 
 -- ---- the answer to a whole sheet
 
--- what is left of a sheet is read by `reader`, with the outcome o: where it is accepted, it gives b, and `Held` holds
+-- `reader` reads the rest of a sheet, with the outcome o; if the sheet is accepted, the result is b, and `Held` holds
 pub record Answers {B : Type 0} (s : List ℕ) (at : ℕ) (reader : Reader B) (b : B) (Held : Type 0) (o : Outcome) : Type 0 where
   pub answer : outcomeAs b o ≡ answered (reader (drop at s) at)
   pub held : o ≡ Accepted → Held
@@ -47,7 +47,7 @@ module _ {A B : Type 0} (f : ℕ → A) (one : Reader A) (rest : A → Reader B)
   unfolding then
   answers-on value next o e onward = record { answer = rw (← reads, e) (onward .answer); held = onward .held }
 
--- nothing stands after the last line
+-- nothing may follow the last line
 module _ {B : Type 0} (rest : Unit {0} → Reader B) (s : List ℕ) (at : ℕ) (b : B) (Held : Type 0) where
   pub answers-more : at < length s → Answers s at (closed >>= rest) b Held (Refused 1 at)
   unfolding then answered closed
@@ -64,7 +64,7 @@ abbrev outcomeOf : {A : Type 0} → Read A → Outcome
 outcomeOf (read a rest place) = Accepted
 outcomeOf (turnedBack number place) = Refused number place
 
--- the outcome of a sheet whose last line this step read: nothing stands after it
+-- the outcome of a sheet whose last line this step read: nothing may follow that line
 unfoldable pub endOf : List ℕ → Step → Outcome
 endOf s step = outcomeOf (then (stepAs nothing s step) (λ _. closed))
 
@@ -81,7 +81,7 @@ module _ (s : List ℕ) (step : Step) where
   unfolding endOf then closed
   end-closed value next e end = rw (e, drop-of-length-le s end) refl
 
--- the last lines, which give a, and the end after them
+-- the last lines, whose value is a, and the end after them
 pub answers-end : {A B : Type 0} (lines : Reader A) (f : A → B) (s : List ℕ) (at : ℕ) (a : A) (step : Step) → stepAs (λ _. a) s step ≡ lines (drop at s) at
     → (Held : Type 0) → ((value next : ℕ) → step ≡ On value next → Held) → (o : Outcome) → o ≡ endOf s step
     → Answers s at (lines >>= λ x. closed >>= λ _. give (f x)) (f a) Held o
@@ -107,6 +107,6 @@ unfolding then
 field-then-then (read a rest place) f g = refl
 field-then-then (turnedBack number place) f g = refl
 
--- a step is one of the two
+-- a step cannot be both
 pub never-both : (step : Step) (number place value next : ℕ) → step ≡ Back number place → step ≡ On value next → ⊥
 never-both step number place value next e q = let z : _≡_ {A = ℕ} 0 1 = cc in omega arith

@@ -53,7 +53,7 @@ module _ (s : List ℕ) (end value due : ℕ) where
     unfolding looseSeparator then space spaces spacesEnd
     loose-space v next q = rw (eq-eqb due spaceByte e, looseSeparator, ← reads, q) (ap (λ t. read v t (spacesEnd s next)) (spaces-past s next))
 
--- ---- the field w at `at`, of the verdict v
+-- ---- the field w at `at`, with the verdict v
 
 module _ (layout : Layout) (s : List ℕ) (at : ℕ) (w : List ℕ) (v : Verdict) (due : ℕ) (is : w ≡ run (drop at s)) where
   pub after-empty : length w ≡ 0 → turnedBack 1 at ≡ judgedFieldIn layout v due s at
@@ -86,7 +86,7 @@ module _ (layout : Layout) (s : List ℕ) (at : ℕ) (w : List ℕ) (v : Verdict
         rest : drop (at + length w) s ≡ past (drop at s)
         rest = sym (drop-drop (length w) at s) ∙ (ap (λ u. drop (length u) (drop at s)) is ∙ run-rest (drop at s))
 
--- ---- what a judge says of the field's bytes
+-- ---- the judge's verdict on the field's bytes
 
 module _ {A : Type 0} (f : ℕ → A) where
   mapped : Read ℕ → Read A
@@ -143,7 +143,7 @@ module _ {A : Type 0} (f : ℕ → A) where
   field-judged-in layout judge due s at w v r is judges after =
       step-mapped s r ∙ (ap mapped after ∙ field-mapped layout judge v due (run (drop at s)) (past (drop at s)) at (judges ∙ ap judge is))
 
-  -- the same where the judge is a test
+  -- the same when the judge is a test
   pub field-tested-in : (layout : Layout) (judge : Judge A) (due : ℕ) (s : List ℕ) (at : ℕ) (w : List ℕ) (test : Bool) (value number : ℕ) (v : Verdict) (r : Step)
       → w ≡ run (drop at s) → v ≡ tested test value number → judged test (f value) number ≡ judge w → stepAs itself s r ≡ judgedFieldIn layout v due s at
       → stepAs f s r ≡ fieldIn layout judge due (drop at s) at

@@ -54,7 +54,7 @@ module _ (s : List ℕ) (at : ℕ) where
 
 -- ---- spaces
 
--- where the spaces that stand at `at` end
+-- where the spaces at `at` end
 unfoldable pub spacesEnd : List ℕ → ℕ → ℕ
 spacesEnd s at = at + spacesIn (drop at s)
 
@@ -71,7 +71,7 @@ module _ (s : List ℕ) (at : ℕ) where
   unfolding spacesEnd space
   spaces-later h e = rw (drop-cons s at 0, at-space _ _ (eq-eqb _ _ e) .0, add-one) (omega arith)
 
-  -- what stands past them
+  -- the bytes after them
   pub spaces-past : drop (spacesEnd s at) s ≡ pastSpaces (drop at s)
   unfolding spacesEnd
   spaces-past = sym (drop-drop (spacesIn (drop at s)) at s) ∙ spaces-rest (drop at s)

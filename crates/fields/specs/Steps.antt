@@ -1,4 +1,4 @@
--- What the code's answers stand for in the definitions.
+-- The meaning of the code's answers in the definitions.
 -- Assumes nothing.
 use Prim.Native.Nat.{ℕ}
 use mathlib.Core.Bool.{Bool, cond}
@@ -20,11 +20,11 @@ use Rattle.fields.specs.declared.steps.Verdict.the-variants.{Good, Bad}
 abbrev pub itself : ℕ → ℕ
 itself value = value
 
--- of a field that is only to be right
+-- for a field that is only checked and has no value
 abbrev pub nothing : ℕ → Unit {0}
 nothing value = tt
 
--- The code's value is a number, and `f` says what it stands for.
+-- The code's value is a number, and `f` gives its meaning.
 abbrev pub judgedAs : {A : Type 0} → (ℕ → A) → Verdict → Judged A
 judgedAs f (Good value) = good (f value)
 judgedAs f (Bad number) = bad number
@@ -37,7 +37,7 @@ abbrev pub layoutOf : Layout → fields.Layout
 layoutOf Strict = strict
 layoutOf Loose = loose
 
--- the field at `at` in the sheet s, of the verdict v
+-- the field at `at` in the sheet s, with the verdict v
 unfoldable pub judgedFieldIn : fields.Layout → Verdict → ℕ → List ℕ → ℕ → Read ℕ
 judgedFieldIn layout v due s at = fieldIn layout (λ _. judgedAs itself v) due (drop at s) at
 

@@ -1,4 +1,4 @@
--- What a field that was read tells: its value is good, and the next place is past its separator, in a strict sheet just past it.
+-- What follows from a field that was read: its value is good, and the next place is after its separator (in a strict sheet directly after it).
 -- Assumes nothing.
 use Prim.Native.Nat.{ℕ, suc, _+_, _-_, _≤_, _<_}
 use mathlib.Core.Path.{_≡_, refl, sym, ap, _∙_}
@@ -31,7 +31,7 @@ separator-read {A} a v due (b ∷ t) rest place next e = go (eqb b due) e
     go true q = (cc, cc, omega arith)
     go false q = let z : _≡_ {A = ℕ} 0 1 = cc in absurd (omega arith)
 
--- the separator of a loose sheet: one byte of it at least
+-- the separator of a loose sheet: at least one byte
 then-spaces : {A : Type 0} (x : Read A) (v : A) (rest : List ℕ) (next : ℕ) → then x spaces ≡ read v rest next
     → (t : List ℕ) × (p : ℕ) × (x ≡ read v t p) × (next ≡ p + spacesIn t)
 unfolding then spaces
@@ -92,7 +92,7 @@ field-read-in layout judge a due t rest at next e =
     let told = parted-read layout x a due (past t) rest (at + length (run t)) next sep in
     (good-x ∙ ap good (sym (told .0)), told .1, omega (arith, told .2, simp length-append at (ap length (run-past t))))
 
--- in a strict sheet the next place is just after the separator
+-- in a strict sheet the next place is directly after the separator
 pub taken-field-read : {A : Type 0} (judge : Judge A) (a : A) (due : ℕ) (t rest : List ℕ) (at next : ℕ)
     → field judge due t at ≡ read a rest next → (judge (run t) ≡ good a) × (next ≡ at + length (run t) + 1) × (next ≤ at + length t)
 unfolding fieldIn
@@ -131,7 +131,7 @@ inputs-told m n w e = go (inputsOf w) refl e
         let found = inputs-found w k q in
         (rw (told .1) at (found .0), rw (told .1) at (found .1), rw (told .1) at (told .0))
 
--- ---- the same of a step onward
+-- ---- the same for a step `On`
 
 -- in a strict sheet
 pub record Taken {A : Type 0} (judge : Judge A) (a : A) (s : List ℕ) (at next : ℕ) : Type 0 where

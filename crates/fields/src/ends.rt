@@ -1,4 +1,4 @@
-// A field's verdict, the separator that is due after it, and the end of a sheet.
+// A field's verdict, the separator required after it, and the end of a sheet.
 ghost use mathlib.Core.Path.{_≡_};
 ghost use lib.ListN.{drop};
 ghost use Rattle.rules.specs.Sheets.Fields.{run, separator, looseSeparator, separatorIn};
@@ -65,7 +65,7 @@ pub fn separated_in(s: &[u8], end: usize, value: usize, due: u8, layout: Layout)
     }
 }
 
-// Goes on after the judged field w at `at`: an empty or bad field refuses the sheet, and `due` must follow a good one.
+// Continues after the judged field w at `at`: an empty or bad field refuses the sheet, and `due` must follow a good one.
 pub fn after_field_in(
     s: &[u8],
     at: usize,

@@ -1,4 +1,4 @@
-// A field is a longest run of bytes other than space and line feed. Runs of spaces part the fields of a loose sheet.
+// A field is a longest run of bytes other than space and line feed. Runs of spaces separate the fields of a loose sheet.
 ghost use mathlib.Core.Path.{_≡_};
 ghost use lib.ListN.{drop};
 ghost use Rattle.rules.specs.Sheets.Fields.{run};
@@ -9,7 +9,7 @@ pub const SPACE: u8 = b' ';
 
 pub const NEWLINE: u8 = b'\n';
 
-// The byte of the digit 0, where digits are counted from it.
+// The byte of the digit 0.
 pub const ZERO: usize = b'0' as usize;
 
 // Returns where the field that starts at `at` ends.

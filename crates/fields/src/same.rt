@@ -1,4 +1,4 @@
-// Two runs of bytes compared.
+// Compares two byte strings.
 ghost use mathlib.Core.Path.{_≡_};
 ghost use Rattle.rules.specs.Lists.{same};
 

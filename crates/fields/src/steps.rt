@@ -1,24 +1,24 @@
-// What a field, and reading one at a place, is found to be. specs/Steps.antt says what each stands for.
+// The results of judging a field and of reading one at a place. specs/Steps.antt defines each.
 
-// A field's bytes: good, with a value, or bad, with the number that turns the sheet back.
+// The verdict on a field's bytes: good, with a value, or bad, with the number of the refusal.
 pub enum Verdict {
     Good(usize),
     Bad(usize),
 }
 
-// Reading goes on at `next` with a value, or the sheet is turned back.
+// Reading continues at `next` with a value, or the sheet is refused.
 pub enum Step {
     On { value: usize, next: usize },
     Back { number: usize, place: usize },
 }
 
-// How the fields of a sheet are parted.
+// How the fields of a sheet are separated.
 pub enum Layout {
     Strict,
     Loose,
 }
 
-// What a search comes to.
+// The result of a search.
 pub enum Found {
     At(usize),
     Nowhere,

@@ -1,11 +1,11 @@
--- What stands inside the cells where digits are made of lists.
+-- What is inside the cells when digits are computed from lists.
 -- Assumes nothing.
 use Prim.Native.Nat.{ℕ, _+_, _≤_, _<_}
 use mathlib.Core.List.{List}
 use lib.ListN.{length, getD}
 use Rattle.classes.specs.Within.{Within}
 
--- a gate's digits are made of what stands inside the cells
+-- everything that a gate's digits are computed from is inside the cells
 pub record Ready (cells ys firsts left right : List ℕ) : Type 0 where
   pub few : length firsts ≤ 255
   pub kept : (j : ℕ) → j < length firsts → Within (length cells) ys (getD firsts j 0)

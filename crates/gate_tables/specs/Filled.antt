@@ -1,4 +1,4 @@
--- A wiring filled link by link: what is done, and what is left.
+-- A wiring filled link by link: what is done, and what remains.
 -- Assumes nothing.
 use Prim.Native.Nat.{ℕ, suc, _+_, _<_}
 use mathlib.Core.Path.{_≡_, sym, ap, ap₂, _∙_, subst, subst⁻¹, subst₂}
@@ -36,8 +36,8 @@ pub no-gates : (net : Net) → net .gates ≡ 0 → gatesOf net ≡ []
 unfolding gatesOf range
 no-gates net e = ap (λ (k : ℕ). map (gateOf net) (range 0 k)) e
 
--- The first k links are filled, and their gates' groups stand after the inputs'. What is left can be filled, and with it the net is
--- the whole.
+-- The first k links are filled, and their gates' groups come after the inputs'. The remaining links can be filled, and together with them the
+-- net is complete.
 pub record Going (m n : ℕ) (f : ℕ → ℕ) (links : List Link) (k : ℕ) (groups : List ℕ) (net : Net) : Type 0 where
   pub levels : net .levels ≡ m
   pub inputs : net .inputs ≡ n
@@ -68,7 +68,7 @@ module _ (m n : ℕ) (f : ℕ → ℕ) (links : List Link) where
       ∙ ap (λ (ls : List Link). gatesOf net ++ filledFrom m n f (take (n + length links) groups) ls) (sym (drop-length links))
       ∙ going .all
 
-  -- the link that is next
+  -- the next link
   module _ (k : ℕ) (groups : List ℕ) (net : Net) (going : Going m n f links k groups net) (k< : k < length links) (l : Link)
       (is : getD links k l ≡ l) where
     -- the groups so far
@@ -88,7 +88,7 @@ module _ (m n : ℕ) (f : ℕ → ℕ) (links : List Link) where
     fillable : Fillable m n f at (l ∷ drop (suc k) links)
     fillable = subst (Fillable m n f at) next (going .left)
 
-    -- its references are earlier ones
+    -- its references are earlier
     pub earlier : (l .left < n + k) × (l .right < n + k)
     earlier = (omega (arith, fillable .0, length-take (n + k) groups), omega (arith, fillable .1, length-take (n + k) groups))
 
@@ -102,7 +102,7 @@ module _ (m n : ℕ) (f : ℕ → ℕ) (links : List Link) where
     pub joins : Parts m n f a b
     joins = subst₂ (Parts m n f) left-at right-at (fillable .2)
 
-    -- it is the last where no other is left
+    -- it is the last if no other link remains
     last-left : eqb (length (drop (suc k) links)) 0 ≡ eqb (k + 1) (length links)
     last-left = go (decLt (k + 1) (length links))
       where
@@ -115,7 +115,7 @@ module _ (m n : ℕ) (f : ℕ → ℕ) (links : List Link) where
             ∙ sym (eq-eqb (k + 1) (length links) (omega arith))
 
     module _ (room : n + k < length groups) (after : Net) (joined : Joined m n f (eqb (k + 1) (length links)) a b (l .left) (l .right) net after) where
-      -- its group is put behind the others
+      -- its group is added after the others
       grow : take (n + (k + 1)) (set groups (n + k) (a + b)) ≡ at ++ (linkGroup at l ∷ [])
       grow =
           let one : n + (k + 1) ≡ suc (n + k) = omega arith in
@@ -123,7 +123,7 @@ module _ (m n : ℕ) (f : ℕ → ℕ) (links : List Link) where
           ∙ take-suc-set groups (n + k) (a + b) room
           ∙ ap (λ (g : ℕ). at ++ (g ∷ [])) (sym (ap₂ (λ (x y : ℕ). x + y) left-at right-at))
 
-      -- its gate, as it is said with what is left
+      -- its gate, followed by the gates of the remaining links
       own : filledFrom m n f at (l ∷ drop (suc k) links)
           ≡ record { left = l .left; right = l .right; digits = gateDigits m n f (eqb (k + 1) (length links)) a b }
           ∷ filledFrom m n f (at ++ (linkGroup at l ∷ [])) (drop (suc k) links)

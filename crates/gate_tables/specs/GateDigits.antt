@@ -1,5 +1,5 @@
--- A gate's digits from the samples of its two wires alone: the digit at (u, v) is what the gate gives at the sum of left's sample u
--- and right's sample v, and 0 where one of the two has no such sample.
+-- A gate's digits computed only from the samples of its two wires: the digit at (u, v) is what the gate gives at the sum of left's sample u and
+-- right's sample v, or 0 if one of the two has no such sample.
 -- Assumes nothing.
 use Prim.Native.Nat.{ℕ, _+_, _*_, _/_, _%_, _<_}
 use mathlib.Core.Path.{_≡_, sym, ap, _∙_, subst₂}
@@ -18,7 +18,7 @@ use Rattle.trees.specs.Groups.Covers.{sum-left, sum-right, sum-own}
 use Rattle.gate_tables.specs.Samples.{samples, samples-own, Sampled, sampled}
 use Rattle.gate_tables.specs.SampledDigits.{givenFrom, sampledDigit, sampledDigits, digit-sum, no-left, no-right, sampled-length, sampled-at}
 
--- what the gate of group g gives, from its lists
+-- what the gate of group g gives, computed from its lists
 abbrev pub givenBy : ℕ → ℕ → (ℕ → ℕ) → ℕ → Bool → ℕ → ℕ
 givenBy m n f g last = givenFrom f (points m n (others n g)) (classes m n f g) last
 
@@ -41,7 +41,7 @@ module _ (m n : ℕ) (pos : 0 < m) (f : ℕ → ℕ) (last : Bool) (a b : ℕ) (
   rule : DigitRule m n f last a b (gateDigits m n f last a b)
   rule = digit-rule m n pos f a b parts last
 
-  -- at an assignment of the joint group the gate gives what it gives from its lists
+  -- at an assignment of the joint group, the gate gives what is computed from its lists
   given-own : (p : ℕ) → part m n (a + b) p ≡ p → givenBy m n f (a + b) last p ≡ given m n f last (a + b) p
   unfolding givenFrom given classNumber
   given-own p own = go last
@@ -95,7 +95,7 @@ module _ (m n : ℕ) (f : ℕ → ℕ) (last : Bool) (at : ℕ) (before after : 
   written-given g left right ys firsts of-ys of-firsts =
       subst₂ (λ (us vs : List ℕ). after ≡ paste before at (sampledDigits m left right (givenFrom f us vs last)) (m * m)) of-ys of-firsts
 
-  -- the last gate gives the ink, whatever the lists
+  -- the last gate gives the ink, for any lists
   pub written-last : last ≡ true → (g : ℕ) (left right ys firsts : List ℕ)
       → after ≡ paste before at (sampledDigits m left right (givenFrom f ys firsts last)) (m * m)
       → after ≡ paste before at (sampledDigits m left right (givenBy m n f g last)) (m * m)

@@ -1,4 +1,4 @@
--- What stands inside the cells where a gate's digits are made.
+-- What is inside the cells when a gate's digits are computed.
 -- Assumes nothing.
 use Prim.Native.Nat.{ℕ, _+_, _^_, _<_}
 use mathlib.Core.Path.{_≡_, sym, subst, subst₂}

@@ -22,7 +22,7 @@ pub record Joined (m n : ℕ) (f : ℕ → ℕ) (last : Bool) (a b left right : 
 -- a gate's digits written, and its references set
 module _ (n : ℕ) (f : ℕ → ℕ) (last : Bool) (a b left right : ℕ) (net : Net) (digits : List ℕ) (lefts : net .gates < length (net .left))
     (rights : net .gates < length (net .right)) where
-  -- the digits of a gate of m levels, behind the others
+  -- the digits of a gate of m levels, after the others
   abbrev Written : ℕ → Type 0
   Written m = digits ≡ paste (net .digits) (net .gates * (m * m)) (gateDigits m n f last a b) (m * m)
 

@@ -1,4 +1,4 @@
--- The net that a choice of parts makes of a table, by value: its gates are the definitions', and they keep the rules of a net sheet.
+-- The net that a choice of parts makes from a table, by value: its gates are those of the definitions, and they keep the rules of a net sheet.
 -- Assumes nothing.
 use Prim.Native.Nat.{ℕ, _^_, _≤_, _<_}
 use mathlib.Core.Path.{_≡_, refl, sym, ap, _∙_, subst, subst⁻¹}
@@ -42,7 +42,7 @@ use Rattle.wirings.specs.Choice.{splitBy, LayersRoom}
 use Rattle.wirings.specs.Chosen.{Choosable, Chosen}
 use Rattle.gate_tables.specs.Filled.{Filled}
 
--- the gates of the net that a choice makes of a table
+-- the gates of the net that a choice makes from a table
 abbrev pub gatesBy : Choice → ℕ → ℕ → (ℕ → ℕ) → List Gate
 gatesBy Settled m n f = settledGates m n f (marksOf m n f)
 gatesBy Shallow m n f = shallowGates m n f (marksOf m n f)
@@ -58,7 +58,7 @@ pub record NetOf (m n : ℕ) (gates-are : List Gate) (net : Net) : Type 0 where
 abbrev pub MadeNet : Choice → ℕ → ℕ → (ℕ → ℕ) → Net → Type 0
 MadeNet choice m n f net = NetOf m n (gatesBy choice m n f) net
 
--- what a size within the bounds has: a level, and two inputs
+-- a size within the bounds has a level and two inputs
 pub some-level : (m n : ℕ) → sizeFits m n ≡ true → 0 < m
 some-level m n fit = omega (arith, sized m n fit .levels-least)
 
@@ -98,7 +98,7 @@ pub marks-in : (m n : ℕ) (f : ℕ → ℕ) (marks : List ℕ) → take (2 ^ n)
 marks-in m n f marks front room =
     record { room = room; same = λ g g<. sym (getD-take (2 ^ n) marks g 0 g<) ∙ ap (λ (l : List ℕ). markIn l g) front }
 
--- what the shallow choice needs besides: the fewest layers of every group of mark 2
+-- what the shallow choice also needs: the fewest layers of every group of mark 2
 abbrev pub LayersKnown : Choice → ℕ → List ℕ → List ℕ → Type 0
 LayersKnown Settled n marks fewest = Unit {0}
 LayersKnown Shallow n marks fewest = (2 ^ n ≤ length fewest) × WiringKnown n marks (2 ^ n) fewest
@@ -126,7 +126,7 @@ own-gates Settled m n f = refl
 own-gates Shallow m n f = refl
 
 module _ (choice : Choice) (m n : ℕ) (pos : 0 < m) (f : ℕ → ℕ) where
-  -- it parts a group of mark 2 into two of mark 2
+  -- it splits a group of mark 2 into two of mark 2
   own-splits : (leaves : ℕ) → Splits n (marked m n pos f) leaves (ownSplit choice n (marksOf m n f))
   own-splits = elim choice as (λ c. (leaves : ℕ) → Splits n (marked m n pos f) leaves (ownSplit c n (marksOf m n f))) [
     | Settled ↦ settled-splits m n pos f
@@ -151,7 +151,7 @@ module _ (choice : Choice) (m n : ℕ) (pos : 0 < m) (f : ℕ → ℕ) (marks fe
   abbrev found : ℕ → ℕ
   found = splitBy choice n marks fewest
 
-  -- the part that is found in it is the one on the marks themselves
+  -- the part that is found there is the same as on the marks themselves
   found-own : (g : ℕ) → g < 2 ^ n → markIn marks g ≡ 2 → found g ≡ own g
   found-own = elim choice as (λ c. LayersKnown c n marks fewest
       → (g : ℕ) → g < 2 ^ n → markIn marks g ≡ 2 → splitBy c n marks fewest g ≡ ownSplit c n (marksOf m n f) g) [
@@ -159,7 +159,7 @@ module _ (choice : Choice) (m n : ℕ) (pos : 0 < m) (f : ℕ → ℕ) (marks fe
         | Shallow ↦ λ layers g g< two. shallow-agree n marks (marksOf m n f) (holds .same) fewest (layers .1) g g< two
       ] known
 
-  -- it parts a group of mark 2 into two of mark 2
+  -- it splits a group of mark 2 into two of mark 2
   split-found : (g : ℕ) → g < 2 ^ n → markIn marks g ≡ 2 → size n g ≢ 1 → Split n (markIn marks) g (found g)
   split-found g g< two several =
       let half = own-splits choice m n pos f g g g< (member-inside n g g (λ i i< is. is)) (sym (holds .same g g<) ∙ two) several in
@@ -192,12 +192,12 @@ module _ (choice : Choice) (m n : ℕ) (pos : 0 < m) (f : ℕ → ℕ) (marks fe
 
 -- ---- the net
 
--- the leaves have mark 2 where the whole group has
+-- the leaves have mark 2 if the whole group has
 pub leaves-two : (m n : ℕ) (fit : sizeFits m n ≡ true) (f : ℕ → ℕ) → markIn (marksOf m n f) (wholeGroup n) ≡ 2
     → marked m n (some-level m n fit) f (leavesOf m n f) ≡ 2
 leaves-two m n fit f two = leaves-marked m n (some-level m n fit) f (two-inputs m n fit) .1 two
 
--- the wiring that is chosen for a table that has a tree
+-- the wiring chosen for a table that has a tree
 module _ (choice : Choice) (m n : ℕ) (f : ℕ → ℕ) (fit : sizeFits m n ≡ true) (two : markIn (marksOf m n f) (wholeGroup n) ≡ 2) (marks fewest : List ℕ)
     (holds : MarksIn m n f marks) (known : LayersKnown choice n marks fewest) (w : Wiring)
     (chosen : Chosen n (splitBy choice n marks fewest) (leavesOf m n f) w) where

@@ -1,5 +1,5 @@
--- Digits from two lists of assignments, one for each value that the left and the right wire carry: the digit at (u, v) is what the gate gives at the
--- sum of left's u and right's v, and 0 where one of the two has no such assignment.
+-- Digits from two lists of assignments, one assignment for each value that the left and the right wire carry: the digit at (u, v) is what the gate
+-- gives at the sum of left's u and right's v, or 0 if one of the two has no such assignment.
 -- Assumes nothing.
 use Prim.Native.Nat.{ℕ, _+_, _*_, _/_, _%_, _≤_, _<_}
 use mathlib.Core.Path.{_≡_, refl, ap, _∙_}
@@ -14,8 +14,8 @@ use Rattle.rules.specs.Groups.Groups.{alikeOver}
 use Rattle.laws.specs.Lists.Ranges.{map-range-length, map-range-at}
 use Rattle.laws.specs.Lists.FirstPlaces.{place-at-most}
 
--- what a gate gives at its group's assignment p: the ink at the last, and else its class's number, where ys are the assignments of
--- the other inputs and firsts the first of each class
+-- what a gate gives at its group's assignment p: the ink if it is the last gate, else the class's number. ys are the assignments of
+-- the other inputs, firsts the first of each class
 unfoldable pub givenFrom : (ℕ → ℕ) → List ℕ → List ℕ → Bool → ℕ → ℕ
 givenFrom f ys firsts true p = f p
 givenFrom f ys firsts false p = firstPlace (alikeOver f ys p) firsts

@@ -62,14 +62,14 @@ module _ (m n : ℕ) (f : ℕ → ℕ) (g : ℕ) (g< : g < 2 ^ n) where
       go true u< = points-are-parts m n pos g _ (mem-getD (points m n g) u 0 u<) .0
       go false u< = points-are-parts m n pos g _ (classes-are-points m n pos f g g< u u<) .0
 
--- what they are for a wire: all that it carries is below their number, and where what an index gives the wire's group is sample u,
--- the wire carries u
+-- what samples are for a wire: all values that it carries are below their number, and if an index gives the wire's group sample u, the
+-- wire carries u
 pub record Sampled (m n : ℕ) (f : ℕ → ℕ) (g : ℕ) (xs : List ℕ) : Type 0 where
   pub all : (p : ℕ) → carried m n f g p < length xs
   pub carries : (u p : ℕ) → u < length xs → part m n g p ≡ getD xs u 0 → carried m n f g p ≡ u
 
 module _ (m n : ℕ) (pos : 0 < m) (f : ℕ → ℕ) where
-  -- an input's
+  -- for an input
   sampled-input : (i : ℕ) → i < n → Sampled m n f (2 ^ i) (points m n (2 ^ i))
   unfolding level
   sampled-input i h =
@@ -88,7 +88,7 @@ module _ (m n : ℕ) (pos : 0 < m) (f : ℕ → ℕ) where
       }
 
   module _ (g : ℕ) (g< : g < 2 ^ n) where
-    -- a gate's
+    -- for a gate
     sampled-gate : size n g ≢ 1 → Sampled m n f g (classes m n f g)
     unfolding multiplicity
     sampled-gate several =
@@ -101,7 +101,7 @@ module _ (m n : ℕ) (pos : 0 < m) (f : ℕ → ℕ) where
               ∙ sym (listed-once m n pos f g g< u _ u< (class-below m n pos f g g< _) (class-listed m n pos f g g< (getD (classes m n f g) u 0)));
         }
 
-    -- a wire's samples are such a list
+    -- the samples of a wire form such a list
     pub sampled : Sampled m n f g (samples m n f g)
     unfolding samples
     sampled = go (eqb (size n g) 1) refl

@@ -1,4 +1,4 @@
--- The cells of a table within a sheet's bounds: how large they are.
+-- The cells of a table within a sheet's bounds, and limits on their number.
 -- Assumes nothing.
 use Prim.Native.Nat.{ℕ, _^_, _≤_, _<_}
 use mathlib.Core.Path.{_≡_}

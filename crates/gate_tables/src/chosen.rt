@@ -1,4 +1,4 @@
-// The net that a choice of parts makes of a table: its wiring of the table's leaves, filled.
+// The net that a choice of parts makes from a table: its wiring of the table's leaves, filled.
 ghost use mathlib.Core.Path.{_≡_};
 ghost use mathlib.Core.Bool.{true};
 ghost use Prim.Native.Nat.{ℕ, _^_, _≤_, _<_};
@@ -14,7 +14,7 @@ use wirings::choice::Choice;
 use wirings::choose;
 use wirings::leaves::group;
 
-// Returns the net of a table that has a tree: the whole group has mark 2.
+// Returns the net of a table that has a tree, so the whole group has mark 2.
 pub fn chosen_net(
     choice: Choice,
     m: usize,

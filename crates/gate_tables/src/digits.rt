@@ -9,8 +9,8 @@ ghost use Rattle.gate_tables.specs.SampledDigits.{givenFrom, sampledDigi
 ghost use Rattle.gate_tables.specs.DigitsReady.{Ready};
 use classes::alike;
 
-// Returns what a gate gives at its group's assignment p: the ink if it is the last gate, else the class's number. `ys` are the assignments of the other
-// inputs, `firsts` the first of each class.
+// Returns what a gate gives at its group's assignment p: the ink if it is the last gate, else the class's number. `ys` are the assignments of the
+// other inputs, `firsts` the first of each class.
 fn given(cells: &[u8], ys: &[u16], firsts: &[u16], last: bool, p: usize) -> u8
     requires { ⌜ (length (now firsts) ≤ 255) × (p < length (now cells)) × (Within (length (now cells)) (now ys) p)
         × ((j : ℕ) → j < length (now firsts) → Within (length (now cells)) (now ys) (getD (now firsts) j 0)) ⌝ }
@@ -23,7 +23,7 @@ fn given(cells: &[u8], ys: &[u16], firsts: &[u16], last: bool, p: usize) -> u8
     }
 }
 
-// Returns the digit at (u, v): what the gate gives where left carries u and right v, and 0 if no assignment has them carry that.
+// Returns the digit at (u, v): what the gate gives if left carries u and right carries v, or 0 if no assignment gives them these values.
 fn digit(
     cells: &[u8],
     ys: &[u16],

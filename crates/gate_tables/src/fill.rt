@@ -17,7 +17,7 @@ use nets::forms;
 use radix::powers;
 use wirings::forms as links;
 
-// Returns the net with one more gate, which joins groups a and b. Their references are left and right.
+// Returns the net with one more gate, which joins groups a and b. `left` and `right` are their references.
 fn join(
     m: usize,
     n: usize,

@@ -1,5 +1,5 @@
-// A gate's digits. What a gate gives depends on what its two wires carry alone, so one assignment for each value that a wire carries
-// tells all: m·m assignments are looked at, and not all of the group's.
+// A gate's digits. What a gate gives depends only on what its two wires carry. So one assignment for each value that a wire carries is enough:
+// m·m assignments are looked up instead of all of the group's.
 ghost use mathlib.Core.Path.{_≡_};
 ghost use Prim.Native.Nat.{_+_, _*_, _^_, _≤_, _<_};
 ghost use lib.ListN.{length};

@@ -1,4 +1,4 @@
-// The net that is made of a table, by either choice.
+// The net made from a table, by either choice.
 ghost use mathlib.Core.Path.{_≡_};
 ghost use mathlib.Core.Bool.{true};
 ghost use Prim.Native.Nat.{ℕ, _^_, _≤_, _<_};
@@ -13,7 +13,7 @@ use crate::shallow;
 use nets::forms;
 use wirings::choice::Choice;
 
-// Returns the net of a table that has a tree: the whole group has mark 2.
+// Returns the net of a table that has a tree, so the whole group has mark 2.
 pub fn made_net(choice: Choice, m: usize, n: usize, cells: &[u8], marks: &[u8]) -> forms::Net
     requires { ⌜ (sizeFits m n ≡ true) × (m ^ n ≤ length (now cells)) × ((p : ℕ) → p < m ^ n → inkIn (now cells) p < m)
         × (MarksIn m n (inkIn (now cells)) (now marks)) × (markIn (marksOf m n (inkIn (now cells))) (wholeGroup n) ≡ 2) ⌝ }

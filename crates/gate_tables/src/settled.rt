@@ -13,7 +13,7 @@ use crate::chosen;
 use nets::forms;
 use wirings::choice::Choice;
 
-// Returns the settled net of a table that has a tree: the whole group has mark 2. This choice uses no layers.
+// Returns the settled net of a table that has a tree, so the whole group has mark 2. This choice uses no layers.
 pub fn settled_net(m: usize, n: usize, cells: &[u8], marks: &[u8]) -> forms::Net
     requires { ⌜ (sizeFits m n ≡ true) × (m ^ n ≤ length (now cells)) × ((p : ℕ) → p < m ^ n → inkIn (now cells) p < m)
         × (MarksIn m n (inkIn (now cells)) (now marks)) × (markIn (marksOf m n (inkIn (now cells))) (wholeGroup n) ≡ 2) ⌝ }

@@ -1,4 +1,4 @@
-// Returns the shallow net of a table.
+// The shallow net of a table.
 ghost use mathlib.Core.Path.{_≡_};
 ghost use mathlib.Core.Bool.{true};
 ghost use Prim.Native.Nat.{ℕ, _^_, _≤_, _<_};
@@ -15,7 +15,7 @@ use nets::forms;
 use wirings::choice::Choice;
 use wirings::fewest_layers;
 
-// The shallow net of a table that has a tree: the whole group has mark 2.
+// Returns the shallow net of a table that has a tree, so the whole group has mark 2.
 pub fn shallow_net(m: usize, n: usize, cells: &[u8], marks: &[u8]) -> forms::Net
     requires { ⌜ (sizeFits m n ≡ true) × (m ^ n ≤ length (now cells)) × ((p : ℕ) → p < m ^ n → inkIn (now cells) p < m)
         × (MarksIn m n (inkIn (now cells)) (now marks)) × (markIn (marksOf m n (inkIn (now cells))) (wholeGroup n) ≡ 2) ⌝ }

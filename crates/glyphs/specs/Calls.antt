@@ -1,4 +1,4 @@
--- The glyph call: what it answers, and the outcome of an accepted sheet.
+-- The glyph call: its answer, and the outcome for an accepted sheet.
 -- Assumes nothing.
 use Prim.Native.Nat.{ℕ, _*_, _≤_, _<_}
 use mathlib.Core.Path.{_≡_, sym, ap, _∙_}

@@ -26,16 +26,16 @@ pub record GlyphEmpty (wires : List ℕ) : Type 0 where
   pub room : frameSize ≤ length wires
   pub zeros : (q : ℕ) → getD wires q 0 ≡ 0
 
--- The frame around the first `height` rows: in column c and row r, each counted from two before the picture's first, stands the picture's level.
+-- The frame around the first `height` rows: column c and row r, counted from two before the picture's first, hold the picture's level.
 pub record GlyphFramed (width height : ℕ) (picture before wires : List ℕ) : Type 0 where
   pub same : length wires ≡ length before
   pub level : (c r : ℕ) → c < span → r < span → getD wires (r * span + c) 0 ≡ levelAt width height picture (subℕ c 2) (subℕ r 2)
 
--- a place two before the first or farther, ..
+-- a place at the picture's first cell or after it, ..
 pub place-in : (c : ℕ) → 2 ≤ c → subℕ c 2 ≡ pos (c - 2)
 place-in c h = rw (le-ltb c 2 h)
 
--- .. and one before the first
+-- .. and one before the first cell
 pub place-out : (c : ℕ) → c < 2 → subℕ c 2 ≡ negsuc (1 - c)
 place-out c h = rw (lt-ltb c 2 h) (ap negsuc (let e : 2 - suc c ≡ 1 - c = omega arith in e))
 
@@ -47,11 +47,11 @@ framed-none width picture wires empty =
     go c r (yes h) = rw (place-in r h) (level-along width 0 picture (subℕ c 2) (r - 2) (omega arith))
     go c r (no h) = let low : r < 2 = omega arith in rw (place-out r low) (level-above width 0 picture (subℕ c 2) (1 - r))
 
--- a part of a list by its two ends
+-- a slice of a list by its two ends
 pub glyph-part-is : (from width : ℕ) (l : List ℕ) → take (from + width - from) (drop from l) ≡ take width (drop from l)
 glyph-part-is from width l = ap (λ (k : ℕ). take k (drop from l)) (let e : from + width - from ≡ width = omega arith in e)
 
--- ---- one row more
+-- one more row
 
 -- the place where row y of the picture goes
 abbrev pub rowPlace : ℕ → ℕ
@@ -59,7 +59,7 @@ rowPlace y = (y + 2) * span + 2
 
 module _ (width height : ℕ) (wide : IsSide width) (high : IsSide height) (picture : List ℕ) (count : length picture ≡ width * height)
     (y : ℕ) (turn : y < height) where
-  -- row y lies within the picture
+  -- row y is within the picture
   pub row-there : y * width + width ≤ length picture
   row-there = rw (count, mul-comm width height) (omega (arith, rw suc-mul at (mul-le-mul-right width turn)))
 
@@ -85,7 +85,7 @@ module _ (width height : ℕ) (wide : IsSide width) (high : IsSide height) (pict
       pub framed-more : GlyphFramed width (y + 1) picture before (sets wires (rowPlace y) text)
       framed-more = record { same = length-sets wires (rowPlace y) text ∙ framed .same; level = λ c r h k. cell c r h k (ℕ-discrete r (y + 2)) }
         where
-          -- with one row more the level is the same in every other row
+          -- with one more row, the level is the same in every other row
           rows : (x : ℤ) (r : ℕ) → (r ≡ y + 2 → ⊥) → Dec (2 ≤ r) → levelAt width y picture x (subℕ r 2) ≡ levelAt width (y + 1) picture x (subℕ r 2)
           rows x r off (no low) = let above : r < 2 = omega arith in rw (place-out r above) (level-above width y picture x (1 - r) ∙ sym (level-above width (y + 1) picture x (1 - r)))
           rows x r off (yes high) = rw (place-in r high) (go x (decLt (r - 2) y))

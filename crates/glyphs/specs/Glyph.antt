@@ -30,7 +30,7 @@ abbrev pub glyphBy : ℕ → ℕ → List Gate → ℕ → ℕ → List ℕ → 
 glyphBy m n gates width height picture offsets =
     concatMap (λ y. map (λ x. valueWith m n gates (levelsRead n width height picture offsets x y)) (range 0 width)) (range 0 height)
 
--- a new cell, for a net by value, and all of them
+-- a new cell for a net by value, and all new cells
 abbrev pub cellOf : Net → ℕ → ℕ → List ℕ → List ℤ → ℕ → ℕ → ℕ
 cellOf net width height picture offsets x y =
     valueWith (net .levels) (net .inputs) (gatesOf net) (levelsRead (net .inputs) width height picture offsets x y)
@@ -38,18 +38,18 @@ cellOf net width height picture offsets x y =
 abbrev pub glyphOf : Net → ℕ → ℕ → List ℕ → List ℤ → List ℕ
 glyphOf net width height picture offsets = glyphBy (net .levels) (net .inputs) (gatesOf net) width height picture offsets
 
--- what printing asks
+-- what printing requires
 pub record GlyphReady (net : Net) (width height : ℕ) (picture : List ℕ) (offsets : List ℤ) (out : List ℕ) : Type 0 where
   pub sound : Sound net
   pub picture-is : IsPicture (net .levels) width height picture
   pub offsets-are : AreOffsets (net .inputs) offsets
   pub room : width * height ≤ length out
 
--- the places of the picture's cells in the frame, from the first to the last
+-- the number of places in the frame from the picture's first cell to its last
 abbrev pub placesOf : ℕ → ℕ → ℕ
 placesOf width height = (height - 1) * span + width
 
--- the framed picture, and the values of every gate
+-- room for the framed picture and the values of every gate
 abbrev pub mostValues : ℕ
 mostValues = frameSize + mostColumns * ((mostSide - 1) * span + mostSide)
 
@@ -58,7 +58,7 @@ zeros-at zero q = refl
 zeros-at (suc k) zero = refl
 zeros-at (suc k) (suc q) = zeros-at k q
 
--- so many zeros are a frame with no picture in it yet
+-- enough zeros are a frame with no picture in it yet
 pub blank : (k : ℕ) → frameSize ≤ k → GlyphEmpty (replicate k 0)
 blank k h = record { room = rw length-replicate h; zeros = zeros-at k }
 

@@ -1,4 +1,4 @@
--- An offset counted from the farthest one, and where an input's levels begin in the framed picture.
+-- An offset plus the largest one, and where an input's levels begin in the framed picture.
 -- Assumes nothing.
 use Prim.Native.Nat.{ℕ, zero, suc, _+_, _-_, _*_, _^_, _≤_, _<_}
 use mathlib.Core.Path.{_≡_, refl, sym, ap, _∙_}
@@ -22,11 +22,11 @@ use Rattle.laws.specs.Calls.Glyphs.{AreOffsets}
 use Rattle.laws.specs.Lists.Tests.{all-cons}
 use Rattle.nets.specs.Room.{mostWires}
 
--- the cells from one row of the framed picture to the next
+-- the distance between rows of the framed picture
 abbrev pub span : ℕ
 span = mostSide + 2 * mostOffset
 
--- two more than an offset that is near, 0 to 4; 5 for any other
+-- 2 plus the offset, 0 to 4, if the offset is near; 5 otherwise
 unfoldable pub reach : ℤ → ℕ
 reach (pos k) = cond (leb k 2) (k + 2) 5
 reach (negsuc k) = cond (leb k 1) (1 - k) 5
@@ -64,7 +64,7 @@ not-far z e = go (decLe (natAbs z) mostOffset)
     go (yes near) = near
     go (no far) = absurd (e (reach-far z (omega arith)))
 
--- a cell that is so far off, counted from two cells before the first
+-- the cell at this offset, counted from two cells before the first
 pub moved : (x : ℕ) (z : ℤ) → natAbs z ≤ mostOffset → pos x +ℤ z ≡ subℕ (x + reach z) 2
 unfolding reach
 moved x (pos k) h =
@@ -83,7 +83,7 @@ moved x (negsuc k) h = go (decLe (suc k) x)
         rw (le-leb k 1 low, lt-ltb x (suc k) (omega arith), lt-ltb (x + (1 - k)) 2 (omega arith))
         (ap negsuc (let e : suc k - suc x ≡ 2 - suc (x + (1 - k)) = omega arith in e))
 
--- ---- the bits of an offset, as the code tells them apart
+-- the bits of an offset, as the code distinguishes them
 
 -- an element of a slice, from its bits
 pub element : (z : ℤ) → mag z < 2 ^ 7 → toZ w8 (ofZ w8 z) ≡ z
@@ -96,7 +96,7 @@ module _ (z : ℤ) (fits : SFits w8 z) where
   pub reach-of : (b : ℕ) → ofZ w8 z ≡ b → reach z ≡ reach (toZ w8 b)
   reach-of b e = ap reach (bits-are b e)
 
-  -- none of the near ones
+  -- bits of no near offset
   pub reach-rest : (ofZ w8 z ≡ 254 → ⊥) → (ofZ w8 z ≡ 255 → ⊥) → (ofZ w8 z ≡ 0 → ⊥) → (ofZ w8 z ≡ 1 → ⊥) → (ofZ w8 z ≡ 2 → ⊥) → reach z ≡ 5
   reach-rest a b c d e = reach-far z (far z fits a b c d e)
     where
@@ -159,7 +159,7 @@ pub record StartsAt (offsets : List ℤ) (i : ℕ) (starts : List ℕ) : Type 0 
   pub room : length starts ≡ mostWires
   pub each : (j : ℕ) → j < i → getD starts j 0 ≡ startOf offsets j
 
--- one input more
+-- one more input
 pub glyph-starts-more : (offsets : List ℤ) (i : ℕ) (starts : List ℕ) → StartsAt offsets i starts → i < mostWires → (start : ℕ) → start ≡ startOf offsets i
     → StartsAt offsets (i + 1) (set starts i start)
 glyph-starts-more offsets i starts at low start is = record { room = length-set starts i start ∙ at .room; each = λ j h. go j h (ℕ-discrete j i) }

@@ -17,7 +17,7 @@ use Rattle.laws.specs.Lists.Places.{mem-getD}
 use Rattle.laws.specs.Lists.Tests.{all-mem, all-each}
 use Rattle.cells.specs.Bound.{FirstAtLeast}
 
--- every level is below m where no cell is at least m
+-- every level is below m if no cell is at least m
 below-decides : (m : ℕ) (picture : List ℕ) (k : ℕ) → FirstAtLeast m picture k → eqb k (length picture) ≡ all (λ l. ltb l m) picture
 below-decides m picture k first = go (all (λ l. ltb l m) picture) refl (decLt k (length picture))
   where

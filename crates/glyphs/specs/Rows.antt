@@ -1,4 +1,4 @@
--- The rows of a picture that lie in a list one span apart, put one after the other.
+-- The rows of a picture, one span apart in a list, written one after the other.
 -- Assumes nothing.
 use Prim.Native.Nat.{ℕ, _+_, _-_, _*_, _≤_, _<_}
 use mathlib.Core.Path.{_≡_, sym, ap, ap₂, _∙_}
@@ -22,7 +22,7 @@ rowAt wires start width y = take width (drop (start + y * span) wires)
 abbrev pub rowsFrom : List ℕ → ℕ → ℕ → ℕ → List ℕ
 rowsFrom wires start width count = concatMap (rowAt wires start width) (range 0 count)
 
--- all rows are there, and there is room for them
+-- all rows exist, and there is room for them
 pub record RowsReady (wires : List ℕ) (start width height : ℕ) (out : List ℕ) : Type 0 where
   pub wide : IsSide width
   pub high : IsSide height

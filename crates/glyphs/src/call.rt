@@ -49,8 +49,8 @@ fn print_accepted(
     Answer::Accepted(need)
 }
 
-// Writes the glyph that a net sheet prints from a picture of `width` times `height` cells to the front of `out`, and returns how many cells it
-// has. For each input an offset across and one down says which cell it is read from. Any bytes and numbers may come in.
+// Writes the glyph that a net sheet prints from a picture of `width` times `height` cells to the front of `out`, and returns how many cells it has.
+// Each input has an offset across and one down for the cell that it reads. The caller may pass any bytes and numbers.
 pub fn glyph(
     sheet: &[u8],
     width: usize,

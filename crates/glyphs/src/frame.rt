@@ -1,4 +1,4 @@
-// The framed picture: the old picture with a border of zeros, so that each cell that an offset reaches is there to be read.
+// The framed picture: the old picture with a border of zeros, so that every cell that an offset reaches exists.
 ghost use mathlib.Core.Path.{_≡_};
 ghost use Prim.Native.Nat.{_*_};
 ghost use lib.ListN.{length};
@@ -8,7 +8,7 @@ use crate::limits::MOST_OFFSET;
 use crate::limits::SPAN;
 use net_sheets::text::put::copy;
 
-// Puts the picture's rows into the frame, which is all zeros.
+// Copies the picture's rows into the frame, which is all zeros.
 pub fn frame(picture: &[u8], width: usize, height: usize, wires: &mut [u8])
     requires { ⌜ IsSide width × IsSide height × (length (now picture) ≡ width * height) × GlyphEmpty (now wires) ⌝ }
     ensures { λ _. ⌜ GlyphFramed width height (now (picture .entry)) (now (wires .entry)) (now (wires .exit)) ⌝ }

@@ -1,17 +1,17 @@
-// The limits of a picture, and of the framed picture: a border of zeros as wide as an offset may reach stands around it.
+// The limits of a picture, and of the framed picture. Its border of zeros is as wide as the largest offset.
 use evaluation::values::MOST_COLUMNS;
 
 pub const MOST_SIDE: usize = 64;
 
 pub const MOST_OFFSET: usize = 2;
 
-// The cells from one row of the framed picture to the next, and all of its cells.
+// The distance between rows of the framed picture, and its number of cells.
 pub const SPAN: usize = MOST_SIDE + 2 * MOST_OFFSET;
 
 pub const FRAME: usize = SPAN * SPAN;
 
-// The cells of a picture as they lie in the frame, from its first to its last.
+// The most cells of the frame from the first cell of a picture to its last.
 pub const MOST_PLACES: usize = (MOST_SIDE - 1) * SPAN + MOST_SIDE;
 
-// The framed picture, then the values of every gate at those places.
+// Room for the framed picture and the values of every gate at those places.
 pub const MOST_VALUES: usize = FRAME + MOST_COLUMNS * MOST_PLACES;

@@ -9,10 +9,10 @@ ghost use Rattle.glyphs.specs.Offsets.{reach, allNear, startOf};
 use crate::limits::SPAN;
 use nets::forms::MOST_WIRES;
 
-// Past every reach.
+// A number that no reach has.
 const TOO_FAR: usize = 5;
 
-// Returns an offset counted from the farthest one, so that it is at least 0; or `TOO_FAR`.
+// Returns the offset plus the largest one, so it is at least 0; or `TOO_FAR`.
 fn reach_of(offset: i8) -> usize
     ensures { λ r. ⌜ r ≡ reach offset ⌝ }
 {

@@ -1,4 +1,4 @@
-// Whether a picture has sides and cells as they must be.
+// Whether a picture has allowed sides and cells.
 ghost use mathlib.Core.Path.{_≡_};
 ghost use Prim.Native.Nat.{_≤_};
 ghost use Rattle.rules.specs.Limits.{mostLevels};
@@ -6,7 +6,7 @@ ghost use Rattle.rules.specs.Calls.Glyphs.{sideFits, pictureFits};
 use crate::limits::MOST_SIDE;
 use cells::bound::first_at_least;
 
-// Returns whether a picture may have so many cells on a side.
+// Returns whether a picture may have this many cells on a side.
 fn side_fits(side: usize) -> bool
     ensures { λ r. ⌜ r ≡ sideFits side ⌝ }
 {
@@ -16,7 +16,7 @@ fn side_fits(side: usize) -> bool
     side <= MOST_SIDE
 }
 
-// Returns whether a picture has good sides, a cell for each place, and levels below m. Any sides may come in: they are judged before their product is taken.
+// Returns whether a picture has allowed sides, one cell for each place, and levels below m. Checks the sides before it multiplies them.
 pub fn picture_fits(m: usize, width: usize, height: usize, picture: &[u8]) -> bool
     requires { ⌜ m ≤ mostLevels ⌝ }
     ensures { λ r. ⌜ r ≡ pictureFits m width height (now (picture .entry)) ⌝ }

@@ -1,4 +1,4 @@
-// The new picture, all at once: the framed picture, the net's value at every place of it, and the rows of these.
+// Prints the new picture all at once: frames the picture, computes the net's value at every place, and copies the rows of these.
 ghost use mathlib.Core.Path.{_≡_};
 ghost use Rattle.rules.specs.Calls.Answers.{written};
 ghost use Rattle.glyphs.specs.Glyph.{GlyphReady, glyphOf};

@@ -1,4 +1,4 @@
-// The rows of the new picture, from where the net's values lie, to the output.
+// Copies the rows of the new picture from the net's values to the output.
 ghost use mathlib.Core.Path.{_≡_};
 ghost use Prim.Native.Nat.{_*_};
 ghost use mathlib.Core.List.{_++_};

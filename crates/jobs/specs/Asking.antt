@@ -1,4 +1,4 @@
--- What the answer to an asking stands for, and its outcomes.
+-- What the answer for a group represents, and its outcomes.
 -- Assumes nothing.
 use Prim.Native.Nat.{ℕ, _^_, _≤_, _<_}
 use mathlib.Core.Path.{_≡_, sym, ap, _∙_}

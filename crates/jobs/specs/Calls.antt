@@ -1,4 +1,4 @@
--- The four calls on a job by value: what each hands back, every byte of it, what that stands for, and what it answers.
+-- The four calls on a job by value: the job that each returns, every byte of it, what that job represents, and the answer.
 -- Assumes nothing.
 use Prim.Native.Nat.{ℕ, _+_}
 use mathlib.Core.Path.{_≡_, sym, ap, _∙_}
@@ -33,7 +33,7 @@ pub record StepDone (job : Job) (r : own-stepped.Stepped) : Type 0 where
   pub stands : jobOf (r .job) ≡ stepJob (jobOf job) .job
   pub outcome : outcomeAs tt (r .outcome) ≡ stepJob (jobOf job) .answer
 
--- the job that is handed back is the one that came in
+-- the returned job is the one that was passed in
 pub record AskDone (job : Job) (group : ℕ) (r : own-asked.Asked) : Type 0 where
   pub same : r .job ≡ job
   pub answer : reachedAs (r .answer) ≡ askJob (jobOf job) group .answer

@@ -1,4 +1,4 @@
--- Finishing a job, by its parts: its outcomes, and what making from its table asks.
+-- Finishing a job, by its parts: its outcomes, and what making from its table requires.
 -- Assumes nothing.
 use Prim.Native.Nat.{ℕ, _-_, _^_, _≤_, _<_}
 use mathlib.Core.Path.{_≡_, refl, sym, ap, _∙_}
@@ -38,7 +38,7 @@ finish-none lines own marks passed none cells buffer output =
 -- ---- a job on a table
 
 module _ (lines : List ℕ) (h : Header) (is : Fronted lines h) (inks : List ℕ) (passed : ℕ) where
-  -- with whatever marks
+  -- with any marks
   abbrev pub jobWith : List ℕ → Job
   jobWith marks = record { table = tableIn lines h inks; marks = marks; passed = passed }
 

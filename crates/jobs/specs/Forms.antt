@@ -1,5 +1,5 @@
--- What a job by value stands for. Every value of the struct stands for a job: its lines are read as a table sheet's first lines are, up to the space after the
--- last name, and where they are turned back it is a job with no inputs; its inks and marks are at the front of their arrays.
+-- What a job by value represents. Every value of the struct represents a job. Its lines are read like a table sheet's first lines, up to the space
+-- after the last name; if they are refused, the job has no inputs. Its inks and marks are at the front of their arrays.
 -- Assumes nothing.
 use Prim.Native.Nat.{ℕ, _^_, _≤_}
 use mathlib.Core.Path.{_≡_, sym}
@@ -24,14 +24,14 @@ use Rattle.fields.specs.declared.header.name_line.HeaderRead.{HeaderRead}
 use Rattle.fields.specs.declared.steps.Step.the-variants.{On, Back}
 use Rattle.jobs.specs.declared.job.Job.{Job}
 
--- the bytes that a job has for its first lines, and the groups of the most inputs
+-- the number of bytes for a job's first lines, and the number of groups of the most inputs
 abbrev pub mostLines : ℕ
 mostLines = 128
 
 abbrev pub mostGroups : ℕ
 mostGroups = 2 ^ mostInputs
 
--- the table whose first lines and cells these are
+-- the table with these first lines and cells
 unfoldable pub tableFrom : List ℕ → List ℕ → Table
 tableFrom lines cells =
     elim (headerLines space lines 0) [
@@ -39,7 +39,7 @@ tableFrom lines cells =
       | turnedBack number place ↦ noTable
     ]
 
--- the job whose parts these are
+-- the job with these parts
 unfoldable pub jobIn : List ℕ → List ℕ → List ℕ → ℕ → rules.Job
 jobIn lines cells marks passed =
     let t = tableFrom lines cells in
@@ -65,7 +65,7 @@ module _ (lines : List ℕ) (r : HeaderRead) (did : HeaderRest lines 0 (headerLi
   pub fronted : (value next : ℕ) → r .step ≡ On value next → Fronted lines (r .header)
   fronted value next e = record { rest = _; place = next; reads = sym (rw e at (did .reads)); held = did .held value next e }
 
-  -- they are not read, and there is no table
+  -- if they are refused, there is no table
   pub not-fronted : (number place : ℕ) → r .step ≡ Back number place → (cells : List ℕ) → tableFrom lines cells ≡ noTable
   unfolding tableFrom
   not-fronted number place e cells = rw (sym (rw e at (did .reads)), tableFrom)

@@ -1,5 +1,5 @@
--- The bytes of a job as opening makes it: its first lines, its inks and its marks at the front of their arrays, and zeros behind them; and that it stands for
--- the job that is opened.
+-- The bytes of a newly opened job: its first lines, its inks and its marks at the front of their arrays, and zeros after them. They represent the job
+-- that is opened.
 -- Assumes nothing.
 use Prim.Native.Nat.{ℕ, suc, _+_, _-_, _*_, _^_, _≤_}
 use mathlib.Core.Path.{_≡_, refl, sym, ap, _∙_}
@@ -54,7 +54,7 @@ openedBytes s = elim (readFull s) [ refused number place ↦ noBytes | accepted 
 
 -- ---- the first lines
 
--- names, each with a space behind it
+-- names with a space after each
 ended-spaced : (ws : List (List ℕ)) → ended space ws ≡ spaced ws
 unfolding ended spaced
 ended-spaced [] = refl
@@ -62,7 +62,7 @@ ended-spaced (w ∷ []) = refl
 ended-spaced (w ∷ v ∷ ws) =
     append-assoc w (space ∷ []) (ended space (v ∷ ws)) ∙ ap {B = List ℕ} (λ (r : List ℕ). w ++ (space ∷ r)) (ended-spaced (v ∷ ws))
 
--- the text in the parts in which it is written
+-- the text, split into the parts in which it is written
 pub head-parts : (s : List ℕ) (h : Header) → headText space (headerOf s h)
     ≡ (line (text "levels" ∷ text "inputs" ∷ []) ++ line (decimal (h .levels) ∷ decimal (h .inputs) ∷ [])) ++ spacedFrom (nameIn s h) 0 (h .inputs)
 unfolding headText headerOf
@@ -104,7 +104,7 @@ head-room h kept =
     let each = spaced-length (h .names) (kept .names) in
     omega (arith, whole, front, words-length, a, b, pair, names, each, kept .count, size .inputs-most)
 
--- what writing them asks
+-- what writing them requires
 pub record OwnLines (s : List ℕ) (h : Header) : Type 0 where
   pub names : NamesInside s h
   pub room : length (headText space (headerOf s h)) ≤ mostLines
@@ -124,7 +124,7 @@ module _ (s : List ℕ) (h : Header) (inks : List ℕ) where
   unfolding newBytes headerOf
   new-bytes lines cells e d = λ i. record { lines = e i; cells = d i; marks = replicate mostGroups 0; passed = 0 }
 
--- ---- what they stand for
+-- what the bytes represent
 
 take-zeros : (k most : ℕ) → k ≤ most → take {A = ℕ} k (replicate most 0) ≡ replicate k 0
 take-zeros k most h =
@@ -155,7 +155,7 @@ module _ (t : Table) (kept : TableRules t) where
       (λ i. let own = new-table i in record { table = own; marks = take (2 ^ own .header .inputs) (replicate mostGroups 0); passed = 0 })
       ∙ (λ i. record { table = t; marks = take-zeros (2 ^ t .header .inputs) mostGroups (job-groups-room (t .header) (kept .header)) i; passed = 0 })
 
--- zeros are no first lines
+-- zeros are not first lines
 zeros-lines : headerLines space (replicate mostLines 0) 0 ≡ turnedBack 1 0
 unfolding computing
 zeros-lines = refl

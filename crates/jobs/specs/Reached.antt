@@ -1,4 +1,4 @@
--- "jobs got by opening and stepping": a job by value that `open` gave, brought on by `step` and asked, stands for the job after that list of steps and askings.
+-- "jobs got by opening and stepping": a job by value that came from `open` and then calls of `step` and `mark` represents the job after these moves.
 -- Assumes nothing.
 use Prim.Native.Nat.{ℕ}
 use mathlib.Core.Path.{_≡_, refl, sym, ap, _∙_}
@@ -12,13 +12,13 @@ use Rattle.jobs.specs.declared.job.Opened.{Opened}
 use Rattle.jobs.specs.declared.job.Stepped.{Stepped}
 use Rattle.jobs.specs.declared.job.Asked.{Asked}
 
--- the job was got from the sheet s by opening and these moves, as the contracts of the calls have it
+-- the job came from the sheet s by opening and these moves, by the contracts of the calls
 pub data Got (s : List ℕ) : List Move → Job → Type 0 where
   opened : (r : Opened) → OpenDone s r → Got s [] (r .job)
   stepped : (moves : List Move) (job : Job) → Got s moves job → (r : Stepped) → StepDone job r → Got s (moves ++ (step ∷ [])) (r .job)
   asked : (moves : List Move) (job : Job) → Got s moves job → (g : ℕ) (r : Asked) → AskDone job g r → Got s (moves ++ (ask g ∷ [])) (r .job)
 
--- one move more, at the end
+-- one more move, at the end
 pub after-last : (moves : List Move) (move : Move) (job : rules.Job) → afterMoves (moves ++ (move ∷ [])) job ≡ moved move (afterMoves moves job)
 unfolding afterMoves
 after-last [] move job = refl

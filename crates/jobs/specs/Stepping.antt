@@ -1,4 +1,4 @@
--- One group further, by the bytes of a job.
+-- A step to the next group, in the bytes of a job.
 -- Assumes nothing.
 use Prim.Native.Nat.{ℕ, zero, suc, _+_, _-_, _^_, _≤_, _<_}
 use mathlib.Core.Path.{_≡_, refl, sym, ap, ap₂, _∙_}
@@ -27,7 +27,7 @@ nextMark job =
     let t = job .table in
     markOf (t .header .levels) (t .header .inputs) (inkIn (t .inks)) (job .marks) (job .passed + 1)
 
--- what is found of the next group: all have been passed, or one is left and this is its mark
+-- the result for the next group: all groups have been passed, or this is its mark
 abbrev pub NextMark : rules.Job → Next → Type 0
 NextMark job Done = groupsOf job ≤ job .passed
 NextMark job (Mark mark) = (job .passed < groupsOf job) × (job .passed + 1 < mostGroups) × (mark ≡ nextMark job)
@@ -37,7 +37,7 @@ unfoldable pub withMark : Job → ℕ → Job
 withMark job mark =
     record { lines = job .lines; cells = job .cells; marks = set (job .marks) (job .passed + 1) mark; passed = job .passed + 1 }
 
--- the bytes once the job is `to`
+-- the bytes when the job is `to`
 unfoldable pub after : Job → rules.Job → Job
 after job to = record { lines = job .lines; cells = job .cells; marks = written (job .marks) (to .marks); passed = to .passed }
 
@@ -72,7 +72,7 @@ module _ (lines cells marks : List ℕ) (passed : ℕ) where
   abbrev job : rules.Job
   job = jobIn lines cells marks passed
 
-  -- the marks stay as they were, ..
+  -- the marks are unchanged, ..
   pub marks-same : marks ≡ written marks (job .marks)
   unfolding jobIn
   marks-same = sym (written-same (2 ^ tableFrom lines cells .header .inputs) marks)
@@ -89,13 +89,13 @@ module _ (lines cells marks : List ℕ) (passed : ℕ) where
         (λ i. record { table = tableFrom lines cells; marks = take-set (2 ^ tableFrom lines cells .header .inputs) marks (passed + 1) mark i; passed = passed + 1 })
         ∙ (λ i. record { table = tableFrom lines cells; marks = set (job .marks) (passed + 1) (is i); passed = passed + 1 })
 
--- ---- the next group, as the code looks for it
+-- the next group, as the code finds it
 
--- a part from 0 on
+-- a slice from 0
 pub part-length : (k : ℕ) (l : List ℕ) → k ≤ length l → length (take (k - 0) l) ≡ k
 part-length k l h = ap (λ (j : ℕ). length (take j l)) (sub-zero k) ∙ length-take-le k l h
 
--- the whole group, by the number past it
+-- the whole group's number is one less than the number of groups
 pub whole-group : (n past : ℕ) → past ≡ 2 ^ n → (g : ℕ) → past - 1 ≡ g → g ≡ wholeGroup n
 unfolding wholeGroup
 whole-group n past e g is = sym is ∙ ap (λ (k : ℕ). k - 1) e

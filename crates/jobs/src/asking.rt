@@ -1,4 +1,4 @@
-// A job asked for a group's mark.
+// Asks a job for a group's mark.
 ghost use mathlib.Core.Path.{_≡_};
 ghost use mathlib.Core.List.{List};
 ghost use Prim.Native.Nat.{ℕ, _≤_};
@@ -12,7 +12,7 @@ use fields::steps::Step;
 use nets::forms::Header;
 use radix::powers;
 
-// The final mark of a group that has been passed, or that it is not reached, or a refusal.
+// The final mark of a group that has been passed, or that the group is not reached, or a refusal.
 pub enum Reached {
     Final(u8),
     NotReached,
@@ -42,7 +42,7 @@ fn mark_under(lines: &[u8], h: Header, marks: &[u8], passed: usize, group: usize
     Reached::Final(marks[group])
 }
 
-// Returns a group's mark in a job given by its parts. Lines that are no sheet's first lines have no groups.
+// Returns a group's mark in a job given by its parts. If the lines are not a sheet's first lines, there are no groups.
 pub fn mark_in(lines: &[u8], marks: &[u8], passed: usize, group: usize) -> Reached
     requires { ⌜ mostGroups ≤ length (now marks) ⌝ }
     ensures { λ r. ⌜ ((cells : List ℕ) → reachedAs r ≡ askJob (jobIn (now (lines .entry)) cells (now (marks .entry)) passed) group .answer) ⌝ }

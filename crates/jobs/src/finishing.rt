@@ -18,7 +18,7 @@ use nets::forms::Header;
 use radix::powers;
 use settling::table;
 
-// Returns refusal 9, 10, 27 or 22, or that the table `inks` may be finished with so many groups passed.
+// Returns refusal 9, 10, 27 or 22, or accepts: the table `inks` may be finished with this many groups passed.
 fn may_finish(lines: &[u8], h: Header, inks: &[u8], passed: usize) -> Outcome
     requires { ⌜ Fronted (now lines) h ⌝ }
     ensures { λ r. ⌜ ((marks : List ℕ) → outcomeAs tt r
@@ -62,7 +62,7 @@ fn finish_under(
     }
 }
 
-// Finishes a job given by its parts; `own` are its cells. Lines that are no sheet's first lines have no table.
+// Finishes a job given by its parts; `own` are its cells. If the lines are not a sheet's first lines, there is no table.
 pub fn finish_in(
     lines: &[u8],
     own: &[u8],

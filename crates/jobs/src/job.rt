@@ -1,4 +1,4 @@
-// A job by value, and its four calls. Any job may come in, whether it was opened or not.
+// A job by value, and its four calls. The caller may pass any job, whether it was opened or not.
 ghost use Rattle.jobs.specs.Calls.{OpenDone, StepDone, AskDone, FinishDone};
 use crate::asking;
 use crate::asking::Reached;
@@ -11,11 +11,11 @@ use answers::outcome::Outcome;
 use marks::own;
 use radix::limits;
 
-// The first lines of a table sheet up to the last name and the space after it, 127 bytes at most.
+// Room for the first lines of a table sheet up to the last name and the space after it, at most 127 bytes.
 pub const MOST_LINES: usize = 128;
 
-// Its own copy of names, cells and marks, one byte a cell and a mark, each at the front of its array, and how many groups have been passed.
-// specs/Forms.antt says what it stands for.
+// A job's own copy of names, cells and marks, one byte per cell and mark, each at the front of its array, and how many groups have been passed.
+// specs/Forms.antt says what it represents.
 pub struct Job {
     pub lines: [u8; MOST_LINES],
     pub cells: [u8; limits::MOST_CELLS],
@@ -23,7 +23,7 @@ pub struct Job {
     pub passed: usize,
 }
 
-// What opening returns: beside a refusal the empty job.
+// What opening returns. The job is empty if the sheet is refused.
 pub struct Opened {
     pub job: Job,
     pub outcome: Outcome,
@@ -76,7 +76,7 @@ impl Job {
         }
     }
 
-    // Returns the mark of a group that has been passed, that it is not reached, or refusal 11.
+    // Returns the mark of a group that has been passed, or that the group is not reached, or refusal 11.
     pub fn mark(self, group: usize) -> Asked
         ensures { λ r. ⌜ AskDone self group r ⌝ }
     {

@@ -1,5 +1,5 @@
-// Marking as a job: opened on a table sheet, one group a step, asked for a group's mark, finished as making finishes. A job goes in by value and comes
-// back by value. The work is done by functions over its parts, which the calls for C share.
+// Marking as a job: opened on a table sheet, advanced one group per step, asked for a group's mark, and finished with the result of making. A job is
+// passed and returned by value. Functions over its parts do the work, and the calls for C share them.
 pub mod asking;
 pub mod finishing;
 pub mod job;

@@ -24,7 +24,7 @@ pub enum Next {
     Mark(u8),
 }
 
-// Returns whether g is the whole group and every ink is a level. Such a group has at most m classes, since its classes are the inks.
+// Returns whether g is the whole group and every ink is a level. Such a group has at most m classes, because its classes are the inks.
 fn is_whole_of_full(m: usize, n: usize, inks: &[u8], g: usize) -> bool
     requires { ⌜ (sizeFits m n ≡ true) × (length (now inks) ≡ m ^ n) ⌝ }
     ensures { λ r. ⌜ (r ≡ true → (g ≡ wholeGroup n) × ((p : ℕ) → p < m ^ n → inkIn (now (inks .entry)) p < m)) ⌝ }
@@ -35,7 +35,7 @@ fn is_whole_of_full(m: usize, n: usize, inks: &[u8], g: usize) -> bool
     first_at_least(m, inks) == inks.len()
 }
 
-// Returns the mark of group g, from the marks of the groups below it. The whole group of a full table is not counted, so that its step takes no longer
+// Returns the mark of group g, from the marks of the groups below it. The whole group of a full table is not counted, so its step takes no longer
 // than the others.
 fn mark_one(m: usize, n: usize, inks: &[u8], g: usize, marks: &[u8]) -> u8
     requires { ⌜ (sizeFits m n ≡ true) × (length (now inks) ≡ m ^ n) × (g < 2 ^ n) × (2 ^ n ≤ length (now marks)) ⌝ }
@@ -49,7 +49,7 @@ fn mark_one(m: usize, n: usize, inks: &[u8], g: usize, marks: &[u8]) -> u8
     group_mark::mark_group(m, n, inks, g, &mut xs, &mut ys, marks)
 }
 
-// Returns the next group's mark in a job whose lines have the header h, or that it is done.
+// Returns the next group's mark in a job whose lines have the header h, or that the job is done.
 fn next_under(lines: &[u8], h: Header, cells: &[u8], marks: &[u8], passed: usize) -> Next
     requires { ⌜ Fronted (now lines) h × (mostCells ≤ length (now cells)) × (mostGroups ≤ length (now marks)) ⌝ }
     ensures { λ r. ⌜ NextMark (jobIn (now (lines .entry)) (now (cells .entry)) (now (marks .entry)) passed) r ⌝ }
@@ -64,7 +64,7 @@ fn next_under(lines: &[u8], h: Header, cells: &[u8], marks: &[u8], passed: usize
     Next::Mark(mark_one(levels, inputs, &cells[0..count], passed + 1, &marks[0..end]))
 }
 
-// Returns the next group's mark in a job given by its parts, or that it is done. Lines that are no sheet's first lines have no groups.
+// Returns the next group's mark in a job given by its parts, or that it is done. If the lines are not a sheet's first lines, there are no groups.
 pub fn next_mark(lines: &[u8], cells: &[u8], marks: &[u8], passed: usize) -> Next
     requires { ⌜ (mostCells ≤ length (now cells)) × (mostGroups ≤ length (now marks)) ⌝ }
     ensures { λ r. ⌜ NextMark (jobIn (now (lines .entry)) (now (cells .entry)) (now (marks .entry)) passed) r ⌝ }

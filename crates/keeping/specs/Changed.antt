@@ -30,7 +30,7 @@ table-of net k h =
     ∙ map-at (λ g. g .digits) (gatesOf net) k (gateOf net 0) [] (omega (arith, gates-length net))
     ∙ ap (λ (g : Gate). g .digits) (map-range-at (gateOf net) 0 (net .gates) k (gateOf net 0) h ∙ ap (gateOf net) (zero-add k))
 
--- the part of the digits that the code takes
+-- the slice of the digits that the code takes
 pub part : (m : ℕ) (net : Net) → net .levels ≡ m → (k : ℕ)
     → take (k * (m * m) + m * m - k * (m * m)) (drop (k * (m * m)) (net .digits)) ≡ gateOf net k .digits
 unfolding gateOf
@@ -48,7 +48,7 @@ module _ (old new : Net) where
   unfolding range those total
   set-none = refl
 
-  -- numbers of few bits
+  -- the set has few bits
   pub set-small : (k : ℕ) → setTo k < 2 ^ (k + 1)
   set-small k =
       let twice : setTo k ≡ 2 * powers (λ i. tableDiffers (gatesOf old) (gatesOf new) (suc i)) (range 0 k) =

@@ -1,4 +1,4 @@
--- The groups of a net's gates found one after the other, up to the first with too many classes.
+-- The groups of a net's gates, found one after the other, up to the first with too many classes.
 -- Assumes nothing.
 use Prim.Native.Nat.{ℕ, _+_, _^_, _≤_, _<_}
 use mathlib.Core.Path.{_≡_, sym, ap, ap₂, _∙_, subst}
@@ -42,7 +42,7 @@ pub record GroupsTo (net : Net) (k : ℕ) (groups : List ℕ) : Type 0 where
   pub known : (r : ℕ) → r < net .inputs + k → getD groups r 0 ≡ getD (groupsOf net) r 0
 
 module _ (net : Net) (sound : Sound net) where
-  -- the inputs alone
+  -- only the inputs
   pub groups-none : (groups : List ℕ) → length groups ≡ mostWires → take (net .inputs) groups ≡ inputGroups (net .inputs) → GroupsTo net 0 groups
   groups-none groups long front =
       record {
@@ -59,7 +59,7 @@ module _ (net : Net) (sound : Sound net) where
     unfolding gatesOf
     gate-is = map-range-at (gateOf net) 0 (net .gates) k (gateOf net 0) turn ∙ ap (gateOf net) (zero-add k)
 
-    -- a gate's group is one of the inputs'
+    -- a gate's group is a group of the inputs
     pub keeping-group-below : gateGroupAt net k < 2 ^ net .inputs
     keeping-group-below =
         subst (λ (g : ℕ). g < 2 ^ net .inputs) (gate-group-at (net .inputs) (gatesOf net) k)
@@ -88,7 +88,7 @@ module _ (net : Net) (sound : Sound net) where
               rw own (getD-set-same groups (net .inputs + k) g 0 (omega (arith, so-far .long, wires-room net sound)) ∙ is ∙ sym (gate-group-at (net .inputs) (gatesOf net) k))
           go r h (no other) = getD-set-other groups (net .inputs + k) r g 0 other ∙ so-far .known r (omega arith)
 
--- ---- the first with too many
+-- the first gate with too many classes
 
 module _ (net : Net) (f : ℕ → ℕ) where
   abbrev crowds : ℕ → Bool

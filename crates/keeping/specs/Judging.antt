@@ -33,7 +33,7 @@ use Rattle.accepted.specs.Both.{BothTaken, BothReads, Judges, both-turned, both
 use Rattle.keeping.specs.Rewriting.{full-short, full-long}
 use Rattle.keeping.specs.KeepAnswers.{withChanged, sheetKept, filledInto, fullInto}
 
--- ---- past 27
+-- after refusal 27
 
 module _ (net : sheets.Net) (t : Table) (cells output : List ℕ) (same : sameHeader (net .header) (t .header) ≡ true) (whole : fullTable t ≡ accepted tt) where
   past-13 : length (t .inks) ≤ length cells → keptInto net t cells output ≡ filledInto net t cells output
@@ -62,7 +62,7 @@ module _ (net : sheets.Net) (t : Table) (cells output : List ℕ) (same : sameHe
 -- ---- two sheets
 
 module _ (s t : List ℕ) (h : Header) (net : Net) (inks : List ℕ) (taken : BothTaken s t h net inks) (count : ℕ) (is : count ≡ h .levels ^ h .inputs) where
-  -- no ink is above the levels
+  -- no ink is above the number of levels
   pub inks-within : (p : ℕ) → p < length (take (count - 0) inks) → getD (take (count - 0) inks) p 0 ≤ h .levels
   unfolding headerOf
   inks-within = both-kept s t h net inks taken count is .within
@@ -106,7 +106,7 @@ module _ (s t inks cells output : List ℕ) (r : BothRead) (read : BothReads s t
     same : sameHeader (headerOf s h) (headerOf s h) ≡ true
     same = same-header (headerOf s h) (headerOf s h) refl
 
-    -- 27, which names the table sheet
+    -- refusal 27, which names the table sheet
     pub table-open : (number place : ℕ) → refused number place ≡ full (h .levels) (take (count - 0) inks)
         → record { answer = turnedAway tableNamed number place; cells = cells; output = output } ≡ keepCall s t cells output
     unfolding fullTable headerOf

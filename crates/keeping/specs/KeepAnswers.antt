@@ -1,4 +1,4 @@
--- What the code's answer and buffers stand for in the definitions of document 02, K10.
+-- What the code's answer and buffers represent in the definitions of document 02, K10.
 -- Assumes nothing.
 use Prim.Native.Nat.{ℕ, suc}
 use mathlib.Core.Bool.{true, false}
@@ -27,13 +27,13 @@ unfoldable pub withChanged : ℕ → answers.Answer ℕ → Keeping
 withChanged changed (answers.accepted length) = rewritten length changed
 withChanged changed (answers.refused number place) = turnedAway answers.neither number place
 
--- what follows where every gate's group has few classes, with the cells written: 15, or the sheet
+-- the result if every gate's group has few classes, with the cells written: refusal 15, or the sheet
 unfoldable pub sheetKept : Net → Table → List ℕ → List ℕ → KeptWiring
 sheetKept net t cells output =
     let made = writtenSheet (printedNet (keptNet net t)) cells cells output in
     record { answer = withChanged (changedGates (net .gates) (keptNet net t .gates)) (made .answer); cells = cells; output = made .output }
 
--- what follows past 13: the inks in the cells buffer; 23 at 0, 23 at a gate, or the sheet
+-- the result if refusal 13 does not apply: the inks in the cells buffer; refusal 23 at 0, refusal 23 at a gate, or the sheet
 unfoldable pub filledInto : Net → Table → List ℕ → List ℕ → KeptWiring
 filledInto net t cells output =
     let cells-then = answers.written cells (t .inks) in
@@ -45,7 +45,7 @@ filledInto net t cells output =
       ]
     ]
 
--- what follows past 27: 13, or what follows past it
+-- the result if refusal 27 does not apply: refusal 13, or the result above
 unfoldable pub fullInto : Net → Table → List ℕ → List ℕ → KeptWiring
 fullInto net t cells output =
     elim (ltb (length cells) (length (t .inks))) [

@@ -1,4 +1,4 @@
--- The inputs that matter to a table and that no gate of a net uses: those that are left decide whether there is one.
+-- The inputs that matter to a table and that no gate of a net uses. In the search, the remaining inputs decide whether there is one.
 -- Assumes nothing.
 use Prim.Native.Nat.{ℕ, _-_}
 use mathlib.Core.Path.{_≡_, ap, _∙_}
@@ -11,15 +11,15 @@ use Rattle.rules.specs.Sheets.Sheets.{Gate, usedBy}
 use Rattle.rules.specs.Nets.Leaves.{matters}
 use Rattle.laws.specs.Lists.Tests.{any-map}
 
--- input i matters, and is not used
+-- input i matters and is not used
 abbrev pub isLeftOut : ℕ → ℕ → (ℕ → ℕ) → List Gate → ℕ → Bool
 isLeftOut m n f gates i = not (any (eqb i) (usedBy gates)) && matters m n f i
 
--- so it is with some input
+-- this holds for some input
 abbrev pub leavesOutOf : ℕ → ℕ → (ℕ → ℕ) → List Gate → Bool
 leavesOutOf m n f gates = any (isLeftOut m n f gates) (range 0 n)
 
--- and with some input from i on
+-- this holds for some input from i on
 abbrev pub leavesOutFrom : ℕ → ℕ → (ℕ → ℕ) → List Gate → ℕ → Bool
 leavesOutFrom m n f gates i = any (λ (b : Bool). b) (map (isLeftOut m n f gates) (range i (n - i)))
 

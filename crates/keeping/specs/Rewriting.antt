@@ -35,13 +35,13 @@ use Rattle.keeping.specs.declared.answer.Kept.{Kept}
 use Rattle.keeping.specs.KeepAnswers.{keepingOf, keptOf, withChanged, sheetKept, filledInto, fullInto}
 use Rattle.keeping.specs.LeftOut.{leavesOutOf}
 
--- what `keep_filled` asks
+-- what `keep_filled` requires
 pub record KeepingReady (s : List ℕ) (h : Header) (net : Net) (inks cells : List ℕ) : Type 0 where
   pub taken : NetTaken s h net
   pub given : Given s h inks
   pub long : length inks ≤ length cells
 
--- ---- past 27
+-- after refusal 27
 
 module _ (net : sheets.Net) (t : Table) (cells output : List ℕ) where
   pub full-short : length cells < length (t .inks)
@@ -53,10 +53,10 @@ module _ (net : sheets.Net) (t : Table) (cells output : List ℕ) where
   unfolding fullInto
   full-long long = sym (rw (le-ltb _ _ long, fullInto))
 
--- ---- past 13, by value
+-- after refusal 13, by value
 
 module _ (s : List ℕ) (h : Header) (net : Net) (inks : List ℕ) (taken : NetTaken s h net) (given : Given s h inks) where
-  -- how many gates have room, in the code's numbers
+  -- how many gates come before the first with too many classes, in the code's numbers
   roomy-is : roomyGates (net .levels) (net .inputs) (inkIn inks) (gatesOf net) ≡ roomyBefore (netIn s h net) (tableIn s h inks)
   unfolding roomyBefore headerOf
   roomy-is = ap₂ (λ (m n : ℕ). roomyGates m n (inkIn inks) (gatesOf net)) (taken .levels) (taken .inputs)
@@ -72,7 +72,7 @@ module _ (s : List ℕ) (h : Header) (net : Net) (inks : List ℕ) (taken : NetT
   out-is = ap₂ (λ (m n : ℕ). leavesOutOf m n (inkIn inks) (gatesOf net)) (taken .levels) (taken .inputs)
 
   module _ (cells cells-then output : List ℕ) (copied : cells-then ≡ written cells inks) where
-    -- 23 at 0
+    -- refusal 23 at 0
     pub left-told : leavesOutOf (net .levels) (net .inputs) (inkIn inks) (gatesOf net) ≡ true
         → record { answer = turnedAway neither 23 0; cells = cells-then; output = output } ≡ filledInto (netIn s h net) (tableIn s h inks) cells output
     unfolding filledInto
@@ -80,7 +80,7 @@ module _ (s : List ℕ) (h : Header) (net : Net) (inks : List ℕ) (taken : NetT
 
     module _ (takes : leavesOutOf (net .levels) (net .inputs) (inkIn inks) (gatesOf net) ≡ false) (roomy : ℕ)
         (is : roomy ≡ roomyGates (net .levels) (net .inputs) (inkIn inks) (gatesOf net)) where
-      -- 23 at a gate
+      -- refusal 23 at a gate
       pub first-told : roomy < net .gates
           → record { answer = turnedAway neither 23 (roomy + 1); cells = cells-then; output = output } ≡ filledInto (netIn s h net) (tableIn s h inks) cells output
       unfolding filledInto
@@ -89,7 +89,7 @@ module _ (s : List ℕ) (h : Header) (net : Net) (inks : List ℕ) (taken : NetT
           (λ i. record { answer = turnedAway neither 23 (place i); cells = copied i; output = output })
           ∙ sym (rw (sym out-is ∙ takes, lt-ltb (roomyBefore (netIn s h net) (tableIn s h inks)) (length (gatesOf net)) (omega (arith, is, roomy-is, gates-length net)), filledInto))
 
-      -- 15, or the sheet
+      -- refusal 15, or the sheet
       pub sheet-told : net .gates ≤ roomy → (r : Kept) (after : List ℕ)
           → ((own : List ℕ) → keptOf r own after ≡ sheetKept (netIn s h net) (tableIn s h inks) own output)
           → keptOf r cells-then after ≡ filledInto (netIn s h net) (tableIn s h inks) cells output
@@ -99,7 +99,7 @@ module _ (s : List ℕ) (h : Header) (net : Net) (inks : List ℕ) (taken : NetT
           ∙ ap (λ (own : List ℕ). sheetKept (netIn s h net) (tableIn s h inks) own output) copied
           ∙ sym (rw (sym out-is ∙ takes, le-ltb (roomyBefore (netIn s h net) (tableIn s h inks)) (length (gatesOf net)) (omega (arith, is, roomy-is, gates-length net)), filledInto))
 
-  -- ---- where no input that matters is left out, and every gate has room
+  -- if no input that matters is left out, and every gate has few classes
 
   module _ (takes : leavesOutOf (net .levels) (net .inputs) (inkIn inks) (gatesOf net) ≡ false)
       (all : net .gates ≤ roomyGates (net .levels) (net .inputs) (inkIn inks) (gatesOf net)) where
@@ -136,7 +136,7 @@ module _ (s : List ℕ) (h : Header) (net : Net) (inks : List ℕ) (taken : NetT
       unfolding keptGates
       new-gates = done .gates ∙ ap (λ ls. filled (net .levels) (net .inputs) f ls) links
 
-      -- .. and filled it is the net of its gates, which keep the rules
+      -- .. and filled, it is the net of its gates, which keep the rules
       pub new-net : NetOf (h .levels) (h .inputs) (keptGates (net .levels) (net .inputs) f (gatesOf net)) new
       new-net =
           let fills = kept-fills (net .levels) (net .inputs) pos f (gatesOf net) (own .gates) few uses below in
@@ -156,7 +156,7 @@ module _ (s : List ℕ) (h : Header) (net : Net) (inks : List ℕ) (taken : NetT
         gates = (new-gates ∙ ap₂ (λ (m n : ℕ). keptGates m n f (gatesOf net)) (taken .levels) (taken .inputs)) i;
       }
 
-      -- what the sheet's answer comes to with the set
+      -- the sheet's answer together with the set
       pub rewrite-told : (answer : Answer) (output after : List ℕ)
           → ((cells marks : List ℕ) → madeOf answer cells marks after ≡ writtenSheet (printedNet (netIn s h new)) cells marks output)
           → (set : ℕ) → set ≡ changedGates (gatesOf net) (gatesOf new) → (r : Kept) → keepingOf r ≡ withChanged set (answerOf answer)

@@ -1,4 +1,4 @@
-// Which gates of a net have another table than before.
+// Which gates of a net have a different table than before.
 ghost use mathlib.Core.Path.{_≡_};
 ghost use Prim.Native.Nat.{_<_};
 ghost use Rattle.rules.specs.Lists.{same};
@@ -9,7 +9,7 @@ use fields::same::same_bytes;
 use nets::forms::Net;
 use radix::powers::power;
 
-// Has the gate with k gates before it the same table in both?
+// Returns whether the gate with k gates before it has the same table in both nets.
 fn same_table(old: Net, new: Net, k: usize) -> bool
     requires { ⌜ (Sound old) × (new .levels ≡ old .levels) × (k < old .gates) ⌝ }
     ensures { λ r. ⌜ r ≡ same (gateOf old k .digits) (gateOf new k .digits) ⌝ }
@@ -22,7 +22,7 @@ fn same_table(old: Net, new: Net, k: usize) -> bool
     same_bytes(&before[from..end], &after[from..end])
 }
 
-// Returns the set of changed gates, as the sum of 2 to the power of each one's number, from 1.
+// Returns the set of changed gates, as the sum of 2 to the power of each gate's number, from 1.
 pub fn changed_gates(old: Net, new: Net) -> usize
     requires { ⌜ (Sound old) × (new .levels ≡ old .levels) × (new .gates ≡ old .gates) ⌝ }
     ensures { λ r. ⌜ r ≡ changedGates (gatesOf old) (gatesOf new) ⌝ }

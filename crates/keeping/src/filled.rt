@@ -1,4 +1,4 @@
-// A net's wiring for a full table: 13, 23, or the sheet.
+// Fills a net's wiring for a full table: refusal 13 or 23, or the sheet.
 ghost use mathlib.Core.Path.{_≡_};
 ghost use Rattle.nets.specs.Forms.{netIn, tableIn};
 ghost use Rattle.accepted.specs.Taken.{NetTaken, Given};
@@ -13,7 +13,7 @@ use net_sheets::text::put::copy;
 use nets::forms::Header;
 use nets::forms::Net;
 
-// The inks in the cells buffer, and then refusal 23 at 0 or at a gate, refusal 15 or the sheet.
+// Writes the inks to the cells buffer, then returns refusal 23 at 0 or at a gate, refusal 15, or the sheet.
 fn keep_filled(
     s: &[u8],
     header: Header,

@@ -1,4 +1,4 @@
-// The keep call: a net sheet's wiring, filled anew for a table sheet.
+// The keep call: fills a net sheet's wiring again for a table sheet.
 ghost use mathlib.Core.Path.{_≡_};
 ghost use Rattle.rules.specs.Calls.Keeping.{keepCall};
 ghost use Rattle.keeping.specs.KeepAnswers.{keptOf};
@@ -12,8 +12,8 @@ use cells::full::judge_full;
 use radix::limits::MOST_CELLS;
 use radix::powers::power;
 
-// Keeps a net sheet's wiring, and fills its gates anew for a table sheet, whose inks go to the cells buffer. Any bytes may come in. Refusal 27, of a table
-// with an open cell, names the table sheet.
+// Keeps a net sheet's wiring, and fills its gates again for a table sheet, whose inks go to the cells buffer. The caller may pass any bytes.
+// Refusal 27, of a table with an open cell, names the table sheet.
 pub fn keep(net_sheet: &[u8], table_sheet: &[u8], cells: &mut [u8], out: &mut [u8]) -> Kept
     ensures { λ r. ⌜ keptOf r (now (cells .exit)) (now (out .exit))
         ≡ keepCall (now («net_sheet» .entry)) (now («table_sheet» .entry)) (now (cells .entry)) (now (out .entry)) ⌝ }

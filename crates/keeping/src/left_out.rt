@@ -9,7 +9,7 @@ use net_sheets::reader::references::is_used;
 use nets::forms::Net;
 use wirings::leaves::matters::matters;
 
-// Tests whether some input matters that no gate uses.
+// Returns whether an input matters that no gate uses.
 pub fn leaves_out(net: Net, cells: &[u8]) -> bool
     requires { ⌜ (Sound net) × (Sized (net .levels) (net .inputs) (now cells)) ⌝ }
     ensures { λ r. ⌜ r ≡ leavesOutOf (net .levels) (net .inputs) (inkIn (now (cells .entry))) (gatesOf net) ⌝ }

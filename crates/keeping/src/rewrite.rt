@@ -1,4 +1,4 @@
-// A net's gates filled anew, and its sheet with the set of those that changed.
+// Fills a net's gates again, and writes its sheet and the set of the gates that changed.
 ghost use mathlib.Core.Path.{_≡_};
 ghost use mathlib.Core.Bool.{false};
 ghost use mathlib.Core.List.{List};
@@ -20,7 +20,7 @@ use net_sheets::printer::output;
 use nets::forms::Header;
 use nets::forms::Net;
 
-// The answer with the set of the gates that changed. What is refused here names neither sheet.
+// Returns the answer with the set of the gates that changed. A refusal here names neither sheet.
 fn with_changed(answer: Answer, changed: usize) -> Kept
     ensures { λ r. ⌜ keepingOf r ≡ withChanged changed (answerOf answer) ⌝ }
 {

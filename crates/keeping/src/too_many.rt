@@ -14,7 +14,7 @@ use nets::forms::MOST_WIRES;
 use nets::forms::Net;
 use radix::limits;
 
-// Has group g more than m classes? They are counted no further.
+// Returns whether group g has more than m classes. Stops counting as soon as it does.
 fn crowded(m: usize, n: usize, cells: &[u8], g: usize) -> bool
     requires { ⌜ (Sized m n (now cells)) × (g < 2 ^ n) ⌝ }
     ensures { λ r. ⌜ r ≡ ltb m (multiplicity m n (inkIn (now (cells .entry))) g) ⌝ }
@@ -24,7 +24,7 @@ fn crowded(m: usize, n: usize, cells: &[u8], g: usize) -> bool
     counting::more_classes_than_levels(m, n, cells, g, &mut xs, &mut ys)
 }
 
-// Counts the gates before the first one with more than m classes; all of them if there is none. A gate's group is the union of its references' groups.
+// Returns the number of gates before the first with more than m classes, or of all gates if none has. A gate's group joins its references' groups.
 pub fn roomy_gates(net: Net, cells: &[u8]) -> usize
     requires { ⌜ (Sound net) × (Sized (net .levels) (net .inputs) (now cells)) ⌝ }
     ensures { λ r. ⌜ r ≡ roomyGates (net .levels) (net .inputs) (inkIn (now (cells .entry))) (gatesOf net) ⌝ }

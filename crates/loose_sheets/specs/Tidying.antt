@@ -37,7 +37,7 @@ use Rattle.table_printer.specs.Tables.{TableInside}
 abbrev pub tidiedOf : Answer → List ℕ → List ℕ → Tidied
 tidiedOf r cells output = record { answer = answerOf r; cells = cells; output = output }
 
--- the header of an accepted loose sheet, whose inks stand at the front of `cells` in index order
+-- the header of an accepted loose sheet, whose inks are at the front of `cells` in index order
 pub record LooseTaken (s : List ℕ) (h : Header) (cells : List ℕ) : Type 0 where
   pub table : LooseTable
   pub reads : readLoose s ≡ accepted table
@@ -46,15 +46,15 @@ pub record LooseTaken (s : List ℕ) (h : Header) (cells : List ℕ) : Type 0 wh
   pub below : Below (suc (h .levels)) (inksIn cells h)
   pub room : mostCells ≤ length cells
 
--- the sheet is the table sheet of its own header and inks, if it is said to be strict
+-- if the flag is true, the sheet is the table sheet of its own header and inks
 abbrev pub Itself : Bool → List ℕ → Header → List ℕ → Type 0
 Itself strict s h inks = strict ≡ true → s ≡ printedTable (tableIn s h inks)
 
--- nothing is said of a sheet that is not
+-- if the flag is false, nothing is claimed
 pub not-itself : (s : List ℕ) (h : Header) (inks : List ℕ) → Itself false s h inks
 not-itself s h inks e = absurd (false≢true e)
 
--- ---- what reading answers
+-- ---- the results of reading
 
 module _ (s cells : List ℕ) (r : TableRead) (read : LooseReads s cells r) where
   pub loose-taken : mostCells ≤ length cells → r .outcome ≡ Accepted → LooseTaken s (r .header) cells
@@ -73,7 +73,7 @@ module _ (s cells : List ℕ) (r : TableRead) (read : LooseReads s cells r) wher
   pub loose-refused : (number place : ℕ) → r .outcome ≡ Refused number place → readLoose s ≡ refused number place
   loose-refused number place e = sym (read .answer) ∙ ap (outcomeAs (looseIn s (r .header) (read .rows))) e
 
--- the same of a strict sheet, which is an accepted loose one
+-- the same for a strict sheet, which is an accepted loose one
 module _ (s cells : List ℕ) (r : TableRead) (read : TableReads s cells r) (e : r .outcome ≡ Accepted) where
   abbrev t : Table
   t = tableIn s (r .header) (inksIn cells (r .header))

@@ -1,4 +1,4 @@
-// The tidying call: from a loose table sheet to the table sheet of document 01, and its inks in the cells buffer.
+// The tidying call: turns a loose table sheet into the table sheet of document 01, and puts its inks in the cells buffer.
 ghost use mathlib.Core.Path.{_≡_};
 ghost use mathlib.Core.List.{List};
 ghost use Prim.Native.Nat.{ℕ, _≤_};
@@ -23,7 +23,7 @@ use table_printer::lengths::table_length;
 use table_printer::table::print_table;
 use table_reader::sheet::read_table;
 
-// Refusal 15, or the table sheet of the header's names and the inks, and its length. A sheet that is `strict` is that sheet itself.
+// Writes the table sheet of the header's names and the inks and returns its length, or refuses with 15. If `strict`, s is already that sheet.
 fn write_sheet(s: &[u8], header: Header, inks: &[u8], strict: bool, out: &mut [u8]) -> Answer
     requires { ⌜ TableInside (now s) header (now inks) × (length (now inks) ≤ mostCells) × Itself strict (now s) header (now inks) ⌝ }
     ensures { λ r. ⌜ ((cells : List ℕ) → tidiedOf r cells (now (out .exit))
@@ -42,7 +42,7 @@ fn write_sheet(s: &[u8], header: Header, inks: &[u8], strict: bool, out: &mut [u
     Answer::Accepted(print_table(s, header, inks, out))
 }
 
-// Refusal 13, or the inks of an accepted sheet, which stand at the front of `inks`, in the cells buffer, and then the table sheet.
+// Copies the inks of an accepted sheet from the front of `inks` to the cells buffer and writes the table sheet, or refuses with 13 or 15.
 fn tidy_accepted(
     s: &[u8],
     header: Header,
@@ -66,7 +66,7 @@ fn tidy_accepted(
     write_sheet(s, header, table, strict, out)
 }
 
-// A sheet that is not laid strictly.
+// Tidies a sheet by reading it as a loose one.
 fn tidy_loose(sheet: &[u8], cells: &mut [u8], out: &mut [u8]) -> Answer
     ensures { λ r. ⌜ tidiedOf r (now (cells .exit)) (now (out .exit)) ≡ tidyCall (now (sheet .entry)) (now (cells .entry)) (now (out .entry)) ⌝ }
 {
@@ -80,7 +80,7 @@ fn tidy_loose(sheet: &[u8], cells: &mut [u8], out: &mut [u8]) -> Answer
     }
 }
 
-// The same, for a sheet that may be laid strictly. It is first read as a table sheet, which is quicker: a sheet that is laid so comes back as it is.
+// Tidies a sheet that may be strict. It tries the table reader first, which is faster: a strict sheet is copied unchanged.
 fn tidy_either(sheet: &[u8], cells: &mut [u8], out: &mut [u8]) -> Answer
     ensures { λ r. ⌜ tidiedOf r (now (cells .exit)) (now (out .exit)) ≡ tidyCall (now (sheet .entry)) (now (cells .entry)) (now (out .entry)) ⌝ }
 {
@@ -97,8 +97,8 @@ fn tidy_either(sheet: &[u8], cells: &mut [u8], out: &mut [u8]) -> Answer
     }
 }
 
-// Tests whether all levels of the last row are the same digit, with one space after each, as in the last row of a table sheet. No promise depends on it: it
-// only decides which way of reading is tried first.
+// Tests whether all levels of the last row are the same digit, each followed by one space, as in the last row of a table sheet. No promise depends
+// on this: it only decides which way of reading is tried first.
 fn ends_at_top(s: &[u8]) -> bool {
     if s.len() < 4 {
         return false;
@@ -120,8 +120,8 @@ fn ends_at_top(s: &[u8]) -> bool {
     false
 }
 
-// Puts the inks of a loose table sheet in the cells buffer, in index order, writes its table sheet to the front of `out`, and answers the length. Any
-// bytes may come in.
+// Puts the inks of a loose table sheet in the cells buffer, in index order, writes its table sheet to the front of `out`, and returns the length.
+// The sheet may be any bytes.
 pub fn tidy(sheet: &[u8], cells: &mut [u8], out: &mut [u8]) -> Answer
     ensures { λ r. ⌜ tidiedOf r (now (cells .exit)) (now (out .exit)) ≡ tidyCall (now (sheet .entry)) (now (cells .entry)) (now (out .entry)) ⌝ }
 {

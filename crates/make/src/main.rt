@@ -1,4 +1,4 @@
-// Makes the net of the table sheet on standard input. What it prints is `programs::output::make_output`'s.
+// Makes the net of the table sheet on standard input. Prints what `programs::output::make_output` returns.
 use libc::STDIN_FILENO;
 use libc::STDOUT_FILENO;
 

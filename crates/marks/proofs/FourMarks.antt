@@ -1,4 +1,4 @@
--- Four marks more in the buffer, by the number of the first of them.
+-- Four more marks in the buffer, by the number of the first of them.
 -- Assumes nothing.
 use Prim.Native.Nat.{ℕ, _+_, _*_, _/_, _<_}
 use mathlib.Core.Path.{_≡_, sym, ap, _∙_}

@@ -1,4 +1,4 @@
--- The loop of `mark_below` over plain lists: the groups below g are marked and known, and the arrays are as long as they were.
+-- The loop of `mark_below` over plain lists: the groups below g are marked and known, and the arrays keep their lengths.
 -- Assumes nothing.
 use Prim.Native.Nat.{ℕ, _+_, _-_, _^_, _≤_, _<_}
 use mathlib.Core.Path.{_≡_, refl, sym, ap, _∙_, subst, subst⁻¹}
@@ -22,7 +22,7 @@ use Rattle.representatives.specs.Steps.{AllIdle, Near, near-none, near-next}
 use Rattle.marks.specs.Marking.{Below, below-none, has-room, below-next}
 use Rattle.marks.specs.Fast.Below.{NextMark, GroupMarked, MoreIdle, as-before, with-group}
 
--- arrays as long as others
+-- arrays with the same lengths as others
 pub record Long (counts kept xs ys firsts counts′ kept′ xs′ ys′ firsts′ : List ℕ) : Type 0 where
   pub for-counts : length counts′ ≡ length counts
   pub for-kept : length kept′ ≡ length kept
@@ -47,14 +47,14 @@ passed-none m n f before counts kept =
       near = near-none n;
     }
 
--- `more` has the idle inputs `idle`, and no input that matters
+-- `more` contains the idle inputs `idle`, and no input that matters
 record Grown (m n : ℕ) (f : ℕ → ℕ) (idle more : ℕ) : Type 0 where
   all-idle : AllIdle m n f more
   below : more < 2 ^ n
   free : (h : ℕ) → Apart n h more → Apart n h idle
 
 module _ {m n : ℕ} {f : ℕ → ℕ} {before counts kept marks : List ℕ} {idle past g : ℕ} (passed : Passed m n f before counts kept marks idle past g) where
-  -- the power of two is one of a group
+  -- the power of two is at most `groupsEnd`
   pub passed-past : n ≤ mostMembers → past ≤ groupsEnd
   passed-past inputs = omega (arith, passed .near .is, pow-mono (passed .near .low), pow-mono inputs)
 
@@ -111,7 +111,7 @@ module _ {m n : ℕ} {f : ℕ → ℕ} {before counts kept marks : List ℕ} {id
     pub passed-room : 2 ^ n ≤ length marks
     passed-room = has-room m n f before room g marks (passed .marked)
 
-    -- and then it is
+    -- and then the group is passed
     pub passed-next : {next mark more : ℕ} {counts′ kept′ marks′ : List ℕ} → 0 < m → g < 2 ^ n → (Near n g next) × (g < next)
         → GroupMarked m n f marks idle g mark counts′ kept′ → marks′ ≡ set marks g mark → MoreIdle counts′ g idle more
         → Passed m n f before counts′ kept′ marks′ more next (g + 1)

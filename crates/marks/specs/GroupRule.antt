@@ -1,4 +1,4 @@
--- The rule for a group's mark, as the code goes by it: first whether there are few classes, then whether the group parts.
+-- The rule for a group's mark, as the code applies it: first whether there are few classes, then whether the group splits.
 -- Assumes nothing.
 use Prim.Native.Nat.{ℕ, _-_, _^_, _≤_, _<_}
 use mathlib.Core.Path.{_≡_, ap, _∙_}
@@ -27,7 +27,7 @@ module _ (m n : ℕ) (f : ℕ → ℕ) (marks : List ℕ) (g : ℕ) where
   unfolding markOf
   mark-empty e = rw (eq-eqb g 0 e, markOf)
 
-  -- more than m classes, and no more
+  -- a group with more than m classes has mark 0
   pub many-mark : m < multiplicity m n f g → 0 ≡ markOf m n f marks g
   unfolding markOf
   many-mark h = rw (lt-leb (multiplicity m n f g) m h, or-true (eqb g 0), markOf)
@@ -36,7 +36,7 @@ module _ (m n : ℕ) (f : ℕ → ℕ) (marks : List ℕ) (g : ℕ) where
   unfolding markOf fewMark
   few-mark some h = rw (ne-eqb g 0 some, le-leb (multiplicity m n f g) m h, markOf)
 
--- ---- the group parts
+-- the group splits
 
 module _ (n : ℕ) (marks : List ℕ) (g : ℕ) (some : 0 < g) (g< : g < 2 ^ n) (rest : ℕ) (is-rest : rest ≡ g - 2 ^ firstInput n g) where
   pub mark-single : rest ≡ 0 → 2 ≡ fewMark n marks g

@@ -1,4 +1,4 @@
--- What the marking call's answer and buffer stand for, and its outcomes.
+-- What the marking call's answer and buffer represent, and its outcomes.
 -- Assumes nothing.
 use Prim.Native.Nat.{ℕ, _≤_, _<_}
 use mathlib.Core.Path.{_≡_}

@@ -1,4 +1,4 @@
--- All marks: what marking answers, its own marks and what it leaves in the buffer, and the step from the marks below a group to the group's.
+-- All marks: what marking returns, its own marks and the buffer afterwards, and the step from the marks below a group to the group's mark.
 -- Assumes nothing.
 use Prim.Native.Nat.{ℕ, zero, suc, _+_, _-_, _^_, _≤_, _<_}
 use mathlib.Core.Path.{_≡_, refl, sym, ap, ap₂, _∙_, subst, subst⁻¹}
@@ -14,17 +14,17 @@ use Rattle.rules.specs.Calls.Answers.{written}
 use Rattle.trees.specs.Groups.MarkRule.{marked, marks-length, mark-rule, mark-agree, mark-small}
 use Rattle.laws.specs.Nets.StoredMarks.{InTwoBits}
 
--- every group of a table f marked, by number
+-- every group of a table f is marked, by number
 pub record Marking (m n : ℕ) (f : ℕ → ℕ) (mark : ℕ) (marks : List ℕ) : Type 0 where
   pub answer : mark ≡ markIn (marksOf m n f) (wholeGroup n)
   pub front : take (2 ^ n) marks ≡ marksOf m n f
 
--- and the marks stored in a buffer
+-- and the marks are stored in a buffer
 pub record MarkedInto (m n : ℕ) (f : ℕ → ℕ) (before : List ℕ) (mark : ℕ) (marks after : List ℕ) : Type 0 where
   pub own : Marking m n f mark marks
   pub buffer : after ≡ written before (storedMarks (marksOf m n f))
 
--- what of it a caller sees
+-- the part of this that a caller sees
 pub record Stored (m n : ℕ) (f : ℕ → ℕ) (before : List ℕ) (mark : ℕ) (after : List ℕ) : Type 0 where
   pub answer : mark ≡ markIn (marksOf m n f) (wholeGroup n)
   pub buffer : after ≡ written before (storedMarks (marksOf m n f))
@@ -32,7 +32,7 @@ pub record Stored (m n : ℕ) (f : ℕ → ℕ) (before : List ℕ) (mark : ℕ)
 pub marked-stored : {m n : ℕ} {f : ℕ → ℕ} {before : List ℕ} {mark : ℕ} {marks after : List ℕ} → MarkedInto m n f before mark marks after → Stored m n f before mark after
 marked-stored did = record { answer = did .own .answer; buffer = did .buffer }
 
--- what storing them asks and gives
+-- what storing them requires and gives
 module _ {m n : ℕ} {f : ℕ → ℕ} {mark : ℕ} {marks : List ℕ} (did : Marking m n f mark marks) where
   pub marked-small : 0 < m → InTwoBits (2 ^ n) marks
   marked-small pos g g< =
@@ -60,7 +60,7 @@ module _ (m n : ℕ) (f : ℕ → ℕ) (before : List ℕ) where
     pub has-room : 2 ^ n ≤ length marks
     has-room = omega (arith, b .same)
 
-    -- one group more
+    -- one more group
     pub below-next : g < 2 ^ n → (mark : ℕ) → mark ≡ markOf m n f marks g → Below (g + 1) (set marks g mark)
     below-next g< mark e =
         record {
@@ -89,7 +89,7 @@ module _ (m n : ℕ) (f : ℕ → ℕ) (before : List ℕ) where
           front = front;
         }
 
-  -- all groups but the whole one, and then that
+  -- all groups except the whole one, and then that one
   pub below-whole : 2 ^ n ≤ length before → (marks : List ℕ) → Below (2 ^ n - 1) marks → (g : ℕ) → g ≡ 2 ^ n - 1 → (mark : ℕ) → mark ≡ markOf m n f marks g
       → (after : List ℕ) → after ≡ set marks g mark → Marking m n f mark after
   below-whole room marks b g is-whole mark is after written =
@@ -110,7 +110,7 @@ all-below m n pos f (suc g) low =
     (subst (Below m n f all (g + 1)) (set-getD all g 0)
     (below-next m n f all (omega (arith, marks-length m n pos f)) g all (all-below m n pos f g (omega arith)) low (marked m n pos f g) (mark-rule m n pos f g low)))
 
--- so a mark that is written is the group's
+-- so a mark that is written is the group's mark
 pub below-marked : (m n : ℕ) (pos : 0 < m) (f : ℕ → ℕ) (before : List ℕ) (g : ℕ) (marks : List ℕ) → Below m n f before g marks → (a : ℕ) → a < g → markIn marks a ≡ marked m n pos f a
 below-marked m n pos f before g marks b a a< =
     sym (getD-take g marks a 0 a<)

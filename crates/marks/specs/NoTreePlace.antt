@@ -1,4 +1,4 @@
--- The place of refusal 16 as the code looks for it: size by size, and in each by rising number.
+-- The place of refusal 16 as the code searches for it: size by size, and within each size by rising number.
 -- Assumes nothing.
 use Prim.Native.Nat.{ℕ, _+_, _-_, _^_, _≤_, _<_}
 use mathlib.Core.Path.{_≡_, sym, ap, _∙_}
@@ -19,15 +19,15 @@ use Rattle.laws.specs.Lists.Ranges.{range-mem, range-next, range-none}
 abbrev pub isOne : List ℕ → ℕ → Bool
 isOne marks g = eqb (markIn marks g) 1
 
--- g has k members, and mark 1
+-- g has k members and mark 1
 abbrev pub oneOf : ℕ → List ℕ → ℕ → ℕ → Bool
 oneOf n marks k g = eqb (size n g) k && isOne marks g
 
--- the lowest of them below `end` that is at least g
+-- the lowest such group below `end` that is at least g
 unfoldable pub lowest : ℕ → ℕ → List ℕ → ℕ → ℕ → Option ℕ
 lowest n end marks k g = find (oneOf n marks k) (range g (end - g))
 
--- what the code's answer stands for: a number below `end` was found, or none
+-- what the code's answer represents: a number below `end` was found, or none
 unfoldable pub foundBelow : ℕ → ℕ → Option ℕ
 foundBelow end g = elim (ltb g end) [ true ↦ some g | false ↦ none ]
 
@@ -57,12 +57,12 @@ module _ (n end : ℕ) (marks : List ℕ) (k g : ℕ) where
 
 -- ---- size by size
 
--- the place in the groups of k members and more
+-- the place among the groups of k or more members
 unfoldable pub placeFrom : ℕ → List ℕ → ℕ → Option ℕ
 placeFrom n marks k = find (isOne marks) (concatMap (λ s. those (λ g. eqb (size n g) s) (range 0 (2 ^ n))) (range k (n + 1 - k)))
 
 module _ (n : ℕ) (marks : List ℕ) where
-  -- the lowest of one size, and else the place in the larger ones
+  -- the lowest of one size, or else the place among the larger ones
   size-next : (k : ℕ) → k ≤ n → placeFrom n marks k ≡ or-else (lowest n (2 ^ n) marks k 0) (placeFrom n marks (k + 1))
   unfolding placeFrom concatMap lowest
   size-next k h = rw (range-next k (n + 1) (omega arith), find-append, find-those, sub-zero)
@@ -81,7 +81,7 @@ module _ (n : ℕ) (marks : List ℕ) where
   unfolding placeFrom concatMap find
   place-none k h = rw (range-none k (n + 1) (omega arith))
 
-  -- the search from the empty group on is the place
+  -- the search that starts at the empty group gives the place
   place-from : elim (placeFrom n marks 0) as (λ _. ℕ) [ none ↦ 0 | some g ↦ g ] ≡ noTreePlace n marks
   unfolding placeFrom noTreePlace bySize
   place-from = rw sub-zero
@@ -92,7 +92,7 @@ module _ (n : ℕ) (marks : List ℕ) where
   pub place-missing : placeFrom n marks 0 ≡ none → 0 ≡ noTreePlace n marks
   place-missing e = sym (ap (λ o. elim o as (λ _. ℕ) [ none ↦ 0 | some g ↦ g ]) e) ∙ place-from
 
--- ---- marks that agree on every group have one place
+-- marks that agree on every group give the same place
 
 pub mark-place-agree : (n : ℕ) (marks other : List ℕ) → ((g : ℕ) → g < 2 ^ n → markIn marks g ≡ markIn other g) → noTreePlace n marks ≡ noTreePlace n other
 unfolding noTreePlace bySize

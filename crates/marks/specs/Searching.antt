@@ -1,4 +1,4 @@
--- The loop of a search for A over plain numbers: it goes on from the first-listed input and the part `part` of the others.
+-- The loop of a search for A over plain numbers: it continues from the first-listed input and the part `part` of the others.
 -- Assumes nothing.
 use Prim.Native.Nat.{ℕ, _+_, _-_, _^_, _≤_, _<_}
 use mathlib.Core.Path.{_≡_, refl, sym, ap, _∙_}
@@ -16,7 +16,7 @@ use Rattle.marks.specs.FirstParts.{Looked, first, none-below, none-betwe
 use Rattle.marks.specs.FirstParts as parts
 use Rattle.laws.specs.Lists.FirstPlaces.{stop-at}
 
--- the search from A on is the search, where A is the first-listed input and the part `part` of the others
+-- the search that starts at A equals the whole search, where A is the first-listed input and the part `part` of the others
 pub record Sought (test : ℕ → ℕ → Bool) (g rest part : ℕ) : Type 0 where
   pub low : part ≤ rest
   pub is-part : PartOf part rest
@@ -45,7 +45,7 @@ module _ (test : ℕ → ℕ → Bool) (look : ℕ → Bool) (g rest : ℕ) (loo
       sym all ∙ sym (add-zero a) ∙ ap (λ (k : ℕ). a + firstPlace (test n) (range a k)) (sym none) ∙ s .left n g<
 
   module _ (part : ℕ) (s : Sought test g rest part) (more : part < rest) where
-    -- the part of g that is looked at
+    -- the part of g that is tested
     pub part-looked-at : (n : ℕ) → g < 2 ^ n → (0 < (g - rest) + part) × ((g - rest) + part < g) × (test n ((g - rest) + part) ≡ look ((g - rest) + part))
     part-looked-at n g< = parts.here g rest some is-rest test look looked n g< part more (s .is-part)
 

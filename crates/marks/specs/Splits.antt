@@ -40,7 +40,7 @@ module _ (n g : ℕ) (some : 0 < g) (g< : g < 2 ^ n) where
   unfolding first
   alone-below = single-below first n is-input
 
-  -- whatever group holds it has it for a part
+  -- the first-listed input alone is a part of every group that holds it
   alone-inside : (u : ℕ) → member first u ≡ true → inside n alone u ≡ true
   unfolding first
   alone-inside u e = member-inside n alone u λ i i< is. rw (eqb-true i first (sym (member-single i first) ∙ is)) e
@@ -76,7 +76,7 @@ module _ (n g : ℕ) (some : 0 < g) (g< : g < 2 ^ n) where
       s< : s < 2 ^ n
       s< = omega (arith, and-le-r s (g - alone), p, g<)
 
-      -- a member of s is one of g, and not the first-listed
+      -- a member of s is a member of g, but not the first-listed one
       rest-of : (i : ℕ) → i < n → member i s ≡ true → (member i g ≡ true) × (not (eqb i first) ≡ true)
       rest-of i i< is =
           and-eq-true-iff _ _ .0
@@ -99,7 +99,7 @@ module _ (n g : ℕ) (some : 0 < g) (g< : g < 2 ^ n) where
 
 -- ---- the search
 
--- so a search below c may go on from b
+-- so a search below c may continue from b
 pub skip-to : (test : ℕ → Bool) (a b c : ℕ) → a ≤ b → b ≤ c → ((u : ℕ) → a ≤ u → u < b → test u ≡ false)
     → a + firstPlace test (range a (c - a)) ≡ b + firstPlace test (range b (c - b))
 skip-to test a b c ab bc none =
@@ -119,7 +119,7 @@ module _ (n : ℕ) (marks : List ℕ) (g : ℕ) (some : 0 < g) (g< : g < 2 ^ n) 
           let at = first-passes (isA n marks g) 1 (g - 1) found in
           mem-any (partsAt n marks g) (mem-range 1 (g - 1) _ (omega arith) (omega arith)) (and-eq-true-iff _ _ .0 (at .1) .0)
 
-  -- a group parts into two of mark 2 exactly when its A is found
+  -- a group splits into two groups of mark 2 exactly when its A is found
   pub split-found : any (partsAt n marks g) (range 1 (g - 1)) ≡ ltb (splitOf n marks g) g
   unfolding splitOf
   split-found =
@@ -138,7 +138,7 @@ module _ (n : ℕ) (marks : List ℕ) (g : ℕ) (some : 0 < g) (g< : g < 2 ^ n) 
       back : suc (g - 1) ≡ g
       back = omega arith
 
--- the search reads the marks of the groups below g alone
+-- the search reads only the marks of the groups below g
 pub split-agree : (n : ℕ) (xs ys : List ℕ) (g : ℕ) → ((a : ℕ) → a < g → markIn xs a ≡ markIn ys a) → splitOf n xs g ≡ splitOf n ys g
 unfolding splitOf partsAt
 split-agree n xs ys g e = ap (λ (k : ℕ). 1 + k) (place-agree (isA n xs g) (isA n ys g) 1 (g - 1) same)

@@ -13,7 +13,7 @@ use crate::packing;
 use radix::limits;
 use radix::powers;
 
-// The inputs and the cells of a table for which small work arrays will do, and its groups.
+// The most inputs, groups and cells of a table for which small work arrays are enough.
 pub const FEW_INPUTS: usize = 6;
 
 pub const FEW_GROUPS: usize = 1 << FEW_INPUTS;

@@ -16,7 +16,7 @@ use answers::answer::Answer;
 use answers::outcome::Outcome;
 use cells::bare;
 
-// Marks every group, with own marks for few groups, and stores the marks.
+// Marks every group and stores the marks. Uses a marks array for few groups.
 fn store_small(m: usize, n: usize, cells: &[u8], buffer: &mut [u8]) -> u8
     requires { ⌜ (FullCells m n (now cells)) × (marksLength n ≤ length (now buffer)) × (n ≤ fewInputs) ⌝ }
     ensures { λ r. ⌜ Stored m n (inkIn (now (cells .entry))) (now (buffer .entry)) r (now (buffer .exit)) ⌝ }
@@ -25,7 +25,7 @@ fn store_small(m: usize, n: usize, cells: &[u8], buffer: &mut [u8]) -> u8
     all_groups::mark_and_store(m, n, cells, &mut marks, buffer)
 }
 
-// The same with own marks for any number of groups.
+// Does the same with a marks array for any number of groups.
 fn store_large(m: usize, n: usize, cells: &[u8], buffer: &mut [u8]) -> u8
     requires { ⌜ (FullCells m n (now cells)) × (marksLength n ≤ length (now buffer)) ⌝ }
     ensures { λ r. ⌜ Stored m n (inkIn (now (cells .entry))) (now (buffer .entry)) r (now (buffer .exit)) ⌝ }
@@ -34,7 +34,7 @@ fn store_large(m: usize, n: usize, cells: &[u8], buffer: &mut [u8]) -> u8
     all_groups::mark_and_store(m, n, cells, &mut marks, buffer)
 }
 
-// Refusal 14, or all marks stored.
+// Returns refusal 14, or stores all marks.
 fn mark_into(m: usize, n: usize, cells: &[u8], buffer: &mut [u8]) -> Answer
     requires { ⌜ FullCells m n (now cells) ⌝ }
     ensures { λ r. ⌜ markedOf r (now (buffer .exit)) ≡ markedInto m n (now (cells .entry)) (now (buffer .entry)) ⌝ }
@@ -54,7 +54,7 @@ fn mark_into(m: usize, n: usize, cells: &[u8], buffer: &mut [u8]) -> Answer
     Answer::Accepted(mark)
 }
 
-// Writes every group's mark and answers the whole group's. Any arguments may come in.
+// Writes every group's mark and returns the whole group's mark. The caller may pass any arguments.
 pub fn marking(m: usize, n: usize, cells: &[u8], marks: &mut [u8]) -> Answer
     ensures { λ r. ⌜ markedOf r (now (marks .exit)) ≡ markingCall m n (now (cells .entry)) (now (marks .entry)) ⌝ }
 {

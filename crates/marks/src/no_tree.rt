@@ -1,4 +1,4 @@
-// The place of refusal 16: the group of fewest members, then of lowest number, that has mark 1.
+// The place of refusal 16: among the groups that have mark 1, one of fewest members, and of these the one with the lowest number.
 ghost use mathlib.Core.Path.{_≡_};
 ghost use Prim.Native.Nat.{_^_, _≤_, _<_};
 ghost use lib.ListN.{length};
@@ -9,7 +9,7 @@ use crate::own;
 use radix::members;
 use radix::powers;
 
-// Has g mark 1 and k members?
+// Returns whether g has mark 1 and k members.
 fn is_one_of(n: usize, marks: &[u8], k: usize, g: usize) -> bool
     requires { ⌜ g < length (now marks) ⌝ }
     ensures { λ r. ⌜ r ≡ oneOf n (now (marks .entry)) k g ⌝ }
@@ -20,7 +20,7 @@ fn is_one_of(n: usize, marks: &[u8], k: usize, g: usize) -> bool
     members::members(n, g) == k
 }
 
-// The lowest group of k members that has mark 1, or `end`, past the last group, where there is none.
+// Returns the lowest group of k members that has mark 1, or `end`, past the last group, if there is none.
 fn lowest_one(n: usize, end: usize, marks: &[u8], k: usize) -> usize
     requires { ⌜ end ≤ length (now marks) ⌝ }
     ensures { λ r. ⌜ foundBelow end r ≡ lowest n end (now (marks .entry)) k 0 ⌝ }

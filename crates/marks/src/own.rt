@@ -1,11 +1,11 @@
-// The marks of a call's own, by group number: one byte a mark, in an array that no caller lends.
+// The library's own array of marks, by group number: one byte per mark. The caller does not lend it.
 ghost use mathlib.Core.Path.{_≡_};
 ghost use Prim.Native.Nat.{_<_};
 ghost use lib.ListN.{length, set};
 ghost use Rattle.rules.specs.Groups.Marks.{markIn};
 use radix::limits::MOST_INPUTS;
 
-// The groups of the most inputs.
+// The number of groups of the most inputs.
 pub const MOST_GROUPS: usize = 1 << MOST_INPUTS;
 
 pub fn mark_at(marks: &[u8], g: usize) -> u8

@@ -1,4 +1,4 @@
-// How marks are stored in the buffer that a caller lends: four to a byte. It is written here alone.
+// How the buffer that a caller lends stores marks: four to a byte. Only this module packs marks.
 ghost use mathlib.Core.Path.{_≡_};
 ghost use Prim.Native.Nat.{_+_, _^_, _≤_, _<_};
 ghost use lib.ListN.{length, take};
@@ -9,10 +9,10 @@ ghost use Rattle.radix.specs.Widths.{mostMembers};
 use crate::own::MOST_GROUPS;
 use radix::powers;
 
-// The length that the marks of the most inputs need.
+// The buffer length for the marks of the most inputs.
 pub const MOST_MARKS: usize = MOST_GROUPS / 4;
 
-// The length that a marks buffer needs.
+// Returns the length that a marks buffer needs.
 pub fn marks_length(n: usize) -> usize
     requires { ⌜ n ≤ mostMembers ⌝ }
     ensures { λ r. ⌜ r ≡ marksLength n ⌝ }
@@ -20,7 +20,7 @@ pub fn marks_length(n: usize) -> usize
     powers::power(2, n) / 4
 }
 
-// The byte of the four marks from `at` on, the first in its lowest two bits.
+// Returns the four marks from `at` on in one byte, the first in its lowest two bits.
 fn four(marks: &[u8], at: usize) -> u8
     requires { ⌜ (at + 3 < length (now marks)) × (InTwoBits (at + 4) (now marks)) ⌝ }
     ensures { λ r. ⌜ r ≡ fourAt (now (marks .entry)) at ⌝ }

@@ -10,7 +10,7 @@ ghost use Rattle.radix.specs.Widths.{groupsEnd};
 use crate::own;
 use radix::members;
 
-// Have a and the rest of g both mark 2?
+// Returns whether a and the rest of g both have mark 2.
 pub fn both_two(marks: &[u8], g: usize, a: usize) -> bool
     requires { ⌜ (0 < a) × (a < g) × (g ≤ length (now marks)) ⌝ }
     ensures { λ r. ⌜ r ≡ (eqb (markIn (now (marks .entry)) a) 2 && eqb (markIn (now (marks .entry)) (g - a)) 2) ⌝ }
@@ -21,8 +21,8 @@ pub fn both_two(marks: &[u8], g: usize, a: usize) -> bool
     own::mark_at(marks, g - a) == 2
 }
 
-// The part A of lowest number that holds g's first-listed input, where A and the rest have mark 2; g itself where there is none.
-// Goes through the parts of the other members, in rising order.
+// Returns the part A of lowest number that holds g's first-listed input, where A and the rest have mark 2; g itself if there is none.
+// Tries the parts of the other members by rising number.
 pub fn split_of(marks: &[u8], g: usize) -> usize
     requires { ⌜ (0 < g) × (g < groupsEnd) × (g ≤ length (now marks)) ⌝ }
     ensures { λ r. ⌜ ((n : ℕ) → g < 2 ^ n → r ≡ splitOf n (now (marks .entry)) g) ⌝ }

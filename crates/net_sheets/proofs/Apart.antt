@@ -1,5 +1,5 @@
--- A lister taken apart, for a callee that takes its sheet and its place. A lister is Copy: what it owns is had twice, once whole, for
--- the exit, and once as what the callee asks.
+-- A lister taken apart, for a callee that takes its sheet and its place. A lister is Copy, so what it owns is available twice: once whole, for
+-- the exit, and once as what the callee requires.
 -- Assumes nothing.
 use mathlib.Core.Path.{_≡_, refl}
 use Prim.Native.Nat.{_<_, _^_}
@@ -39,7 +39,7 @@ D κs = T.the-type (namedLft 1 0 tt κs)
 abbrev pub L : (κs : Lfts 1) → LL.Laws (D κs)
 L κs = T′.the-laws (namedLft 1 0 tt κs)
 
--- what a callee is passed
+-- what is passed to a callee
 abbrev pub passed : Lister → List Val × (List Val × Unit {0})
 passed d = (sliceVal (d .sheet .ptr) (length (d .sheet .now)) ∷ [], (vint w64 (d .at) ∷ [], tt))
 
@@ -53,7 +53,7 @@ module _ {M : Type 1} (𝓤 : URA M) (H : Heap 𝓤) (A : Atoms 𝓤) (W : Given
   abbrev pub vd : Values (D (κ, tt) .parts)
   vd = (d .sheet, (d .at, tt))
 
-  -- what a callee asks that takes the sheet and the place and has no `requires`
+  -- what a callee requires that takes the sheet and the place and has no `requires`
   abbrev pub Asks : SProp 𝓤
   Asks = sep 𝓤 (⋆ 𝓤 H A ((‵ (flft κ q) ⊛ ‵ ftrue) ∷ ‵ (owns (ShrSlice (named 0) κ u8 ∷ usize ∷ []) (d .sheet, (d .at, tt)) (passed d)) ∷ [])) (emp 𝓤)
 

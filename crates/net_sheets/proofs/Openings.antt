@@ -1,4 +1,4 @@
--- What an opened sheet says, and the answers that follow from it.
+-- The result of opening a sheet, and the answers that follow from it.
 -- Assumes nothing.
 use Prim.Native.Nat.{ℕ}
 use mathlib.Core.Path.{_≡_, refl, sym, ap, _∙_}
@@ -43,7 +43,7 @@ module _ (s : List ℕ) where
   unfolding openedAs opening onward
   open-refused number place r = rw (r, opening)
 
--- the same by what reading the sheet comes to
+-- the same by the result of reading the sheet
 module _ (s : List ℕ) (r : NetRead) (reads : NetReads s r) where
   pub read-accepted : (at : ℕ) → r .outcome ≡ Accepted → at ≡ lineStart s 4 → openedAs (At at) ≡ opening s
   read-accepted at d e =
@@ -54,7 +54,7 @@ module _ (s : List ℕ) (r : NetRead) (reads : NetReads s r) where
   read-refused number place d = open-refused s number place (sym (reads .answer) ∙ ap (outcomeAs _) d)
 
 module _ (s : List ℕ) (o : Opened) (e : openedAs o ≡ opening s) where
-  -- a sheet that was opened is accepted, and a lister starts at the place given
+  -- an opened sheet is accepted, and a lister starts at the returned place
   pub opened-at : (at : ℕ) → o ≡ At at → (net : Net) × (readNet s ≡ accepted net) × (at ≡ standsAt s 0)
   unfolding openedAs
   opened-at at d = go (readNet s) refl
@@ -63,7 +63,7 @@ module _ (s : List ℕ) (o : Opened) (e : openedAs o ≡ opening s) where
       go (accepted net) r = (net, r, same-accepted _ _ (ap openedAs (sym d) ∙ e ∙ sym (open-accepted s net (standsAt s 0) r refl)))
       go (refused number place) r = absurd (differ _ _ _ (ap openedAs (sym d) ∙ e ∙ sym (open-refused s number place r)))
 
-  -- the refusal of one that was not opened is the sheet's
+  -- if the sheet was not opened, the refusal is the sheet's
   not-opened : (number place : ℕ) → o ≡ NotOpened number place → readNet s ≡ refused number place
   unfolding openedAs
   not-opened number place d = go (readNet s) refl
@@ -72,7 +72,7 @@ module _ (s : List ℕ) (o : Opened) (e : openedAs o ≡ opening s) where
       go (accepted net) r = absurd (differ _ _ _ (open-accepted s net (standsAt s 0) r refl ∙ sym e ∙ ap openedAs d))
       go (refused m p) r = r ∙ same-refused {B = Net} _ _ _ _ (open-refused s m p r ∙ sym e ∙ ap openedAs d)
 
-  -- a lister starts at the end of one that was not opened
+  -- if the sheet was not opened, a lister starts at its end
   pub not-opened-at : (number place : ℕ) → o ≡ NotOpened number place → length s ≡ standsAt s 0
   not-opened-at number place d = sym (stands-refused s number place 0 (not-opened number place d))
 
@@ -80,7 +80,7 @@ module _ (s : List ℕ) (o : Opened) (e : openedAs o ≡ opening s) where
   unfolding listedAs
   listed-refused number place k d = sym (turn-refused s number place k (not-opened number place d))
 
-  -- the code's turn stands for the turn
+  -- the code's turn means the turn
   turn-as : (t : Turn) → turnAs (turnNumbers t) ≡ t
   unfolding turnAs turnNumbers
   turn-as (gateAt p) = refl

@@ -1,4 +1,4 @@
--- A method on a lister by value, which calls a function of its sheet and its place: that call, how a walk of its code ends, and from
+-- A method on a lister by value that calls a function of its sheet and its place: that call, how a walk of its code ends, and the step from
 -- such a walk to its contract.
 -- Assumes nothing.
 use mathlib.Core.Path.{refl}
@@ -38,7 +38,7 @@ ofParts R = record {
 }
 
 module _ {M : Type 1} (𝓤 : URA M) (H : Heap 𝓤) (A : Atoms 𝓤) (R : Lfts 1 → RattleType) (Said : (κs : Lfts 1) → Lister → R κs .Denot → Type 0) where
-  -- it asks nothing, and says `Said` of the two and the result
+  -- it requires nothing, and ensures `Said` of the two and the result
   abbrev parts : Clauses 𝓤 (ofParts R)
   parts κs args =
       record { ghost = Unit {0}; requires = λ _. emp 𝓤; ensures = λ _ r _. fact 𝓤 (Said κs (record { sheet = args .0; at = args .1 .0 }) r) }
@@ -53,7 +53,7 @@ module _ {M : Type 1} (𝓤 : URA M) (H : Heap 𝓤) (A : Atoms 𝓤) (R : Lfts 
     abbrev pub Ensured : R (κ, tt) .Denot → SProp 𝓤
     Ensured = ensured 𝓤 H A (ofParts R) parts (κ, tt) (d .sheet, (d .at, tt)) tt
 
-    -- of what it ensures, the clause alone: it has no `&mut`, so what is said of last values is dropped
+    -- of what it ensures, only the clause: it has no `&mut`, so what is ensured of last values is dropped
     pub said : (r : R (κ, tt) .Denot) → ent 𝓤 (Ensured r) (fact 𝓤 (Said (κ, tt) d r))
     said r = exE 𝓤 _ (λ ws. snd∗ 𝓤 (sem 𝓤 H A (lasts (ofParts R) (κ, tt) (d .sheet, (d .at, tt)) ws)) (fact 𝓤 (Said (κ, tt) d r)))
 
@@ -69,7 +69,7 @@ stayed R = (stay-none B yes, tt)
 
 module _ {M : Type 1} (𝓤 : URA M) (H : Heap 𝓤) (A : Atoms 𝓤) (W : Given 𝓤 H A) (R : Lfts 1 → RattleType)
     (Said : (κs : Lfts 1) → Lister → R κs .Denot → Type 0) where
-  -- it asks nothing, and says `Said` of the lister passed and the result
+  -- it requires nothing, and ensures `Said` of the lister passed and the result
   abbrev pub clauses : Clauses 𝓤 (ofLister R)
   clauses κs args = record { ghost = Unit {0}; requires = λ _. emp 𝓤; ensures = λ _ r _. fact 𝓤 (Said κs (args .0) r) }
 

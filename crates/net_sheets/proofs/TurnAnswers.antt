@@ -1,4 +1,4 @@
--- What a lister gives at a place, and so at turn k where k turns brought it there.
+-- What a lister gives at a place, and so at turn k if k turns lead there.
 -- Assumes nothing.
 use Prim.Native.Nat.{ℕ, _+_, _-_, _≤_, _<_}
 use mathlib.Core.Path.{_≡_, ap, _∙_}

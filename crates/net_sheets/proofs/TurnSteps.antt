@@ -29,7 +29,7 @@ pub line-within : (s : List ℕ) (at : ℕ) → at ≤ length s → at + lineLen
 line-within s at h = omega (arith, line-short (drop at s), length-drop at s)
 
 module _ (s : List ℕ) (i : ℕ) where
-  -- at the end no byte is left
+  -- at the sheet's end no byte is left
   pub end-here : length s ≤ i → i ≡ i + lineLength (drop i s)
   unfolding lineLength
   end-here h = rw (drop-of-length-le s h) (omega arith)
@@ -39,17 +39,17 @@ module _ (s : List ℕ) (i : ℕ) where
   unfolding lineLength newline
   feed-here h e = rw (drop-cons s i 0 h, eq-eqb (getD s i 0) 10 e, lineLength) (omega arith)
 
-  -- at any other byte it goes on
+  -- at any other byte the line continues
   pub byte-here : i < length s → (getD s i 0 ≡ 10 → ⊥) → i + 1 + lineLength (drop (i + 1) s) ≡ i + lineLength (drop i s)
   unfolding lineLength newline
   byte-here h e = rw (drop-cons s i 0 h, ne-eqb (getD s i 0) 10 e, lineLength, add-one i) (omega arith)
 
--- ---- a turn on
+-- ---- one more turn
 
 pub onward : (s : List ℕ) (at next : ℕ) → next ≡ lineAfter s at → Onward s at next
 onward s at next e = record { here = e; turn = λ k d. e ∙ ap (lineAfter s) d ∙ stands-next s k }
 
--- four lines from the front the gate lines begin
+-- the gate lines begin four lines after the front
 pub fourth : (s : List ℕ) (a b c d : ℕ) → Onward s 0 a → Onward s a b → Onward s b c → Onward s c d → d ≡ lineStart s 4
 unfolding lineStart afterLines
 fourth s a b c d h i j k =

@@ -1,4 +1,4 @@
-// Net sheets: the reader, the printer, the gate lister; and the text that all printers write.
+// Net sheets: the reader, the printer and the gate lister; also the text functions that all printers use.
 pub mod lister;
 pub mod printer;
 pub mod reader;

@@ -1,4 +1,4 @@
-// Text written into a buffer: bytes, decimal values, the first three lines.
+// Writes text into a buffer: bytes, decimal values, the first three lines.
 pub mod decimals;
 pub mod header;
 pub mod put;

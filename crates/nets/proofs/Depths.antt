@@ -1,4 +1,4 @@
--- One turn of `layers`: the layers down to the first k gates are known. Assumes nothing.
+-- One turn of `layers`: the layers of the first k gates are known. Assumes nothing.
 use Prim.Native.Nat.{ℕ, zero, suc, _+_, _-_, _≤_, _<_, max}
 use mathlib.Core.Path.{_≡_, refl, sym, ap, ap₂, _∙_}
 use mathlib.Core.List.{List, [], _∷_, _++_, map}
@@ -19,7 +19,7 @@ use Rattle.nets.specs.Room.{mostWires}
 use Rattle.nets.specs.Sound.{Sound, gates-length, gates-count, gates-pos, wires-room}
 use Rattle.nets.specs.References.{gate-step}
 
--- the layers down to the inputs and the first k gates: when they settle if each gate takes 1
+-- the layers of the inputs and the first k gates: when they settle if each gate takes 1
 abbrev layersTo : Net → ℕ → List ℕ
 layersTo net k = withTimes 1 (replicate (net .inputs) 0) (map (gateOf net) (range 0 k))
 
@@ -28,7 +28,7 @@ pub record Depths (net : Net) (k : ℕ) (depths : List ℕ) : Type 0 where
   pub long : length depths ≡ mostWires
   pub front : take (net .inputs + k) depths ≡ layersTo net k
 
--- zeros alone
+-- only zeros
 zero-at : (k i : ℕ) → _≡_ {A = ℕ} (getD (replicate k 0) i 0) 0
 zero-at zero i = refl
 zero-at (suc k) zero = refl
@@ -52,7 +52,7 @@ module _ (net : Net) (sound : Sound net) where
       }
 
   module _ (k : ℕ) (depths : List ℕ) (so-far : Depths net k depths) where
-    -- what the code reads at a reference, none more than k
+    -- what the code reads at a reference, at most k
     at : (i : ℕ) → i < net .inputs + k → getD depths i 0 ≡ getD (layersTo net k) i 0
     at i h = sym (getD-take (net .inputs + k) depths i 0 h) ∙ ap (λ (l : List ℕ). getD l i 0) (so-far .front)
 

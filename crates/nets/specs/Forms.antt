@@ -1,4 +1,4 @@
--- What the code's forms stand for in the definitions.
+-- What the code's forms represent in the definitions.
 -- Assumes nothing.
 use Prim.Native.Nat.{ℕ, _+_, _*_, _≤_, _<_}
 use mathlib.Core.Path.{_≡_}
@@ -16,11 +16,11 @@ use Rattle.nets.specs.declared.forms.Net.{Net}
 unfoldable pub nameIn : List ℕ → Header → ℕ → List ℕ
 nameIn s h i = take (getD (h .lens) i 0) (drop (getD (h .starts) i 0) s)
 
--- it lies in the sheet
+-- name i is inside the sheet
 abbrev pub NameHeld : List ℕ → Header → ℕ → Type 0
 NameHeld s h i = getD (h .starts) i 0 + getD (h .lens) i 0 ≤ length s
 
--- the first `count` names do
+-- the first `count` names are inside the sheet
 abbrev pub NamesHeld : List ℕ → Header → ℕ → Type 0
 NamesHeld s h count = (i : ℕ) → i < count → NameHeld s h i
 

@@ -1,4 +1,4 @@
--- A net with one more gate, by value: its references set and its digits pasted behind the others.
+-- A net with one more gate, by value: its references are set and its digits are written after the others.
 -- Assumes nothing.
 use Prim.Native.Nat.{ℕ, _+_, _*_, _≤_, _<_}
 use mathlib.Core.Path.{_≡_, ap, ap₂, _∙_}

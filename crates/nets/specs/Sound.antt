@@ -1,4 +1,4 @@
--- What reading and settling show of a net.
+-- What reading and settling prove about a net.
 -- Assumes nothing.
 use Prim.Native.Nat.{_+_, _≤_, _<_}
 use mathlib.Core.Path.{_≡_}
@@ -36,6 +36,6 @@ module _ (net : Net) (sound : Sound net) where
   pub gates-count : net .gates < net .inputs
   gates-count = omega (arith, gates-length net, sound .gates .count)
 
-  -- all inputs and gates have room
+  -- there is room for all inputs and gates
   pub wires-room : net .inputs + net .gates ≤ mostWires
   wires-room = omega (arith, gates-count, sound-size .inputs-most)

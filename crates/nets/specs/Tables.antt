@@ -1,4 +1,4 @@
--- The digits of each gate of a net: they are m·m digits below m, and lie within the net's.
+-- The digits of each gate of a net: they are m·m digits below m, inside the net's digits.
 -- Assumes nothing.
 use Prim.Native.Nat.{ℕ, zero, suc, _+_, _*_, _≤_, _<_}
 use mathlib.Core.Path.{_≡_}
@@ -13,7 +13,7 @@ use Rattle.nets.specs.declared.forms.Net.{Net}
 use Rattle.nets.specs.Forms.{gateOf, gatesOf}
 use Rattle.nets.specs.Sound.{Sound, net-levels-pos}
 
--- ---- what holds of a gate list holds of each gate
+-- what holds for a gate list holds for each gate
 
 module _ (f : ℕ → Gate) where
   table-at : (m from count k : ℕ) → k < count → Tables m (map f (range from count)) → GateTable m (f (from + k) .digits)

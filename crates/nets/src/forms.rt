@@ -1,14 +1,14 @@
-// The two forms, with room for the largest allowed size. specs/Forms.antt says what each stands for.
+// The two forms, with room for the largest allowed size. specs/Forms.antt says what each represents.
 ghost use mathlib.Core.Path.{_≡_};
 ghost use Rattle.nets.specs.Forms.{noGates, noNames};
 use radix::limits::MOST_DIGITS;
 use radix::limits::MOST_GATES;
 use radix::limits::MOST_INPUTS;
 
-// The inputs and the gates of a net.
+// The most wires of a net: its inputs and its gates.
 pub const MOST_WIRES: usize = MOST_INPUTS + MOST_GATES;
 
-// A sheet's first three lines. Names stay in the sheet: name i is the `lens[i]` bytes from `starts[i]` on.
+// A sheet's first three lines. Names stay in the sheet: name i is the `lens[i]` bytes that start at `starts[i]`.
 pub struct Header {
     pub levels: usize,
     pub inputs: usize,
@@ -27,7 +27,7 @@ pub struct Net {
     pub digits: [u8; MOST_DIGITS],
 }
 
-// A header with no name yet.
+// Returns a header with no name yet.
 pub fn no_names(levels: usize, inputs: usize) -> Header
     ensures { λ r. ⌜ r ≡ noNames levels inputs ⌝ }
 {
@@ -39,7 +39,7 @@ pub fn no_names(levels: usize, inputs: usize) -> Header
     }
 }
 
-// A net with no gate yet.
+// Returns a net with no gate yet.
 pub fn no_gates(levels: usize, inputs: usize) -> Net
     ensures { λ r. ⌜ r ≡ noGates levels inputs ⌝ }
 {

@@ -1,4 +1,4 @@
-// The layers of a net: the most gates on a way from an input to the output.
+// The layers of a net: the most gates on a path from an input to the output.
 ghost use mathlib.Core.Path.{_≡_};
 ghost use Prim.Native.Nat.{max};
 ghost use Rattle.rules.specs.Nets.Layers.{layers};
@@ -13,7 +13,7 @@ fn deeper(a: usize, b: usize) -> usize
     if a < b { b } else { a }
 }
 
-// For each reference the layers down to it: none at an input, at a gate one more than the deeper of the two that it joins.
+// Returns the layers of a net. An input has 0 layers, a gate has one more than the deeper of its two references.
 pub fn layers(net: Net) -> usize
     requires { ⌜ Sound net ⌝ }
     ensures { λ r. ⌜ r ≡ layers (net .inputs) (gatesOf net) ⌝ }

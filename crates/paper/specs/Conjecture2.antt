@@ -1,4 +1,4 @@
--- Document 003 (Butler), section VII, Conjecture 2, and that it is false. Document 01's case 7 is a counterexample; with one more input
+-- Document 003 (Butler), section VII, Conjecture 2, and a proof that it is false. Document 01's case 7 is a counterexample; with one more input
 -- it is one in which each group of a decomposition has several inputs.
 -- Assumes nothing.
 use Prim.Native.Nat.{ℕ, _/_, _%_, _^_, _<_}
@@ -21,11 +21,11 @@ use Rattle.paper.specs.Decompositions.{Complex, Labels, class-labels, cl
 use Rattle.paper.specs.FanoutFree.{FanoutFree, fanout-free-mark, classes-fanout-free, marked-few}
 use Rattle.laws.specs.Lists.Bounds.{inks-below}
 
--- which CDD's are meant
+-- which CDD's are considered
 abbrev pub Kind : Type 1
 Kind = (m n : ℕ) (f : ℕ → ℕ) (x : ℕ) → Complex m n f x → Type 0
 
--- of any two CDD's that are meant, f(Z) = H1(g1(X), g2(Y)) (16) and f(Z) = H2(g3(W), g4(V)) (17)
+-- for any two CDD's considered, f(Z) = H1(g1(X), g2(Y)) (16) and f(Z) = H2(g3(W), g4(V)) (17)
 abbrev pub CddsAgree : Kind → Type 0
 CddsAgree Meant =
     (m n : ℕ) (f : ℕ → ℕ) → 1 < m → ((p : ℕ) → p < m ^ n → f p < m)
@@ -38,7 +38,7 @@ CddsAgree Meant =
 abbrev pub Conjecture2 : Type 0
 Conjecture2 = CddsAgree (λ m n f x d. (0 < size n x) × (0 < size n (others n x)))
 
--- The same, said only of CDD's as section II makes them, with labels for columns and rows, and of none that footnote 1 calls
+-- The same, restricted to CDD's as section II makes them, with labels for columns and rows, and to none that footnote 1 calls
 -- trivial, "one or no variables in a row or column".
 abbrev pub NarrowConjecture2 : Type 0
 NarrowConjecture2 =
@@ -51,18 +51,18 @@ module _ (m n : ℕ) (several : 1 < m) (f : ℕ → ℕ) (inks : (p : ℕ) → p
   abbrev mark : ℕ → ℕ
   mark g = markIn (marksOf m n f) g
 
-  -- in no CDD for a group of mark 1 is the group's function fanout-free
+  -- in every CDD for a group of mark 1, the group's function is not fanout-free
   not-free : (w : ℕ) → w < 2 ^ n → mark w ≡ 1 → (d : Complex m n f w) → FanoutFree m n w (d .g1) → ⊥
   not-free w w< one d free =
       let tells = simple-tells m n pos f w w< (columns-simple m n f w d) in
       omega (arith, fanout-free-mark m n pos f w w< (d .g1) tells free)
 
-  -- the CDD by classes, where neither group has mark 0
+  -- the CDD by classes, if neither group has mark 0
   abbrev by-classes : (x : ℕ) → x < 2 ^ n → 0 < mark x → 0 < mark (others n x) → Complex m n f x
   by-classes x x< x-some y-some =
       class-complex m n pos f x x< (marked-few m n pos f x x< x-some) (marked-few m n pos f (others n x) (others-below n x) y-some)
 
-  -- where X and Y have mark 2 and W has mark 1, the two CDD's by classes are a counterexample
+  -- if X and Y have mark 2 and W has mark 1, the two CDD's by classes are a counterexample
   marks-refute : (Meant : Kind) (x w : ℕ) (x< : x < 2 ^ n) (w< : w < 2 ^ n)
       → mark x ≡ 2 → mark (others n x) ≡ 2 → mark w ≡ 1 → 0 < mark (others n w)
       → ((x-some : 0 < mark x) (y-some : 0 < mark (others n x)) → Meant m n f x (by-classes x x< x-some y-some))

@@ -1,4 +1,4 @@
--- Document 003 (Butler), section VII, Conjecture 3, and that it is false.
+-- Document 003 (Butler), section VII, Conjecture 3, and a proof that it is false.
 -- Assumes nothing.
 use Prim.Native.Nat.{ℕ, zero, suc, _+_, _^_, _≤_, _<_}
 use mathlib.Core.Path.{_≡_, refl, ap₂, subst, subst⁻¹}
@@ -19,7 +19,7 @@ use Rattle.paper.specs.Decompositions.{Simple, Labels, class-labels, cla
 use Rattle.paper.specs.FanoutFree.{FanoutFree, ink-fanout-free, own-ink-mark}
 use Rattle.laws.specs.Lists.Bounds.{inks-below}
 
--- H, a function of a wire in place of inputs i and j and of the other inputs, as one of all inputs but j: input i stands for the wire
+-- H, a function of the other inputs and of a wire in place of inputs i and j, as a function of all inputs but j: input i stands for the wire
 abbrev pub withWire : ℕ → ℕ → ℕ → ℕ → (ℕ → ℕ → ℕ) → ℕ → ℕ
 withWire m n i j H q = H (level m n q i) (part m n (others n (2 ^ i + 2 ^ j)) q)
 
@@ -27,11 +27,11 @@ withWire m n i j H q = H (level m n q i) (part m n (others n (2 ^ i + 2 ^ j)) q)
 abbrev pub RestFanoutFree : ℕ → ℕ → ℕ → ℕ → (ℕ → ℕ → ℕ) → Type 0
 RestFanoutFree m n i j H = FanoutFree m n (others n (2 ^ j)) (withWire m n i j H)
 
--- which decompositions are meant
+-- which decompositions are considered
 abbrev pub KindOf3 : Type 1
 KindOf3 = (m n : ℕ) (f : ℕ → ℕ) (x : ℕ) → Simple m n f x → Type 0
 
--- of any two that are meant, f(Z) = H1(g1(xi, xj), Z − {xi, xj}) (18) and f(Z) = H2(g2(xk, xl), Z − {xk, xl}) (19)
+-- for any two considered, f(Z) = H1(g1(xi, xj), Z − {xi, xj}) (18) and f(Z) = H2(g2(xk, xl), Z − {xk, xl}) (19)
 abbrev pub PairsAgree : KindOf3 → Type 0
 PairsAgree Meant =
     (m n : ℕ) (f : ℕ → ℕ) → 1 < m → ((p : ℕ) → p < m ^ n → f p < m)
@@ -43,8 +43,8 @@ PairsAgree Meant =
 abbrev pub Conjecture3 : Type 0
 Conjecture3 = PairsAgree (λ m n f x d. Unit {0})
 
--- The same, said only of decompositions as section II makes them, where g labels the columns, and with no don't cares, so that H is
--- settled by f and g: "if g1 and g2 of (5) have missing logic levels, the value of F can be chosen arbitrarily for the levels
+-- The same, restricted to decompositions as section II makes them, where g labels the columns, and without don't cares, so that f and g
+-- determine H: "if g1 and g2 of (5) have missing logic levels, the value of F can be chosen arbitrarily for the levels
 -- (don't cares)."
 abbrev pub NarrowConjecture3 : Type 0
 NarrowConjecture3 = PairsAgree (λ m n f x d. Labels m n f x (d .g) × ((v : ℕ) → v < m → (p : ℕ) × (d .g (part m n x p) ≡ v)))
@@ -115,14 +115,14 @@ mark-two : marked 3 4 (lit< tt) (rest 2 3 (0 ∷ 1 ∷ 3 ∷ [])) 7 ≡ 1
 unfolding computing digits inks
 mark-two = refl
 
--- with mark 2, H1 is fanout-free
+-- since the mark is 2, H1 is fanout-free
 one-free : RestFanoutFree 3 4 1 2 (one .F)
 unfolding others wholeGroup
 one-free =
     subst⁻¹ (λ firsts. FanoutFree 3 4 11 (rest 1 2 firsts)) classes-bc
     (ink-fanout-free 3 4 (lit< tt) (rest 1 2 (0 ∷ 3 ∷ 12 ∷ [])) (λ p h. ink-below _) 11 (lit< tt) mark-one)
 
--- H2 reads a, b and the wire alone
+-- H2 reads only a, b and the wire
 two-own : (firsts : List ℕ) (q : ℕ) → rest 2 3 firsts (part 3 4 7 q) ≡ rest 2 3 firsts q
 unfolding computing
 two-own firsts q =
@@ -130,7 +130,7 @@ two-own firsts q =
     (level-part-in 3 4 (lit< tt) 7 q 2 (lit< tt) refl)
     (part-ext 3 4 (lit< tt) 3 (part 3 4 7 q) q (λ i h k. level-part-in 3 4 (lit< tt) 7 q i h (inside-member i 4 3 7 refl h k)))
 
--- so, with mark 1, H2 is not fanout-free
+-- so, since the mark is 1, H2 is not fanout-free
 two-not-free : RestFanoutFree 3 4 2 3 (two .F) → ⊥
 unfolding others wholeGroup
 two-not-free free =

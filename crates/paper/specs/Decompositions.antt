@@ -1,5 +1,5 @@
 -- Document 003 (Butler), section II: simple and complex disjunctive decompositions, and Theorems 1 and 2, for every table of m levels
--- and n inputs and every group X of the inputs. Y is the others.
+-- and n inputs and every group X of the inputs. Y is the group of the other inputs.
 -- Assumes nothing.
 use Prim.Native.Nat.{ℕ, _+_, _^_, _≤_, _<_}
 use mathlib.Core.Path.{_≡_, sym, ap, _∙_, _≡⟨_⟩_, _∎}
@@ -15,15 +15,15 @@ use Rattle.trees.specs.Groups.Points.{points-are-parts}
 use Rattle.trees.specs.Groups.Classes.{alike-class, class-below, class-listed, class-part, classes-are-points, few-classes}
 use Rattle.paper.specs.PartitionMatrix.{columnMultiplicity, rowMultiplicity, column-multiplicity, row-multiplicity, others-others}
 
--- "f(Z) has a simple disjunctive decomposition (SDD) if and only if f(Z) = F(g(X), Y)": g has k values, and is given the levels
--- of X; F is given g's value and the levels of Y.
+-- "f(Z) has a simple disjunctive decomposition (SDD) if and only if f(Z) = F(g(X), Y)": g has k values and takes the levels
+-- of X; F takes g's value and the levels of Y.
 pub record SimpleBy (k m n : ℕ) (f : ℕ → ℕ) (x : ℕ) : Type 0 where
   pub g : ℕ → ℕ
   pub F : ℕ → ℕ → ℕ
   pub below : (p : ℕ) → g (part m n x p) < k
   pub equation : (p : ℕ) → p < m ^ n → f p ≡ F (g (part m n x p)) (part m n (others n x) p)
 
--- in the paper g has m values, as every wire there
+-- in the paper g has m values, like every wire there
 abbrev pub Simple : ℕ → ℕ → (ℕ → ℕ) → ℕ → Type 0
 Simple m n f x = SimpleBy m m n f x
 
@@ -37,12 +37,12 @@ pub record Complex (m n : ℕ) (f : ℕ → ℕ) (x : ℕ) : Type 0 where
   pub equation : (p : ℕ) → p < m ^ n → f p ≡ F (g1 (part m n x p)) (g2 (part m n (others n x) p))
 
 -- "assign to each of the μ distinct rows a value .. that two different rows have different values. columns are labeled in a similar
--- manner": g gives equal columns one value (that different columns have different ones is the equation's)
+-- manner": g gives equal columns the same value (the equation implies that different columns have different values)
 abbrev pub Labels : ℕ → ℕ → (ℕ → ℕ) → ℕ → (ℕ → ℕ) → Type 0
 Labels m n f x g = (p q : ℕ) → Alike m n f x p q → g (part m n x p) ≡ g (part m n x q)
 
 module _ (m n : ℕ) (pos : 0 < m) (x : ℕ) (x< : x < 2 ^ n) where
-  -- a mix over x is one over the others, the other way round
+  -- a mix over x is a mix over the others with the two indices exchanged
   mix-others : (p y : ℕ) → mix m n (others n x) y p ≡ mix m n x p y
   unfolding mix
   mix-others p y = rw (others-others n x x<) (add-comm _ _)
@@ -56,23 +56,23 @@ abbrev pub listed : ℕ → ℕ → (ℕ → ℕ) → ℕ → ℕ → ℕ
 listed m n f x c = getD (classes m n f x) c 0
 
 module _ (m n : ℕ) (pos : 0 < m) (f : ℕ → ℕ) (x : ℕ) (x< : x < 2 ^ n) where
-  -- g's value and the levels of Y tell the ink
+  -- g's value and the levels of Y determine the ink
   pub simple-tells : {k : ℕ} (d : SimpleBy k m n f x) → Tells m n f x (λ p. d .g (part m n x p))
   simple-tells d p q e y = equation p ∙ ap (λ v. d .F v (part m n (others n x) y)) e ∙ sym (equation q)
     where
       equation : (p : ℕ) → f (mix m n x p y) ≡ d .F (d .g (part m n x p)) (part m n (others n x) y)
       equation p = rw (d .equation (mix m n x p y) (mix-below m n pos x p y x<), part-mix m n pos x p y x<, rest-mix m n pos x x< p y)
 
-  -- the first assignment of p's class is what it gives X
+  -- the first assignment of p's class equals its own part in X
   listed-part : (p : ℕ) → part m n x (listed m n f x (classNumber m n f x p)) ≡ listed m n f x (classNumber m n f x p)
   listed-part p = points-are-parts m n pos x _ (classes-are-points m n pos f x x< _ (class-below m n pos f x x< p)) .0
 
-  -- the class of what p gives X, and the levels of Y, tell the ink
+  -- the class of p in X and the levels of Y determine the ink
   by-class : (p y : ℕ) → f (mix m n x p y) ≡ f (listed m n f x (classNumber m n f x p) + part m n (others n x) y)
   unfolding mix
   by-class p y = class-listed m n pos f x x< p y ∙ ap (λ r. f (r + part m n (others n x) y)) (listed-part p)
 
-  -- so F is to be the ink at a column's first assignment, and the levels of Y
+  -- so F is the ink at a column's first assignment and the levels of Y
   pub class-equation : (p : ℕ) → p < m ^ n → f p ≡ f (listed m n f x (classNumber m n f x (part m n x p)) + part m n (others n x) p)
   class-equation p h = rw (class-part m n pos f x x< p) (sym (ap f (mix-self m n pos x p x< h)) ∙ by-class p p)
 
@@ -81,7 +81,7 @@ module _ (m n : ℕ) (pos : 0 < m) (f : ℕ → ℕ) (x : ℕ) (x< : x < 2 ^ n) 
   label-below few p = lt-of-lt-of-le (class-below m n pos f x x< p) few
 
 module _ (m n : ℕ) (pos : 0 < m) (f : ℕ → ℕ) (x : ℕ) (x< : x < 2 ^ n) where
-  -- in place of the levels of Y, the class of what they are
+  -- the class of the levels of Y may replace these levels
   row-class : (c p : ℕ) → part m n x c ≡ c
       → f (c + part m n (others n x) p) ≡ f (c + listed m n f (others n x) (classNumber m n f (others n x) (part m n (others n x) p)))
   unfolding mix
@@ -94,7 +94,7 @@ module _ (m n : ℕ) (pos : 0 < m) (f : ℕ → ℕ) (x : ℕ) (x< : x < 2 ^ n) 
       f (first p + part m n (others n y) c) ≡⟨ rw (others-others n x x<, e, same) (ap f (add-comm (first p) c)) ⟩
       f (c + first (part m n y p)) ∎
 
-  -- the classes of what p gives X and of what it gives Y tell the ink
+  -- the classes of p in X and in Y determine the ink
   pub classes-equation : (p : ℕ) → p < m ^ n →
       let y = others n x in
       f p ≡ f (listed m n f x (classNumber m n f x (part m n x p)) + listed m n f y (classNumber m n f y (part m n y p)))
@@ -126,11 +126,11 @@ module _ (m n : ℕ) (pos : 0 < m) (f : ℕ → ℕ) (x : ℕ) (x< : x < 2 ^ n) 
         equation = classes-equation;
       }
 
--- a g of k values leaves at most k classes, since its values are below k and tell them
+-- a g of k values leaves at most k classes, since its values are below k and determine the class
 simple-few : (k m n : ℕ) → 0 < m → (f : ℕ → ℕ) (x : ℕ) → x < 2 ^ n → SimpleBy k m n f x → multiplicity m n f x ≤ k
 simple-few k m n pos f x x< d = few-classes m n pos f x x< k (λ p. d .g (part m n x p)) (d .below) (simple-tells m n pos f x x< d)
 
--- For every k: f(Z) = F(g(X), Y) with g of k values exactly when X has at most k classes. So the multiplicity of X is the fewest values that a
+-- For every k: f(Z) = F(g(X), Y) with g of k values exactly if X has at most k classes. So the multiplicity of X is the fewest values that a
 -- wire in place of X can carry.
 pub values-needed : (k m n : ℕ) → 0 < m → (f : ℕ → ℕ) (x : ℕ) → x < 2 ^ n → SimpleBy k m n f x ↔ (multiplicity m n f x ≤ k)
 values-needed k m n pos f x x< = (simple-few k m n pos f x x<, λ few. class-simple m n pos f x x< few)

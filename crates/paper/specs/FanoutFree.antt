@@ -1,5 +1,5 @@
--- Document 003 (Butler), sections I to III: fanout-free functions, and how marks decide them. A function of a group's levels that tells
--- the ink is fanout-free only where the group has mark 2; where it has, the group's classes are fanout-free, and so is the ink.
+-- Document 003 (Butler), sections I to III: fanout-free functions, and how marks decide them. A function of a group's levels that determines
+-- the ink is fanout-free only if the group has mark 2; if it has, the group's classes are fanout-free, and so is the ink.
 -- Assumes nothing.
 use Prim.Native.Nat.{ℕ, _+_, _^_, _≤_, _<_}
 use mathlib.Core.Path.{_≡_, refl, sym, ap, _∙_}
@@ -35,7 +35,7 @@ abbrev pub FanoutFree : ℕ → ℕ → ℕ → (ℕ → ℕ) → Type 0
 FanoutFree m n x g = (size n x ≡ 1) ⊎ Realization m n x g
 
 module _ (m n : ℕ) (pos : 0 < m) (f : ℕ → ℕ) (x : ℕ) (x< : x < 2 ^ n) where
-  -- the value of a network for g tells the ink where g does
+  -- if g determines the ink, so does the value of a network for g
   realization-tells : (g : ℕ → ℕ) → Tells m n f x (λ p. g (part m n x p)) → (r : Realization m n x g)
       → Tells m n f x (treeValue m n (r .tree))
   realization-tells g tells r p q e = tells p q (sym (value p) ∙ e ∙ value q)
@@ -46,21 +46,21 @@ module _ (m n : ℕ) (pos : 0 < m) (f : ℕ → ℕ) (x : ℕ) (x< : x < 2 ^ n) 
           ∙ r .has (part m n x p) (part-below m n pos x p)
           ∙ ap g (part-part m n pos x p)
 
-  -- a fanout-free function that tells the ink gives its group mark 2
+  -- a fanout-free function that determines the ink gives its group mark 2
   pub fanout-free-mark : (g : ℕ → ℕ) → Tells m n f x (λ p. g (part m n x p)) → FanoutFree m n x g → marked m n pos f x ≡ 2
   fanout-free-mark g tells (inl one) = three-way m n pos f x x< .single one
   fanout-free-mark g tells (inr r) =
       let few = necessity m n pos f (r .tree) (r .wired .0) (r .filled) (rw (r .wired .1) (realization-tells g tells r)) in
       rw (r .wired .1) at (wiring-mark m n pos f (wiringIn (r .tree)) (r .wired .0) few)
 
-  -- a table that has no other inputs than X's, in which the ink is fanout-free, gives X mark 2
+  -- if a table depends only on X's inputs and its ink is fanout-free, X has mark 2
   pub own-ink-mark : ((p : ℕ) → f (part m n x p) ≡ f p) → FanoutFree m n x f → marked m n pos f x ≡ 2
   own-ink-mark own = fanout-free-mark f (λ p q e y. same p y ∙ e ∙ sym (same q y))
     where
       same : (p y : ℕ) → f (mix m n x p y) ≡ f (part m n x p)
       same p y = sym (own (mix m n x p y)) ∙ ap f (part-mix m n pos x p y x<)
 
-  -- a mark that is not 0 says that there are few classes
+  -- if the mark is not 0, there are few classes
   pub marked-few : 0 < marked m n pos f x → multiplicity m n f x ≤ m
   marked-few some = go (way m n pos f x x<)
     where
@@ -93,7 +93,7 @@ module _ (m n : ℕ) (pos : 0 < m) (f : ℕ → ℕ) (inks : (p : ℕ) → p < m
         has = λ p h. gate-sufficiency m n pos f a b (of .0) few last p ∙ ap (λ (g : ℕ). given m n f last g p) (of .1) ∙ given-function last p;
       })
 
-  -- and mark 2 has one
+  -- and a group of mark 2 has such a wiring
   marked-free : (last : Bool) → marked m n pos f x ≡ 2 → FanoutFree m n x (function last)
   marked-free last two =
       let w = settled-wiring-of m n pos f x x< two in
@@ -109,7 +109,7 @@ module _ (m n : ℕ) (pos : 0 < m) (f : ℕ → ℕ) (inks : (p : ℕ) → p < m
 
 -- ---- "If |X| = 1 or 2, g1(X) is fanout-free": with two inputs one gate has its values
 
--- two inputs share none
+-- two different inputs, as groups, share no input
 pair-apart : (n i j : ℕ) → i ≢ j → Apart n (2 ^ i) (2 ^ j)
 pair-apart n i j differ k h = rw (member-single k i, member-single k j) (not-both k i j differ)
 

@@ -45,7 +45,7 @@ pub row-count : (m n : ℕ) → 0 < m → (f : ℕ → ℕ) (x : ℕ) → length
 unfolding rows
 row-count m n pos f x = length-map (points m n (others n x)) _ ∙ points-length m n pos (others n x)
 
--- columns are the same exactly where their assignments are alike
+-- columns are the same exactly if their assignments are alike
 same-column : (f : ℕ → ℕ) (ys : List ℕ) (p q : ℕ) → same (map (λ y. f (p + y)) ys) (map (λ y. f (q + y)) ys) ≡ alikeOver f ys p q
 unfolding same alikeOver all
 same-column f [] p q = refl

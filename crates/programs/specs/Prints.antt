@@ -1,4 +1,4 @@
--- What a program's output function returns: the text that the program prints, and zeros behind it.
+-- What a program's output function returns: the text that the program prints, followed by zeros.
 -- Assumes nothing.
 use Prim.Native.Nat.{ℕ, zero, suc, _-_, _≤_}
 use mathlib.Core.Path.{_≡_, refl, sym, ap, _∙_, subst}
@@ -40,10 +40,10 @@ wrote-prints n text after count did =
     let rest : n - length text ≡ length after - length text = omega (arith, simp (length-append, length-replicate) at (ap length tail)) in
     rw (did .length) (prints after text (tail ∙ ap (λ (k : ℕ). text ++ zeros k) rest))
 
--- ---- what is printed of a call's answer and output
+-- ---- what is printed for a call's answer and output
 
 module _ (n : ℕ) (output : List ℕ) (answer : own.Answer) (k : ℕ) (is : answer ≡ Accepted k) (t : List ℕ) (front : t ≡ take k output) where
-  -- the front of an output that is no longer than the array fits into it
+  -- the front of an output fits into the array if the output is no longer than the array
   pub front-room : length output ≤ n → PutRoom (zeros n) 0 t
   front-room room = omega (arith, min-le-right k (length output), ap length front ∙ length-take k output, length-replicate {A = ℕ} n 0)
 

@@ -8,7 +8,7 @@ use Rattle.rules.specs.Sheets.Printed.{line}
 use Rattle.rules.specs.Calls.Programs.{refusalLines}
 use Rattle.laws.specs.Numbers.Decimals.{decimal-length}
 
--- the two lines of the longest, with two values of 20 digits
+-- the length of the longest two lines, with two values of 20 digits
 abbrev pub mostRefusal : ℕ
 mostRefusal = 55
 

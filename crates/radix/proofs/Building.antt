@@ -1,4 +1,4 @@
--- The loop of `offsets` over plain lists: before input i is looked at, the offsets are those of the inputs from i on.
+-- The loop of `offsets` over plain lists: before the turn for input i, the offsets are those of the inputs from i on.
 -- Assumes nothing.
 use Prim.Native.Nat.{ℕ, suc, _-_, _*_, _^_, _≤_, _<_}
 use mathlib.Core.Path.{_≡_, refl, sym, ap, ap₂, _∙_, subst⁻¹, subst₂}
@@ -14,7 +14,7 @@ use Rattle.radix.specs.Fronts.{Front}
 use Rattle.radix.specs.Offsets.{widened, widened-length, tail, tail-member, tail-other, tail-below, tail-length, points-tail}
 
 module _ (m n g : ℕ) where
-  -- what is built before input i is looked at
+  -- what is built before the turn for input i
   pub record Built (out : List ℕ) (len w i : ℕ) : Type 0 where
     pub low : i ≤ n
     pub weight : w ≡ m ^ (n - i)
@@ -88,7 +88,7 @@ module _ (m n g : ℕ) where
           ∙ tail-member m g (i - 1) (n - i) e
           ∙ ap₂ (widened m) (sym (b .weight)) (ap (λ (k : ℕ). tail m g k (n - i)) back ∙ sym (b .front))
 
-      -- a member
+      -- if the input is a member
       pub built-member : (out′ : List ℕ) (len′ : ℕ) → member (i - 1) g ≡ true → len′ ≡ len * m
           → take (len * m) out′ ≡ widened m w (take len out) → Built out′ len′ (w * m) (i - 1)
       built-member out′ len′ e l f =
@@ -100,7 +100,7 @@ module _ (m n g : ℕ) where
             front = ap (λ (k : ℕ). take k out′) l ∙ f ∙ sym (next-member e);
           }
 
-      -- one that is none
+      -- if it is not a member
       pub built-other : member (i - 1) g ≡ false → Built out len (w * m) (i - 1)
       built-other e =
           record { low = omega (arith, b .low); weight = next-weight; count = b .count ∙ ap length same; front = b .front ∙ same }

@@ -8,7 +8,7 @@ use lib.ListN.{length, getD, take, drop, set}
 use lib.Seq.{take-suc, append-snoc, set-split, take-set-le, drop-cons, getD-set-same, drop-set-lt, lt-length-set}
 use Rattle.laws.specs.Numbers.Levels.{nextLevels, next-turn, next-up}
 
--- the first i levels stepped, and the rest as they are
+-- the first i levels stepped, and the rest unchanged
 abbrev pub stepped : ℕ → ℕ → List ℕ → List ℕ
 stepped m i xs = nextLevels m (take i xs) ++ drop i xs
 
@@ -18,7 +18,7 @@ unfolding nextLevels
 step-none m zero xs h = refl
 step-none m (suc i) xs h = absurd (omega arith)
 
--- the level before place i moves up, and the count's step is done
+-- the level before place i goes up, and the step of the count is done
 pub step-up : (m i : ℕ) (xs : List ℕ) → 0 < i → i ≤ length xs → getD xs (i - 1) 0 + 1 < m → set xs (i - 1) (getD xs (i - 1) 0 + 1) ≡ stepped m i xs
 step-up m zero xs pos h up = absurd (omega arith)
 step-up m (suc i) xs pos h up =
@@ -26,7 +26,7 @@ step-up m (suc i) xs pos h up =
     rw e (rw (set-split xs i (getD xs i 0 + 1) h, take-suc xs i 0 h, next-up m (take i xs) (getD xs i 0) (rw e at up))
     (sym (append-snoc (take i xs) (getD xs i 0 + 1) (drop (suc i) xs))))
 
--- it turns to 0, and the levels before it are still to be stepped
+-- it becomes 0, and the levels before it are still to be stepped
 pub step-turn : (m i : ℕ) (xs : List ℕ) → 0 < i → i ≤ length xs → m ≤ getD xs (i - 1) 0 + 1 → stepped m (i - 1) (set xs (i - 1) 0) ≡ stepped m i xs
 step-turn m zero xs pos h top = absurd (omega arith)
 step-turn m (suc i) xs pos h top =

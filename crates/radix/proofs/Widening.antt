@@ -1,4 +1,4 @@
--- The loop of `widen` over plain lists: at turn j the front j entries are those of the widened list.
+-- The loop of `widen` over plain lists: at turn j the first j entries are those of the widened list.
 -- Assumes nothing.
 use Prim.Native.Nat.{ℕ, zero, suc, _+_, _-_, _*_, _/_, _%_, _≤_, _<_}
 use mathlib.Core.Path.{_≡_, sym, ap, _∙_, subst, subst⁻¹}
@@ -27,7 +27,7 @@ module _ (out₀ : List ℕ) (len w m : ℕ) (some : 0 < m) (fits : len * m ≤ 
   pub starts : take len out₀ ≡ take len whole
   starts = sym (subst (λ (k : ℕ). take k whole ≡ take len out₀) front-length (widened-front m w (take len out₀) some))
 
-  -- what the code computes for entry j is the widened list's
+  -- what the code computes for entry j is the widened list's entry
   pub entry : (out : List ℕ) (j : ℕ) → len ≤ j → 0 < len → j < len * m → take j out ≡ take j whole
       → getD out (j - len) 0 + w ≡ getD whole j 0
   entry out j low pos high e =

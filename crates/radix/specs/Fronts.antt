@@ -1,4 +1,4 @@
--- A list that stands at the front of another, as a call of `offsets` leaves it; and the number of the other inputs' group.
+-- A list at the front of another, as a call of `offsets` leaves it; and the number of the other inputs' group.
 -- Assumes nothing.
 use Prim.Native.Nat.{ℕ, _-_, _^_, _≤_}
 use mathlib.Core.Path.{_≡_, ap, _∙_}
@@ -8,12 +8,12 @@ use native.Mathlib.Omega.{arith}
 use lib.ListN.{length, take, length-take}
 use Rattle.rules.specs.Groups.Groups.{wholeGroup, others}
 
--- xs is the front r of out
+-- xs is the first r elements of out
 pub record Front (xs : List ℕ) (r : ℕ) (out : List ℕ) : Type 0 where
   pub count : r ≡ length xs
   pub is : take r out ≡ xs
 
--- it is no longer
+-- it is not longer than out
 pub fits-in : {xs : List ℕ} {r : ℕ} {out : List ℕ} → Front xs r out → r ≤ length out
 fits-in {xs} {r} {out} at = omega (arith, length-take r out, ap length (at .is), at .count)
 

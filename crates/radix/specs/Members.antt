@@ -1,4 +1,4 @@
--- The test whether a group has one member only, its first-listed member as a count of zeros, and its members as a count of bits.
+-- The test whether a group has only one member, its first-listed member as a count of zeros, and the number of its members as a count of bits.
 -- Assumes nothing.
 use Prim.Native.Nat.{ℕ, zero, suc, _+_, _-_, _/_, _%_, _^_, _<_}
 use mathlib.Core.Path.{_≡_, refl, sym, ap, _∙_}
@@ -13,7 +13,7 @@ use Rattle.rules.specs.Nets.Wirings.{firstInput}
 use Rattle.trees.specs.Groups.Members.{low-bit, first-odd, first-even, size-zero, size-suc, size-single, size-one, first-member}
 use Rattle.radix.specs.Parts.{without-first}
 
--- one member: the first-listed is all
+-- a group has one member exactly if nothing is left without its first-listed one
 pub single-test : (n g : ℕ) → 0 < g → g < 2 ^ n → (r : ℕ) → r ≡ g - 2 ^ firstInput n g → eqb r 0 ≡ eqb (size n g) 1
 single-test n g some g< r e = go (decLt 0 r)
   where
@@ -26,7 +26,7 @@ single-test n g some g< r e = go (decLt 0 r)
         let all : g ≡ 2 ^ firstInput n g = omega (arith, without-first n g some g< .0) in
         eq-eqb r 0 (omega arith) ∙ sym (eq-eqb (size n g) 1 (ap (size n) all ∙ size-single (firstInput n g) n first))
 
--- the zeros below the lowest bit of a number that is not 0
+-- the zeros below the lowest set bit of a number that is not 0
 pub trailing-first : (k n g : ℕ) → 0 < g → g < 2 ^ k → g < 2 ^ n → trailingZeros k g ≡ firstInput n g
 unfolding trailingZeros
 trailing-first zero n g some g<k g<n = absurd (omega arith)

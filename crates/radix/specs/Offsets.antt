@@ -37,7 +37,7 @@ tail-other m g i k e = rw (e, tail)
 
 -- ---- they are document 01's
 
--- every p of a list, k digits further on, with each of some offsets added
+-- each p of a list, times w, plus each of some offsets
 spread : ℕ → List ℕ → List ℕ → List ℕ
 spread w xs ps = concatMap (λ p. map (λ x. p * w + x) xs) ps
 
@@ -60,7 +60,7 @@ spread-member m w xs ps =
     ∙ sym (map-concat (λ l. map (λ x. l * w + x) xs) (λ y. p * (w * m) + y) (range 0 m)))
     ps
 
--- one that is none leaves the offsets
+-- an input that is not a member does not change the offsets
 spread-other : (m w : ℕ) (xs ps : List ℕ) → spread w xs (concatMap (λ p. p * m ∷ []) ps) ≡ spread (w * m) xs ps
 unfolding spread concatMap
 spread-other m w xs ps =
@@ -82,7 +82,7 @@ unfolding points
 spread-step m g i k xs true e = rw e (spread-member m (m ^ k) xs (points m i g))
 spread-step m g i k xs false e = rw e (spread-other m (m ^ k) xs (points m i g))
 
--- the assignments of all inputs are those of the first i, each with those of the k inputs from i on
+-- the assignments of all inputs are those of the first i, each combined with those of the k inputs from i on
 points-spread : (m g i k : ℕ) → points m (i + k) g ≡ spread (m ^ k) (tail m g i k) (points m i g)
 unfolding tail
 points-spread m g i zero =
@@ -149,7 +149,7 @@ blocks-last w xs m =
 one-block : (l w x : ℕ) → x < w → l * w + x < suc l * w
 one-block l w x h = omega (arith, suc-mul l w)
 
--- and each further entry is the one a block before, plus w
+-- and each further entry is the one a block earlier, plus w
 pub widened-step : (m w : ℕ) (xs : List ℕ) (j : ℕ) → length xs + j < length xs * m
     → getD (widened m w xs) (length xs + j) 0 ≡ getD (widened m w xs) j 0 + w
 unfolding widened blocks concatMap range

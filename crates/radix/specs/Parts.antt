@@ -13,7 +13,7 @@ use Rattle.rules.specs.Nets.Trees.{Apart}
 use Rattle.trees.specs.Groups.Members.{low-bit, low-member, member-suc, member-ext, member-rest, inside-member, member-inside, first-odd, first-even}
 use Rattle.trees.specs.Trees.MarkTwo.{rest-inside}
 
--- every bit of s is one of r
+-- every bit of s is a bit of r
 abbrev pub PartOf : ℕ → ℕ → Type 0
 PartOf s r = bitAnd s r ≡ s
 
@@ -24,7 +24,7 @@ part-half s r p = omega (arith, and-step s r, and-le-l (s / 2) (r / 2))
 half-part : (s r : ℕ) → PartOf (s / 2) (r / 2) → s % 2 ≤ r % 2 → PartOf s r
 half-part s r p low = omega (arith, and-step s r)
 
--- `bitAnd` by the lowest bits, and of halves that are known
+-- `bitAnd` from the lowest bits and from known halves
 and-halves : (x r y low : ℕ) → x / 2 ≡ y → min (x % 2) (r % 2) ≡ low → bitAnd x r ≡ bitAnd y (r / 2) * 2 + low
 and-halves x r y low e d = and-step x r ∙ ap₂ (λ (z l : ℕ). bitAnd z (r / 2) * 2 + l) e d
 
@@ -35,7 +35,7 @@ pub record Next (r s t : ℕ) : Type 0 where
   pub above : s < t
   pub least : (u : ℕ) → s < u → PartOf u r → t ≤ u
 
--- a part and all that is not of r, without what is not of r
+-- a part plus all bits outside r, restricted to r, is the part
 fill : (k s r : ℕ) → r < 2 ^ k → PartOf s r → bitAnd (s + (2 ^ k - 1 - r)) r ≡ s
 fill zero s r r< p =
     let none : r ≡ 0 = omega arith in
@@ -48,7 +48,7 @@ fill (suc k) s r r< p =
     ∙ ap (λ (y : ℕ). y * 2 + s % 2) (fill k (s / 2) (r / 2) (omega arith) (halves .0))
     ∙ omega arith
 
--- a part whose lowest bit is free: the next is one more
+-- a part whose lowest bit is free: the next part is one more
 next-here : (k r s t : ℕ) → r < 2 ^ suc k → s % 2 < r % 2 → PartOf (s / 2) (r / 2) → t ≡ bitAnd (s + 2 ^ suc k - r) r → s < r → Next r s t
 next-here k r s t r< free p e s< = record { part = half-part t r (rw half p) (omega arith); above = omega (arith, is); least = λ u s<u q. omega (arith, is) }
   where
@@ -64,7 +64,7 @@ next-here k r s t r< free p e s< = record { part = half-part t r (rw half p) (om
     half : t / 2 ≡ s / 2
     half = omega (arith, is)
 
--- a part whose lowest bit is r's: the next is the half's
+-- a part whose lowest bit is r's: the next part is that of the half
 next-on : (r s t : ℕ) → s % 2 ≡ r % 2 → Next (r / 2) (s / 2) t → Next r s (t * 2 + 0)
 next-on r s t low next =
     record {
@@ -76,7 +76,7 @@ next-on r s t low next =
     half : (t * 2 + 0) / 2 ≡ t
     half = omega arith
 
--- The next part: the carry of an addition runs through all that is not of r.
+-- The next part: the carry of an addition runs through all bits outside r.
 pub next-part : (k r s : ℕ) → r < 2 ^ k → s < r → PartOf s r → Next r s (bitAnd (s + 2 ^ k - r) r)
 next-part zero r s r< s< p = absurd (omega arith)
 next-part (suc k) r s r< s< p = go (part-half s r p) (decLt (s % 2) (r % 2)) (next-part k (r / 2) (s / 2))
@@ -94,7 +94,7 @@ next-part (suc k) r s r< s< p = go (part-half s r p) (decLt (s % 2) (r % 2)) (ne
 
 -- ---- without the first-listed input
 
--- one less, and the two together: the lowest bit is gone
+-- one less, combined with the number itself by `bitAnd`: the lowest set bit is gone
 pub without-first : (n g : ℕ) → 0 < g → g < 2 ^ n → (2 ^ firstInput n g ≤ g) × (bitAnd g (g - 1) ≡ g - 2 ^ firstInput n g)
 without-first zero g some g< = absurd (omega arith)
 without-first (suc n) g some g< = go (member 0 g) refl (without-first n (g / 2))
@@ -148,7 +148,7 @@ part-inside n a g p = member-inside n a g (λ i i< e. rw e at (sym (member-and i
 
 -- ---- without the members of another group
 
--- a part of a group shares no input with what the group shares none with
+-- if a group shares no input with another, neither does a part of it
 pub part-apart : (n a g other : ℕ) → inside n a g ≡ true → Apart n g other → Apart n a other
 part-apart n a g other part apart i i< = go (member i a) refl
   where

@@ -7,7 +7,7 @@ use native.Mathlib.Nat.{pow-suc, pow-le-pow-right}
 use native.Mathlib.Omega.{arith}
 use lib.ListN.{getD}
 
--- ws has every input's weight
+-- ws holds every input's weight
 abbrev pub Weights : ℕ → ℕ → List ℕ → Type 0
 Weights m n ws = (i : ℕ) → i < n → getD ws i 0 ≡ m ^ (n - 1 - i)
 

@@ -1,4 +1,4 @@
-// A group as bits: its members, the first-listed, what is left without it, and its parts by rising number.
+// A group as bits: its members, the first-listed one, what is left without it, and its parts in rising order.
 ghost use mathlib.Core.Path.{_≡_};
 ghost use Prim.Native.Nat.{ℕ, _-_, _^_, _≤_, _<_};
 ghost use lib.Bits.{bitAnd};
@@ -8,7 +8,7 @@ ghost use Rattle.rules.specs.Nets.Wirings.{firstInput};
 ghost use Rattle.radix.specs.Parts.{PartOf, Next};
 ghost use Rattle.radix.specs.Widths.{groupsEnd};
 
-// 2 to the power 16: past every group.
+// 2 to the power 16: above every group.
 const PAST: usize = 65536;
 
 // Is input i a member of group g?
@@ -19,7 +19,7 @@ pub fn member_of(g: usize, i: usize) -> bool
     (g >> i) % 2 == 1
 }
 
-// How many members group g has.
+// Returns how many members group g has, among the first n inputs.
 pub fn members(n: usize, g: usize) -> usize
     ensures { λ r. ⌜ r ≡ size n g ⌝ }
 {
@@ -41,7 +41,7 @@ pub fn members_of(g: usize) -> usize
     usize::count_ones(g) as usize
 }
 
-// A group's first-listed input, or n where it is empty.
+// Returns a group's first-listed input, or n if it is empty.
 pub fn first_input(n: usize, g: usize) -> usize
     requires { ⌜ n ≤ 64 ⌝ }
     ensures { λ r. ⌜ r ≡ firstInput n g ⌝ }
@@ -56,7 +56,7 @@ pub fn first_input(n: usize, g: usize) -> usize
     n
 }
 
-// The first-listed input of a group that is not empty.
+// Returns the first-listed input of a group that is not empty.
 pub fn first_of(g: usize) -> usize
     requires { ⌜ 0 < g ⌝ }
     ensures { λ r. ⌜ ((n : ℕ) → g < 2 ^ n → r ≡ firstInput n g) ⌝ }
@@ -64,7 +64,7 @@ pub fn first_of(g: usize) -> usize
     usize::trailing_zeros(g) as usize
 }
 
-// A group without its first-listed input.
+// Returns a group without its first-listed input.
 pub fn without_first(g: usize) -> usize
     requires { ⌜ 0 < g ⌝ }
     ensures { λ r. ⌜ ((n : ℕ) → g < 2 ^ n → r ≡ g - 2 ^ firstInput n g) ⌝ }
@@ -79,7 +79,7 @@ pub fn without(g: usize, other: usize) -> usize
     g - (g & other)
 }
 
-// Has a group one member?
+// Does a group have one member?
 pub fn single(g: usize) -> bool
     requires { ⌜ 0 < g ⌝ }
     ensures { λ r. ⌜ ((n : ℕ) → g < 2 ^ n → r ≡ eqb (size n g) 1) ⌝ }
@@ -87,7 +87,7 @@ pub fn single(g: usize) -> bool
     without_first(g) == 0
 }
 
-// The next part of `all` after `part`, by number. A carry runs through the bits that are not of `all`.
+// Returns the next part of `all` after `part`, by number. A carry runs through the bits outside `all`.
 pub fn next_part(all: usize, part: usize) -> usize
     requires { ⌜ (all < groupsEnd) × (part < all) × (PartOf part all) ⌝ }
     ensures { λ r. ⌜ Next all part r ⌝ }

@@ -9,7 +9,7 @@ ghost use Rattle.radix.specs.Widths.{mostMembers, offsetsEnd, mostOffset
 use crate::members;
 use crate::powers;
 
-// The first `len` offsets become m times as many: for each level of one more input of weight w, all of them plus that level times w.
+// Widens the first `len` offsets to m times as many: for each level of one more input of weight w, all of them plus that level times w.
 pub fn widen(out: &mut [u16], len: usize, w: u16, m: usize) -> usize
     requires { ⌜ (0 < len) × (0 < m) × (len * m ≤ length (now out)) × ((k : ℕ) → k < len → getD (now out) k 0 + w * m < offsetsEnd) ⌝ }
     ensures { λ r. ⌜ (r ≡ len * m) × (take (len * m) (now (out .exit)) ≡ widened m w (take len (now (out .entry)))) ⌝ }
@@ -23,7 +23,7 @@ pub fn widen(out: &mut [u16], len: usize, w: u16, m: usize) -> usize
     end
 }
 
-// Writes the assignments of group g to the front of `out`, and answers how many there are.
+// Writes the assignments of group g to the front of `out`, and returns how many there are.
 pub fn offsets(m: usize, n: usize, g: usize, out: &mut [u16]) -> usize
     requires { ⌜ (0 < m) × (n ≤ mostMembers) × (m ^ n ≤ mostOffsets) × (m ^ n ≤ length (now out)) ⌝ }
     ensures { λ r. ⌜ Front (points m n g) r (now (out .exit)) ⌝ }
@@ -45,7 +45,7 @@ pub fn offsets(m: usize, n: usize, g: usize, out: &mut [u16]) -> usize
     len
 }
 
-// The same for the inputs that are no members.
+// The same for the inputs that are not members.
 pub fn other_offsets(m: usize, n: usize, g: usize, out: &mut [u16]) -> usize
     requires { ⌜ (0 < m) × (n ≤ mostMembers) × (m ^ n ≤ mostOffsets) × (m ^ n ≤ length (now out)) × (g < 2 ^ n) ⌝ }
     ensures { λ r. ⌜ Front (points m n (others n g)) r (now (out .exit)) ⌝ }

@@ -7,7 +7,7 @@ ghost use Rattle.radix.specs.Weights.{Weights};
 ghost use Rattle.radix.specs.Widths.{mostMembers, mostOffsets};
 use crate::limits;
 
-// m to the power n, for a digit m and n small enough that it fits.
+// Returns m to the power n, for a digit m and n small enough that it fits.
 pub fn power(m: usize, n: usize) -> usize
     requires { ⌜ (m ≤ mostLevels) × (n ≤ mostMembers) ⌝ }
     ensures { λ r. ⌜ r ≡ m ^ n ⌝ }
@@ -21,7 +21,7 @@ pub fn power(m: usize, n: usize) -> usize
     p
 }
 
-// The weight of each input in an index: m to the power of the number of inputs after it.
+// Writes the weight of each input in an index: m to the power of the number of inputs after it.
 pub fn weights(m: usize, n: usize, out: &mut [u16])
     requires { ⌜ (0 < m) × (m ^ n ≤ mostOffsets) × (n ≤ length (now out)) ⌝ }
     ensures { λ _. ⌜ Weights m n (now (out .exit)) ⌝ }
@@ -35,7 +35,7 @@ pub fn weights(m: usize, n: usize, out: &mut [u16])
     }
 }
 
-// Are m, n and the number of cells within a sheet's bounds? Any numbers may come in.
+// Are m, n and the number of cells within a sheet's bounds? Accepts any numbers.
 pub fn size_fits(m: usize, n: usize) -> bool
     ensures { λ r. ⌜ r ≡ sizeFits m n ⌝ }
 {

@@ -1,4 +1,4 @@
--- The loop of `agree` over plain numbers: from input i on the levels are compared, and what is left are the levels before.
+-- The loop of `agree` over plain numbers: the levels from input i on have been compared, and the rest of each number holds the levels before.
 -- Assumes nothing.
 use Prim.Native.Nat.{ℕ, suc, _+_, _-_, _/_, _%_, _^_, _≤_, _<_}
 use mathlib.Core.Path.{_≡_, sym, ap, _∙_}
@@ -17,11 +17,11 @@ use Rattle.radix.specs.Parts.{member-and}
 use Rattle.radix.specs.Widths.{mostMembers}
 use Rattle.representatives.specs.Witnesses.{Fewer, Agreed}
 
--- one input is among all
+-- one input is among all inputs
 pub one-of-all : (i : ℕ) → i < mostMembers → 2 ^ i ≤ 65535
 one-of-all i h = let small : 2 ^ i < 2 ^ mostMembers = pow-lt h in omega arith
 
--- all inputs but one
+-- all inputs except one
 masked : (i j r : ℕ) → i < mostMembers → j < mostMembers → member j (bitAnd r (65535 - 2 ^ i)) ≡ (member j r && not (member j (2 ^ i)))
 unfolding others wholeGroup
 masked i j r i< j< = member-and j r (65535 - 2 ^ i) ∙ ap (λ t. member j r && t) (member-others j mostMembers (2 ^ i) j< (single-below i mostMembers i<))
@@ -49,20 +49,20 @@ module _ (m n x y s : ℕ) where
           let none : n - n ≡ 0 = omega arith in
           sym (ap (λ (k : ℕ). p / m ^ k) none ∙ ap (λ (k : ℕ). p / k) (pow-zero m) ∙ div-one p)
 
--- one digit less
+-- one digit fewer
 next-digit : (m n p u i : ℕ) → 0 < i → i ≤ n → u ≡ p / m ^ (n - i) → u / m ≡ p / m ^ (n - (i - 1))
 next-digit m n p u i some low e =
     let one-more : n - (i - 1) ≡ suc (n - i) = omega arith in
     ap (λ (k : ℕ). k / m) e ∙ div-div-eq-div-mul p (m ^ (n - i)) m ∙ ap (λ (k : ℕ). p / k) (sym (pow-suc m (n - i)) ∙ ap (λ (k : ℕ). m ^ k) (sym one-more))
 
--- the last digit that is left is a level
+-- the last digit of the rest is a level
 digit-level : (m n p u i : ℕ) → 0 < i → i ≤ n → u ≡ p / m ^ (n - i) → u % m ≡ level m n p (i - 1)
 unfolding level
 digit-level m n p u i some low e =
     let place : n - i ≡ n - 1 - (i - 1) = omega arith in
     ap (λ (k : ℕ). k % m) (e ∙ ap (λ (k : ℕ). p / m ^ k) place)
 
--- and the other levels are those of what is left
+-- and the other levels are those of the rest
 level-left : (m n p u i j : ℕ) → j < i → i ≤ n → u ≡ p / m ^ (n - i) → level m n p j ≡ u / m ^ (i - 1 - j) % m
 unfolding level
 level-left m n p u i j h low e =
@@ -74,7 +74,7 @@ level-left m n p u i j h low e =
     ∙ ap (λ (k : ℕ). k / m ^ (i - 1 - j)) (sym e))
 
 module _ {m n x y s rest u v i : ℕ} (so-far : Agrees m n x y s rest u v i) where
-  -- what is left is equal
+  -- the two rests are equal
   pub agrees-all : u ≡ v → Agreed m n x y s rest
   agrees-all e = record { fewer = so-far .fewer; same = λ j j< is. at j j< is (decLt j i) }
     where
@@ -85,7 +85,7 @@ module _ {m n x y s rest u v i : ℕ} (so-far : Agrees m n x y s rest u v i) whe
           ∙ sym (level-left m n y v i j h (so-far .low) (so-far .right))
       at j j< is (no h) = so-far .same j (omega arith) j< is
 
-  -- where it is not, there is an input left
+  -- if they are not, an input is left
   pub agrees-some : x < m ^ n → y < m ^ n → u ≢ v → 0 < i
   agrees-some x< y< differ = go (ℕ-discrete i 0)
     where
@@ -98,7 +98,7 @@ module _ {m n x y s rest u v i : ℕ} (so-far : Agrees m n x y s rest u v i) whe
       go (no ne) = omega arith
 
   module _ (some : 0 < i) where
-    -- the last input that is left has the same level, ..
+    -- the last remaining input has the same level, ..
     pub agrees-same : u % m ≡ v % m → Agrees m n x y s rest (u / m) (v / m) (i - 1)
     agrees-same e =
         record {
@@ -118,7 +118,7 @@ module _ {m n x y s rest u v i : ℕ} (so-far : Agrees m n x y s rest u v i) whe
             ∙ sym (ap (level m n y) here)
         at j low high is (no other) = so-far .same j (omega arith) high is
 
-    -- .. or is left out
+    -- .. or is removed
     pub agrees-other : n ≤ mostMembers → {mask : ℕ} → mask ≡ 65535 - 2 ^ (i - 1) → Agrees m n x y s (bitAnd rest mask) (u / m) (v / m) (i - 1)
     agrees-other inputs {mask} is-mask =
         record {

@@ -1,4 +1,4 @@
--- A step from group to group over plain lists: the empty group, and a group that is passed too many classes.
+-- A step from group to group over plain lists: the empty group, and a group to which too many classes pass on.
 -- Assumes nothing.
 use Prim.Native.Nat.{ℕ, _+_, _-_, _*_, _^_, _≤_, _<_}
 use mathlib.Core.Path.{_≡_, refl, sym, ap, _∙_, subst, subst⁻¹}
@@ -32,7 +32,7 @@ module _ {m n : ℕ} {f : ℕ → ℕ} {cells weights counts kept xs ys firsts :
   level : 0 < m
   level = step-level work next
 
-  -- the places of g are there
+  -- the places of g exist
   own-places : g * m + m ≤ length kept
   own-places = step-own-places work next
 
@@ -60,7 +60,7 @@ module _ {m n : ℕ} {f : ℕ → ℕ} {cells weights counts kept xs ys firsts :
           let here : 0 * m + k ≡ 0 = omega (arith, zero-mul m) in
           sym (ap (λ (j : ℕ). getD (set kept 0 0) j 0) here ∙ getD-set-same kept 0 0 0 (omega (arith, own-places, work .levels)))
 
-  -- a member is taken off
+  -- a member is removed
   module _ {bit : ℕ} (one : OneOf n g bit) where
     pub step-off-lower : (bit ≤ g) × (g - bit < g)
     step-off-lower = omega (arith, one .alone, alone-le n g (one .input) (next .group) (one .below) (one .is), pow-pos (one .input))
@@ -72,7 +72,7 @@ module _ {m n : ℕ} {f : ℕ → ℕ} {cells weights counts kept xs ys firsts :
     pub step-off-apart : Apart n (g - bit) idle
     step-off-apart = part-apart n (g - bit) g idle step-off-inside (next .apart)
 
-    -- a part of the rest is one of the group
+    -- a part of the rest is a part of the group
     pub step-inner : (b : ℕ) → PartOf b (g - bit) → (b < g) × PartOf b g
     step-inner b part = (
       omega (arith, step-off-lower, and-le-r b (g - bit), part),
@@ -80,7 +80,7 @@ module _ {m n : ℕ} {f : ℕ → ℕ} {cells weights counts kept xs ys firsts :
           (inside-trans n b (g - bit) g (part-inside n b (g - bit) part) step-off-inside),
     )
 
-    -- too many classes are passed on
+    -- too many classes pass on
     pub step-passed : {after : List ℕ} → PassesOn m counts kept (g - bit) bit true
         → after ≡ set (set kept (g * m) (getD kept ((g - bit) * m) 0)) (g * m + 1) (getD kept ((g - bit) * m + 1) 0) → RepStepped m n f counts kept g 0 after
     step-passed {after} passes written =

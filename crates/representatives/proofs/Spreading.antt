@@ -1,4 +1,4 @@
--- The loop of `spread` over plain lists: the assignments so far cover the group without the members that are left.
+-- The loop of `spread` over plain lists: the assignments so far cover the group without the remaining members.
 -- Assumes nothing.
 use Prim.Native.Nat.{ℕ, _+_, _-_, _*_, _/_, _%_, _^_, _≤_, _<_}
 use mathlib.Core.Path.{_≡_, refl, sym, ap, _∙_, subst, subst⁻¹, subst₂}
@@ -22,7 +22,7 @@ use Rattle.radix.specs.Widths.{offsetsEnd}
 use Rattle.representatives.specs.Spreads.{Spreading, Spread}
 
 module _ (m n : ℕ) (weights : List ℕ) (from to : ℕ) (before : List ℕ) (len : ℕ) where
-  -- `rest` is left to be spread over
+  -- the members `rest` remain to be added
   pub record Spreads (out : List ℕ) (rest count : ℕ) : Type 0 where
     pub same : length out ≡ length before
     pub left : inside n rest to ≡ true
@@ -57,7 +57,7 @@ module _ {m n : ℕ} {weights : List ℕ} {from to : ℕ} {before : List ℕ} {l
     pub spreads-group : rest < 2 ^ n
     spreads-group = omega (arith, asked .group, so-far .low)
 
-    -- nothing is left
+    -- none remain
     pub spreads-all : rest ≤ 0 → Spread m n from to before len out count
     spreads-all none =
         record {
@@ -88,7 +88,7 @@ module _ {m n : ℕ} {weights : List ℕ} {from to : ℕ} {before : List ℕ} {l
       pub spreads-input : i < length weights
       spreads-input = omega (arith, i<, asked .all-weighed)
 
-      -- a member less is left, for m times as many
+      -- one member fewer remains, and there are m times as many assignments
       next-times : count * m * m ^ size n (rest - 2 ^ i) ≡ len * m ^ size n (to - from)
       next-times =
           mul-assoc count m (m ^ size n (rest - 2 ^ i))

@@ -1,4 +1,4 @@
--- The loop of `source` over plain numbers: the members that are left to be looked at are members, and the best so far is one.
+-- The loop of `source` over plain numbers: the members still to be tried are members of g, and so is the best so far.
 -- Assumes nothing.
 use Prim.Native.Nat.{ℕ, _-_, _^_, _≤_, _<_}
 use mathlib.Core.Path.{_≡_, subst⁻¹}
@@ -23,19 +23,19 @@ pub record Takes (g rest best : ℕ) : Type 0 where
   pub is : (n : ℕ) → g < 2 ^ n → OneOf n g best
 
 module _ {g rest best : ℕ} (so-far : Takes g rest best) (more : 0 < rest) {without : ℕ} (off : Without rest without) where
-  -- the first-listed of those that are left
+  -- the first-listed of those that remain
   pub takes-one : (n : ℕ) → g < 2 ^ n → OneOf n g (rest - without)
   takes-one n g< =
       let rest< : rest < 2 ^ n = omega (arith, so-far .low) in
       first-one n g rest without g< rest< more (so-far .left n g<) (off n rest<) (without-first n rest more rest< .0)
 
-  -- it is there, and taken off
+  -- it is not 0, and is removed
   pub takes-less : g < 2 ^ 64 → (0 < rest - without) × (without ≤ rest) × (without < rest)
   takes-less fits =
       let rest< : rest < 2 ^ 64 = omega (arith, so-far .low) in
       omega (arith, off 64 rest<, without-first 64 rest more rest< .0, pow-pos (firstInput 64 rest))
 
-  -- the next is looked at
+  -- the next one is tried
   pub takes-next : g < 2 ^ 64 → (next : ℕ) → ((n : ℕ) → g < 2 ^ n → OneOf n g next) → Takes g without next
   takes-next fits next one =
       record {
@@ -47,7 +47,7 @@ module _ {g rest best : ℕ} (so-far : Takes g rest best) (more : 0 < rest) {wit
         is = one;
       }
 
--- all are left
+-- all remain
 pub takes-none : (g : ℕ) → 0 < g → {without : ℕ} → Without g without → Takes g g (g - without)
 takes-none g some {without} off =
     record {

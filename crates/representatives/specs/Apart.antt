@@ -1,4 +1,4 @@
--- Two rows and a column that tells them apart.
+-- Two rows and a column that distinguishes them.
 -- Assumes nothing.
 use Prim.Native.Nat.{ℕ, _+_}
 use mathlib.Core.Path.{_≡_, refl, sym, _∙_, subst}
@@ -15,12 +15,12 @@ use Rattle.rules.specs.Groups.Differences.{differenceOver}
 use Rattle.trees.specs.Groups.Differences.{none-differ, some-first}
 use Rattle.representatives.specs.Columns.{Column}
 
--- a column, at which p and q differ unless they are alike
+-- r is a column, and p and q differ at it unless they are alike
 pub record PlaceApart (f : ℕ → ℕ) (ys : List ℕ) (p q r : ℕ) : Type 0 where
   pub there : Column ys r
   pub differ : alikeOver f ys p q ≡ false → f (p + r) ≢ f (q + r)
 
--- two rows that one column tells apart are not alike, ..
+-- if a column distinguishes two rows, they are not alike, ..
 pub unlike-at : (f : ℕ → ℕ) (ys : List ℕ) (p q y : ℕ) → Column ys y → f (p + y) ≢ f (q + y) → alikeOver f ys p q ≡ false
 unfolding alikeOver
 unlike-at f ys p q y (k, k<, here) differ = go (alikeOver f ys p q) refl
@@ -29,7 +29,7 @@ unlike-at f ys p q y (k, k<, here) differ = go (alikeOver f ys p q) refl
     go true e = absurd (differ (subst (λ (x : ℕ). f (p + x) ≡ f (q + x)) here (eqb-true _ _ (all-mem _ (mem-getD ys k 0 k<) e))))
     go false e = refl
 
--- .. and two that are not alike are told apart by some column
+-- .. and if two rows are not alike, some column distinguishes them
 pub unlike-column : (f : ℕ → ℕ) (ys : List ℕ) (p q : ℕ) → alikeOver f ys p q ≡ false → (y : ℕ) × (Column ys y) × (f (p + y) ≢ f (q + y))
 unlike-column f ys p q unlike = go (differenceOver f ys p q) refl
   where

@@ -1,4 +1,4 @@
--- Columns that are given as heads and a run: each head with each number below the run added. The cells of a row at the columns of one head are neighbours.
+-- Columns given as heads and a run: each head plus each number below the run. The cells of a row at the columns of one head are neighbours.
 -- Assumes nothing.
 use Prim.Native.Nat.{ℕ, _+_, _*_, _/_, _%_, _≤_, _<_}
 use mathlib.Core.Path.{_≡_, sym, ap, ap₂, _∙_, subst}
@@ -29,12 +29,12 @@ columnsOf run hs = map (λ k. getD hs (k % length hs) 0 + k / length hs) (range 
 abbrev pub Column : List ℕ → ℕ → Type 0
 Column ys y = (k : ℕ) × (k < length ys) × (getD ys k 0 ≡ y)
 
--- what is told of two rows: that they are alike, or a column at which they differ
+-- the result of comparing two rows: they are alike, or a column at which they differ
 abbrev pub ApartBy : (ℕ → ℕ) → List ℕ → ℕ → ℕ → Difference → Type 0
 ApartBy f ys p q None = alikeOver f ys p q ≡ true
 ApartBy f ys p q (At y) = Column ys y × f (p + y) ≢ f (q + y)
 
--- a row with a column added is inside
+-- a row plus a column is below the bound
 pub column-within : {b : ℕ} (ys : List ℕ) (p : ℕ) {y : ℕ} → Within b ys p → Column ys y → p + y < b
 column-within {b} ys p {y} within (k, k<, e) = subst (λ (x : ℕ). p + x < b) e (within k k<)
 
@@ -47,7 +47,7 @@ module _ (run : ℕ) (hs : List ℕ) where
   unfolding columnsOf
   columns-at k h = map-range-at _ 0 (length hs * run) k 0 h ∙ ap (λ (j : ℕ). getD hs (j % length hs) 0 + j / length hs) (zero-add k)
 
-  -- where there are columns there are heads, and a run
+  -- if there are columns, there are heads and the run is not empty
   pub columns-some : 0 < length (columnsOf run hs) → (0 < length hs) × (0 < run)
   columns-some some = (heads (decLt 0 (length hs)), runs (decLt 0 run))
     where
@@ -63,7 +63,7 @@ module _ (run : ℕ) (hs : List ℕ) where
           let none : run ≡ 0 = omega arith in
           absurd (omega (arith, some, columns-length, ap (λ (k : ℕ). length hs * k) none, mul-zero (length hs)))
 
-  -- a head with a number below the run is a column
+  -- a head plus a number below the run is a column
   pub column-there : (j z : ℕ) → j < length hs → z < run → Column (columnsOf run hs) (getD hs j 0 + z)
   column-there j z j< z< =
       let inside : z * length hs + j < length hs * run = omega (arith, digits-lt z< j<, mul-comm run (length hs)) in (
@@ -72,7 +72,7 @@ module _ (run : ℕ) (hs : List ℕ) where
         columns-at (z * length hs + j) inside ∙ ap₂ (λ (a b : ℕ). getD hs a 0 + b) (digits-mod z j<) (digits-div z j<),
       )
 
-  -- rows that are the same at each head's run are alike
+  -- rows that are equal in each head's run are alike
   pub runs-alike : (f : ℕ → ℕ) (p q : ℕ) → ((j z : ℕ) → j < length hs → z < run → f (p + (getD hs j 0 + z)) ≡ f (q + (getD hs j 0 + z))) → alikeOver f (columnsOf run hs) p q ≡ true
   unfolding alikeOver
   runs-alike f p q same = mem-all _ (columnsOf run hs) at
@@ -91,7 +91,7 @@ abbrev pub SameHeads : (ℕ → ℕ) → ℕ → List ℕ → ℕ → ℕ → �
 SameHeads f run hs p q k = (j z : ℕ) → j < k → z < run → f (p + (getD hs j 0 + z)) ≡ f (q + (getD hs j 0 + z))
 
 module _ (f : ℕ → ℕ) (run : ℕ) (hs : List ℕ) (p q k : ℕ) {z : ℕ} (apart : RunApart f (p + getD hs k 0) (q + getD hs k 0) run z) where
-  -- one head more
+  -- one more head
   pub heads-next : run ≤ z → SameHeads f run hs p q k → SameHeads f run hs p q (k + 1)
   heads-next all so-far j i h i< = go (ℕ-discrete j k)
     where
@@ -99,7 +99,7 @@ module _ (f : ℕ → ℕ) (run : ℕ) (hs : List ℕ) (p q k : ℕ) {z : ℕ} (
       go (yes e) = rw (e, sym (add-assoc p (getD hs k 0) i), sym (add-assoc q (getD hs k 0) i)) (apart .same i (omega arith))
       go (no ne) = so-far j i (omega arith) i<
 
-  -- or one that tells the two apart
+  -- or a column that distinguishes the two
   pub run-differs : z < run → k < length hs → Column (columnsOf run hs) (getD hs k 0 + z) × f (p + (getD hs k 0 + z)) ≢ f (q + (getD hs k 0 + z))
   run-differs low k< = (column-there run hs k z k< low, λ e. apart .differ low (rw (add-assoc p (getD hs k 0) z, add-assoc q (getD hs k 0) z) e))
 

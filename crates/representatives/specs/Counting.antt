@@ -1,4 +1,4 @@
--- Rows that cover a group and columns that cover the other inputs: what the first of each class among the rows tell of the group.
+-- Rows that cover a group and columns that cover the other inputs: what the first row of each class says about the group.
 -- Assumes nothing.
 use Prim.Native.Nat.{ℕ, _+_, _-_, _*_, _^_, _≤_, _<_}
 use mathlib.Core.Path.{_≡_, refl, sym, ap, _∙_, subst, subst⁻¹, subst₂}
@@ -42,7 +42,7 @@ module _ {m n : ℕ} {f : ℕ → ℕ} {g : ℕ} (pos : 0 < m) (g< : g < 2 ^ n) 
   column-own : (y : ℕ) → Column vs y → part m n (others n g) y ≡ y
   column-own y (k, k<, e) = subst (λ (x : ℕ). part m n (others n g) x ≡ x) e (columns .own k k<)
 
-  -- a row and a column are an index
+  -- a row plus a column is an index
   pub counting-within : (cells : ℕ) → m ^ n ≤ cells → (p : ℕ) → part m n g p ≡ p → Within cells vs p
   counting-within cells room p own k k< =
       lt-of-lt-of-le (subst (λ (x : ℕ). x < m ^ n) (row-column m n pos f g p (getD vs k 0) own (columns .own k k<)) (mix-below m n pos g p (getD vs k 0) g<)) room
@@ -88,14 +88,14 @@ module _ {m n : ℕ} {f : ℕ → ℕ} {g : ℕ} (pos : 0 < m) (g< : g < 2 ^ n) 
         own (inl none) = absurd (List·Memᴰ·not-nil none)
         own (inr is) = let (k, k<, here) = mem-place _ us is in subst (λ (x : ℕ). part m n g x ≡ x) here (rows .own k k<)
 
-    -- few of them cover the group
+    -- if there are few of them, they cover the group
     pub counting-cover : count ≤ m → Covers m n f g count (λ k. getD fs k 0)
     unfolding all classesOver
     counting-cover few =
         covers-same m n pos f g count _ _ at
         (subst⁻¹ (λ (c : ℕ). Covers m n f g c (λ k. getD all k 0)) (front-all (m + 1) all found (omega (arith, front-within m all found few)) .count) (firsts-reps m n pos f g g< vs columns us rows .cover))
 
-    -- too many are told apart, ..
+    -- if there are too many, columns distinguish them, ..
     pub counting-told : m < count → n ≤ mostMembers → (cells : ℕ) → m ^ n ≤ cells → RowsTold m n f cells vs fs
     counting-told over inputs cells fit =
         record {
@@ -112,7 +112,7 @@ module _ {m n : ℕ} {f : ℕ → ℕ} {g : ℕ} (pos : 0 < m) (g< : g < 2 ^ n) 
         columns-some : {k : ℕ} → k < length vs → 0 < length vs
         columns-some h = omega arith
 
-    -- .. and so tell of larger groups
+    -- .. so their columns are witness columns, also for larger groups
     pub counting-many : m < count → {s : ℕ} → ToldAll m n f vs fs s → Told m n f g s (m + 1)
     counting-many over {s} told =
         record {
@@ -130,7 +130,7 @@ module _ {m n : ℕ} {f : ℕ → ℕ} {g : ℕ} (pos : 0 < m) (g< : g < 2 ^ n) 
         ink : (y : ℕ) → Column vs y → (j : ℕ) → j < count → f (mix m n g (getD fs j 0) y) ≡ f (getD fs j 0 + y)
         ink y is j j< = ap f (row-column m n pos f g (getD fs j 0) y (counting-own j j<) (column-own y is))
 
--- ---- what is kept of it
+-- what is recorded
 
 module _ {m n : ℕ} {f : ℕ → ℕ} {g from : ℕ} {before : List ℕ} (levels : 1 < m) (g< : g < 2 ^ n) (some : 0 < g) (room : g * m + m ≤ length before) where
   -- too many classes
@@ -147,7 +147,7 @@ module _ {m n : ℕ} {f : ℕ → ℕ} {g from : ℕ} {before : List ℕ} (level
       at : (j : ℕ) → getD after j 0 ≡ getD (set (set before (g * m) s) (g * m + 1) from) j 0
       at j = ap (λ (l : List ℕ). getD l j 0) written
 
-  -- few
+  -- few classes
   pub judged-few : {count : ℕ} {fs after : List ℕ} → count ≤ m → Covers m n f g count (λ k. getD fs k 0) → Copied fs 0 before (g * m) count after → RepJudged m n f g from before count after
   judged-few {count} {fs} {after} few cover copied =
       record {

@@ -1,4 +1,4 @@
--- Assignments that cover a group, from those that are kept of a group inside it.
+-- Assignments that cover a group, from those recorded for a group inside it.
 -- Assumes nothing.
 use Prim.Native.Nat.{ℕ, _+_, _-_, _*_, _^_, _≤_, _<_}
 use mathlib.Core.Path.{_≡_, sym, ap, _∙_}
@@ -17,7 +17,7 @@ use Rattle.radix.specs.Widths.{mostMembers, mostOffsets}
 use Rattle.representatives.specs.Copies.{Copied}
 use Rattle.representatives.specs.Spreads.{Spreading, Spread}
 
--- what is asked
+-- what `cover` requires
 pub record Covering (m n : ℕ) (weights counts kept : List ℕ) (from to : ℕ) (out : List ℕ) : Type 0 where
   pub levels : 0 < m
   pub inputs : n ≤ mostMembers
@@ -34,13 +34,13 @@ pub record Covering (m n : ℕ) (weights counts kept : List ℕ) (from to : ℕ)
   pub own : (k : ℕ) → k < getD counts from 0 → part m n from (getD kept (from * m + k) 0) ≡ getD kept (from * m + k) 0
   pub room : m ^ n ≤ length out
 
--- what is made: whatever the table
+-- what `cover` returns: `count` assignments that cover the group `to`, for every table
 pub record Covered (m n : ℕ) (counts kept : List ℕ) (from to : ℕ) (out : List ℕ) (count : ℕ) : Type 0 where
   pub inside-out : count ≤ length out
   pub cover : (f : ℕ → ℕ) → Covers m n f from (getD counts from 0) (λ k. getD kept (from * m + k) 0) → Covers m n f to count (λ k. getD out k 0)
 
 module _ {m n : ℕ} {weights counts kept : List ℕ} {from to : ℕ} {out : List ℕ} (asked : Covering m n weights counts kept from to out) where
-  -- the assignments are at most as many as all of the group
+  -- there are at most as many assignments as the group has, ..
   pub covering-fits : getD counts from 0 * m ^ size n (to - from) ≤ length out
   covering-fits =
       le-trans (mul-le-mul-right (m ^ size n (to - from)) (asked .fits))
@@ -54,7 +54,7 @@ module _ {m n : ℕ} {weights counts kept : List ℕ} {from to : ℕ} {out : Lis
           sym (size-join n from (to - from) (omega (arith, asked .part-le, asked .group)) (omega (arith, asked .group)) (rest-apart n from to (omega (arith, asked .part-le, asked .group)) (asked .group) (asked .part-of)))
           ∙ ap (size n) whole
 
-  -- .. so those that are kept have room there
+  -- .. so there is room for those that are recorded
   pub covering-room : getD counts from 0 ≤ length out
   covering-room = le-trans (asked .fits) (le-trans (pow-le-pow-right (asked .levels) (size-le n from)) (asked .room))
 

@@ -1,11 +1,11 @@
--- What the search for the first of each class among rows asks.
+-- What the search for the first of each class among rows requires.
 -- Assumes nothing.
 use Prim.Native.Nat.{ℕ, _<_}
 use mathlib.Core.List.{List}
 use lib.ListN.{length, getD}
 use Rattle.classes.specs.Within.{Within}
 
--- what is asked: some rows and some columns, inside the cells, and room for the first of m + 1 classes
+-- the requirements: some rows and some columns, inside the cells, and room for the first of m + 1 classes
 pub record RowsFit (cells : ℕ) (xs ys : List ℕ) (m length-firsts : ℕ) : Type 0 where
   pub rows : 0 < length xs
   pub columns : 0 < length ys

@@ -1,5 +1,5 @@
--- What is kept of each group: of one with few classes assignments that cover it, m places each, and their number; of one with too many the number 0, and in
--- the first two of its places the inputs at which the columns agree that tell so, and a group of few classes inside it.
+-- What is recorded for each group, m places each. With few classes: their number, and assignments that cover the group. With too many: the number 0,
+-- and in the first two places the inputs at which its witness columns agree, and a group inside it with few classes.
 -- Assumes nothing.
 use Prim.Native.Nat.{ℕ, _+_, _*_, _^_, _≤_, _<_}
 use mathlib.Core.Path.{_≡_, sym, _∙_, subst, subst⁻¹}
@@ -25,18 +25,18 @@ pub record RepFew (m n : ℕ) (f : ℕ → ℕ) (kept : List ℕ) (h count : ℕ
   pub fits : count ≤ m ^ size n h
   pub cover : Covers m n f h count (λ k. getD kept (h * m + k) 0)
 
--- a group of few classes inside one of too many
+-- a group with few classes inside one with too many
 pub record Base (m : ℕ) (counts kept : List ℕ) (h : ℕ) : Type 0 where
   pub inside : PartOf (getD kept (h * m + 1) 0) h
   pub few : 0 < getD counts (getD kept (h * m + 1) 0) 0
 
--- what is known of group h
+-- what is known about group h
 pub record Known (m n : ℕ) (f : ℕ → ℕ) (counts kept : List ℕ) (h : ℕ) : Type 0 where
   pub few : 0 < getD counts h 0 → RepFew m n f kept h (getD counts h 0)
   pub many : getD counts h 0 ≡ 0 → Told m n f h (getD kept (h * m) 0) (m + 1)
   pub base : getD counts h 0 ≡ 0 → Base m counts kept h
 
--- what is found of group g, with the groups below it known: the same, but that its number is not yet among the counts
+-- what is found about group g, when the groups below it are known: the same, except that its number is not yet among the counts
 pub record Found (m n : ℕ) (f : ℕ → ℕ) (counts kept : List ℕ) (g count : ℕ) : Type 0 where
   pub few : 0 < count → RepFew m n f kept g count
   pub many : count ≡ 0 → Told m n f g (getD kept (g * m) 0) (m + 1)
@@ -44,7 +44,7 @@ pub record Found (m n : ℕ) (f : ℕ → ℕ) (counts kept : List ℕ) (g count
   pub lower : count ≡ 0 → getD kept (g * m + 1) 0 < g
 
 module _ {m n : ℕ} {f : ℕ → ℕ} {counts kept : List ℕ} {g count : ℕ} (found : Found m n f counts kept g count) (pos : 0 < m) (g< : g < 2 ^ n) where
-  -- it has few classes exactly where the number is not 0
+  -- it has few classes exactly if the number is not 0
   pub found-few : 0 < count → multiplicity m n f g ≤ m
   found-few some = let few = found .few some in le-trans (covers-few m n pos f g count _ g< (few .cover)) (few .most)
 
@@ -59,7 +59,7 @@ found-most {m} {count} found = go (decLt 0 count)
     go (yes some) = found .few some .most
     go (no none) = omega arith
 
--- what is known stays known where the places of later groups are written
+-- what is known stays known when the places of later groups are written
 module _ {m n : ℕ} {f : ℕ → ℕ} {counts before : List ℕ} {h : ℕ} (levels : 1 < m) (known : Known m n f counts before h) where
   pub known-same : {more after : List ℕ} → ((j : ℕ) → j < h * m + m → getD after j 0 ≡ getD before j 0) → ((j : ℕ) → j ≤ h → getD more j 0 ≡ getD counts j 0) → Known m n f more after h
   known-same {more} {after} same counted =
@@ -83,7 +83,7 @@ module _ {m n : ℕ} {f : ℕ → ℕ} {counts before : List ℕ} {h : ℕ} (lev
             };
       }
 
--- with its number, the group is known too, and each below it that was
+-- once its number is recorded, the group is known, and so is each group below it that was
 pub known-next : {m n : ℕ} {f : ℕ → ℕ} {counts before after : List ℕ} {g count : ℕ} → 1 < m → g < length counts
     → ((j : ℕ) → j < g * m → getD after j 0 ≡ getD before j 0) → Found m n f counts after g count
     → (h : ℕ) → h < g + 1 → (h < g → Known m n f counts before h) → Known m n f (set counts g count) after h

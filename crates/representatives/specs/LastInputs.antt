@@ -1,4 +1,4 @@
--- The inputs from one on have the smallest weights, so their assignments are the numbers below a power of m: with them a column becomes a run.
+-- The inputs from one on have the smallest weights, so their assignments are the numbers below a power of m. With them, a column becomes a run.
 -- Assumes nothing.
 use Prim.Native.Nat.{ℕ, zero, suc, _+_, _-_, _*_, _/_, _%_, _^_, _≤_, _<_}
 use mathlib.Core.Path.{_≡_, refl, sym, ap, ap₂, _∙_, subst, subst⁻¹}
@@ -23,17 +23,17 @@ pub no-member : (s i g : ℕ) → g < 2 ^ s → s ≤ i → member i g ≡ false
 unfolding member
 no-member s i g g< h = rw (div-eq-of-lt (lt-of-lt-of-le g< (pow-mono h)))
 
--- a group with no member among the inputs is given nothing
+-- the part of an index for a group with no members is 0
 part-none : (m n g p : ℕ) → ((i : ℕ) → i < n → member i g ≡ false) → part m n g p ≡ 0
 unfolding part
 part-none m zero g p none = refl
 part-none m (suc n) g p none = rw (part-none m n g (p / m) (λ i h. none i (le-step h)), none n (le-refl (suc n)), zero-mul)
 
--- what a number leaves of itself below the power 0
+-- the remainder by the power 0 is 0
 rest-none : (m p k : ℕ) → k ≡ 0 → p % m ^ k ≡ 0
 rest-none m p k e = ap (λ (j : ℕ). p % m ^ j) e ∙ ap (λ (j : ℕ). p % j) (pow-zero m) ∙ mod-one p
 
--- an index gives the inputs from s on its last digits
+-- the part of an index for the inputs from s on is its last digits
 module _ (m : ℕ) (pos : 0 < m) (s g : ℕ) (before : (i : ℕ) → i < s → member i g ≡ false) where
   last-part : (n : ℕ) → s ≤ n → ((i : ℕ) → i < n → s ≤ i → member i g ≡ true) → (p : ℕ) → part m n g p ≡ p % m ^ (n - s)
   unfolding part
@@ -67,7 +67,7 @@ module _ (m n : ℕ) (pos : 0 < m) (f : ℕ → ℕ) (s : ℕ) (low : s ≤ n) w
   digits : (p : ℕ) → part m n last p ≡ p % m ^ (n - s)
   digits p = last-part m pos s last not-last n low is-last p
 
-  -- is covered by the numbers below a power of m
+  -- the numbers below a power of m cover it
   last-cover : Covers m n f last (m ^ (n - s)) (λ z. z)
   last-cover =
       record {
@@ -88,7 +88,7 @@ module _ (m n : ℕ) (pos : 0 < m) (f : ℕ → ℕ) (s : ℕ) (low : s ≤ n) w
         go (yes h) = ap (λ t. member i (2 ^ s - 1 - g) && t) (not-last i h) ∙ and-false (member i (2 ^ s - 1 - g))
         go (no h) = ap (λ t. t && member i last) (no-member s i (2 ^ s - 1 - g) (omega (arith, pow-pos s)) (omega arith))
 
-    -- so heads that cover the ones, with a run, cover them all
+    -- so heads that cover the inputs before s, with a run, cover all the others
     pub run-listed : (hs : List ℕ) → Listed m n f (2 ^ s - 1 - g) hs → Listed m n f (others n g) (columnsOf (m ^ (n - s)) hs)
     unfolding last
     run-listed hs heads =

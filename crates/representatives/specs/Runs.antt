@@ -6,17 +6,17 @@ use mathlib.Core.Logic.{_≢_}
 use native.Mathlib.Decide.{decLt}
 use native.Mathlib.Omega.{arith}
 
--- the `count` inks from a on are those from b on
+-- the `count` inks from a on equal those from b on
 abbrev pub SameRuns : (ℕ → ℕ) → ℕ → ℕ → ℕ → Type 0
 SameRuns f a b count = (j : ℕ) → j < count → f (a + j) ≡ f (b + j)
 
--- the first `z` are, and if these are not all then the next is not
+-- the first `z` inks are equal, and the next differ if these are not all
 pub record RunApart (f : ℕ → ℕ) (a b run z : ℕ) : Type 0 where
   pub low : z ≤ run
   pub same : SameRuns f a b z
   pub differ : z < run → f (a + z) ≢ f (b + z)
 
--- those from there on are too
+-- if the inks from there on are equal too, so are all of them
 pub same-further : (f : ℕ → ℕ) (a b k count : ℕ) → SameRuns f a b k → SameRuns f (a + k) (b + k) count → SameRuns f a b (k + count)
 same-further f a b k count before after j h = go (decLt j k)
   where

@@ -1,4 +1,4 @@
--- A power of two, as a shift has it.
+-- A power of two, as a shift computes it.
 -- Assumes nothing.
 use Prim.Native.Nat.{ℕ, _*_, _%_, _^_, _≤_}
 use mathlib.Core.Path.{_≡_, ap, _∙_}

@@ -1,4 +1,4 @@
--- A member of a group, as a group by itself, and whether too many classes pass on to it.
+-- A member of a group, as a group by itself, and whether too many classes pass on to the larger group.
 -- Assumes nothing.
 use Prim.Native.Nat.{ℕ, _-_, _*_, _^_, _≤_, _<_}
 use mathlib.Core.Path.{_≡_, refl, sym, ap, _∙_}

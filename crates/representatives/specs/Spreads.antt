@@ -1,4 +1,4 @@
--- Assignments that cover a group, spread to one with further members.
+-- Assignments that cover a group, extended to a group with more members.
 -- Assumes nothing.
 use Prim.Native.Nat.{ℕ, _-_, _*_, _^_, _≤_, _<_}
 use mathlib.Core.Path.{_≡_}
@@ -11,7 +11,7 @@ use Rattle.trees.specs.Groups.Covers.{Covers}
 use Rattle.radix.specs.Weights.{Weights}
 use Rattle.radix.specs.Widths.{mostMembers, mostOffsets}
 
--- what is asked: the first `len` of `out` are assignments of the group, which is inside the other, and there is room
+-- what `spread` requires: the first `len` of `out` are assignments of the group, the group is inside the other, and there is room
 pub record Spreading (m n : ℕ) (weights : List ℕ) (from to : ℕ) (out : List ℕ) (len : ℕ) : Type 0 where
   pub levels : 0 < m
   pub inputs : n ≤ mostMembers
@@ -25,7 +25,7 @@ pub record Spreading (m n : ℕ) (weights : List ℕ) (from to : ℕ) (out : Lis
   pub own : (k : ℕ) → k < len → part m n from (getD out k 0) ≡ getD out k 0
   pub room : len * m ^ size n (to - from) ≤ length out
 
--- what is made: whatever the table, assignments that covered the group have become such that cover the other
+-- what `spread` returns, for every table: assignments that covered the group now cover the other
 pub record Spread (m n from to : ℕ) (before : List ℕ) (len : ℕ) (after : List ℕ) (count : ℕ) : Type 0 where
   pub times : count ≡ len * m ^ size n (to - from)
   pub cover : (f : ℕ → ℕ) → Covers m n f from len (λ k. getD before k 0) → Covers m n f to count (λ k. getD after k 0)

@@ -1,4 +1,4 @@
--- One group after the other: what a step asks and what it leaves.
+-- One group after the other: what a step requires and what it records.
 -- Assumes nothing.
 use Prim.Native.Nat.{ℕ, zero, suc, _+_, _*_, _^_, _≤_, _<_}
 use mathlib.Core.Path.{_≡_, refl, sym, ap, _∙_}
@@ -20,7 +20,7 @@ use Rattle.radix.specs.Weights.{Weights}
 use Rattle.radix.specs.Widths.{mostMembers, mostOffsets}
 use Rattle.representatives.specs.Known.{RepFew, Known, Found}
 
--- the numbers, and arrays that are long enough
+-- bounds on the numbers, and arrays that are long enough
 pub record Work (m n : ℕ) (cells weights counts kept xs ys firsts : List ℕ) : Type 0 where
   pub levels : 1 < m
   pub inputs : n ≤ mostMembers
@@ -34,7 +34,7 @@ pub record Work (m n : ℕ) (cells weights counts kept xs ys firsts : List ℕ) 
   pub for-ys : m ^ n ≤ length ys
   pub for-firsts : m < length firsts
 
--- m places for each group are at most twice the cells
+-- m places for each group are at most twice as many as the cells
 pub places-fit : (m n : ℕ) → 1 < m → 0 < n → 2 ^ n * m ≤ 2 * m ^ n
 places-fit m zero levels some = absurd (omega arith)
 places-fit m (suc n) levels some =
@@ -64,7 +64,7 @@ work-same work counts-long kept-long xs-long ys-long firsts-long =
       for-firsts = omega (arith, work .for-firsts);
     }
 
--- a power of two that g has not passed yet, and that it is at least the half of
+-- `past` is a power of two that is at least g and at most 2g; it is 1 if g is 0
 pub record Near (n g past : ℕ) : Type 0 where
   pub end : ℕ
   pub is : past ≡ 2 ^ end
@@ -73,11 +73,11 @@ pub record Near (n g past : ℕ) : Type 0 where
   pub half : 0 < g → past ≤ g + g
   pub first : g ≡ 0 → past ≡ 1
 
--- so it is of the first group, ..
+-- this holds for the first group, ..
 pub near-none : (n : ℕ) → Near n 0 1
 near-none n = record { end = 0; is = refl; low = omega arith; reached = omega arith; half = λ h. absurd (omega arith); first = λ _. refl }
 
--- .. of the next one, ..
+-- .. for the next one, ..
 pub near-next : {n g past : ℕ} → Near n g past → g < past → Near n (g + 1) past
 near-next {n} {g} {past} near h =
     record { end = near .end; is = near .is; low = near .low; reached = omega arith; half = λ _. at (decLt 0 g); first = λ e. absurd (omega arith) }
@@ -86,7 +86,7 @@ near-next {n} {g} {past} near h =
     at (yes some) = omega (arith, near .half some)
     at (no none) = omega (arith, near .first (omega arith))
 
--- .. and of twice that power where it is reached
+-- .. and for twice that power once g reaches it
 pub near-twice : {n g past : ℕ} → Near n g past → g ≡ past → g < 2 ^ n → Near n g (past + past)
 near-twice {n} {g} {past} near e g< =
     record {
@@ -128,14 +128,14 @@ pub record Judging (m n : ℕ) (cells xs ys : List ℕ) (g from : ℕ) (kept : L
   pub rows : Listed m n (inkIn cells) g xs
   pub columns : Listed m n (inkIn cells) (others n g) ys
 
--- g has few classes, or too many, and then `from` is kept beside it
+-- g has few classes, or too many, and then `from` is recorded for it
 pub record RepJudged (m n : ℕ) (f : ℕ → ℕ) (g from : ℕ) (before : List ℕ) (count : ℕ) (after : List ℕ) : Type 0 where
   pub below : (j : ℕ) → j < g * m → getD after j 0 ≡ getD before j 0
   pub few : 0 < count → RepFew m n f after g count
   pub many : count ≡ 0 → Told m n f g (getD after (g * m) 0) (m + 1)
   pub base : count ≡ 0 → getD after (g * m + 1) 0 ≡ from
 
--- what is kept of the groups below is as it was, and g is found
+-- what is recorded for the groups below is unchanged, and g is found
 pub record RepStepped (m n : ℕ) (f : ℕ → ℕ) (counts before : List ℕ) (g count : ℕ) (after : List ℕ) : Type 0 where
   pub below : (j : ℕ) → j < g * m → getD after j 0 ≡ getD before j 0
   pub found : Found m n f counts after g count

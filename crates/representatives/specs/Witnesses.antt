@@ -1,4 +1,4 @@
--- Columns that tell rows apart, and the inputs at which they have the levels of one of them.
+-- Columns that distinguish rows, and the inputs at which they have the same levels as one of them.
 -- Assumes nothing.
 use Prim.Native.Nat.{ℕ, _+_, _-_, _^_, _≤_, _<_}
 use mathlib.Core.Path.{_≡_, refl, sym, _∙_, subst⁻¹}
@@ -26,7 +26,7 @@ pub record Agreed (m n x y s r : ℕ) : Type 0 where
   pub fewer : Fewer n s r
   pub same : SameAt m n r x y
 
--- what is asked of two rows: they are inside the cells, and some column tells them apart
+-- what is required for two rows: they are inside the cells, and some column distinguishes them
 pub record Telling (m n : ℕ) (f : ℕ → ℕ) (cells : ℕ) (ys : List ℕ) (base p q : ℕ) : Type 0 where
   pub levels : 0 < m
   pub inputs : n ≤ mostMembers
@@ -36,7 +36,7 @@ pub record Telling (m n : ℕ) (f : ℕ → ℕ) (cells : ℕ) (ys : List ℕ) (
   pub right : Within cells ys q
   pub unlike : alikeOver f ys p q ≡ false
 
--- a column that tells p and q apart, with the levels of the column `base` at the inputs r
+-- a column that distinguishes p and q, with the levels of the column `base` at the inputs r
 pub record Distinguishes (m n : ℕ) (f : ℕ → ℕ) (ys : List ℕ) (base p q r : ℕ) : Type 0 where
   pub column : ℕ
   pub there : Column ys column
@@ -54,11 +54,11 @@ pub fewer-on : {n s r t : ℕ} → Fewer n s r → Fewer n r t → Fewer n s t
 fewer-on a b = record { low = omega (arith, a .low, b .low); inside = λ i i< is. a .inside i i< (b .inside i i< is) }
 
 module _ {m n : ℕ} {f : ℕ → ℕ} {ys : List ℕ} {base p q : ℕ} where
-  -- at fewer inputs the levels are the same too
+  -- the levels are also the same at fewer inputs
   pub tells-fewer : {r t : ℕ} → Fewer n r t → Distinguishes m n f ys base p q r → Distinguishes m n f ys base p q t
   tells-fewer fewer tells = record { column = tells .column; there = tells .there; same = λ i i< is. tells .same i i< (fewer .inside i i< is); differ = tells .differ }
 
-  -- the column `base` tells the two apart, ..
+  -- the column `base` distinguishes the two, ..
   pub told-here : (s : ℕ) → Column ys base → f (p + base) ≢ f (q + base) → ToldOne m n f ys base p q s s
   told-here s there differ = record { fewer = fewer-none n s; tells = record { column = base; there = there; same = λ i i< is. refl; differ = differ } }
 
@@ -66,7 +66,7 @@ module _ {m n : ℕ} {f : ℕ → ℕ} {ys : List ℕ} {base p q : ℕ} where
   pub told-there : {y s r : ℕ} → Column ys y → f (p + y) ≢ f (q + y) → Agreed m n y base s r → ToldOne m n f ys base p q s r
   told-there {y} there differ agreed = record { fewer = agreed .fewer; tells = record { column = y; there = there; same = agreed .same; differ = differ } }
 
-  -- .. and of no input it is not asked which
+  -- .. and if s has no input, any column will do
   pub told-any : {s : ℕ} → s ≡ 0 → alikeOver f ys p q ≡ false → ToldOne m n f ys base p q s 0
   told-any {s} none unlike =
       let (y, there, differ) = unlike-column f ys p q unlike in
@@ -83,7 +83,7 @@ module _ {m n : ℕ} {f : ℕ → ℕ} {ys : List ℕ} {base p : ℕ} {firsts : 
   pub row-none : (s : ℕ) → ToldRow m n f ys base p firsts 0 s s
   row-none s = record { fewer = fewer-none n s; tells = λ j h. absurd (omega arith) }
 
-  -- one more of the row
+  -- one more row
   pub row-next : {j s r t : ℕ} → ToldRow m n f ys base p firsts j s r → ToldOne m n f ys base p (getD firsts j 0) r t → ToldRow m n f ys base p firsts (j + 1) s t
   row-next {j} {t} so-far one = record { fewer = fewer-on (so-far .fewer) (one .fewer); tells = λ i h. at i h (ℕ-discrete i j) }
     where
@@ -91,7 +91,7 @@ module _ {m n : ℕ} {f : ℕ → ℕ} {ys : List ℕ} {base p : ℕ} {firsts : 
       at i h (yes e) = subst⁻¹ (λ (k : ℕ). Distinguishes m n f ys base p (getD firsts k 0) t) e (one .tells)
       at i h (no ne) = tells-fewer (one .fewer) (so-far .tells i (omega arith))
 
--- what is asked of the first m + 1 of `firsts`
+-- what is required for the first m + 1 of `firsts`
 pub record RowsTold (m n : ℕ) (f : ℕ → ℕ) (cells : ℕ) (ys firsts : List ℕ) : Type 0 where
   pub levels : 0 < m
   pub inputs : n ≤ mostMembers
@@ -107,14 +107,14 @@ pub record ToldAll (m n : ℕ) (f : ℕ → ℕ) (ys firsts : List ℕ) (r : ℕ
   pub there : Column ys base
   pub tells : (j k : ℕ) → j < k → k ≤ m → Distinguishes m n f ys base (getD firsts k 0) (getD firsts j 0) r
 
--- the rows after the first k are told apart from those before them
+-- columns distinguish each row after row k from all rows before it
 pub record ToldFrom (m n : ℕ) (f : ℕ → ℕ) (ys firsts : List ℕ) (base k r : ℕ) : Type 0 where
   pub low : r < 2 ^ 16
   pub most : k ≤ m
   pub tells : (j i : ℕ) → j < i → k < i → i ≤ m → Distinguishes m n f ys base (getD firsts i 0) (getD firsts j 0) r
 
 module _ {m n : ℕ} {f : ℕ → ℕ} {ys firsts : List ℕ} {base : ℕ} where
-  -- one row more
+  -- one more row
   pub from-next : {k r t : ℕ} → 0 < k → ToldFrom m n f ys firsts base k r → ToldRow m n f ys base (getD firsts k 0) firsts k r t → ToldFrom m n f ys firsts base (k - 1) t
   from-next {k} {t} some so-far row =
       record {

@@ -1,4 +1,4 @@
--- A step from group to group over plain lists: what the calls ask that count the classes of a group, and what is found of it.
+-- A step from group to group over plain lists: what the calls that count the classes of a group require, and what is found about the group.
 -- Assumes nothing.
 use Prim.Native.Nat.{ℕ, _+_, _-_, _*_, _^_, _≤_, _<_}
 use mathlib.Core.Path.{_≡_, refl, sym, ap, _∙_, subst, subst⁻¹}
@@ -44,14 +44,14 @@ module _ {m n : ℕ} {f : ℕ → ℕ} {cells weights counts kept xs ys firsts :
   pub step-level : 0 < m
   step-level = omega (arith, work .levels)
 
-  -- the places of a group below g, and those of g, are there
+  -- the places of a group below g, and those of g, exist
   pub step-places : (h : ℕ) → h < g → h * m + m ≤ length kept
   step-places h h< = omega (arith, places-before m h g h<, places-before m g (2 ^ n) (next .group), work .for-kept)
 
   pub step-own-places : g * m + m ≤ length kept
   step-own-places = omega (arith, places-before m g (2 ^ n) (next .group), work .for-kept)
 
-  -- a group of few classes below g can be spread to one that has it inside
+  -- a group with few classes below g can be extended to one that contains it
   module _ {from to : ℕ} (from< : from < g) (free : Apart n from idle) (some : 0 < getD counts from 0) (part : inside n from to ≡ true) (low : from ≤ to) (to< : to < 2 ^ n) where
     few : RepFew m n f kept from (getD counts from 0)
     few = next .known from from< free .few some
@@ -78,7 +78,7 @@ module _ {m n : ℕ} {f : ℕ → ℕ} {cells weights counts kept xs ys firsts :
     pub step-cover : Covers m n f from (getD counts from 0) (λ k. getD kept (from * m + k) 0)
     step-cover = few .cover
 
-  -- what is kept of a group below g may be asked for
+  -- what is recorded for a group below g may be read
   pub step-counted : {h : ℕ} → h < g → Apart n h idle → (h < length counts) × (h * m + 1 < length kept) × (getD counts h 0 ≡ 0 → Base m counts kept h)
   step-counted {h} h< free = (omega (arith, next .group, work .for-counts), omega (arith, step-places h h<, work .levels), next .known h h< free .base)
 
@@ -90,7 +90,7 @@ module _ {m n : ℕ} {f : ℕ → ℕ} {cells weights counts kept xs ys firsts :
     others< : past - 1 - g < 2 ^ n
     others< = omega (arith, step-others-lower, next .group)
 
-    -- .. which is what those of a power of two leave
+    -- .. and `past` is a power of two
     step-before : past - 1 - g ≡ 2 ^ next .near .end - 1 - g
     step-before = ap (λ (k : ℕ). k - 1 - g) (next .near .is)
 
@@ -122,7 +122,7 @@ module _ {m n : ℕ} {f : ℕ → ℕ} {cells weights counts kept xs ys firsts :
       pub step-before-counted : (before < length counts) × (before * m + 1 < length kept) × (getD counts before 0 ≡ 0 → Base m counts kept before)
       step-before-counted = step-counted before< before-free
 
-      -- a group of few classes inside can be spread to them
+      -- a group with few classes inside can be extended to them
       module _ {below : ℕ} (part : PartOf below before) (counted : 0 < getD counts below 0) where
         low : below ≤ before
         low = omega (arith, and-le-r below before, part)
@@ -142,7 +142,7 @@ module _ {m n : ℕ} {f : ℕ → ℕ} {cells weights counts kept xs ys firsts :
         pub step-columns : {out : List ℕ} → m ^ n ≤ length out → Covering m n weights counts kept below before out
         step-columns room = step-covering below< free counted is-inside low to< room
 
-        -- and then, with a run, covers all other inputs
+        -- with a run, the result covers all other inputs
         pub step-columns-listed : {out : List ℕ} {count run : ℕ} → run ≡ m ^ (n - next .near .end) → Covered m n counts kept below before out count
             → Listed m n f (others n g) (columnsOf run (take (count - 0) out))
         step-columns-listed {out} {count} {run} is-run covered =
@@ -153,7 +153,7 @@ module _ {m n : ℕ} {f : ℕ → ℕ} {cells weights counts kept xs ys firsts :
             (subst⁻¹ (λ (k : ℕ). Idle m n step-level f k (past - 1 - g)) is-before (without-idle m n step-level f (past - 1 - g) idle others< (next .all-idle))) _ _
             (front-listed m n step-level f before out count (covered .inside-out) (covered .cover f (step-cover below< free counted is-inside low to<))))))
 
-  -- what is judged
+  -- what the count of g's classes gives
   pub step-judged : {from count : ℕ} {after : List ℕ} → from < g → PartOf from g → 0 < getD counts from 0 → RepJudged m n f g from kept count after → RepStepped m n f counts kept g count after
   step-judged {from} {count} {after} from< part some judged =
       record {

@@ -1,4 +1,4 @@
-// The classes of a group, counted among rows that cover it and recorded.
+// Counts the classes of a group among rows that cover it, and records them.
 ghost use mathlib.Core.Path.{_≡_};
 ghost use Prim.Native.Nat.{_+_, _<_};
 ghost use lib.ListN.{length, set};
@@ -9,7 +9,7 @@ use crate::extension;
 use crate::first_rows;
 use crate::witnesses;
 
-// Records that a group has too many classes: the inputs s at which its witness columns agree, and a group b of few classes inside it.
+// Records that a group has too many classes: the inputs s at which its witness columns agree, and a group b inside it that has few classes.
 pub fn put_many(kept: &mut [u16], at: usize, s: u16, b: u16)
     requires { ⌜ at + 1 < length (now kept) ⌝ }
     ensures { λ _. ⌜ now (kept .exit) ≡ set (set (now (kept .entry)) at s) (at + 1) b ⌝ }
@@ -18,8 +18,8 @@ pub fn put_many(kept: &mut [u16], at: usize, s: u16, b: u16)
     kept[at + 1] = b;
 }
 
-// Counts the classes of g among the rows xs, distinguished by the columns of the heads ys and the run, records them and returns their number, or 0 if
-// there are too many. `from` is a group of few classes inside g.
+// Counts the classes of g among the rows xs, which the columns of the heads ys and the run distinguish. Records them and returns their number, or 0
+// if there are too many. `from` is a group inside g that has few classes.
 pub fn classify(
     m: usize,
     n: usize,

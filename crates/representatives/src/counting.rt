@@ -1,4 +1,4 @@
-// The rows and the columns for the count of a group's classes, from what is kept of the groups below it.
+// The rows and the columns for the count of a group's classes, from what is recorded for the groups below it.
 ghost use Prim.Native.Nat.{_<_};
 ghost use lib.ListN.{getD};
 ghost use Rattle.rules.specs.Calls.Answers.{inkIn};
@@ -8,8 +8,8 @@ use crate::classifying;
 use crate::extension;
 use radix::members;
 
-// Counts the classes of g: its rows from the group `from` inside it, the heads of the columns from what is kept of the other inputs below `past` that are not
-// in `idle`. The inputs from there on have the smallest weights: all their assignments are a run.
+// Counts the classes of g. Its rows come from the group `from` inside it. The heads of its columns come from what is recorded for the other inputs
+// below `past` that are not in `idle`. The inputs from `past` on have the smallest weights: all their assignments form a run.
 pub fn count_group(
     m: usize,
     n: usize,

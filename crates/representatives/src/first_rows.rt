@@ -1,4 +1,4 @@
-// The first of each class among rows of a group, distinguished by columns.
+// The first of each class among rows of a group that columns distinguish.
 ghost use mathlib.Core.Path.{_≡_};
 ghost use Prim.Native.Nat.{ℕ, _+_, _≤_, _<_};
 ghost use lib.ListN.{length, take, getD};
@@ -13,7 +13,7 @@ ghost use Rattle.representatives.specs.FirstRows.{RowsFit};
 use crate::rows;
 use classes::differences::Difference;
 
-// Returns whether the ink is the same at p and at q for each of the columns. Looks at the column `hint` first, which distinguished other rows.
+// Returns whether the ink is the same at p and at q for each of the columns. Tries the column `hint` first, because it distinguished other rows.
 fn alike_by(cells: &[u8], heads: &[u16], run: usize, p: usize, q: usize, hint: usize) -> bool
     requires { ⌜ (0 < run) × (Column (columnsOf run (now heads)) hint) × (Within (length (now cells)) (columnsOf run (now heads)) p)
         × (Within (length (now cells)) (columnsOf run (now heads)) q) ⌝ }
@@ -29,7 +29,7 @@ fn alike_by(cells: &[u8], heads: &[u16], run: usize, p: usize, q: usize, hint: u
     }
 }
 
-// Returns the number of p's class, where the first `count` of `firsts` are the first of each class; `count` if p is in none.
+// Returns the number of p's class, or `count` if p is in none. The first `count` of `firsts` are the first rows of the classes.
 fn class_of(
     cells: &[u8],
     heads: &[u16],
@@ -53,7 +53,7 @@ fn class_of(
     count
 }
 
-// Puts the first of each class among the rows xs to the front of `firsts`, until there are m + 1, and returns how many these are.
+// Puts the first of each class among the rows xs to the front of `firsts`, stops at m + 1 of them, and returns how many it put.
 pub fn row_firsts(
     cells: &[u8],
     xs: &[u16],

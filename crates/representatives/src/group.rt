@@ -1,4 +1,4 @@
-// What is kept of a group, from what is kept of the groups below it.
+// What is recorded for a group, from what is recorded for the groups below it.
 ghost use Prim.Native.Nat.{ℕ, _^_, _≤_, _<_};
 ghost use Rattle.rules.specs.Calls.Answers.{inkIn};
 ghost use Rattle.radix.specs.Widths.{groupsEnd};
@@ -8,7 +8,7 @@ use crate::counting;
 use crate::extension;
 use crate::source;
 
-// The power of two after g: the next one, where g has reached `past`.
+// Returns the power of two above g: twice `past` if g equals `past`, else `past`.
 pub fn past_of(g: usize, past: usize) -> usize
     requires { ⌜ past ≤ groupsEnd ⌝ }
     ensures { λ r. ⌜ ((n : ℕ) → g < 2 ^ n → Near n g past → (Near n g r) × (g < r)) ⌝ }
@@ -19,7 +19,7 @@ pub fn past_of(g: usize, past: usize) -> usize
     past
 }
 
-// Returns the number of assignments that cover g, which are kept, or 0 if it has more than m classes. No member of g is in `idle`, a group of idle inputs.
+// Records assignments that cover g and returns their number, or 0 if g has more than m classes. No member of g is in `idle`, a group of idle inputs.
 pub fn keep_group(
     m: usize,
     n: usize,

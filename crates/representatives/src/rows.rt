@@ -1,4 +1,4 @@
-// Two rows compared over columns that are given as heads and a run: each head with each number below the run added.
+// Compares two rows over columns that are given as heads and a run: each head plus each number below the run.
 ghost use mathlib.Core.Path.{_≡_};
 ghost use mathlib.Core.Bool.{true};
 ghost use Prim.Native.Nat.{_+_, _≤_, _<_};
@@ -11,7 +11,7 @@ ghost use Rattle.representatives.specs.Runs.{SameRuns, RunApart};
 use classes::differences;
 use classes::differences::Difference;
 
-// Are the eight cells from a on the same as those from b on? All are looked at, as one word.
+// Returns whether the eight cells from a on equal those from b on. Compares all eight, as one word.
 fn eight_same(cells: &[u8], a: usize, b: usize) -> bool
     requires { ⌜ (a + 8 ≤ length (now cells)) × (b + 8 ≤ length (now cells)) ⌝ }
     ensures { λ r. ⌜ (r ≡ true → SameRuns (inkIn (now (cells .entry))) a b 8) ⌝ }
@@ -27,7 +27,7 @@ fn eight_same(cells: &[u8], a: usize, b: usize) -> bool
     over == 0
 }
 
-// A place before which the runs from a and from b on are the same, found eight cells at a time.
+// Returns a position before which the runs that start at a and b are the same. Compares eight cells at a time.
 fn same_front(cells: &[u8], a: usize, b: usize, run: usize) -> usize
     requires { ⌜ (a + run ≤ length (now cells)) × (b + run ≤ length (now cells)) ⌝ }
     ensures { λ r. ⌜ (r ≤ run) × (SameRuns (inkIn (now (cells .entry))) a b r) ⌝ }
@@ -42,7 +42,7 @@ fn same_front(cells: &[u8], a: usize, b: usize, run: usize) -> usize
     z
 }
 
-// The first place at which they differ, or the run's length.
+// Returns the first position at which the two runs differ, or the run's length.
 fn run_apart(cells: &[u8], a: usize, b: usize, run: usize) -> usize
     requires { ⌜ (a + run ≤ length (now cells)) × (b + run ≤ length (now cells)) ⌝ }
     ensures { λ r. ⌜ RunApart (inkIn (now (cells .entry))) a b run r ⌝ }
@@ -57,7 +57,7 @@ fn run_apart(cells: &[u8], a: usize, b: usize, run: usize) -> usize
     z
 }
 
-// A column at which p and q differ, or that there is none.
+// Returns a column at which p and q differ, or `None`.
 fn runs_apart(cells: &[u8], heads: &[u16], run: usize, p: usize, q: usize) -> Difference
     requires { ⌜ (0 < run) × (Within (length (now cells)) (columnsOf run (now heads)) p) × (Within (length (now cells)) (columnsOf run (now heads)) q) ⌝ }
     ensures { λ r. ⌜ ApartBy (inkIn (now (cells .entry))) (columnsOf run (now (heads .entry))) p q r ⌝ }
@@ -74,7 +74,7 @@ fn runs_apart(cells: &[u8], heads: &[u16], run: usize, p: usize, q: usize) -> Di
     Difference::None
 }
 
-// The same where the heads are the columns.
+// Does the same where the heads are the columns.
 fn heads_apart(cells: &[u8], heads: &[u16], p: usize, q: usize) -> Difference
     requires { ⌜ (Within (length (now cells)) (now heads) p) × (Within (length (now cells)) (now heads) q) ⌝ }
     ensures { λ r. ⌜ ApartBy (inkIn (now (cells .entry))) (now (heads .entry)) p q r ⌝ }
@@ -86,7 +86,7 @@ fn heads_apart(cells: &[u8], heads: &[u16], p: usize, q: usize) -> Difference
     }
 }
 
-// The same for any run: one of a single cell leaves the heads.
+// Does the same for any run. If the run is one cell, the heads are the columns.
 pub fn column_apart(cells: &[u8], heads: &[u16], run: usize, p: usize, q: usize) -> Difference
     requires { ⌜ (0 < run) × (Within (length (now cells)) (columnsOf run (now heads)) p) × (Within (length (now cells)) (columnsOf run (now heads)) q) ⌝ }
     ensures { λ r. ⌜ ApartBy (inkIn (now (cells .entry))) (columnsOf run (now (heads .entry))) p q r ⌝ }
@@ -97,7 +97,7 @@ pub fn column_apart(cells: &[u8], heads: &[u16], run: usize, p: usize, q: usize)
     runs_apart(cells, heads, run, p, q)
 }
 
-// A column at which p and q differ, or `other` where they are alike.
+// Returns a column at which p and q differ, or `other` if they are alike.
 pub fn place_apart(
     cells: &[u8],
     heads: &[u16],

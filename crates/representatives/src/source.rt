@@ -1,4 +1,4 @@
-// The member that is removed from a group, so that the group can be classified from the rest.
+// The member to remove from a group, so that the group can be classified from the rest.
 ghost use mathlib.Core.Path.{_≡_};
 ghost use Prim.Native.Nat.{ℕ, _*_, _^_, _≤_, _<_};
 ghost use lib.ListN.{length, getD};
@@ -16,7 +16,7 @@ pub fn passes_on(m: usize, counts: &[u8], kept: &[u16], h: usize, bit: usize) ->
     kept[h * m] as usize & bit != 0
 }
 
-// Returns a member of g, as a group: preferably one whose removal leaves too many classes that pass on to g, else one whose removal leaves few classes.
+// Returns a member of g, as a group: preferably one whose removal leaves too many classes that pass on to g, else one whose removal leaves few.
 pub fn source(m: usize, counts: &[u8], kept: &[u16], g: usize) -> usize
     requires { ⌜ (0 < m) × (0 < g) × (g ≤ length (now counts)) × (g * m ≤ length (now kept)) ⌝ }
     ensures { λ r. ⌜ ((n : ℕ) → g < 2 ^ n → OneOf n g r) ⌝ }

@@ -14,7 +14,7 @@ use crate::rows;
 // Every input.
 const ALL: usize = 65535;
 
-// Returns the inputs of s at which the indices x and y have the same level. Goes from the last input on, until what is left of the two is equal.
+// Returns the inputs of s at which the indices x and y have the same level. Starts at the last input and stops when the remaining digits are equal.
 fn agree(m: usize, n: usize, x: usize, y: usize, s: usize) -> usize
     requires { ⌜ (0 < m) × (n ≤ mostMembers) × (x < m ^ n) × (y < m ^ n) ⌝ }
     ensures { λ r. ⌜ Agreed m n x y s r ⌝ }
@@ -60,7 +60,7 @@ fn agreeing_inputs(
     agree(m, n, y, base, s)
 }
 
-// Does the same for p and each of the first `count` of `firsts`, and returns the inputs at which all columns agree.
+// Does the same for p and each of the first `count` of `firsts`, and returns the inputs at which all the columns agree.
 fn agreeing_in_row(
     m: usize,
     n: usize,
@@ -86,7 +86,7 @@ fn agreeing_in_row(
     rest
 }
 
-// Does the same for each two of the first m + 1 of `firsts`.
+// Does the same for each pair among the first m + 1 of `firsts`.
 pub fn agreeing_in_all(
     m: usize,
     n: usize,

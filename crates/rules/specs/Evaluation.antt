@@ -1,5 +1,5 @@
--- One name under which every definition here computes: a theorem that is proved by computing says `unfolding computing`. Each file
--- has such a name of its own; here they are gathered.
+-- One name that unfolds every definition here: a theorem that is proved by computing says `unfolding computing`. Each file
+-- has such a name of its own; this file collects them.
 -- Assumes nothing.
 use Rattle.rules.specs.Lists as lists
 use Rattle.rules.specs.Text as text

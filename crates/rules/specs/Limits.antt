@@ -1,5 +1,5 @@
--- The limits of document 01, two of them raised by document 02, K6, each in this one place: of a sheet, of a settled sheet's length, of what a
--- program reads; and those of arrival times (document 02, K5).
+-- The limits of document 01, two of them raised by document 02, K6, each defined here once: for a sheet, for a settled sheet's length, for what a
+-- program reads; and the limits for arrival times (document 02, K5).
 -- Assumes nothing.
 use Prim.Native.Nat.{ℕ, _^_}
 use mathlib.Core.Bool.{Bool, _&&_}
@@ -21,7 +21,7 @@ fewestInputs = 2
 abbrev pub mostInputs : ℕ
 mostInputs = 12
 
--- "m to the power n, the number of cells, is at most" what document 02, K6, has: "The cell limit rises to 4,096"
+-- "m to the power n, the number of cells, is at most" what document 02, K6, says: "The cell limit rises to 4,096"
 abbrev pub mostCells : ℕ
 mostCells = 4_096
 

@@ -1,5 +1,5 @@
--- A few functions on lists that the definitions share. Nothing here is of document 01.
--- A test's arm waits for the test (`elim`), so that a long list is left at the first element that decides.
+-- A few functions on lists that the definitions share. Nothing here comes from document 01.
+-- The branches of a test are lazy (`elim`), so evaluation of a long list stops at the first element that decides.
 -- Assumes nothing.
 use Prim.Native.Nat.{ℕ, zero, suc, _+_}
 use mathlib.Core.Bool.{Bool, true, false}
@@ -22,17 +22,17 @@ unfoldable pub any : {A : Type 0} → (A → Bool) → List A → Bool
 any test [] = false
 any test (x ∷ xs) = elim (test x) [ true ↦ true | false ↦ any test xs ]
 
--- the place of the first element that passes, or the length where there is none
+-- the place of the first element that passes, or the length if there is none
 unfoldable pub firstPlace : {A : Type 0} → (A → Bool) → List A → ℕ
 firstPlace test [] = zero
 firstPlace test (x ∷ xs) = elim (test x) [ true ↦ zero | false ↦ suc (firstPlace test xs) ]
 
--- the elements that pass, in their order
+-- the elements that pass, in order
 unfoldable pub those : {A : Type 0} → (A → Bool) → List A → List A
 those test [] = []
 those test (x ∷ xs) = elim (test x) [ true ↦ x ∷ those test xs | false ↦ those test xs ]
 
--- all that the elements give, one after the other
+-- the lists that the elements give, joined
 unfoldable pub concatMap : {A B : Type 0} → (A → List B) → List A → List B
 concatMap f [] = []
 concatMap f (x ∷ xs) = f x ++ concatMap f xs
@@ -49,12 +49,12 @@ unfoldable pub find : {A : Type 0} → (A → Bool) → List A → Option A
 find test [] = none
 find test (x ∷ xs) = elim (test x) [ true ↦ some x | false ↦ find test xs ]
 
--- the sum of some numbers
+-- the sum of a list of numbers
 unfoldable pub total : List ℕ → ℕ
 total [] = 0
 total (x ∷ xs) = x + total xs
 
--- some entries, and behind them one for each of some items: what `next` gives from all entries before it
+-- some entries, followed by one for each item: what `next` gives from all entries before it
 unfoldable pub withEach : {A B : Type 0} → (List A → B → A) → List A → List B → List A
 withEach next entries [] = entries
 withEach next entries (x ∷ xs) = withEach next (entries ++ (next entries x ∷ [])) xs

@@ -8,11 +8,11 @@ use mathlib.Core.List.{List, [], _∷_, _++_}
 use lib.Dec.{leb, ltb}
 use Rattle.rules.specs.Lists.{same}
 
--- "space (32)", as the number that it is
+-- "space (32)", as a number
 abbrev pub spaceByte : ℕ
 spaceByte = 32
 
--- and as a name that a proof opens where it needs the number
+-- and as a name that a proof unfolds if it needs the number
 unfoldable pub space : ℕ
 space = spaceByte
 
@@ -54,12 +54,12 @@ decimalF (suc fuel) n =
 unfoldable pub decimal : ℕ → List ℕ
 decimal n = decimalF n n
 
--- the number that some digits write, behind those that wrote `before`
+-- the number that some digits write, after digits that wrote `before`
 unfoldable pub valueOf : ℕ → List ℕ → ℕ
 valueOf before [] = before
 valueOf before (b ∷ w) = valueOf (before * 10 + (b - zeroByte)) w
 
--- is `w` the decimal value of a number? Then it is that of the number that its digits write.
+-- is `w` the decimal value of a number? Then that number is the one its digits write.
 unfoldable pub isDecimal : List ℕ → Bool
 isDecimal w = same w (decimal (valueOf 0 w))
 

@@ -1,4 +1,4 @@
-// Settles the net sheet on standard input. What it prints is `programs::output::settle_output`'s.
+// Settles the net sheet on standard input. Prints what `programs::output::settle_output` returns.
 use libc::STDIN_FILENO;
 use libc::STDOUT_FILENO;
 

@@ -1,4 +1,4 @@
--- Settling and making by either choice of a net: what they come to, and how document 01's calls and those of the shallow net are had from them.
+-- Settling and making with either choice of a net: their results, and how the calls of document 01 and of the shallow net follow from them.
 -- Assumes nothing.
 use Prim.Native.Nat.{ℕ, _-_, _^_}
 use mathlib.Core.Path.{_≡_, refl, sym, ap, _∙_}
@@ -28,7 +28,7 @@ use Rattle.accepted.specs.Taken.{NetTaken, Given, own-cells, front-table, front
 use Rattle.settling.specs.Outcomes.{netBy, layered-refused, layered-marked}
 use Rattle.settling.specs.Input.{SettlingTurnedBack, by-sheet, by-room, InputTaken}
 
--- ---- a call, by either choice of a net
+-- ---- a call with either choice of a net
 
 unfoldable pub settledLayers : List ℕ → List ℕ → List ℕ → List ℕ → LayeredMade
 settledLayers sheet cells marks output =
@@ -101,7 +101,7 @@ module _ (s cells marks output : List ℕ) where
       go (refused number place) e =
           ap plainMade (makes-refused Settled s cells marks output number place e) ∙ sym (make-refused s cells marks output number place e)
 
--- a call's answer without its count, and its buffers
+-- a call's answer without its count, and the call's buffers
 module _ (r : own.Layered) (answer : own-answer.Answer) (alone : answerOf answer ≡ plainAnswer (layeredOf r)) (cells marks output : List ℕ) (made : LayeredMade)
     (is : layeredMadeOf r cells marks output ≡ made) where
   pub made-plain : madeOf answer cells marks output ≡ plainMade made
@@ -110,7 +110,7 @@ module _ (r : own.Layered) (answer : own-answer.Answer) (alone : answerOf answer
 
 -- ---- accepted sheets
 
--- a net, and its table as `table` wrote it
+-- a net, and its table as written by `table`
 module _ (s : List ℕ) (h : Header) (net : Net) (taken : NetTaken s h net) (before after : List ℕ) (count : ℕ) (did : Tabled net before after count) where
   all-cells : count ≡ h .levels ^ h .inputs
   all-cells = did .result ∙ own-cells s h net taken
@@ -124,7 +124,7 @@ module _ (s : List ℕ) (h : Header) (net : Net) (taken : NetTaken s h net) (bef
       ap (λ t. layeredInto (netBy choice) t cells marks output) (front-table s h net taken before after count count did all-cells)
       ∙ sym (settles-accepted choice s cells marks output _ (taken .reads))
 
--- a table sheet, turned back or with room for its table
+-- a table sheet: refused, or with room for its table
 module _ (choice : Choice) (s cells marks output : List ℕ) where
   pub makes-turned : {number place : ℕ} → SettlingTurnedBack s cells marks number place
       → record { answer = refused number place; cells = cells; marks = marks; output = output } ≡ makesBy choice s cells marks output

@@ -1,4 +1,4 @@
--- A table sheet as the input of a call with cells and marks: what turns it back, and what is known of it once there is room for both.
+-- A table sheet as the input of a call with cells and marks: its refusals, and what is known of it once both have room.
 -- Assumes nothing.
 use Prim.Native.Nat.{ℕ, _-_, _^_, _≤_}
 use mathlib.Core.Path.{_≡_, sym, ap, _∙_}
@@ -22,7 +22,7 @@ use Rattle.settling.specs.declared.input.TableInput.{TableInput}
 use Rattle.settling.specs.Outcomes.{given-count}
 use Rattle.settling.specs.Room.{both-long}
 
--- turned back for the sheet, or for the room
+-- refused because of the sheet, or because of the room
 pub data SettlingTurnedBack (s cells marks : List ℕ) (number place : ℕ) : Type 0 where
   by-sheet : readFull s ≡ refused number place → SettlingTurnedBack s cells marks number place
   by-room : (t : Table) → readFull s ≡ accepted t → roomFor t cells marks ≡ refused number place → SettlingTurnedBack s cells marks number place

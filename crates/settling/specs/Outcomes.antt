@@ -1,4 +1,4 @@
--- A table by a header's names in a sheet, and its inks: what making a net of it asks, and its outcomes.
+-- A table, given by a header's names in a sheet and its inks: what making a net from it requires, and the outcomes.
 -- Assumes nothing.
 use Prim.Native.Nat.{ℕ, _^_, _≤_, _<_}
 use mathlib.Core.Path.{_≡_, refl, sym, ap, ap₂, _∙_, subst⁻¹, subst₂}
@@ -35,7 +35,7 @@ use Rattle.answers.specs.declared.layered.Layered.{Layered}
 use Rattle.answers.specs.Layered.{layeredMadeOf, layeredOf}
 use Rattle.marks.specs.NoTreePlace.{mark-place-agree}
 
--- the net that a choice makes of a table
+-- the net that a choice makes from a table
 abbrev pub netBy : Choice → Table → Net
 netBy Settled = settledNet
 netBy Shallow = shallowNet
@@ -54,7 +54,7 @@ refused-layers : (count number place : ℕ) (cells marks output : List ℕ)
 unfolding withLayers layered onward
 refused-layers count number place cells marks output = refl
 
--- by the room alone
+-- the outcomes decided by the room alone
 module _ (netFor : Table → Net) (t : Table) (cells marks output : List ℕ) where
   pub layered-refused : (number place : ℕ) → roomFor t cells marks ≡ refused number place
       → record { answer = refused number place; cells = cells; marks = marks; output = output } ≡ layeredInto netFor t cells marks output
@@ -102,14 +102,14 @@ module _ (s : List ℕ) (h : Header) (inks : List ℕ) (given : Given s h inks) 
       gates = subst₂ (λ (m n : ℕ). IsNet m n (gatesOf net)) (sym (is .levels)) (sym (is .inputs)) (is .kept);
     }
 
-  -- ---- the net that a choice makes of it
+  -- ---- the net that a choice makes from it
 
   module _ (choice : Choice) (net : own.Net) (is : MadeNet choice (h .levels) (h .inputs) (inkIn inks) net) where
     made-is : netIn s h net ≡ netBy choice (tableIn s h inks)
     unfolding headerOf
     made-is = net-is net is ∙ sym (netBy-is choice (tableIn s h inks))
 
-    -- the layers that are counted are those of that net
+    -- the counted layers are those of that net
     pub made-layers : (count : ℕ) → count ≡ layers (net .inputs) (gatesOf net) → count ≡ netLayers (netBy choice (tableIn s h inks))
     unfolding netLayers headerOf
     made-layers count e = e ∙ ap (λ (n : ℕ). layers n (gatesOf net)) (is .inputs) ∙ ap netLayers made-is

@@ -1,4 +1,4 @@
--- Room for the cells and the marks of a table, as the code judges it: by the inks' length, and the length that the marks need.
+-- Room for the cells and the marks of a table, as the code checks it: by the number of inks, and the length that the marks need.
 -- Assumes nothing.
 use Prim.Native.Nat.{ℕ, _^_, _≤_, _<_}
 use mathlib.Core.Path.{_≡_, sym, _∙_, subst, subst⁻¹}
@@ -28,7 +28,7 @@ module _ (s : List ℕ) (h : Header) (inks : List ℕ) (count : length inks ≡ 
     unfolding headerOf
     both-fit l = sym (room-both (tableIn s h inks) cells marks cells-fit (subst (λ (k : ℕ). k ≤ length marks) is l))
 
-  -- what the rest of a call may take for granted
+  -- what the rest of a call may assume
   pub both-long : accepted tt ≡ roomFor (tableIn s h inks) cells marks → (length inks ≤ length cells) × (marksLength (h .inputs) ≤ length marks)
   unfolding headerOf
   both-long e = let fits = room-fits (tableIn s h inks) cells marks (sym e) in (subst⁻¹ (λ (k : ℕ). k ≤ length cells) count (fits .0), fits .1)

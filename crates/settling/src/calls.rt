@@ -1,4 +1,4 @@
-// Settling and making: document 01's calls. Any sheet and buffers of any length may come in.
+// Settling and making: the calls of document 01. The sheet may be any bytes, and the buffers may have any length.
 ghost use mathlib.Core.Path.{_≡_};
 ghost use Rattle.rules.specs.Calls.Settling.{settleCall, makeCall};
 ghost use Rattle.laws.specs.Calls.ShallowSettling.{plainAnswer};

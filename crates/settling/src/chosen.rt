@@ -1,4 +1,4 @@
-// Settling and making, whichever net is made of the table. Any sheet and buffers of any length may come in.
+// Settling and making with any way of making a net from a table. The sheet may be any bytes, and the buffers may have any length.
 ghost use mathlib.Core.Path.{_≡_};
 ghost use Rattle.answers.specs.Layered.{layeredMadeOf};
 ghost use Rattle.accepted.specs.Taken.{NetTaken};
@@ -15,7 +15,7 @@ use nets::forms::Net;
 use radix::limits;
 use wirings::choice::Choice;
 
-// The net's table goes into an array of its own first: a refusal must change no buffer.
+// Settles an accepted net. Its table goes into a local array first, because a refusal must not change any buffer.
 fn settle_net(
     choice: Choice,
     s: &[u8],
@@ -34,7 +34,7 @@ fn settle_net(
     into::settle_into(choice, s, header, &inks[0..count], cells, marks, out)
 }
 
-// Reads a net sheet, and writes its table, its marks and the sheet of the net that is made of its table.
+// Reads a net sheet, and writes its table, its marks and the sheet of the net made from its table.
 pub fn settle_by(
     choice: Choice,
     s: &[u8],
@@ -55,7 +55,7 @@ pub fn settle_by(
     }
 }
 
-// Reads a table sheet, and writes its table, its marks and the sheet of the net that is made of it.
+// Reads a table sheet, and writes its table, its marks and the sheet of the net made from it.
 pub fn make_by(
     choice: Choice,
     s: &[u8],

@@ -9,14 +9,14 @@ use nets::forms::Header;
 use radix::powers;
 use table_reader::full;
 
-// An accepted input has its header here and `count` inks.
+// The result of reading a table sheet. If it is accepted, `header` is its header and `count` the number of its inks.
 pub struct TableInput {
     pub outcome: Outcome,
     pub header: Header,
     pub count: usize,
 }
 
-// Reads a full table sheet, its inks to the front of `inks`, and judges the room for its cells and marks: what the sheet is refused for, then 13 and 14.
+// Reads a full table sheet into the front of `inks`, and checks the room for its cells and marks. Refusals of the sheet come first, then 13 and 14.
 pub fn read_input(s: &[u8], inks: &mut [u8], cells: &[u8], marks: &[u8]) -> TableInput
     requires { ⌜ mostCells ≤ length (now inks) ⌝ }
     ensures { λ r. ⌜ InputRead (now (s .entry)) (now (inks .exit)) (now (cells .entry)) (now (marks .entry)) r ⌝ }

@@ -1,4 +1,4 @@
-// What settling and making share: a table, its marks and the sheet of the net that is made of it, each in a buffer of the caller.
+// What settling and making share: writing a table, its marks and the sheet of the net made from it, each to a buffer of the caller.
 ghost use mathlib.Core.Path.{_≡_};
 ghost use Rattle.rules.specs.Calls.ShallowSettling.{layeredInto};
 ghost use Rattle.nets.specs.Forms.{tableIn};
@@ -12,7 +12,7 @@ use answers::outcome::Outcome;
 use nets::forms::Header;
 use wirings::choice::Choice;
 
-// Writes a table, its marks and the sheet of its net, or refuses with 13 or 14. `inks` is the table, and `header` its first three lines in the sheet s.
+// Writes a table, its marks and the sheet of its net, or refuses with 13 or 14. `inks` is the table, and `header` its first three lines in sheet s.
 pub fn settle_into(
     choice: Choice,
     s: &[u8],

@@ -1,4 +1,4 @@
-// From a table to its marks and to the sheet of the net that is made of it, where its cells and its marks have room.
+// From a table to its marks and the sheet of the net made from it, if the cells and the marks have room.
 ghost use mathlib.Core.Path.{_≡_};
 ghost use Prim.Native.Nat.{_≤_};
 ghost use lib.ListN.{length};
@@ -22,7 +22,7 @@ use nets::forms::Header;
 use nets::layers;
 use wirings::choice::Choice;
 
-// The answer with the count of layers.
+// Returns the answer with the count of layers.
 fn with_layers(answer: Answer, layers: usize) -> Layered
     ensures { λ r. ⌜ layeredOf r ≡ layered layers (answerOf answer) ⌝ }
 {

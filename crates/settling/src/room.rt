@@ -1,4 +1,4 @@
-// Room for the cells and the marks of a table: refusals 13 and 14, of every call that has both buffers.
+// Room for the cells and the marks of a table: refusals 13 and 14 of every call that has both buffers.
 ghost use mathlib.Core.Path.{_≡_};
 ghost use mathlib.Core.Bool.{true};
 ghost use mathlib.Core.List.{List};
@@ -12,7 +12,7 @@ use answers::outcome::Outcome;
 use marks::packing;
 use nets::forms::Header;
 
-// Judges whether the cells and the marks buffer are long enough. `inks` is the table, and `header` has its levels and inputs.
+// Checks whether the cells and the marks buffer are long enough. `inks` is the table, and `header` has its levels and inputs.
 pub fn room(header: Header, inks: &[u8], cells: &[u8], marks: &[u8]) -> Outcome
     requires { ⌜ (sizeFits (header .levels) (header .inputs) ≡ true) × (length (now inks) ≡ header .levels ^ header .inputs) ⌝ }
     ensures { λ r. ⌜ ((s : List ℕ) → outcomeAs tt r ≡ roomFor (tableIn s header (now (inks .entry))) (now (cells .entry)) (now (marks .entry))) ⌝ }

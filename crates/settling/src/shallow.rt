@@ -1,4 +1,4 @@
-// Settling and making of the shallow net. Any sheet and buffers of any length may come in.
+// Settling and making of the shallow net. The sheet may be any bytes, and the buffers may have any length.
 ghost use mathlib.Core.Path.{_≡_};
 ghost use Rattle.rules.specs.Calls.ShallowSettling.{settleShallowCall, makeShallowCall};
 ghost use Rattle.answers.specs.Layered.{layeredMadeOf};

@@ -1,4 +1,4 @@
-// Making from a table that was read before: `inks` is the table, and `header` its first three lines in `s`.
+// Making from a table that is already read: `inks` is the table, and `header` its first three lines in `s`.
 ghost use mathlib.Core.Path.{_≡_};
 ghost use Rattle.rules.specs.Calls.Settling.{settledNet, madeInto};
 ghost use Rattle.nets.specs.Forms.{tableIn};

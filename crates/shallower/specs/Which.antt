@@ -1,4 +1,4 @@
--- What the answer of the shallower of two sheets stands for, and what is handed back: where it lies, and its bytes.
+-- What the answer of the shallower of two sheets represents, and what is returned: its address and its bytes.
 -- Assumes nothing.
 use Prim.Native.Nat.{ℕ}
 use mathlib.Core.Path.{_≡_, refl}

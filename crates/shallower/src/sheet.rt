@@ -6,8 +6,8 @@ ghost use Rattle.shallower.specs.Which.{handed};
 use crate::which;
 use crate::which::Which;
 
-// Hands back one of the two lent sheets, the shallower, the first when level; an empty part of the first where neither can be read. Any
-// bytes may come in.
+// Returns one of the two lent sheets: the shallower one, the first if they have equally many layers, or an empty part of the first if neither can be
+// read. The caller may pass any bytes.
 pub fn shallower<'a>(first: &'a [u8], second: &'a [u8]) -> &'a [u8]
     ensures { λ r. ⌜ (ptr r, now r) ≡ handed (whichOf (now (first .entry)) (now (second .entry))) (first .entry) (second .entry) ⌝ }
 {

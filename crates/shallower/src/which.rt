@@ -1,4 +1,4 @@
-// Which of two net sheets is handed back.
+// Which of two net sheets is returned.
 ghost use mathlib.Core.Path.{_≡_};
 ghost use Rattle.rules.specs.Calls.Shallower.{layersIn, whichBy, whichOf};
 ghost use Rattle.answers.specs.AnswerMaps.{answerOf};
@@ -8,14 +8,14 @@ use answers::outcome::Outcome;
 use net_sheets::reader::net;
 use nets::layers;
 
-// One of the two, or an empty part of the first.
+// The first sheet, the second, or an empty part of the first.
 pub enum Which {
     First,
     Second,
     Neither,
 }
 
-// The layers of a sheet's net, or why it cannot be read.
+// Returns the layers of a sheet's net, or the refusal if it cannot be read.
 fn layers_in(s: &[u8]) -> Answer
     ensures { λ r. ⌜ answerOf r ≡ layersIn (now (s .entry)) ⌝ }
 {
@@ -28,7 +28,7 @@ fn layers_in(s: &[u8]) -> Answer
     }
 }
 
-// The first when level; a sheet that cannot be read loses to one that can.
+// Returns the sheet with fewer layers, the first if they are equal. A sheet that cannot be read loses to one that can.
 fn which_by(first: Answer, second: Answer) -> Which
     ensures { λ r. ⌜ whichAs r ≡ whichBy (answerOf first) (answerOf second) ⌝ }
 {

@@ -1,4 +1,4 @@
--- How long a table sheet is.
+-- The length of a table sheet.
 -- Assumes nothing.
 use Prim.Native.Nat.{ℕ, zero, suc, _+_, _*_, _≤_, _<_}
 use mathlib.Core.Path.{_≡_, refl, sym, ap, _∙_}
@@ -26,7 +26,7 @@ mostDecimal = 20
 abbrev fixedBytes : ℕ
 fixedBytes = 20
 
--- how long the first n names are, each with the space behind it
+-- the length of the first n names, each with the space after it
 unfoldable pub lensTotal : List ℕ → ℕ → ℕ
 lensTotal lens zero = 0
 lensTotal lens (suc n) = lensTotal lens n + (getD lens n 0 + 1)
@@ -60,6 +60,6 @@ unfolding line text space newline
 printed-table-length s h inks =
     ap length (table-parts s h inks) ∙ simp (length-append, rows-length) (omega arith)
 
--- the length of a table sheet, whatever its `count` inks
+-- the length of a table sheet, for any `count` inks
 abbrev pub Measures : Header → ℕ → ℕ → Type 0
 Measures h count need = (s inks : List ℕ) → NamesInside s h → length inks ≡ count → need ≡ length (printedTable (tableIn s h inks))

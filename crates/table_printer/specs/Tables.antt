@@ -1,4 +1,4 @@
--- A table sheet: what printing it asks.
+-- A table sheet: what printing it requires.
 -- Assumes nothing.
 use Prim.Native.Nat.{ℕ, _≤_, _<_}
 use mathlib.Core.List.{List}
@@ -18,7 +18,7 @@ pub record TableInside (s : List ℕ) (h : Header) (inks : List ℕ) : Type 0 wh
   pub levels : h .levels ≤ mostLevels
   pub digits : (k : ℕ) → k < length inks → getD inks k 0 < 10
 
--- a table that keeps the rules of document 01 has what printing asks
+-- a table that keeps the rules of document 01 meets the requirements of printing
 pub table-inside : (s : List ℕ) (h : Header) (inks : List ℕ) → Given s h inks → TableInside s h inks
 unfolding headerOf
 table-inside s h inks given =

@@ -25,7 +25,7 @@ pub fn decimal_length(k: usize) -> usize
     digits
 }
 
-// Returns the length of all names, each with the space behind it.
+// Returns the length of all names, each with the space after it.
 pub fn names_length(h: Header) -> usize
     requires { ⌜ h .inputs ≤ mostInputs ⌝ }
     ensures { λ r. ⌜ (r ≡ lensTotal (h .lens) (h .inputs)) × (r ≤ 256 * h .inputs) ⌝ }

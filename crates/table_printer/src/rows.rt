@@ -1,4 +1,4 @@
-// A row's levels four at a time: four levels, each with the space behind it, are one number, and are written and counted on as one.
+// Writes a row's levels four at a time: four levels, each with the space after it, form one number, which is written and incremented as a whole.
 ghost use mathlib.Core.Path.{_≡_};
 ghost use mathlib.Core.List.{List, [], _∷_};
 ghost use Prim.Native.Nat.{ℕ, _+_, _*_, _≤_, _<_};
@@ -15,7 +15,7 @@ use table_reader::fast::words::LEVEL;
 use table_reader::fast::words::Words;
 use table_reader::fast::words::words_of;
 
-// The level 0 with a space behind it, four times.
+// The level 0 followed by a space, four times.
 pub const ZEROS: usize = LEVEL + 65536 * LEVEL + 4294967296 * (LEVEL + 65536 * LEVEL);
 
 // Writes the eight bytes of a number, the lowest first.
@@ -60,7 +60,7 @@ pub fn wide_row(words: Words, n: usize, ink: u8, out: &mut [u8], at: usize) -> u
     p + 2
 }
 
-// Returns the word of the next four levels: the last one below the highest moves up, and those behind it turn to 0.
+// Returns the word of the next four levels: the last one below the highest is incremented, and those after it become 0.
 fn next_four(m: usize, word: usize) -> usize
     requires { ⌜ (0 < m) × (m ≤ mostLevels) ⌝ }
     ensures { λ r. ⌜ ((a b c d : ℕ) → a < m → b < m → c < m → d < m → word ≡ fourWord a b c d → FourNext m (a ∷ b ∷ c ∷ d ∷ []) r) ⌝ }
@@ -84,7 +84,7 @@ fn next_four(m: usize, word: usize) -> usize
     first - top
 }
 
-// Returns the words of the next row. `levels` has the levels before the last four, which move when the last four turn to zeros.
+// Returns the words of the next row. `levels` has the levels before the last four; they change when the last four become zeros.
 pub fn next_words(m: usize, n: usize, words: Words, levels: &mut [u8]) -> Words
     requires { ⌜ (0 < m) × (m ≤ mostLevels) × (4 ≤ n) × (n ≤ mostInputs) × (8 ≤ length (now levels)) ⌝ }
     ensures { λ r. ⌜ ((ls : List ℕ) → PrintedSpells m n words (now (levels .entry)) ls → PrintedSpells m n r (now (levels .exit)) (nextLevels m ls)) ⌝ }

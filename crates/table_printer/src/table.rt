@@ -1,4 +1,4 @@
-// A table sheet.
+// The printer of a table sheet.
 ghost use Prim.Native.Nat.{ℕ, _+_, _≤_, _<_};
 ghost use mathlib.Core.Path.{_≡_};
 ghost use lib.ListN.{length, getD};
@@ -20,7 +20,7 @@ use radix::levels::next_levels;
 use radix::limits::MOST_INPUTS;
 use table_reader::fast::words::Words;
 
-// The byte of an ink: its digit, or the sign of an open cell.
+// Returns the byte of an ink: its digit, or the sign of an open cell.
 fn ink_byte(m: usize, ink: u8) -> u8
     requires { ⌜ ink < 10 ⌝ }
     ensures { λ r. ⌜ r ≡ inkByte m ink ⌝ }
@@ -31,7 +31,7 @@ fn ink_byte(m: usize, ink: u8) -> u8
     b'0' + ink
 }
 
-// A row: each level with a space behind it, then the byte of the ink with a line feed.
+// Writes a row: each level followed by a space, then the byte of the ink and a line feed.
 fn print_row(levels: &[u8], ink: u8, out: &mut [u8], at: usize) -> usize
     requires { ⌜ ((k : ℕ) → k < length (now levels) → getD (now levels) k 0 < 10) × PutRoom (now out) at (rowText (now levels) ink) ⌝ }
     ensures { λ r. ⌜ Put (now (out .entry)) at (rowText (now (levels .entry)) ink) (now (out .exit)) r ⌝ }
@@ -49,7 +49,7 @@ fn print_row(levels: &[u8], ink: u8, out: &mut [u8], at: usize) -> usize
     p + 2
 }
 
-// The rows of all cells, a level at a time.
+// Writes the rows of all cells, one level at a time.
 fn narrow_rows(m: usize, n: usize, inks: &[u8], out: &mut [u8], at: usize) -> usize
     requires { ⌜ (0 < m) × (m ≤ mostLevels) × (n ≤ mostInputs)
         × ((k : ℕ) → k < length (now inks) → getD (now inks) k 0 < 10) × PutRoom (now out) at (printedRows m n 0 (now inks)) ⌝ }
@@ -67,7 +67,7 @@ fn narrow_rows(m: usize, n: usize, inks: &[u8], out: &mut [u8], at: usize) -> us
     p
 }
 
-// The same, four levels at a time.
+// Writes the rows of all cells, four levels at a time.
 fn wide_rows(m: usize, n: usize, inks: &[u8], out: &mut [u8], at: usize) -> usize
     requires { ⌜ (0 < m) × (m ≤ mostLevels) × (4 ≤ n) × (n ≤ mostInputs)
         × ((k : ℕ) → k < length (now inks) → getD (now inks) k 0 < 10) × PutRoom (now out) at (printedRows m n 0 (now inks)) ⌝ }
@@ -101,7 +101,7 @@ fn print_rows(m: usize, n: usize, inks: &[u8], out: &mut [u8], at: usize) -> usi
     wide_rows(m, n, inks, out, at)
 }
 
-// Writes the table sheet of the header's names and the inks to the front of `out`, and answers its length.
+// Writes the table sheet of the header's names and the inks to the front of `out`, and returns its length.
 pub fn print_table(s: &[u8], h: Header, inks: &[u8], out: &mut [u8]) -> usize
     requires { ⌜ TableInside (now s) h (now inks) × (length (printedTable (tableIn (now s) h (now inks))) ≤ length (now out)) ⌝ }
     ensures { λ r. ⌜ NetWrote (now (out .entry)) (printedTable (tableIn (now (s .entry)) h (now (inks .entry)))) (now (out .exit)) r ⌝ }

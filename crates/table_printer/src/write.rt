@@ -1,4 +1,4 @@
-// The table writing call: from a net sheet to its table sheet.
+// The table writing call: turns a net sheet into its table sheet.
 ghost use mathlib.Core.Path.{_≡_};
 ghost use Rattle.rules.specs.Calls.TableWriting.{writeTableCall};
 ghost use Rattle.table_printer.specs.Writing.{tableWrittenOf};
@@ -14,7 +14,7 @@ use nets::forms::Net;
 use radix::limits::MOST_CELLS;
 use radix::powers::power;
 
-// Refusal 15, or the table sheet of an accepted net sheet.
+// Writes the table sheet of an accepted net sheet and returns its length, or refuses with 15.
 fn write_accepted(sheet: &[u8], header: Header, net: Net, out: &mut [u8]) -> Answer
     requires { ⌜ NetTaken (now sheet) header net ⌝ }
     ensures { λ r. ⌜ tableWrittenOf r (now (out .exit)) ≡ writeTableCall (now (sheet .entry)) (now (out .entry)) ⌝ }
@@ -32,7 +32,7 @@ fn write_accepted(sheet: &[u8], header: Header, net: Net, out: &mut [u8]) -> Ans
     Answer::Accepted(print_table(sheet, header, &cells[0..count], out))
 }
 
-// Writes the table sheet of a net sheet to the front of `out`, and answers its length. Any bytes may come in.
+// Writes the table sheet of a net sheet to the front of `out`, and returns its length. The net sheet may be any bytes.
 pub fn write_table(sheet: &[u8], out: &mut [u8]) -> Answer
     ensures { λ r. ⌜ tableWrittenOf r (now (out .exit)) ≡ writeTableCall (now (sheet .entry)) (now (out .entry)) ⌝ }
 {

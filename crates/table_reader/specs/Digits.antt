@@ -13,7 +13,7 @@ use Rattle.rules.specs.Sheets.Fields.{Judge, good, bad, judged}
 use Rattle.fields.specs.Taken.{field-judged-good}
 use Rattle.laws.specs.Lists.Places.{one-byte}
 
--- any other field is refused by `number`
+-- any other field is refused with `number`
 unfoldable pub digitBelow : ℕ → ℕ → Judge ℕ
 digitBelow m number [] = bad number
 digitBelow m number (b ∷ []) = judged (isDigit m b) (b - zeroByte) number

@@ -1,4 +1,4 @@
--- What reading a table sheet answers where a full table is needed (document 02, K13).
+-- The result of reading a table sheet where a full table is needed (document 02, K13).
 -- Assumes nothing.
 use Prim.Native.Nat.{ℕ, suc, _-_, _^_, _≤_, _<_}
 use mathlib.Core.Path.{_≡_, sym, ap, _∙_, subst⁻¹}
@@ -20,7 +20,7 @@ use Rattle.answers.specs.declared.outcome.Outcome.the-variants.{Accepted, Refus
 use Rattle.table_reader.specs.declared.sheet.TableRead.{TableRead}
 use Rattle.table_reader.specs.TableReading.{inksIn, TableReads}
 
--- what an accepted sheet of a full table keeps: every ink is a level
+-- the properties of an accepted sheet of a full table: every ink is a level
 pub record FullHeld (s cells : List ℕ) (h : Header) : Type 0 where
   pub header : HeaderHeld s h
   pub inks : Below (h .levels) (inksIn cells h)
@@ -31,14 +31,14 @@ pub record FullReads (s cells : List ℕ) (r : TableRead) : Type 0 where
   pub held : r .outcome ≡ Accepted → FullHeld s cells (r .header)
 
 module _ (s cells : List ℕ) (r : TableRead) (reads : TableReads s cells r) where
-  -- turned back as any table sheet is
+  -- refused like any table sheet
   pub full-refused : (number place : ℕ) → r .outcome ≡ Refused number place → FullReads s cells r
   full-refused number place e = record {
     answer = rw e (sym (read-refused s number place (sym (reads .answer) ∙ ap (outcomeAs _) e)));
     held = λ accepts. let z : _≡_ {A = ℕ} 0 1 = cc in absurd (omega arith);
   }
 
-  -- read, and its cells judged
+  -- read, and its cells are judged
   module _ (e : r .outcome ≡ Accepted) where
     read : answers.accepted (tableIn s (r .header) (inksIn cells (r .header))) ≡ readTable s
     read = ap (outcomeAs _) (sym e) ∙ reads .answer
@@ -62,7 +62,7 @@ module _ (s cells : List ℕ) (r : TableRead) (reads : TableReads s cells r) whe
           };
         }
 
-    -- no ink at the front of the buffer is above the levels
+    -- no ink at the front of the buffer is above the number of levels
     pub table-front-within : (count : ℕ) → count ≡ r .header .levels ^ r .header .inputs
         → (p : ℕ) → p < length (take (count - 0) cells) → getD (take (count - 0) cells) p 0 ≤ r .header .levels
     table-front-within count all p h =

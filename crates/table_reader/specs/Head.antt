@@ -1,4 +1,4 @@
--- The first three lines of a table sheet, strict or loose, and what stands after them: the rows, and the end.
+-- The first three lines of a table sheet, strict or loose, and what follows them: the rows, and the end.
 -- Assumes nothing.
 use Prim.Native.Nat.{ℕ}
 use mathlib.Core.Path.{_≡_, refl, ap, _∙_}
@@ -44,7 +44,7 @@ module _ (layout : Layout) (s : List ℕ) (read : HeaderRead) (lines : HeaderRes
       named (On value next) = refl
       named (Back number place) = refl
 
--- ---- a whole sheet: these rows, of which `table` makes what the sheet is read as
+-- ---- a whole sheet: these rows, from which `table` makes the result
 
 module _ {A B : Type 0} (layout : Layout) (rows : sheets.Header → Reader A) (table : sheets.Header → A → B) where
   afterHead : sheets.Header → Reader B

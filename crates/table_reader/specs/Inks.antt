@@ -44,7 +44,7 @@ ink-told m w ink e = go (same w (openByte ∷ [])) refl
 pub ink-read : (m due : ℕ) (t rest : List ℕ) (at ink next : ℕ) → field (inkField m) due t at ≡ read ink rest next → ink ≤ m
 ink-read m due t rest at ink next e = ink-told m (run t) ink (taken-field-read (inkField m) ink due t rest at next e .0)
 
--- an ink that was looked for: none is none, and the one found is the one told
+-- a search for an ink: nothing found is not an ink, and the ink found is the one returned
 pub no-ink : {A : Type 0} (ink : ℕ) → Nowhere ≡ At ink → A
 no-ink ink e = let z : _≡_ {A = ℕ} 0 1 = cc in absurd (omega arith)
 

@@ -25,7 +25,7 @@ module _ (due : ℕ) (w : List ℕ) where
   unfolding digitByte
   table-level-byte one = sym (same-one w (zeroByte + due) one)
 
--- the digit that is due is good
+-- the expected digit is good
 pub level-good : (due : ℕ) → levelField due ((zeroByte + due) ∷ []) ≡ good tt
 unfolding levelField digitByte
 level-good due = rw (same-refl ((zeroByte + due) ∷ []))

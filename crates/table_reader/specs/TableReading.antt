@@ -1,4 +1,4 @@
--- What reading a table sheet answers, in the definitions.
+-- The result of reading a table sheet, in the definitions.
 -- Assumes nothing.
 use Prim.Native.Nat.{ℕ, suc, _^_}
 use mathlib.Core.Path.{_≡_}
@@ -27,7 +27,7 @@ use Rattle.table_reader.specs.declared.sheet.TableRead.{TableRead}
 abbrev pub inksIn : List ℕ → Header → List ℕ
 inksIn cells h = take (h .levels ^ h .inputs) cells
 
--- what an accepted sheet's header and inks keep: an ink is a level, or m for an open cell
+-- the properties of an accepted sheet's header and inks: an ink is a level, or m for an open cell
 pub record TableHeld (s cells : List ℕ) (h : Header) : Type 0 where
   pub header : HeaderHeld s h
   pub inks : Below (suc (h .levels)) (inksIn cells h)

@@ -5,7 +5,7 @@ ghost use Rattle.table_reader.specs.Digits.{digitBelow};
 use fields::runs::ZERO;
 use fields::steps::Verdict;
 
-// Judges a field that must be one digit below m: `number` is the refusal of any other.
+// Judges a field that must be one digit below m. Any other field is refused with `number`.
 pub fn judge_digit(w: &[u8], m: usize, number: usize) -> Verdict
     ensures { λ r. ⌜ judgedAs itself r ≡ digitBelow m number (now (w .entry)) ⌝ }
 {

@@ -1,4 +1,4 @@
-// A table sheet of a full table: one with an open cell is refused once it is read.
+// The table sheet of a full table. A sheet with an open cell is refused after it is read.
 ghost use Prim.Native.Nat.{_≤_};
 ghost use lib.ListN.{length};
 ghost use Rattle.rules.specs.Limits.{mostCells};
@@ -9,7 +9,7 @@ use answers::outcome::Outcome;
 use cells::full::judge_full;
 use radix::powers::power;
 
-// Reads a full table sheet from any bytes; its inks go to the front of `cells`. Refusal 27 comes after all that a table sheet is refused for.
+// Reads a full table sheet from any bytes. Its inks go to the front of `cells`. All other refusals of a table sheet come before 27.
 pub fn read_full(s: &[u8], cells: &mut [u8]) -> TableRead
     requires { ⌜ mostCells ≤ length (now cells) ⌝ }
     ensures { λ r. ⌜ FullReads (now (s .entry)) (now (cells .exit)) r ⌝ }

@@ -1,4 +1,4 @@
-// An input level of a row: it is the next in the count.
+// An input level of a row: the next one in counting order.
 ghost use mathlib.Core.Path.{_≡_};
 ghost use mathlib.Core.List.{[], _∷_};
 ghost use lib.ListN.{drop};

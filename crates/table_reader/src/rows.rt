@@ -12,7 +12,7 @@ use radix::levels::next_levels;
 use radix::limits::MOST_INPUTS;
 use radix::powers::power;
 
-// All rows, from the row of index 0 at `at` on; their inks go to the front of `cells`. Those that do not stand as they are due are judged field by field.
+// Reads all rows, starting with index 0 at `at`; their inks go to the front of `cells`. Rows without the expected bytes are judged field by field.
 pub fn rows(s: &[u8], at: usize, m: usize, n: usize, cells: &mut [u8]) -> Step
     requires { ⌜ (sizeFits m n ≡ true) × (m ^ n ≤ length (now cells)) ⌝ }
     ensures { λ r. ⌜ RowsRead (now (s .entry)) at m n (now (cells .exit)) r ⌝ }

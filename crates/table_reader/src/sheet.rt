@@ -18,7 +18,7 @@ use fields::steps::Step;
 use fields::words::word_field_in;
 use nets::forms::Header;
 
-// What reading a table sheet, strict or loose, comes to: of an accepted one the header is whole.
+// The result of reading a table sheet, strict or loose. The header is complete if the sheet is accepted.
 pub struct TableRead {
     pub outcome: Outcome,
     pub header: Header,

@@ -1,4 +1,4 @@
-// Tidies the loose table sheet on standard input. What it prints is `programs::output::tidy_output`'s.
+// Tidies the loose table sheet on standard input. Prints what `programs::output::tidy_output` returns.
 use libc::STDIN_FILENO;
 use libc::STDOUT_FILENO;
 

@@ -1,4 +1,4 @@
--- Counts as the code finds them and keeps them, for groups within the limits; they are the same for every number of inputs that has the group.
+-- Counts as the code computes and records them, for groups within the limits. They are the same for every number of inputs that has the group.
 -- Assumes nothing.
 use Prim.Native.Nat.{ℕ, _+_, _-_, _*_, _^_, _≤_, _<_}
 use mathlib.Core.Path.{_≡_, refl, ap₂, _∙_}
@@ -24,13 +24,13 @@ use Rattle.trees.specs.Families.FamilyBounds.{group-trees-fit}
 use Rattle.trees.specs.Families.Families.{split-sizes}
 use Rattle.marks.specs.FirstParts.{bothTwo}
 
--- ---- what is kept
+-- what is recorded
 
--- each entry is 0, for not yet known, or the group's count
+-- each entry is the group's count, or 0 if the count is not yet known
 abbrev pub CountsKnown : List ℕ → List ℕ → Type 0
 CountsKnown marks counts = (g : ℕ) → (getD counts g 0 ≡ 0) ⊎ ((n : ℕ) → g < 2 ^ n → getD counts g 0 ≡ groupTrees n marks g)
 
--- one count more
+-- one more count
 pub one-kept : (marks counts : List ℕ) (g count : ℕ) → CountsKnown marks counts → g < length counts → ((n : ℕ) → g < 2 ^ n → count ≡ groupTrees n marks g)
     → CountsKnown marks (set counts g count)
 one-kept marks counts g count kept room is h = go (ℕ-discrete h g)
@@ -39,7 +39,7 @@ one-kept marks counts g count kept room is h = go (ℕ-discrete h g)
     go (yes e) = inr (λ n h<. rw e (getD-set-same counts g count 0 room ∙ is n (rw e at h<)))
     go (no other) = rw (getD-set-other counts g h count 0 other) (kept h)
 
--- ---- what the two counts ask and tell
+-- what the two counts require and return
 
 -- group g is within the limits, and has its mark and its entry
 pub record Countable (marks counts : List ℕ) (g : ℕ) : Type 0 where
@@ -69,17 +69,17 @@ splittable-sizes marks counts g a n g< is =
       size-pos n (g - a) b< (omega (arith, is .less)),
     )
 
--- r is the group's count, and what is kept is right
+-- r is the group's count, and the recorded counts are right
 pub record CountKnown (marks : List ℕ) (g r : ℕ) (counts : List ℕ) : Type 0 where
   pub count : (n : ℕ) → g < 2 ^ n → r ≡ groupTrees n marks g
   pub kept : CountsKnown marks counts
 
--- .. the split's
+-- r is the split's count, and the recorded counts are right
 pub record SplitKnown (marks : List ℕ) (g a r : ℕ) (counts : List ℕ) : Type 0 where
   pub count : (n : ℕ) → g < 2 ^ n → r ≡ splitCounted n marks g a
   pub kept : CountsKnown marks counts
 
--- a smaller group, with the counts that are kept by then
+-- a smaller group, with the counts recorded by then
 pub smaller : (marks counts later : List ℕ) (g a : ℕ) → Countable marks counts g → 0 < a → a < g → length later ≡ length counts → CountsKnown marks later
     → Countable marks later a
 smaller marks counts later g a group some less same kept =
@@ -91,10 +91,10 @@ smaller marks counts later g a group some less same kept =
       kept = kept;
     }
 
--- ---- what a split counts for
+-- the count of a split
 
 module _ (n : ℕ) (marks : List ℕ) (g a : ℕ) (g< : g < 2 ^ n) (some : 0 < a) (less : a < g) where
-  -- nothing, where a part has another mark than 2
+  -- it is 0 if a part does not have mark 2
   pub split-none : bothTwo marks g a ≡ false → splitCounted n marks g a ≡ 0
   unfolding splitCount
   split-none = go (eqb (markIn marks a) 2) refl
@@ -103,7 +103,7 @@ module _ (n : ℕ) (marks : List ℕ) (g a : ℕ) (g< : g < 2 ^ n) (some : 0 < a
       go true e other = rw (no-parts-count n marks (g - a) (omega arith) (eqb-false _ 2 other)) (mul-zero _)
       go false e other = rw (no-parts-count n marks a (omega arith) (eqb-false _ 2 e)) (zero-mul _)
 
-  -- at most the group's count
+  -- it is at most the group's count
   pub split-within : markIn marks g ≡ 2 → inside n a g ≡ true → member (firstInput n g) a ≡ true → splitCounted n marks g a ≤ groupTrees n marks g
   split-within two is-inside is-held = go (bothTwo marks g a) refl
     where
@@ -116,20 +116,20 @@ module _ (n : ℕ) (marks : List ℕ) (g a : ℕ) (g< : g < 2 ^ n) (some : 0 < a
           let sizes = split-sizes n marks g a g< may in
           split-most n marks g g< two (λ one. omega arith) a (is-split n marks g a may)
 
--- so its product and the group's sum have 64 bits
+-- so its product and the group's sum fit in 64 bits
 pub split-fits : (marks counts : List ℕ) (g a : ℕ) → Splittable marks counts g a → splitCounted mostInputs marks g a < 2 ^ 64
 split-fits marks counts g a split =
     let within = split-within mostInputs marks g a (split .group .below) (split .some) (split .less) (split .two)
     (split .holds mostInputs (split .group .below) .0) (split .holds mostInputs (split .group .below) .1) in
     omega (arith, group-trees-fit mostInputs marks (omega arith) g)
 
--- ---- what is kept of a split's two groups, multiplied
+-- the product of the recorded counts of a split's two groups
 
 module _ (marks counts : List ℕ) (g a : ℕ) (split : Splittable marks counts g a) where
   abbrev pub product : ℕ
   product = getD counts a 0 * getD counts (g - a) 0
 
-  -- 0, or the split's count
+  -- it is 0, or the split's count
   product-kept : (product ≡ 0) ⊎ ((n : ℕ) → g < 2 ^ n → product ≡ splitCounted n marks g a)
   unfolding splitCount
   product-kept = go (split .group .kept a) (split .group .kept (g - a))

@@ -1,4 +1,4 @@
--- The wiring of a number among a group's trees, as the code finds it: the split that the number falls in, then a number of each part.
+-- The wiring of a number among a group's trees, as the code finds it: the split that the number falls in, then a number for each part.
 -- Assumes nothing.
 use Prim.Native.Nat.{ℕ, zero, suc, _+_, _-_, _/_, _%_, _^_, _≤_, _<_}
 use mathlib.Core.Path.{_≡_, sym, ap, ap₂, _∙_, subst⁻¹}
@@ -21,7 +21,7 @@ use Rattle.tree_counts.specs.Counts.{CountsKnown}
 
 -- ---- the split
 
--- it is the one that the number falls in, with its number there
+-- s is the split that the number falls in, and the number within it
 pub record SplitFound (marks : List ℕ) (g r : ℕ) (s : Numbered) (counts : List ℕ) : Type 0 where
   pub is : (n : ℕ) → g < 2 ^ n → record { part = s .part; number = s .number } ≡ numberedAt (splitCounted n marks g) (splitsOf n marks g) r
   pub kept : CountsKnown marks counts
@@ -38,7 +38,7 @@ pub record InCount (n : ℕ) (marks : List ℕ) (g r : ℕ) : Type 0 where
 pub record NumberWired (n : ℕ) (marks : List ℕ) (g r : ℕ) (before after : Wiring) (reference : ℕ) (counts : List ℕ) : Type 0 where
   pub count : after .gates + 1 ≡ before .gates + size n g
   pub small : reference < n + after .gates
-  -- whatever the fuel, if it is enough
+  -- for any fuel that is enough
   pub wires : (fuel : ℕ) → size n g ≤ fuel → AddedWiring n (wired n marks fuel g r) before after reference
   pub kept : CountsKnown marks counts
 
@@ -59,7 +59,7 @@ numbered-single n marks g r w counts first one kept =
       kept = kept;
     }
 
--- ---- several: the links of A's tree, those of B's, and the group's own
+-- several inputs: the links of A's tree, those of B's, and the group's own
 
 module _ (n : ℕ) (marks : List ℕ) (g r : ℕ) (in-count : InCount n marks g r) (several : size n g ≢ 1) (a number : ℕ)
     (is : record { part = a; number = number } ≡ numberedAt (splitCounted n marks g) (splitsOf n marks g) r) where

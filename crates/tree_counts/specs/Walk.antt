@@ -1,5 +1,5 @@
--- The splits of a group as the code goes through them: by the parts of its other members, each with the first-listed input. Which splits are left, what
--- they count for together, and which of them a number falls in.
+-- The splits of a group in the order of the code: by the parts of its other members, each with the first-listed input. Which splits remain, the sum
+-- of their counts, and which of them a number falls in.
 -- Assumes nothing.
 use Prim.Native.Nat.{ℕ, _+_, _-_, _^_, _≤_, _<_}
 use mathlib.Core.Path.{_≡_, refl, sym, ap, _∙_}
@@ -24,11 +24,11 @@ use Rattle.tree_counts.specs.Counts.{split-none}
 abbrev pub splitsFrom : ℕ → List ℕ → ℕ → ℕ → List ℕ
 splitsFrom n marks g a = those (isA n marks g) (range a (g - a))
 
--- what some splits count for
+-- the sum of the counts of some splits
 abbrev pub countsFor : ℕ → List ℕ → ℕ → List ℕ → ℕ
 countsFor n marks g splits = total (map (splitCounted n marks g) splits)
 
--- the split that a number falls in, of some splits
+-- which of some splits a number falls in
 abbrev pub falls : ℕ → List ℕ → ℕ → List ℕ → ℕ → Numbered
 falls n marks g splits r = numberedAt (splitCounted n marks g) splits r
 
@@ -66,13 +66,13 @@ module _ (marks : List ℕ) (g rest : ℕ) (some : 0 < g) (is-rest : (n : ℕ) �
     abbrev later : List ℕ
     later = splitsFrom n marks g (at next)
 
-    -- a split that is not one counts for nothing
+    -- if a part does not have mark 2, the count is 0
     no-count : bothTwo marks g (at part) ≡ false → splitCounted n marks g (at part) ≡ 0
     no-count =
         let is = here g rest some is-rest (settledTest marks g) (bothTwo marks g) (settled-looked marks g) n g< part more is-part in
         split-none n marks g (at part) g< (is .0) (is .1)
 
-    -- so the code need not tell it from the others: what it counts for is taken, ..
+    -- so the code needs no test for it: its count is added, ..
     pub counts-next : countsFor n marks g (splitsFrom n marks g (at part))
         ≡ splitCounted n marks g (at part) + countsFor n marks g (splitsFrom n marks g (at next))
     counts-next = ap (countsFor n marks g) splits-next ∙ go (bothTwo marks g (at part)) refl
@@ -82,7 +82,7 @@ module _ (marks : List ℕ) (g rest : ℕ) (some : 0 < g) (is-rest : (n : ℕ) �
         go true e = unfold total in refl
         go false e = rw (no-count e) (sym (zero-add _))
 
-    -- .. a number below it falls there, ..
+    -- .. a number below the count falls there, ..
     pub falls-here : (r : ℕ) → r < splitCounted n marks g (at part) → falls n marks g (splitsFrom n marks g (at part)) r ≡ record { part = at part; number = r }
     falls-here r below = ap (λ (splits : List ℕ). falls n marks g splits r) splits-next ∙ go (bothTwo marks g (at part)) refl
       where
@@ -90,7 +90,7 @@ module _ (marks : List ℕ) (g rest : ℕ) (some : 0 < g) (is-rest : (n : ℕ) �
         go true e = numbered-here (splitCounted n marks g) (at part) later r below
         go false e = absurd (omega (arith, no-count e))
 
-    -- .. and any other later
+    -- .. and any other number falls later
     pub falls-later : (r : ℕ) → splitCounted n marks g (at part) ≤ r
         → falls n marks g (splitsFrom n marks g (at part)) r ≡ falls n marks g (splitsFrom n marks g (at next)) (r - splitCounted n marks g (at part))
     falls-later r past = ap (λ (splits : List ℕ). falls n marks g splits r) splits-next ∙ go (bothTwo marks g (at part)) refl

@@ -1,4 +1,4 @@
--- The loops over a group's splits, over plain numbers: the splits are passed up to the part `part` of the members other than the first-listed.
+-- The loops over a group's splits, over plain numbers: the splits before the part `part` of the members other than the first-listed are done.
 -- Assumes nothing.
 use Prim.Native.Nat.{ℕ, _+_, _-_, _^_, _≤_, _<_}
 use mathlib.Core.Path.{_≡_, refl, sym, ap, _∙_}
@@ -20,7 +20,7 @@ use Rattle.marks.specs.FirstParts.{part-at}
 use Rattle.tree_counts.specs.Counts.{Countable, Splittable, CountsKnown}
 use Rattle.tree_counts.specs.Walk.{splitsFrom, countsFor, falls, splits-all, splits-none, counts-next, falls-here, falls-later}
 
--- where the walk stands
+-- where the walk is
 pub record Passed (rest part : ℕ) : Type 0 where
   pub low : part ≤ rest
   pub is-part : PartOf part rest
@@ -31,18 +31,18 @@ passed-none rest = record { low = omega arith; is-part = refl }
 pub passed-next : (rest part next : ℕ) → part < rest → Next rest part next → Passed rest next
 passed-next rest part next more after = record { low = after .least rest more (and-self rest); is-part = after .part }
 
--- with what the splits that are left count for, the sum is that over all
+-- the sum so far plus the counts of the remaining splits is the sum over all
 abbrev pub Summed : List ℕ → ℕ → ℕ → ℕ → ℕ → Type 0
 Summed marks g rest part sum =
     (n : ℕ) → g < 2 ^ n → sum + countsFor n marks g (splitsFrom n marks g ((g - rest) + part)) ≡ countsFor n marks g (splitsOf n marks g)
 
--- what is left of the number falls, of the splits that are left, where the number falls of all
+-- among the remaining splits, the rest of the number falls where the number falls among all
 abbrev pub SplitsLeft : List ℕ → ℕ → ℕ → ℕ → ℕ → ℕ → Type 0
 SplitsLeft marks g rest r part left =
     (n : ℕ) → g < 2 ^ n → falls n marks g (splitsFrom n marks g ((g - rest) + part)) left ≡ falls n marks g (splitsOf n marks g) r
 
 module _ (marks : List ℕ) (g rest : ℕ) (some : 0 < g) (is-rest : (n : ℕ) → g < 2 ^ n → rest ≡ g - 2 ^ firstInput n g) where
-  -- the split that is looked at
+  -- the current split
   module _ (counts later : List ℕ) (group : Countable marks counts g) (two : markIn marks g ≡ 2) (same : length later ≡ length counts)
       (kept : CountsKnown marks later)
       (part : ℕ) (more : part < rest) (passed : Passed rest part) where
@@ -73,7 +73,7 @@ module _ (marks : List ℕ) (g rest : ℕ) (some : 0 < g) (is-rest : (n : ℕ) �
   summed-all part sum summed end two several n g< =
       omega (arith, summed n g<, ap (countsFor n marks g) (splits-none marks g rest some is-rest n g< part end), count-several n marks g g< two (several n g<))
 
-  -- one split more is no more than the group's count
+  -- with one more split, the sum is at most the group's count
   pub summed-most : (part sum count : ℕ) → g < 2 ^ mostInputs → part < rest → Passed rest part → Summed marks g rest part sum
       → ((n : ℕ) → g < 2 ^ n → count ≡ splitCounted n marks g ((g - rest) + part)) → markIn marks g ≡ 2 → ((n : ℕ) → g < 2 ^ n → size n g ≢ 1)
       → sum + count ≤ groupTrees mostInputs marks g

@@ -1,4 +1,4 @@
-// How many trees a group has, from its splits, and a split, from its two groups: the two call each other. What is found is kept.
+// The number of trees of a group, from its splits, and of a split, from its two groups: the two call each other. Known counts are recorded.
 ghost use mathlib.Core.Path.{_≡_};
 ghost use Prim.Native.Nat.{_-_, _*_, _^_, _<_};
 ghost use lib.ListN.{length, getD};
@@ -15,8 +15,8 @@ pub fn kept_product(counts: &[u64], g: usize, a: usize) -> u64
     counts[a] * counts[g - a]
 }
 
-// Returns the number of trees of group g. `counts` has each group's count at its number, or 0 if it is not yet known. Goes through the parts that hold
-// the first-listed input.
+// Returns the number of trees of group g. `counts` has each group's count at its number, or 0 if it is not yet known. Goes through the parts that
+// hold the first-listed input.
 pub fn group_count(marks: &[u8], counts: &mut [u64], g: usize) -> u64
     requires { ⌜ Countable (now marks) (now counts) g ⌝ }
     ensures { λ r. ⌜ CountKnown (now (marks .entry)) g r (now (counts .exit)) ⌝ }
@@ -50,7 +50,7 @@ pub fn group_count(marks: &[u8], counts: &mut [u64], g: usize) -> u64
     sum
 }
 
-// Returns the number of trees of the split of group g, which has mark 2, into a and the rest: that of a times that of the rest.
+// Returns the number of trees of the split of group g, which has mark 2, into a and the rest: the product of their counts.
 pub fn split_count(marks: &[u8], counts: &mut [u64], g: usize, a: usize) -> u64
     requires { ⌜ Splittable (now marks) (now counts) g a ⌝ }
     ensures { λ r. ⌜ SplitKnown (now (marks .entry)) g a r (now (counts .exit)) ⌝ }

@@ -1,2 +1,2 @@
-// Counts by size, for groups all of whose parts have mark 2. For speed only: `counts` has the plain recursion.
+// Counts by size, for groups whose parts all have mark 2. For speed only: `counts` has the plain recursion.
 pub mod full;

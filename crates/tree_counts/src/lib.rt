@@ -1,4 +1,4 @@
-// How many trees a group has, and the wiring of each number.
+// The number of trees of a group, and the wiring of each number.
 pub mod counts;
 pub mod fast;
 pub mod numbered;

@@ -28,7 +28,7 @@ fn known_split(marks: &[u8], counts: &mut [u64], g: usize, a: usize) -> u64
     counts::split_count(marks, counts, g, a)
 }
 
-// Returns the split of group g that number r falls in, and the number within it: subtracts the counts of the splits from r until it is below the next one.
+// Returns the split of group g that number r falls in, and the number within it: subtracts counts of splits from r until r is below the next count.
 fn numbered_split(marks: &[u8], counts: &mut [u64], g: usize, r: u64) -> Numbered
     requires { ⌜ (Countable (now marks) (now counts) g) × (markIn (now marks) g ≡ 2) ⌝ }
     ensures { λ s. ⌜ SplitFound (now (marks .entry)) g r s (now (counts .exit)) ⌝ }
@@ -54,7 +54,7 @@ fn numbered_split(marks: &[u8], counts: &mut [u64], g: usize, r: u64) -> Numbere
     }
 }
 
-// Adds the links of number r of group g: those of A's tree, those of B's, its own. B's number goes on first.
+// Adds the links of number r of group g: first those of A's tree, then those of B's, then its own. B's number varies fastest.
 fn wire_numbered(
     n: usize,
     marks: &[u8],

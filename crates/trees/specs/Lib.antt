@@ -1,4 +1,4 @@
--- Theorems about the definitions of `rules`. docs/PROMISES.md lists them beside the sentences that they prove.
+-- Theorems about the definitions of `rules`. docs/PROMISES.md lists them next to the sentences that they prove.
 pub mod Arrivals
 pub mod Families
 pub mod Filling

@@ -1,5 +1,5 @@
--- The loop of `fewest_of` over plain numbers: the parts of g that hold its first-listed input are passed up to the part `part` of the others.
--- A least that is no more than a floor of all splits ends it.
+-- The loop of `fewest_of` over plain numbers: the parts of g that hold its first-listed input are done up to the part `part` of the others.
+-- It ends at a least that is at most a floor of all splits.
 -- Assumes nothing.
 use Prim.Native.Nat.{ℕ, _+_, _-_, _^_, _≤_, _<_}
 use mathlib.Core.Path.{_≡_, refl, sym, _∙_}
@@ -21,7 +21,7 @@ use Rattle.wirings.specs.Fast.Floors.{Under}
 abbrev at : ℕ → ℕ → ℕ → ℕ
 at g rest s = (g - rest) + s
 
--- such a part of mark 2, with a rest of mark 2, has r layers
+-- such a part, if it and the rest have mark 2, has r layers
 pub record Reaches (marks layers : List ℕ) (g rest r : ℕ) : Type 0 where
   s : ℕ
   less : s < rest
@@ -29,7 +29,7 @@ pub record Reaches (marks layers : List ℕ) (g rest r : ℕ) : Type 0 where
   two : bothTwo marks g (at g rest s) ≡ true
   layers-by : splitLayers layers g (at g rest s) ≡ r
 
--- `least` is the least over the parts passed, and 0 where none had mark 2
+-- `least` is the least over the parts passed, or 0 if none had mark 2
 pub record Scanned (marks layers : List ℕ) (g rest part least : ℕ) : Type 0 where
   pub low : part ≤ rest
   pub is-part : PartOf part rest
@@ -40,7 +40,7 @@ module _ (marks layers : List ℕ) (g rest : ℕ) where
   pub scanned-none : Scanned marks layers g rest 0 0
   scanned-none = record { low = omega arith; is-part = refl; bounds = λ s none. absurd (omega arith); attained = inl refl }
 
-  -- the least with one part more is some part's
+  -- the least with one more part is attained by some part
   pub reached : (part least : ℕ) → Scanned marks layers g rest part least → part < rest → (r : ℕ) → WiringFewer marks layers g (at g rest part) least r
       → (r ≡ 0) ⊎ Reaches marks layers g rest r
   reached part least so-far more r fewer =
@@ -51,7 +51,7 @@ module _ (marks layers : List ℕ) (g rest : ℕ) where
       moved : Reaches marks layers g rest least → least ≡ r → Reaches marks layers g rest r
       moved was e = record { s = was .s; less = was .less; is-part = was .is-part; two = was .two; layers-by = was .layers-by ∙ e }
 
-  -- one part more
+  -- one more part
   pub scanned-next : (part least : ℕ) → Scanned marks layers g rest part least → part < rest → (r : ℕ) → WiringFewer marks layers g (at g rest part) least r
       → (next : ℕ) → Next rest part next → Scanned marks layers g rest next r
   scanned-next part least so-far more r fewer next after =

@@ -1,4 +1,4 @@
--- A group's links added to a wiring, whatever the choice of parts: those of its parts, then its own.
+-- A group's links added to a wiring, for any choice of parts: those of its parts, then its own.
 -- Assumes nothing.
 use Prim.Native.Nat.{ℕ, zero, suc, _+_, _-_, _^_, _≤_, _<_}
 use mathlib.Core.Path.{_≡_, refl, subst⁻¹}
@@ -14,11 +14,11 @@ use Rattle.wirings.specs.declared.forms.Wiring.{Wiring}
 use Rattle.wirings.specs.Links.{Linked}
 use Rattle.wirings.specs.AddedWiring.{AddedWiring, wiring-input, wiring-gate}
 
--- group g's links are added, and `reference` refers to the last of them, or to g's only input
+-- the links of group g are added, and `reference` refers to the last of them, or to g's only input
 pub record Added (n : ℕ) (split : ℕ → ℕ) (g : ℕ) (before after : Wiring) (reference : ℕ) : Type 0 where
   pub count : after .gates + 1 ≡ before .gates + size n g
   pub small : reference < n + after .gates
-  -- whatever the fuel, if it is enough
+  -- for any fuel that is enough
   pub wires : (fuel : ℕ) → size n g ≤ fuel → AddedWiring n (wiringBy n split fuel g) before after reference
 
 -- the wiring of a single input, and of several
@@ -43,7 +43,7 @@ added-single n split g w first one =
           subst⁻¹ (λ v. AddedWiring n v w w (firstInput n g)) (wiring-single n split fuel g one) (wiring-input n (firstInput n g) w);
     }
 
--- ---- several: the links of A, those of B, and the group's own
+-- several inputs: the links of A, those of B, and the group's own
 
 module _ (n : ℕ) (mark : ℕ → ℕ) (leaves : ℕ) (split : ℕ → ℕ) (splits : Splits n mark leaves split)
     (g : ℕ) (g< : g < 2 ^ n) (g-in : inside n g leaves ≡ true) (two : mark g ≡ 2) (several : size n g ≢ 1) where

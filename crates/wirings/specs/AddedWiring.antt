@@ -1,4 +1,4 @@
--- A wiring's links added to others, whatever the wiring: those of its left side, those of its right side, its own.
+-- The links of any wiring added to others: those of its left side, those of its right side, its own.
 -- Assumes nothing.
 use Prim.Native.Nat.{ℕ, _+_}
 use mathlib.Core.Path.{_≡_, refl, sym, ap, ap₂, _∙_}
@@ -23,7 +23,7 @@ wiring-input n i w = record { count = omega arith; links = sym (append-nil (link
 -- a gate has those of its two sides, and its own
 module _ (n : ℕ) (A B : rules.Wiring) (before mid later after : Wiring) (l r : ℕ) (left : AddedWiring n A before mid l) (right : AddedWiring n B mid later r)
     (own : Linked l r later after) where
-  -- how many gates stand before the gate's own
+  -- how many gates come before the gate itself
   later-count : later .gates ≡ before .gates + gatesIn A + gatesIn B
   later-count = omega (arith, left .count, right .count)
 

@@ -1,4 +1,4 @@
--- Which part of a group a choice takes for A, and what the choice needs.
+-- Which part of a group a choice takes as A, and what the choice needs.
 -- Assumes nothing.
 use Prim.Native.Nat.{ℕ, _≤_, _<_}
 use mathlib.Core.List.{List}
@@ -14,12 +14,12 @@ abbrev pub splitBy : Choice → ℕ → List ℕ → List ℕ → ℕ → ℕ
 splitBy Settled n marks fewest = splitOf n marks
 splitBy Shallow n marks fewest = shallowSplit n marks fewest
 
--- the settled choice looks at the marks alone; the shallow one at the fewest layers of the groups up to g too
+-- the settled choice reads only the marks; the shallow one also reads the fewest layers of the groups up to g
 abbrev pub LayersRoom : Choice → ℕ → List ℕ → Type 0
 LayersRoom Settled g fewest = Unit {0}
 LayersRoom Shallow g fewest = g < length fewest
 
--- also of those up to a lower group
+-- the same for the groups up to a lower group
 pub room-below : (choice : Choice) (g : ℕ) (fewest : List ℕ) → LayersRoom choice g fewest → (h : ℕ) → h ≤ g → LayersRoom choice h fewest
 room-below Settled g fewest room h low = tt
 room-below Shallow g fewest room h low = lt-of-le-of-lt low room

@@ -1,4 +1,4 @@
--- What a choice of parts asks of the marks, and what it gives.
+-- What a choice of parts requires of the marks, and what it gives.
 -- Assumes nothing.
 use Prim.Native.Nat.{ℕ, _+_, _-_, _^_, _≤_, _<_}
 use mathlib.Core.Path.{_≡_, ap, ap₂, _∙_, subst, subst⁻¹}
@@ -17,7 +17,7 @@ use Rattle.wirings.specs.declared.forms.Wiring.{Wiring}
 use Rattle.wirings.specs.Links.{linksIn, none-in, Linked}
 use Rattle.wirings.specs.Added.{Added, added-several}
 
--- Group g has mark 2, and every group of mark 2 with several members inside it parts into two of mark 2 where `split` says.
+-- Group g has mark 2, and `split` splits every group of mark 2 with several members inside it into two groups of mark 2.
 pub record Choosable (n : ℕ) (marks : List ℕ) (split : ℕ → ℕ) (g : ℕ) : Type 0 where
   pub inputs : n ≤ mostInputs
   pub room : 2 ^ n ≤ length marks
@@ -39,7 +39,7 @@ ready-some n marks split g ready =
 splits-in : (n : ℕ) (marks : List ℕ) (split : ℕ → ℕ) (g : ℕ) → Choosable n marks split g → (h : ℕ) → inside n h g ≡ true → Splits n (markIn marks) h split
 splits-in n marks split g ready h h-in k k< k-in two several = ready .splits k k< (inside-trans n k h g k-in h-in) two several
 
--- a group of several members, and the part that the code has found
+-- a group of several members, and the part that the code finds
 module _ (n : ℕ) (marks : List ℕ) (split : ℕ → ℕ) (g : ℕ) (ready : Choosable n marks split g) (several : size n g ≢ 1) (a : ℕ) (is : a ≡ split g) where
   abbrev mark : ℕ → ℕ
   mark = markIn marks

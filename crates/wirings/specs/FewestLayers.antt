@@ -1,5 +1,5 @@
--- The fewest layers of the groups of mark 2 as the code finds them: over the parts that hold a group's first-listed input alone, since a part and
--- the rest of the group have as many layers as the rest and the part; and from the groups of mark 2 alone, since no other is a part.
+-- The fewest layers of the groups of mark 2 as the code finds them. It tries only the parts that hold a group's first-listed input, because
+-- exchanging a part and the rest gives the same layers. It reads only the groups of mark 2, because no other group is a part.
 -- Assumes nothing.
 use Prim.Native.Nat.{ℕ, zero, suc, _+_, _-_, _^_, _≤_, _<_}
 use mathlib.Core.Path.{_≡_, refl, sym, ap, _∙_}
@@ -45,12 +45,12 @@ module _ (n : ℕ) (marks layers : List ℕ) (g : ℕ) (g< : g < 2 ^ n) where
     pub may : isA n marks g a ≡ true
     pub layers-by : by a ≡ r
 
-  -- r is the least over the parts that hold the first-listed input, and 0 where there is none
+  -- r is the least over the parts that hold the first-listed input, or 0 if there are none
   pub record LeastByFirst (r : ℕ) : Type 0 where
     pub bounds : (a : ℕ) → 0 < a → a < g → isA n marks g a ≡ true → (0 < r) × (r ≤ by a)
     pub attained : (r ≡ 0) ⊎ Attains r
 
-  -- the first parts of all the ways to part g
+  -- the first parts of all the ways to split g
   abbrev parts : List ℕ
   parts = those (partsAt n marks g) (range 1 (g - 1))
 
@@ -62,7 +62,7 @@ module _ (n : ℕ) (marks layers : List ℕ) (g : ℕ) (g< : g < 2 ^ n) where
       let between = range-mem 1 (g - 1) a (those-mem (partsAt n marks g) (range 1 (g - 1)) a is) in
       (between .0, omega arith, those-pass (partsAt n marks g) a (range 1 (g - 1)) is)
 
-  -- a part, or the rest of the group, holds the first-listed input; the layers are the same
+  -- the part or the rest of the group holds the first-listed input; the layers are the same
   first-side : (a : ℕ) → 0 < a → a < g → partsAt n marks g a ≡ true → Attains (by a)
   unfolding parts-of parts-swap splitLayers
   first-side a some less h = go (member (firstInput n g) a) refl (first-member n g g< (omega arith))
@@ -107,13 +107,13 @@ pub fewest-empty : (n : ℕ) (marks layers : List ℕ) → 0 ≡ fewestOf n mark
 unfolding fewestOf least those range
 fewest-empty n marks layers = refl
 
--- r is the least of `least` and the layers by a, if a and the rest of g have mark 2; a least of 0 stands for none yet
+-- r is the lower of `least` and the layers by a, if a and the rest of g have mark 2; a least of 0 means none yet
 pub record WiringFewer (marks layers : List ℕ) (g a least r : ℕ) : Type 0 where
   pub as-before : 0 < least → (0 < r) × (r ≤ least)
   pub by-part : bothTwo marks g a ≡ true → (0 < r) × (r ≤ splitLayers layers g a)
   pub is : (r ≡ least) ⊎ ((bothTwo marks g a ≡ true) × (splitLayers layers g a ≡ r))
 
--- the fewest layers of a group of mark 2, and 0 for any other
+-- the fewest layers of a group of mark 2, or 0 for any other group
 unfoldable pub layersOf : ℕ → List ℕ → List ℕ → ℕ → ℕ
 layersOf n marks layers g = elim (eqb (markIn marks g) 2) [ true ↦ fewestOf n marks layers g | false ↦ 0 ]
 
@@ -133,7 +133,7 @@ module _ (n : ℕ) (marks layers : List ℕ) (g : ℕ) where
       go (yes two) = fewest-empty n marks layers ∙ ap (fewestOf n marks layers) (sym e) ∙ layers-two two
       go (no other) = layers-other other
 
-  -- no more than the rule gives
+  -- at most what the rule gives
   pub layers-most : layersOf n marks layers g ≤ fewestOf n marks layers g
   layers-most = go (ℕ-discrete (markIn marks g) 2)
     where
@@ -148,7 +148,7 @@ abbrev pub WiringKnown : ℕ → List ℕ → ℕ → List ℕ → Type 0
 WiringKnown n marks g layers = (h : ℕ) → h < g → markIn marks h ≡ 2 → getD layers h 0 ≡ fewest n marks h
 
 module _ (n : ℕ) (marks : List ℕ) where
-  -- the rule reads the entries of groups of mark 2 alone
+  -- the rule reads only the entries of groups of mark 2
   rule-agree : (xs ys : List ℕ) (g : ℕ) → ((a : ℕ) → a < g → markIn marks a ≡ 2 → getD xs a 0 ≡ getD ys a 0)
       → fewestOf n marks xs g ≡ fewestOf n marks ys g
   unfolding fewestOf splitLayers
@@ -160,11 +160,11 @@ module _ (n : ℕ) (marks : List ℕ) where
       rw (e a (omega arith) (twos .1), e (g - a) (omega arith) (twos .2)))
 
   module _ (g : ℕ) (layers : List ℕ) (known : WiringKnown n marks g layers) (g< : g < 2 ^ n) where
-    -- so the next group's fewest layers are found from them, ..
+    -- so they give the next group's fewest layers, ..
     pub known-rule : fewestOf n marks layers g ≡ fewest n marks g
     known-rule = rule-agree layers (fewestLayers n marks) g known ∙ sym (fewest-rule n marks g g<)
 
-    -- .. are no more than there are inputs, ..
+    -- .. which are at most the number of inputs, ..
     pub known-small : layersOf n marks layers g ≤ n
     known-small = le-trans (layers-most n marks layers g) (le-trans (le-of-eq known-rule) (go (ℕ-discrete g 0)))
       where
@@ -172,7 +172,7 @@ module _ (n : ℕ) (marks : List ℕ) where
         go (yes none) = rw none (omega (arith, fewest-rule n marks 0 (omega arith), fewest-empty n marks (fewestLayers n marks)))
         go (no some) = omega (arith, fewest-small n marks g g< (omega arith), size-le n g)
 
-    -- .. and are known with the others, once they stand at its number
+    -- .. and are known once they are written at its number
     pub wiring-known-next : g < length layers → (r : ℕ) → r ≡ layersOf n marks layers g → WiringKnown n marks (g + 1) (set layers g r)
     wiring-known-next room r is h h< two = go (ℕ-discrete h g)
       where
@@ -202,7 +202,7 @@ module _ (n : ℕ) (xs ys : List ℕ) (same : (g : ℕ) → g < 2 ^ n → markIn
       (λ a is. parts-agree k a (omega arith) (omega (arith, range-mem 1 (k - 1) a is))) in
       λ i. before i ++ (least (map (splitLayers (before i) k) (parts i)) ∷ [])
 
-  -- have the same fewest layers, ..
+  -- they have the same fewest layers, ..
   layers-agree : fewestLayers n xs ≡ fewestLayers n ys
   unfolding fewestLayers
   layers-agree = below-agree (2 ^ n) (omega arith)

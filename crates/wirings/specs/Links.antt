@@ -1,4 +1,4 @@
--- What a wiring by value stands for: its links, in the order of the gates.
+-- What a wiring by value represents: its links, in the order of the gates.
 -- Assumes nothing.
 use Prim.Native.Nat.{ℕ, _+_, _-_, _<_}
 use mathlib.Core.Path.{_≡_, refl, ap, ap₂, _∙_}
@@ -21,7 +21,7 @@ linkAt w k = record { left = getD (w .left) k 0; right = getD (w .right) k 0 }
 unfoldable pub linksIn : Wiring → List Link
 linksIn w = map (linkAt w) (range 0 (w .gates))
 
--- as many as it has gates
+-- it has as many links as gates
 pub links-count : (w : Wiring) → length (linksIn w) ≡ w .gates
 unfolding linksIn
 links-count w = map-range-length (linkAt w) 0 (w .gates)

@@ -1,4 +1,4 @@
-// Which wiring is chosen, by the part that each group takes for A.
+// Which wiring is chosen: the part A that each group takes.
 ghost use mathlib.Core.Path.{_≡_};
 ghost use Prim.Native.Nat.{ℕ, _^_, _≤_, _<_};
 ghost use lib.ListN.{length};

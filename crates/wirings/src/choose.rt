@@ -1,4 +1,4 @@
-// A wiring by a choice of parts: a group's two parts first, then its own gate.
+// Builds a wiring by a choice of parts: a group's two parts first, then its own gate.
 ghost use Prim.Native.Nat.{_+_, _≤_};
 ghost use Rattle.rules.specs.Groups.Groups.{size};
 ghost use Rattle.wirings.specs.Choice.{splitBy, LayersRoom};
@@ -15,7 +15,7 @@ pub struct Wired {
     pub reference: u8,
 }
 
-// Adds the links of group g, which has mark 2: those of A, those of B, its own.
+// Adds the links of group g, which has mark 2: first those of A, then those of B, then its own.
 fn wire_group(
     choice: Choice,
     n: usize,

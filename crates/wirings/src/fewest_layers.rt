@@ -13,7 +13,7 @@ use marks::split;
 use radix::members;
 use radix::powers;
 
-// Returns the layers of a gate that joins a and the rest of g, each with its fewest layers.
+// Returns the layers of a gate that joins a and the rest of g if each has its fewest layers.
 pub fn split_layers(fewest: &[u8], g: usize, a: usize) -> usize
     requires { ⌜ (0 < a) × (a < g) × (g ≤ length (now fewest)) ⌝ }
     ensures { λ r. ⌜ r ≡ splitLayers (now (fewest .entry)) g a ⌝ }
@@ -26,7 +26,7 @@ pub fn split_layers(fewest: &[u8], g: usize, a: usize) -> usize
     1 + left
 }
 
-// Returns the lower of `least` and the layers by part a, if a and the rest of g have mark 2. A least of 0 means none yet.
+// Returns the lower of `least` and the layers by part a, if a and the rest of g have mark 2. If `least` is 0, none is known yet.
 fn fewer_by(marks: &[u8], fewest: &[u8], g: usize, a: usize, least: usize) -> usize
     requires { ⌜ (0 < a) × (a < g) × (g ≤ length (now marks)) × (g ≤ length (now fewest)) ⌝ }
     ensures { λ r. ⌜ WiringFewer (now (marks .entry)) (now (fewest .entry)) g a least r ⌝ }
@@ -43,8 +43,8 @@ fn fewer_by(marks: &[u8], fewest: &[u8], g: usize, a: usize, least: usize) -> us
     least
 }
 
-// Returns the fewest layers of group g, from those of the groups below it. Goes through the parts that hold its first-listed input, up to one that has
-// no more layers than the floor: no other has fewer.
+// Returns the fewest layers of group g, from those of the groups below it. Tries the parts that hold its first-listed input, and stops at one that
+// has no more layers than the floor, because no other part has fewer.
 fn fewest_of(marks: &[u8], fewest: &[u8], g: usize, floor: usize) -> usize
     requires { ⌜ (0 < g) × (g < groupsEnd) × (g ≤ length (now marks)) × (g ≤ length (now fewest)) × Under (now marks) (now fewest) g floor ⌝ }
     ensures { λ r. ⌜ ((n : ℕ) → g < 2 ^ n → r ≡ fewestOf n (now (marks .entry)) (now (fewest .entry)) g) ⌝ }
@@ -63,7 +63,7 @@ fn fewest_of(marks: &[u8], fewest: &[u8], g: usize, floor: usize) -> usize
     least
 }
 
-// Returns the same if g has mark 2, else 0: no other group is a part.
+// Returns the same if g has mark 2, else 0, because no other group can be a part.
 fn layers_of(marks: &[u8], fewest: &[u8], g: usize, floor: usize) -> usize
     requires { ⌜ (g < groupsEnd) × (g < length (now marks)) × (g ≤ length (now fewest)) × (markIn (now marks) g ≡ 2 → Under (now marks) (now fewest) g floor) ⌝ }
     ensures { λ r. ⌜ ((n : ℕ) → g < 2 ^ n → r ≡ layersOf n (now (marks .entry)) (now (fewest .entry)) g) ⌝ }
@@ -77,13 +77,13 @@ fn layers_of(marks: &[u8], fewest: &[u8], g: usize, floor: usize) -> usize
     fewest_of(marks, fewest, g, floor)
 }
 
-// Writes the fewest layers of every group of mark 2 to its number.
+// Writes the fewest layers of each group of mark 2 at its number.
 pub fn fewest_layers(n: usize, marks: &[u8], fewest: &mut [u8])
     requires { ⌜ (n ≤ mostMembers) × (2 ^ n ≤ length (now marks)) × (2 ^ n ≤ length (now fewest)) ⌝ }
     ensures { λ _. ⌜ WiringKnown n (now (marks .entry)) (2 ^ n) (now (fewest .exit)) ⌝ }
 {
     let end = powers::power(2, n);
-    // Have all groups of mark 2 so far layers enough for their members? Then the next has a floor by its members.
+    // Whether all groups of mark 2 so far have enough layers for their members. Then the members of the next group give it a floor.
     let mut sized = true;
     let mut g: usize = 0;
     while g < end {

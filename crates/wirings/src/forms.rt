@@ -1,11 +1,11 @@
-// A wiring by value, with room for the largest allowed size. specs/Links.antt says what it stands for.
+// A wiring by value, with room for the largest allowed size. specs/Links.antt says what it represents.
 ghost use mathlib.Core.Path.{_≡_};
 ghost use Prim.Native.Nat.{_+_, _<_};
 ghost use Rattle.rules.specs.Limits.{mostInputs};
 ghost use Rattle.wirings.specs.Links.{noLinks, Linked};
 use radix::limits::MOST_GATES;
 
-// Which two references each gate joins. References are numbered as a net's: input i is i, from 0, and gate k, from 1, is
+// Which two references each gate joins. References are numbered as in a net: input i is i, from 0, and gate k, from 1, is
 // inputs + k - 1.
 pub struct Wiring {
     pub gates: usize,

@@ -1,18 +1,18 @@
-//! Every call against the second implementation, on accepted calls of the load run, which are of every size.
+//! Compares every call with the second implementation, on accepted calls of the load run, which cover every size.
 
 use crate::timing::{geometric_mean, ratio};
 use load::calls::{Call, Kind, Times};
 use std::collections::BTreeMap;
 
 const CALLS: u64 = 40_000;
-/// Each call is made so many times by both, and the least time of each is taken.
+/// Both implementations make each call this many times; the least time of each counts.
 const TIMES: usize = 8;
 const SEED: u64 = 21;
 
 /// The times of one kind of call, summed for each size.
 type BySize = BTreeMap<(usize, usize), Times>;
 
-/// One for each kind of call.
+/// Returns the times of each kind of call.
 fn times() -> Vec<BySize> {
     let mut times = vec![BySize::new(); Kind::ALL.len()];
     for k in 0..CALLS {
@@ -28,7 +28,7 @@ fn times() -> Vec<BySize> {
     times
 }
 
-/// Returns the least times of a call, which took the given times once.
+/// Returns the least times of a call whose first run took `once`.
 fn least_times(seed: u64, once: Times) -> Times {
     (1..TIMES).fold(once, |least, _| {
         let again = Call::of(seed).times;
@@ -39,7 +39,7 @@ fn least_times(seed: u64, once: Times) -> Times {
     })
 }
 
-/// A line for each call: the geometric mean over the sizes, the least and the greatest.
+/// Prints a line for each call: the geometric mean over the sizes, the least and the greatest.
 pub fn report() {
     println!("every call, proved / second implementation");
     println!(

@@ -1,4 +1,4 @@
-//! A glyph: the library against plain Rust that evaluates the net gate by gate, cell by cell.
+//! A glyph: the library compared with plain Rust that evaluates the net gate by gate, cell by cell.
 
 use crate::timing::{least, ratio, report};
 use reference::generate::{Generator, TableKind};
@@ -30,7 +30,7 @@ fn flat(m: usize, n: usize, net: &Net) -> Flat {
     }
 }
 
-/// Each cell by itself: the levels of the inputs, then every gate.
+/// Computes each cell by itself: the levels of the inputs, then every gate.
 fn plain(net: &Flat, picture: &[u8], offsets: &[i8], output: &mut [u8]) {
     let inside = |at: usize, by: i8| {
         let moved = at as isize + isize::from(by);
@@ -56,7 +56,7 @@ fn plain(net: &Flat, picture: &[u8], offsets: &[i8], output: &mut [u8]) {
     }
 }
 
-/// The library reads the net sheet and judges the picture besides, and plain Rust has its net ready.
+/// Returns the ratio for one size. The library also reads the net sheet and judges the picture; plain Rust has its net ready.
 fn printing(m: usize, n: usize) -> f64 {
     let mut generator = Generator::new(20);
     let inputs: Vec<_> = (0..NETS)

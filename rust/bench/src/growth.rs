@@ -6,10 +6,10 @@ use crate::timing::{ratio, report};
 use std::time::Duration;
 
 const INPUTS: std::ops::RangeInclusive<usize> = 8..=12;
-/// More tables than elsewhere: those of one number of inputs are others than those of the next.
+/// More tables than elsewhere, because the tables for one number of inputs differ from those for the next.
 const TABLES: usize = 20;
 
-/// The library's growth and plain Rust's, from the same times.
+/// Prints the library's growth and plain Rust's, from the same times.
 pub fn marking() {
     let times: Vec<Vec<(Duration, Duration)>> = INPUTS
         .map(|n| {

@@ -1,4 +1,4 @@
-//! What is timed on: the kinds of table, and some tables and sheets of each.
+//! The inputs of the benchmark: the kinds of table, and some tables and sheets of each.
 
 use reference::generate::{Generator, TableKind};
 
@@ -14,14 +14,14 @@ pub const KINDS: [(&str, TableKind); 9] = [
     ("one other", TableKind::OneInkChanged),
     ("three", TableKind::ThreeMatter),
 ];
-/// So many tables of a kind are timed together.
+/// This many tables of a kind are timed together.
 pub const TABLES: usize = 5;
 
 pub fn names() -> [&'static str; KINDS.len()] {
     KINDS.map(|(name, _)| name)
 }
 
-/// The cells of so many tables.
+/// Returns the cells of this many tables.
 pub fn tables(seed: u64, m: usize, n: usize, kind: TableKind, count: usize) -> Vec<Vec<u8>> {
     let mut generator = Generator::new(seed);
     (0..count)
@@ -29,7 +29,7 @@ pub fn tables(seed: u64, m: usize, n: usize, kind: TableKind, count: usize) -> V
         .collect()
 }
 
-/// Some table sheets.
+/// Returns some table sheets.
 pub fn sheets(seed: u64, m: usize, n: usize, kind: TableKind) -> Vec<Vec<u8>> {
     let mut generator = Generator::new(seed);
     (0..TABLES)

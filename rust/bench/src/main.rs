@@ -1,5 +1,5 @@
 //! Times the proved library against plain Rust in the same run, on the same inputs: `cargo run --release -p bench`.
-//! A ratio is the proved library's time over the other's; below 1 the library is the quicker. `-- calls` times only every call against the second
+//! A ratio is the proved library's time divided by the other's; below 1 the library is faster. `-- calls` times only every call against the second
 //! implementation. `--bin stack` measures the stack of its calls.
 //!
 //! | module         | idea                                                          |
@@ -7,7 +7,7 @@
 //! | `kinds`        | the kinds of table, and the sizes                             |
 //! | `plain`        | marking and making in plain Rust                              |
 //! | `plain_sheets` | reading and checking in plain Rust                            |
-//! | `ratios`       | one ratio for each thing that is timed                        |
+//! | `ratios`       | one ratio for each thing timed                                |
 //! | `growth`       | what one more input costs                                     |
 //! | `steps`        | the longest step of a job                                     |
 //! | `glyphs`       | a glyph against plain Rust, gate by gate                      |
@@ -28,7 +28,7 @@ use kinds::{names, KINDS, SIZES};
 use ratios::{Against, Laid};
 use reference::generate::TableKind;
 
-/// One row a size, one column a kind, and the geometric mean over the kinds.
+/// Prints one row per size, one column per kind, and the geometric mean over the kinds.
 fn by_size(title: &str, ratio: impl Fn(usize, usize, TableKind) -> f64) {
     let rows = SIZES.into_iter().map(|(m, n)| {
         let ratios = KINDS.iter().map(|&(_, kind)| ratio(m, n, kind));

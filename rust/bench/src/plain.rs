@@ -1,11 +1,11 @@
 //! What a good engineer writes in an afternoon: offset lists for each group, an early exit at the first difference, splits by
-//! subset enumeration. Not the second implementation, which is plain rather than quick.
+//! subset enumeration. This is not the second implementation, which is simple rather than fast.
 
 use crate::plain_sheets::read_table;
 use reference::net::{Gate, Net, Wire};
 use reference::sheet::print_net_sheet;
 
-/// The offsets of a group's assignments into the cells, first-listed member slowest.
+/// Lists the offsets of a group's assignments into the cells; the first-listed member changes slowest.
 fn offsets(m: usize, n: usize, group: usize, out: &mut Vec<usize>) {
     out.clear();
     out.push(0);
@@ -23,7 +23,7 @@ fn offsets(m: usize, n: usize, group: usize, out: &mut Vec<usize>) {
     }
 }
 
-/// The first of each class, given up past m of them.
+/// Lists the first row of each class, and stops after m classes. Returns the number of classes, or m + 1 if there are more than m.
 fn classes(
     m: usize,
     cells: &[u8],
@@ -48,7 +48,7 @@ fn classes(
     firsts.len()
 }
 
-/// A part that holds the first-listed input, where it and the rest have mark 2.
+/// Returns a part that contains the first-listed input, if it and the rest have mark 2.
 pub fn split(marks: &[u8], group: usize) -> Option<usize> {
     let first = group & group.wrapping_neg();
     let rest = group ^ first;
@@ -85,7 +85,7 @@ pub fn marking(m: usize, n: usize, cells: &[u8], marks: &mut [u8]) -> u8 {
     marks[whole]
 }
 
-/// Each row's class, in the rows' order.
+/// Returns each row's class, in the order of the rows.
 fn row_classes(m: usize, n: usize, cells: &[u8], group: usize) -> (Vec<usize>, Vec<u8>) {
     let (mut rows, mut columns, mut firsts) = (Vec::new(), Vec::new(), Vec::new());
     offsets(m, n, group, &mut rows);
@@ -106,7 +106,7 @@ fn row_classes(m: usize, n: usize, cells: &[u8], group: usize) -> (Vec<usize>, V
     (rows, of_rows)
 }
 
-/// The inputs that matter, made up to two by the first-listed others.
+/// Returns the inputs that matter; if there are fewer than two, the first-listed others are added.
 fn leaves(m: usize, n: usize, cells: &[u8]) -> usize {
     let mut leaves: usize = 0;
     let mut weight = 1;
@@ -125,7 +125,7 @@ fn leaves(m: usize, n: usize, cells: &[u8]) -> usize {
     leaves
 }
 
-/// What a group's wire carries at each of its rows: a single input its level, the last gate the ink, any other its class.
+/// Returns what a group's wire carries at each of its rows: a single input its level, the last gate the ink, any other its class.
 fn carried(table: &Table, group: usize) -> (Vec<usize>, Vec<u8>) {
     let &Table { m, n, cells, .. } = table;
     let mut rows = Vec::new();
@@ -150,7 +150,7 @@ struct Table<'a> {
     leaves: usize,
 }
 
-/// Adds the gates of a group with several members, A's, B's and its own, and answers its wire.
+/// Adds the gates of a group with several members: those of A, those of B, and its own. Returns its wire.
 fn add_gates(table: &Table, group: usize, gates: &mut Vec<Gate>) -> Wire {
     let Some(a) = split(table.marks, group) else {
         return Wire::Input(group.trailing_zeros() as usize);
@@ -179,7 +179,7 @@ fn add_gates(table: &Table, group: usize, gates: &mut Vec<Gate>) -> Wire {
     Wire::Gate(gates.len())
 }
 
-/// A table sheet's settled net sheet, or nothing where there is no tree, or a cell is open.
+/// Returns a table sheet's settled net sheet, or nothing if there is no tree or a cell is open.
 pub fn making(sheet: &[u8]) -> Option<Vec<u8>> {
     let (header, inks) = read_table(sheet)?;
     let (m, n) = (header.m, header.n);

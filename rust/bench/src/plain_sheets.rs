@@ -1,11 +1,11 @@
-//! Sheets in plain Rust: a table is read field by field, or quicker by rows, each compared whole with the row that is due; a net is run over
-//! the cells with its wires in one array. Only whether a sheet is good is told, not what is wrong with one that is not. A cell that is left open holds
+//! Sheets in plain Rust: a table is read field by field, or faster by rows, each compared as a whole with the expected row; a net is run over
+//! the cells with its wires in one array. The readers only report whether a sheet is good, not what is wrong with a bad one. An open cell holds
 //! the number of levels.
 
 use reference::limits::cell_count;
 use reference::sheet::Header;
 
-/// The bytes that are left.
+/// The bytes that are left to read.
 struct Rest<'a>(&'a [u8]);
 
 impl<'a> Rest<'a> {
@@ -14,7 +14,7 @@ impl<'a> Rest<'a> {
         Some(())
     }
 
-    /// A field and the byte due after it.
+    /// Reads a field and the byte required after it.
     fn field(&mut self, after: u8) -> Option<&'a [u8]> {
         let ends = |&byte: &u8| byte == b' ' || byte == b'\n';
         let length = self.0.iter().position(ends)?;
@@ -47,7 +47,7 @@ impl<'a> Rest<'a> {
     }
 }
 
-/// Two digits at most, no needless zero.
+/// Reads a number of at most two digits, without a needless zero.
 fn decimal(field: &[u8]) -> Option<usize> {
     let digit = |byte: u8| byte.is_ascii_digit().then(|| usize::from(byte - b'0'));
     match *field {
@@ -57,7 +57,7 @@ fn decimal(field: &[u8]) -> Option<usize> {
     }
 }
 
-/// Header and inks of a table sheet, field by field: each level is the one due in the count.
+/// Returns the header and inks of a table sheet, read field by field: each level must be the next in counting order.
 pub fn read_table_by_fields(sheet: &[u8]) -> Option<(Header, Vec<u8>)> {
     let mut rest = Rest(sheet);
     let header = rest.header(b' ')?;
@@ -88,13 +88,13 @@ pub fn read_table_by_fields(sheet: &[u8]) -> Option<(Header, Vec<u8>)> {
     rest.0.is_empty().then_some((header, inks))
 }
 
-/// The same by whole rows.
+/// Does the same by whole rows.
 pub fn read_table(sheet: &[u8]) -> Option<(Header, Vec<u8>)> {
     let mut rest = Rest(sheet);
     let header = rest.header(b' ')?;
     rest.word(b"ink\n")?;
     let (m, n) = (header.m, header.n);
-    // the row that is due: levels and spaces, then the ink and a line feed
+    // the expected row: levels and spaces, then the ink and a line feed
     let mut due: Vec<u8> = b"0 ".repeat(n);
     let cells = m.pow(n as u32);
     if rest.0.len() != cells * (due.len() + 2) {
@@ -167,7 +167,7 @@ fn read_net(sheet: &[u8]) -> Option<(Header, Vec<Gate>)> {
     (rest.0.is_empty() && earlier_used).then_some((header, gates))
 }
 
-/// Whether both sheets are good, of one header, and agree, or where they first differ; the inks go to the front of the cells.
+/// Returns, if both sheets are good and have the same header, where they first differ, if they do. The inks go to the front of the cells.
 pub fn check(net: &[u8], table: &[u8], cells: &mut [u8]) -> Option<Option<usize>> {
     let (header, gates) = read_net(net)?;
     let (table_header, inks) = read_table(table)?;

@@ -1,4 +1,4 @@
-//! One ratio for each thing that is timed. Before its time is taken, what both give is compared.
+//! One ratio for each thing timed. Before timing, both results are compared.
 
 use crate::kinds::{sheets, tables, TABLES};
 use crate::timing::{least, ratio};
@@ -9,7 +9,7 @@ use sitgurp::Verdict;
 use std::hint::black_box;
 use std::time::Duration;
 
-/// The library's time to mark so many tables, and plain Rust's.
+/// Returns the library's time to mark this many tables, and plain Rust's.
 pub fn marking_times(m: usize, n: usize, kind: TableKind, count: usize) -> (Duration, Duration) {
     let tables = tables(11, m, n, kind, count);
     let mut marks = vec![0u8; (1 << n) / 4];
@@ -36,7 +36,7 @@ pub fn marking(m: usize, n: usize, kind: TableKind) -> f64 {
     ratio(proved, plain)
 }
 
-/// Every group's number of classes, one call a group.
+/// Counts every group's classes, one call per group.
 pub fn counting(m: usize, n: usize, kind: TableKind) -> f64 {
     let tables = tables(15, m, n, kind, TABLES);
     let groups = 1..1usize << n;
@@ -76,7 +76,7 @@ pub fn making(m: usize, n: usize, kind: TableKind) -> f64 {
     ratio(proved, plain)
 }
 
-/// Shallow making against making, both the library's. A table without a tree is refused by both after its marks.
+/// Shallow making compared with making, both by the library. Both refuse a table without a tree after marking it.
 pub fn shallow_making(m: usize, n: usize, kind: TableKind) -> f64 {
     let sheets = sheets(16, m, n, kind);
     for sheet in &sheets {
@@ -96,7 +96,7 @@ pub fn shallow_making(m: usize, n: usize, kind: TableKind) -> f64 {
     ratio(shallow, settled)
 }
 
-/// Counting a table sheet's trees against marking its bare cells, both the library's.
+/// Counting a table sheet's trees compared with marking its bare cells, both by the library.
 pub fn family_counting(m: usize, n: usize, kind: TableKind) -> f64 {
     let sheets = sheets(18, m, n, kind);
     let (mut cells, mut marks) = (vec![0; sitgurp::MOST_CELLS], vec![0; sitgurp::MOST_MARKS]);
@@ -121,7 +121,7 @@ pub fn family_counting(m: usize, n: usize, kind: TableKind) -> f64 {
     ratio(counting, marking)
 }
 
-/// The last tree of the family against making, both the library's. A table without a tree is refused by both after its marks.
+/// The last tree of the family compared with making, both by the library. Both refuse a table without a tree after marking it.
 pub fn last_tree(m: usize, n: usize, kind: TableKind) -> f64 {
     let sheets: Vec<(Vec<u8>, u64)> = sheets(19, m, n, kind)
         .into_iter()
@@ -150,17 +150,17 @@ pub fn last_tree(m: usize, n: usize, kind: TableKind) -> f64 {
     ratio(last, settled)
 }
 
-/// What the library's time is held against: plain Rust, of which there are two readers, or the second implementation.
+/// What the library's time is compared with: one of two readers in plain Rust, or the second implementation.
 #[derive(Clone, Copy, PartialEq, Eq)]
 pub enum Against {
-    /// Reading field by field; a checker with the quicker reader.
+    /// Reading field by field; for checking, plain Rust with the faster reader.
     Plain,
     /// Reading by whole rows.
     PlainRows,
     Second,
 }
 
-/// Reading alone: with no cells buffer making reads the whole sheet and is then refused with 13.
+/// Reading alone: without a cells buffer, making reads the whole sheet and then refuses it with 13.
 pub fn reading(m: usize, n: usize, kind: TableKind, against: Against) -> f64 {
     let sheets = sheets(13, m, n, kind);
     let proved = least(&sheets, |sheet| {
@@ -187,20 +187,20 @@ pub fn reading(m: usize, n: usize, kind: TableKind, against: Against) -> f64 {
     ratio(proved, other)
 }
 
-/// How a sheet is laid before it is tidied.
+/// The layout of a sheet before it is tidied.
 #[derive(Clone, Copy, PartialEq, Eq)]
 pub enum Laid {
     /// As a table sheet.
     Strictly,
     /// With its rows shuffled.
     Shuffled,
-    /// So, and with three spaces for one.
+    /// With its rows shuffled and three spaces for each one.
     Aligned,
-    /// So, and with each field below its name.
+    /// With its rows shuffled and each field below its name.
     BelowNames,
 }
 
-/// A prime that divides no number of cells: rows so many apart are shuffled, and each is taken once.
+/// A prime that divides no number of cells. Steps of this many rows shuffle the rows and visit each once.
 const STRIDE: usize = 1237;
 
 fn laid(sheet: &[u8], laid: Laid) -> Vec<u8> {
@@ -220,7 +220,7 @@ fn laid(sheet: &[u8], laid: Laid) -> Vec<u8> {
     (text + "\n").into_bytes()
 }
 
-/// Each field of a row as wide as its name, and one space after it.
+/// Pads each field of a row to the width of its name, and adds one space.
 fn below_names(lines: &[&str]) -> Vec<String> {
     let widths: Vec<usize> = lines[2].split(' ').map(str::len).collect();
     let padded = |line: &&str| {
@@ -232,7 +232,7 @@ fn below_names(lines: &[&str]) -> Vec<String> {
     first.chain(lines[3..].iter().map(padded)).collect()
 }
 
-/// Tidying a table sheet, laid as is said, against reading it strictly, both the library's.
+/// Tidying a table sheet with this layout compared with reading it strictly, both by the library.
 pub fn tidying(m: usize, n: usize, kind: TableKind, how: Laid) -> f64 {
     let sheets = sheets(20, m, n, kind);
     let loose: Vec<Vec<u8>> = sheets.iter().map(|sheet| laid(sheet, how)).collect();
@@ -251,7 +251,7 @@ pub fn tidying(m: usize, n: usize, kind: TableKind, how: Laid) -> f64 {
     ratio(tidying, reading)
 }
 
-/// A table sheet, and beside it its own net; where it has none, a net under the same header.
+/// Returns a table sheet with its own net or, if it has none, a net with the same header.
 fn net_and_table(sheet: Vec<u8>, generator: &mut Generator) -> (Vec<u8>, Vec<u8>) {
     let net = sitgurp::made(&sheet).unwrap_or_else(|_| {
         let (header, _) = read_table_sheet(&sheet).expect("a good sheet");
@@ -260,7 +260,7 @@ fn net_and_table(sheet: Vec<u8>, generator: &mut Generator) -> (Vec<u8>, Vec<u8>
     (net, sheet)
 }
 
-/// Keeping a table's own wiring against making, both the library's. A table without a tree is refused by both, and its wiring is another net's.
+/// Keeping a table's own wiring compared with making, both by the library. Both refuse a table without a tree; its wiring is that of another net.
 pub fn keeping(m: usize, n: usize, kind: TableKind) -> f64 {
     let mut generator = Generator::new(20);
     let sheets: Vec<(Vec<u8>, Vec<u8>)> = sheets(20, m, n, kind)
@@ -291,7 +291,7 @@ pub fn keeping(m: usize, n: usize, kind: TableKind) -> f64 {
     ratio(keeping, making)
 }
 
-/// A net sheet against a table sheet. A table with a tree is checked to its last cell, any other to the first that differs.
+/// Checks a net sheet against a table sheet. A table with a tree is checked to its last cell, any other up to the first difference.
 pub fn checking(m: usize, n: usize, kind: TableKind, against: Against) -> f64 {
     let mut generator = Generator::new(14);
     let sheets = sheets(14, m, n, kind).into_iter();

@@ -1,4 +1,4 @@
-//! A job's steps at 2 levels and 12 inputs, which has the most groups: how long the longest takes.
+//! A job's steps at 2 levels and 12 inputs, the size with the most groups: how long the longest takes.
 
 use crate::kinds::{names, sheets, KINDS};
 use crate::timing::{least, ratio, report};
@@ -11,9 +11,9 @@ use std::time::{Duration, Instant};
 const ROUNDS: usize = 7;
 
 struct Times {
-    /// The longest step, each by its least time of several rounds.
+    /// The longest step. A step's time is its least time over several rounds.
     longest: Duration,
-    /// All steps, by the same times.
+    /// All steps, with the same times.
     steps: Duration,
     /// A copy of the job.
     copy: Duration,
@@ -21,7 +21,7 @@ struct Times {
     marking: Duration,
 }
 
-/// The least time of each step.
+/// Returns the least time of each step.
 fn step_times(opened: &Job) -> Vec<Duration> {
     let mut times = vec![Duration::MAX; opened.groups()];
     for _ in 0..ROUNDS {
@@ -53,7 +53,7 @@ fn times_of(kind: TableKind) -> Times {
     }
 }
 
-/// The longest step in hundredths of all steps, of a hundredth of all steps and a copy, and of the marking call.
+/// Prints the longest step in hundredths of all steps, relative to a hundredth of all steps plus a copy, and in hundredths of the marking call.
 pub fn longest() {
     let times: Vec<Times> = KINDS.iter().map(|&(_, kind)| times_of(kind)).collect();
     let row = |name: &str, of: fn(&Times) -> f64| {

@@ -4,8 +4,8 @@ use std::time::{Duration, Instant};
 
 const ROUNDS: usize = 7;
 
-/// The sum, over the inputs, of the least time of several rounds. Each input has a least time of its own, so that another process on the
-/// machine spoils one call and not a round.
+/// Returns the sum, over the inputs, of the least time of several rounds. Each input has its own least time, so that another process on the
+/// machine disturbs one call and not a whole round.
 pub fn least<T>(inputs: &[T], mut work: impl FnMut(&T)) -> Duration {
     let mut times = vec![Duration::MAX; inputs.len()];
     for _ in 0..ROUNDS {
@@ -26,14 +26,14 @@ pub fn geometric_mean(ratios: &[f64]) -> f64 {
     (ratios.iter().map(|ratio| ratio.ln()).sum::<f64>() / ratios.len() as f64).exp()
 }
 
-/// A line of ratios, one a column, and their geometric mean.
+/// Prints a line of ratios, one per column, and their geometric mean.
 fn line(name: &str, ratios: &[f64]) {
     print!("{name:8}");
     ratios.iter().for_each(|ratio| print!("{ratio:>10.2}"));
     println!("{:>10.2}", geometric_mean(ratios));
 }
 
-/// A table of ratios: the columns' names, and the rows as they come.
+/// Prints a table of ratios: the names of the columns, and the rows in the given order.
 pub fn report(
     title: &str,
     corner: &str,

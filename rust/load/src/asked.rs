@@ -1,4 +1,4 @@
-//! What recorded calls are given. Everything follows from one seed.
+//! The arguments of recorded calls. One seed determines everything.
 
 use crate::inputs::{Bare, Drawn, Inputs};
 use crate::recorded::Argument::{self, Buffer, Bytes, Number, Own, Part};
@@ -22,7 +22,7 @@ pub fn recorded(seed: u64) -> Vec<u8> {
     out
 }
 
-/// Returns what a call is given that needs no job.
+/// Returns the arguments of a call that needs no job.
 fn arguments(name: &str, inputs: &mut Inputs) -> Vec<Argument> {
     match name {
         "multiplicity" | "marking" => bare(name, inputs),
@@ -136,7 +136,7 @@ fn opening(inputs: &mut Inputs) -> Vec<Argument> {
     [sheet].into_iter().chain(parts).collect()
 }
 
-/// Opens a job, or takes any bytes for one, goes some steps on it, and then records one step, or a mark, or the finish.
+/// Opens a job, or uses arbitrary bytes as one, makes some steps on it, and then records one step, or a mark, or the finish.
 fn job(out: &mut Vec<u8>, inputs: &mut Inputs, name: &str) {
     let mut given = opening(inputs);
     if inputs.below(8) > 0 {
@@ -149,7 +149,7 @@ fn job(out: &mut Vec<u8>, inputs: &mut Inputs, name: &str) {
         .collect();
     let [lines, mut cells, mut marks, mut passed] =
         <[Vec<u8>; 4]>::try_from(parts).expect("four parts");
-    // a cell that no opened job has: an open one, or one above the levels
+    // a cell that no opened job has: an open one, or one above the number of levels
     if inputs.below(8) == 0 {
         let place = inputs.below(inputs.cells_needed());
         cells[place] = (inputs.m + inputs.below(2)) as u8;

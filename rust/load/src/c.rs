@@ -1,6 +1,6 @@
-//! The calls of include/sitgurp.h as C has them: every answer as plain words, bit for bit.
+//! The calls of include/sitgurp.h as C sees them: every answer as plain words, bit for bit.
 
-/// The fields of an answer. Every field has 64 bits; those of floats are taken as they are.
+/// The fields of an answer. Every field has 64 bits; floats are kept as their bits.
 #[repr(C)]
 #[derive(Clone, Copy)]
 pub struct Words<const COUNT: usize>(pub [u64; COUNT]);

@@ -51,8 +51,8 @@ impl Kind {
         Kind::Glyph,
     ];
 
-    /// The refusals that documents 01 and 02 have for this call; of the two that ask a table sheet's multiplicities, the sheet's. The shallower of
-    /// two is had without a number.
+    /// Returns the refusals that documents 01 and 02 give for this call; for the two that ask for a table sheet's multiplicities, those of the sheet.
+    /// The shallower of two has no numbered refusal.
     pub fn refusals(self) -> &'static [usize] {
         match self {
             Kind::Multiplicity => &[9, 10, 11, 27],
@@ -75,7 +75,7 @@ impl Kind {
     }
 }
 
-/// One call: what it was given, in words, what both gave back, and how long each took.
+/// One call: a description of its arguments, both results, and both times.
 pub struct Call {
     pub kind: Kind,
     pub size: (usize, usize),
@@ -93,7 +93,7 @@ pub struct Times {
 }
 
 impl Call {
-    /// The call that a seed stands for.
+    /// Makes the call that a seed determines.
     pub fn of(seed: u64) -> Call {
         let mut inputs = Inputs::new(seed);
         let kind = Kind::ALL[inputs.below(Kind::ALL.len())];
@@ -139,7 +139,7 @@ impl Call {
     }
 }
 
-/// What both made of one call.
+/// Both results of one call.
 struct Both {
     asked: String,
     proved: Given,
@@ -147,10 +147,10 @@ struct Both {
     times: Times,
 }
 
-/// A call of either implementation on three buffers.
+/// A call of either implementation with three buffers.
 type OnBuffers<T, R> = fn(&[u8], &mut [u8], &mut [u8], &mut [u8]) -> Result<T, R>;
 
-/// A call by both, and the shape in which an accepted answer of each is compared.
+/// A call in both implementations, and the form in which their accepted answers are compared.
 struct FromSheet<T, S> {
     proved: OnBuffers<T, sitgurp::Refusal>,
     second: OnBuffers<S, reference::Refusal>,
@@ -158,7 +158,7 @@ struct FromSheet<T, S> {
     of_second: fn(S) -> Answer,
 }
 
-/// A sheet as a Rust byte string, and the lengths of the buffers.
+/// Describes sheets as Rust byte strings, and the lengths of the buffers.
 fn in_words(sheets: &[&[u8]], buffers: &[Vec<u8>]) -> String {
     let sheets = sheets
         .iter()
@@ -174,7 +174,7 @@ fn bare_in_words(bare: &Bare, buffers: &[Vec<u8>]) -> String {
     format!("m {m} n {n} cells {cells:?} group {group}\nbuffer lengths {lengths:?}")
 }
 
-/// The same call twice, each time on a copy of the buffers.
+/// Makes the same call twice, each time on a copy of the buffers.
 fn both(
     asked: String,
     buffers: Vec<Vec<u8>>,
@@ -222,7 +222,7 @@ fn multiplicity(inputs: &mut Inputs) -> Both {
     )
 }
 
-/// Every group of a table sheet.
+/// Counts the classes of every group of a table sheet.
 fn multiplicities(inputs: &mut Inputs) -> Both {
     let sheet = inputs.table_sheet();
     both(
@@ -307,7 +307,7 @@ fn make_shallow(inputs: &mut Inputs) -> Both {
     from_sheet(inputs, &sheet, call)
 }
 
-/// The shallower of two sheets: at the front of which of them the part lies that is handed back, and its length.
+/// Compares the shallower of two sheets: which of them has the returned part at its front, and the part's length.
 fn shallower(inputs: &mut Inputs) -> Both {
     let (first, second) = (inputs.net_sheet(), inputs.other_net_sheet());
     let part = |part: &[u8]| {
@@ -323,7 +323,7 @@ fn shallower(inputs: &mut Inputs) -> Both {
     )
 }
 
-/// The count of a table sheet's trees; a table without a tree is accepted.
+/// Counts a table sheet's trees. A table without a tree is accepted.
 fn family_count(inputs: &mut Inputs) -> Both {
     let sheet = inputs.table_sheet();
     let buffers = vec![
@@ -366,9 +366,9 @@ fn family_tree(inputs: &mut Inputs) -> Both {
     )
 }
 
-/// Cells, marks and output for a call that writes a net sheet.
+/// Returns cells, marks and output for a call that writes a net sheet.
 fn sheet_buffers(inputs: &mut Inputs, sheet: &[u8]) -> Vec<Vec<u8>> {
-    // what the output needs is the settled sheet's length, which is near the net sheet's own
+    // the output needs the length of the settled sheet, which is close to that of the net sheet
     let output = sheet.len().min(MOST_NET_SHEET);
     vec![
         inputs.buffer(inputs.cells_needed()),
@@ -377,7 +377,7 @@ fn sheet_buffers(inputs: &mut Inputs, sheet: &[u8]) -> Vec<Vec<u8>> {
     ]
 }
 
-/// Settling or making.
+/// Settles or makes.
 fn from_sheet<T, S>(inputs: &mut Inputs, sheet: &[u8], call: FromSheet<T, S>) -> Both {
     let buffers = sheet_buffers(inputs, sheet);
     both(
@@ -427,7 +427,7 @@ fn check(inputs: &mut Inputs) -> Both {
     )
 }
 
-/// When a net's output settles; the two floats are compared bit for bit.
+/// Compares when a net's output settles; the two floats are compared bit for bit.
 fn arrivals(inputs: &mut Inputs) -> Both {
     let (net, sheet) = inputs.net_and_arrival_sheet();
     let delay = inputs.delay();
@@ -466,7 +466,7 @@ fn write_table(inputs: &mut Inputs) -> Both {
 /// More turns than any net has gates.
 const TURNS: usize = 14;
 
-/// The lister's turns. Each turn is then asked for by its number too; if that gives something else, it is what the proved library is said to have given.
+/// Compares the lister's turns. The library is then asked for each turn by its number too; if the results differ, these count as the library's.
 fn listing(inputs: &mut Inputs) -> Both {
     let sheet = inputs.net_sheet();
     let place = |line: &[u8]| (line.as_ptr() as usize - sheet.as_ptr() as usize, line.len());
@@ -494,7 +494,7 @@ fn listing(inputs: &mut Inputs) -> Both {
     both
 }
 
-/// A loosely laid table sheet; the spaces of its first lines make the output a little longer than it needs.
+/// Tidies a loose table sheet. The spaces of its first lines make the output a little longer than it needs.
 fn tidy(inputs: &mut Inputs) -> Both {
     let sheet = inputs.loose_sheet();
     let length = inputs.table_sheet_length(&sheet);
@@ -513,7 +513,7 @@ fn tidy(inputs: &mut Inputs) -> Both {
     )
 }
 
-/// What is asked of a job last; its opening, too, is an answer.
+/// The last question to a job. Its opening counts as an answer too.
 #[derive(Clone, Copy, Debug)]
 enum Last {
     Opening,
@@ -522,7 +522,7 @@ enum Last {
     Finish,
 }
 
-/// A job that goes some steps, with a group asked after each, and what is asked of it last.
+/// Opens a job and makes some steps, asks for a group after each, and then asks the last question.
 fn job(inputs: &mut Inputs) -> Both {
     let sheet = inputs.table_sheet();
     let asked: Vec<usize> = (0..inputs.steps()).map(|_| inputs.group()).collect();
@@ -581,7 +581,7 @@ fn job(inputs: &mut Inputs) -> Both {
     )
 }
 
-/// A net's own table, or one that its wiring may not compute.
+/// Keeps the wiring of a net for its own table, or for a table that the wiring may not compute.
 fn keep(inputs: &mut Inputs) -> Both {
     let (net, table) = inputs.net_and_table_sheet();
     let buffers = vec![

@@ -1,4 +1,4 @@
-//! What a call gives back, of both implementations in one shape.
+//! The result of a call, in one form for both implementations.
 
 use reference::refusal::Sheet;
 use sitgurp::Named;
@@ -11,7 +11,7 @@ pub enum Answer {
     Differ(usize),
     /// A sheet's length and the layers of its net.
     Layered(usize, usize),
-    /// The part of one of two sheets, counted from 0, that begins where the sheet begins, and its length.
+    /// Which of two sheets, counted from 0, has the returned part at its front, and the part's length.
     Part(Option<usize>, usize),
     /// The earliest and the latest settling, bit for bit.
     Settling(u64, u64),
@@ -21,11 +21,11 @@ pub enum Answer {
     Counts(Vec<usize>),
     /// The lister's turns: where a line begins and how long it is, or that none is left.
     Turns(Vec<Option<(usize, usize)>>),
-    /// A sheet's length and the set of the gates that changed.
+    /// A sheet's length and the set of changed gates.
     Kept(usize, u64),
-    /// A group's mark, or that it is not reached.
+    /// A group's mark, or nothing if the group is not reached.
     Mark(Option<u8>),
-    /// What a job answered before it was last asked, and then.
+    /// What a job answered before the last question, and its last answer.
     Job(Vec<Answer>, Box<Answer>),
     Refused {
         number: usize,
@@ -68,7 +68,7 @@ impl Answer {
         }
     }
 
-    /// The refusal's number, and 0 where the call is accepted.
+    /// Returns the refusal's number, or 0 if the call is accepted.
     pub fn number(&self) -> usize {
         match self {
             Answer::Refused { number, .. } => *number,
@@ -78,14 +78,14 @@ impl Answer {
     }
 }
 
-/// A call's answer and what the buffers lent to it hold afterwards.
+/// A call's answer, and the contents of its buffers afterwards.
 #[derive(Clone, Debug, PartialEq, Eq)]
 pub struct Given {
     pub answer: Answer,
     pub buffers: Vec<Vec<u8>>,
 }
 
-/// In what the two differ, if they do.
+/// Describes how the two differ, if they do.
 pub fn difference(proved: &Given, second: &Given) -> Option<String> {
     if proved.answer != second.answer {
         let (ours, theirs) = (&proved.answer, &second.answer);

@@ -1,10 +1,10 @@
-//! What a call is given. Everything follows from one seed.
+//! The arguments of a call. One seed determines everything.
 
 use reference::damage::{Damage, TELLING_BYTES};
 use reference::generate::{Generator, TableKind};
 use reference::sheet::{print_net_sheet, print_table_sheet};
 
-/// Bare cells with a group, as they may come: mostly good, sometimes with one thing wrong.
+/// Bare cells with a group: mostly good, sometimes with one thing wrong.
 pub struct Bare {
     pub m: usize,
     pub n: usize,
@@ -12,7 +12,7 @@ pub struct Bare {
     pub group: usize,
 }
 
-/// A picture with offsets, as they may come: mostly good, sometimes with one thing wrong.
+/// A picture with offsets: mostly good, sometimes with one thing wrong.
 pub struct Drawn {
     pub width: usize,
     pub height: usize,
@@ -20,20 +20,20 @@ pub struct Drawn {
     pub offsets: Vec<i8>,
 }
 
-/// Numbers that a caller has no business to send.
+/// Numbers that no caller should send.
 const ODD_NUMBERS: [usize; 9] = [0, 1, 10, 13, 64, 255, 1 << 16, 1 << 32, usize::MAX];
 
-/// What leaves a gate unused, or makes a net sheet a line shorter or longer.
+/// Damage that leaves a gate unused, or makes a net sheet a line shorter or longer.
 const OF_GATES: [Damage; 3] = [
     Damage::DropLastLine,
     Damage::AddGate,
     Damage::OtherReference,
 ];
 
-/// Sizes of so many inputs take most of a run's time, and come about a third as often as the others.
+/// Sizes with at least this many inputs take most of a run's time, and are used about a third as often as the others.
 const MANY_INPUTS: usize = 10;
 
-/// The most bytes of a sheet that is no sheet.
+/// The most bytes of noise in place of a sheet.
 const MOST_NOISE: usize = 300;
 
 pub struct Inputs {
@@ -43,7 +43,7 @@ pub struct Inputs {
 }
 
 impl Inputs {
-    /// Inputs of some allowed size.
+    /// Returns inputs of a random allowed size.
     pub fn new(seed: u64) -> Inputs {
         let mut generator = Generator::new(seed);
         let (mut m, mut n) = generator.size();
@@ -53,7 +53,7 @@ impl Inputs {
         Inputs { generator, m, n }
     }
 
-    /// A number below the bound, which is 1 or more.
+    /// Returns a number below the bound, which is at least 1.
     pub fn below(&mut self, bound: usize) -> usize {
         self.generator.rng.below(bound)
     }
@@ -62,17 +62,17 @@ impl Inputs {
         self.m.pow(self.n as u32)
     }
 
-    /// How many groups there are, the empty one too.
+    /// Returns how many groups there are, including the empty one.
     pub fn groups(&self) -> usize {
         1 << self.n
     }
 
-    /// Four marks to a byte.
+    /// Returns the length of the marks: four marks per byte.
     pub fn marks_needed(&self) -> usize {
         self.groups() / 4
     }
 
-    /// A net sheet, which may leave inputs out, good half of the time.
+    /// Returns a net sheet, which may leave inputs out, good half of the time.
     pub fn net_sheet(&mut self) -> Vec<u8> {
         let good = self.generator.net_sheet(self.m, self.n);
         match self.below(8) {
@@ -81,7 +81,7 @@ impl Inputs {
         }
     }
 
-    /// The sheet with other gate lines: it may still be good.
+    /// Returns the sheet with other gate lines. It may still be good.
     fn other_gates(&mut self, sheet: Vec<u8>) -> Vec<u8> {
         let damage = *self.generator.rng.pick(&OF_GATES);
         let mut sheet = self.generator.damage(&sheet, damage);
@@ -89,7 +89,7 @@ impl Inputs {
         sheet
     }
 
-    /// A net sheet beside another: of the same size, so that they are often level, or of any.
+    /// Returns a second net sheet: of the same size, so that both often have equally many layers, or of any size.
     pub fn other_net_sheet(&mut self) -> Vec<u8> {
         let (m, n) = match self.below(2) {
             0 => (self.m, self.n),
@@ -104,7 +104,7 @@ impl Inputs {
         self.perhaps_damaged(good)
     }
 
-    /// A good table sheet; one in eight leaves cells open.
+    /// Returns a good table sheet; one in eight has open cells.
     fn any_table_sheet(&mut self) -> Vec<u8> {
         let kind = *self.generator.rng.pick(&TableKind::ALL);
         match self.below(8) {
@@ -113,7 +113,7 @@ impl Inputs {
         }
     }
 
-    /// A loosely laid table sheet, good half of the time.
+    /// Returns a loose table sheet, good half of the time.
     pub fn loose_sheet(&mut self) -> Vec<u8> {
         let strict = self.any_table_sheet();
         let mut sheet = self.generator.loosened(&strict);
@@ -126,7 +126,7 @@ impl Inputs {
         sheet
     }
 
-    /// About what a table sheet of the same first lines is long.
+    /// Returns about the length of a table sheet with the same first lines.
     pub fn table_sheet_length(&self, sheet: &[u8]) -> usize {
         let rows = self.cells_needed() * (2 * self.n + 2);
         let first_lines = sheet.split_inclusive(|&byte| byte == b'\n').take(3);
@@ -134,7 +134,7 @@ impl Inputs {
         rows + names
     }
 
-    /// How many steps a job goes: all, some, or a few more than there are.
+    /// Returns how many steps a job makes: all, some, or a few more than there are.
     pub fn steps(&mut self) -> usize {
         let groups = self.groups();
         match self.below(4) {
@@ -144,7 +144,7 @@ impl Inputs {
         }
     }
 
-    /// A group that may be any, or none.
+    /// Returns any group, or a number that is not a group.
     pub fn group(&mut self) -> usize {
         match self.below(8) {
             0 => *self.generator.rng.pick(&ODD_NUMBERS),
@@ -152,7 +152,7 @@ impl Inputs {
         }
     }
 
-    /// An order number of a tree of this table sheet, or one at or past their count.
+    /// Returns the order number of a tree of this table sheet, or a number at or beyond their count.
     pub fn order_number(&mut self, sheet: &[u8]) -> u64 {
         let count = sitgurp::Family::of(sheet).map_or(0, |family| family.size());
         match self.below(8) {
@@ -165,7 +165,7 @@ impl Inputs {
         }
     }
 
-    /// A net sheet and a table sheet: the net's own table, the same with an ink changed or with cells left open, or a table sheet of another header.
+    /// Returns a net sheet and a table sheet: the net's own table, the same with an ink changed or with open cells, or one with another header.
     pub fn net_and_table_sheet(&mut self) -> (Vec<u8>, Vec<u8>) {
         let header = self.generator.header(self.m, self.n);
         let net = self.generator.net(self.m, self.n);
@@ -198,7 +198,7 @@ impl Inputs {
         self.generator.table_sheet(m, n, TableKind::OfNet)
     }
 
-    /// A net sheet and an arrival sheet: of its inputs, of these in another order, or of others.
+    /// Returns a net sheet and an arrival sheet: for its inputs, for these in another order, or for others.
     pub fn net_and_arrival_sheet(&mut self) -> (Vec<u8>, Vec<u8>) {
         let header = self.generator.header(self.m, self.n);
         let net = self.generator.net(self.m, self.n);
@@ -215,7 +215,7 @@ impl Inputs {
         (self.rarely_damaged(net_sheet), arrivals)
     }
 
-    /// A delay in quarter microseconds: any byte, often one of the ends.
+    /// Returns a delay in quarter microseconds: any byte, often 0 or the largest.
     pub fn delay(&mut self) -> u8 {
         match self.below(4) {
             0 => 0,
@@ -224,7 +224,7 @@ impl Inputs {
         }
     }
 
-    /// Both sheets of a check are good most of the time.
+    /// Damages a sheet rarely: both sheets of a check are good most of the time.
     fn rarely_damaged(&mut self, sheet: Vec<u8>) -> Vec<u8> {
         match self.below(16) {
             0..4 => self.perhaps_damaged(sheet),
@@ -233,7 +233,7 @@ impl Inputs {
         }
     }
 
-    /// The sheet itself, the sheet with some damages, a sheet of the other kind, or bytes that are no sheet.
+    /// Returns the sheet itself, the sheet with some damage, a sheet of the other kind, or noise.
     fn perhaps_damaged(&mut self, sheet: Vec<u8>) -> Vec<u8> {
         let mut sheet = match self.below(20) {
             0..10 => sheet,
@@ -242,7 +242,7 @@ impl Inputs {
             18 => self.other_kind(),
             _ => self.noise(),
         };
-        // so that valgrind sees a read past the end
+        // lets valgrind see a read past the end
         sheet.shrink_to_fit();
         sheet
     }
@@ -261,7 +261,7 @@ impl Inputs {
         }
     }
 
-    /// Telling bytes, or any bytes, at times after a good beginning.
+    /// Returns noise: bytes that matter in sheets, or any bytes, sometimes after a good beginning.
     fn noise(&mut self) -> Vec<u8> {
         let mut sheet = match self.below(3) {
             0 => b"levels inputs\n".to_vec(),
@@ -304,7 +304,7 @@ impl Inputs {
         bare
     }
 
-    /// A picture of up to 64 cells a side, most often a small one, and the offsets of every input.
+    /// Returns a picture of up to 64 cells per side, usually a small one, and the offsets of every input.
     pub fn drawn(&mut self) -> Drawn {
         let most = *self.generator.rng.pick(&[1, 5, 5, 5, 20, 64]);
         let (width, height) = (1 + self.below(most), 1 + self.below(most));
@@ -344,7 +344,7 @@ impl Inputs {
         drawn
     }
 
-    /// A buffer full of random bytes. Its length is any around the need, most often enough.
+    /// Returns a buffer full of random bytes. Its length is around the need, usually enough.
     pub fn buffer(&mut self, need: usize) -> Vec<u8> {
         let length = match self.below(12) {
             0 => 0,

@@ -1,14 +1,14 @@
-//! Random and damaged calls, each held against the second implementation.
+//! Random and damaged calls, each compared with the second implementation.
 //!
 //! | module     | idea                                                                |
 //! |------------|---------------------------------------------------------------------|
-//! | `inputs`   | what a call is given: sheets good and damaged, bare cells, buffers  |
-//! | `given`    | what a call gives back: its answer and every byte lent to it        |
+//! | `inputs`   | a call's arguments: good and damaged sheets, bare cells, buffers    |
+//! | `given`    | the result of a call: its answer and every byte of its buffers      |
 //! | `calls`    | one call of each kind by both implementations                       |
-//! | `tally`    | how many calls of each kind ended how                               |
-//! | `c`        | the calls as C has them                                             |
-//! | `recorded` | calls with all that they are given and give back, to be replayed    |
-//! | `asked`    | what recorded calls are given                                       |
+//! | `tally`    | how many calls of each kind ended in each way                       |
+//! | `c`        | the calls as C sees them                                            |
+//! | `recorded` | calls with all their arguments and results, for replay              |
+//! | `asked`    | the arguments of recorded calls                                     |
 
 pub mod asked;
 pub mod c;
@@ -20,7 +20,7 @@ pub mod tally;
 
 use reference::rng::Rng;
 
-/// Each call has a seed of its own, so that one call can be made again without those before it.
+/// Returns the seed of one call. Each call has its own, so that it can be repeated without those before it.
 pub fn seed_of(seed: u64, call: u64) -> u64 {
     let start = Rng::new(seed).number();
     Rng::new(start.wrapping_add(call)).number()

@@ -1,5 +1,5 @@
-//! `load CALLS SEED [FIRST]`: that many calls, each by the proved library and by the second implementation, on all cores. Ends with
-//! status 1 where a call differs, and says how to make that one call again.
+//! `load CALLS SEED [FIRST]`: makes that many calls, each with the proved library and with the second implementation, on all cores. Exits with
+//! status 1 if a call differs, and prints how to repeat that one call.
 
 use load::calls::Call;
 use load::seed_of;
@@ -9,7 +9,7 @@ use std::process::ExitCode;
 use std::sync::atomic::{AtomicU64, Ordering};
 use std::thread;
 
-/// Every so many calls a line on standard error.
+/// After this many calls, prints a line on standard error.
 const PROGRESS: u64 = 100_000;
 
 fn main() -> ExitCode {
@@ -43,7 +43,7 @@ fn run(calls: u64, seed: u64, first: u64) -> ExitCode {
 /// A call that differs, by its number, and how.
 type Differs = (u64, String);
 
-/// Each core takes the next call that none has taken.
+/// Makes the calls on all cores. Each core takes the next free call.
 fn on_all_cores(calls: u64, seed: u64, first: u64) -> Result<Tally, Differs> {
     let next = AtomicU64::new(0);
     let cores = thread::available_parallelism().map_or(1, usize::from);
@@ -58,12 +58,12 @@ fn on_all_cores(calls: u64, seed: u64, first: u64) -> Result<Tally, Differs> {
     all.unwrap_or_else(|| Ok(Tally::default()))
 }
 
-/// Of two cores, the first one's difference goes before the other's.
+/// Combines the results of two cores. If both have a difference, the first one's is returned.
 fn both(one: Result<Tally, Differs>, other: Result<Tally, Differs>) -> Result<Tally, Differs> {
     Ok(one?.with(&other?))
 }
 
-/// Makes calls until all are taken, or one differs; then the other cores take no more.
+/// Makes calls until all are taken or one differs; then the other cores stop too.
 fn take_calls(next: &AtomicU64, calls: u64, seed: u64, first: u64) -> Result<Tally, Differs> {
     let mut tally = Tally::default();
     loop {
@@ -79,7 +79,7 @@ fn take_calls(next: &AtomicU64, calls: u64, seed: u64, first: u64) -> Result<Tal
     }
 }
 
-/// One call, or what differs and what was asked. A panic counts as a difference.
+/// Makes one call. If it differs, returns how, and what was asked. A panic counts as a difference.
 fn one(seed: u64, call: u64) -> Result<Call, String> {
     let made = catch_unwind(|| Call::of(seed_of(seed, call)))
         .map_err(|_| format!("call {call} of seed {seed} panicked"))?;

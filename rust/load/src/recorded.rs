@@ -1,8 +1,8 @@
-//! Calls with all that they are given and give back, as bytes that another program can replay.
+//! Calls with all their arguments and results, as bytes that another program can replay.
 //!
-//! A call is its number in [`NAMES`], the count of its arguments, each argument, the count of the words of its answer, each word, and for each buffer
-//! lent whether the call changed it, and if so its bytes. Numbers have 8 bytes, lowest first. An argument is one byte for what it is ([`NUMBER`], [`BYTES`] or
-//! [`BUFFER`]), and then the number, or a length and that many bytes.
+//! A call is its number in [`NAMES`], the count of its arguments, each argument, the count of the words of its answer, each word, and for each
+//! buffer whether the call changed it, and if so its bytes. Numbers have 8 bytes, lowest first. An argument is one byte for its kind ([`NUMBER`],
+//! [`BYTES`] or [`BUFFER`]), and then the number, or a length and that many bytes.
 
 use crate::c::{self, Read, Write};
 
@@ -20,15 +20,15 @@ pub const BYTES: u8 = 1;
 /// Bytes that the call may write.
 pub const BUFFER: u8 = 2;
 
-/// What a recorded call is given.
+/// An argument of a recorded call.
 #[derive(Clone)]
 pub enum Argument {
     Number(u64),
     Bytes(Vec<u8>),
     Buffer(Vec<u8>),
-    /// A job's part, which the call reads: a pointer without a length.
+    /// A part of a job that the call reads: a pointer without a length.
     Part(Vec<u8>),
-    /// A job's part, which the call may write.
+    /// A part of a job that the call may write.
     Own(Vec<u8>),
 }
 
@@ -75,12 +75,12 @@ impl Argument {
     }
 }
 
-/// Makes a call by the library, and returns the words of its answer. The words given are what C passes.
+/// Makes a call with the library, and returns the words of its answer. The given words are those that C passes.
 #[rustfmt::skip]
 fn answer(name: &str, words: &[u64]) -> Vec<u64> {
     let r = |word: u64| word as Read;
     let w = |word: u64| word as Write;
-    // SAFETY: each pointer is that of a vector of the length beside it, or of a job's part with the length that the header asks for. No two overlap.
+    // SAFETY: each pointer is that of a vector of the length next to it, or of a job's part with the length that the header requires. No two overlap.
     unsafe {
         match (name, words) {
             ("multiplicity", &[m, n, s, l, g]) => c::sitgurp_multiplicity(m, n, r(s), l, g).0.into(),

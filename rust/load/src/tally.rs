@@ -1,10 +1,10 @@
-//! How many calls of each kind ended how, and at how many sizes a kind was accepted.
+//! Counts how many calls of each kind ended in each way, and at how many sizes a kind was accepted.
 
 use crate::calls::{Call, Kind};
 use std::collections::BTreeSet;
 use std::fmt;
 
-/// Refusals are numbered from 1; 0 stands for an accepted call.
+/// Refusals are numbered from 1; 0 means an accepted call.
 const ENDS: usize = 28;
 
 #[derive(Clone, Default)]
@@ -32,7 +32,7 @@ impl Tally {
         }
     }
 
-    /// What both have counted.
+    /// Adds the counts of another tally.
     pub fn with(mut self, other: &Tally) -> Tally {
         for (row, more) in self.rows.iter_mut().zip(&other.rows) {
             let ends = row.ends.iter_mut().zip(&more.ends);
@@ -42,7 +42,7 @@ impl Tally {
         self
     }
 
-    /// The kinds that were never accepted (0), and the refusals of a kind that were never seen.
+    /// Returns the kinds that were never accepted (0), and the refusals of a kind that never occurred.
     fn unseen(&self) -> Vec<(Kind, usize)> {
         let mut unseen = Vec::new();
         for (kind, row) in Kind::ALL.into_iter().zip(&self.rows) {
@@ -54,7 +54,7 @@ impl Tally {
     }
 }
 
-/// `number: count` of every refusal that was seen, or that there is none.
+/// Returns `number: count` for every refusal that occurred, or that there is none.
 fn refusals(ends: &[u64; ENDS]) -> String {
     let seen = (1..ENDS).filter(|&number| ends[number] > 0);
     let counts: Vec<String> = seen
@@ -91,7 +91,7 @@ impl fmt::Display for Tally {
 mod tests {
     use super::*;
 
-    /// Every end of every kind once.
+    /// Returns a tally with every end of every kind once, except one.
     fn all_but(kind: Kind, number: usize) -> Tally {
         let mut tally = Tally::default();
         for one in Kind::ALL {

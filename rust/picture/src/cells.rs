@@ -1,4 +1,4 @@
-//! A picture of levels drawn as SVG: one square a cell, darker for a higher level.
+//! A picture of levels drawn as SVG: one square per cell, darker for a higher level.
 
 use sitgurp::Picture;
 use std::fmt::Write;
@@ -9,11 +9,11 @@ const CELL: usize = 12;
 /// The grey of the highest level; level 0 is white.
 const DARKEST: usize = 225;
 
-/// The drawing of a picture that has that many levels, with a thin frame around it.
+/// Draws a picture that has this many levels, with a thin frame around it.
 ///
 /// # Panics
 ///
-/// Where the picture has cells and its width is 0.
+/// If the picture has cells and its width is 0.
 pub fn draw(picture: &Picture, levels: u8) -> String {
     let (width, height) = (picture.width * CELL, picture.height * CELL);
     let mut svg = format!(

@@ -1,4 +1,4 @@
-//! A tree for Graphviz. Names are quoted, since `node` and `graph` are good names of inputs and words of DOT.
+//! A tree for Graphviz. Names are quoted, since `node` and `graph` are valid names of inputs and also keywords of DOT.
 
 use crate::tree::{digit, root};
 use sitgurp::{Net, Wire};
@@ -11,7 +11,7 @@ digraph net {
     edge [fontname=\"monospace\", fontsize=10];
 ";
 
-/// A gate's id is its number: no input's name begins with a digit. None is `ink` either. An input that no gate refers to is dashed.
+/// Writes the net in DOT. A gate's id is its number: no input's name begins with a digit or is `ink`. An input that no gate refers to is dashed.
 pub fn write(net: &Net) -> String {
     let mut text = HEAD.to_string();
     let unused = net.unused();
@@ -31,7 +31,7 @@ pub fn write(net: &Net) -> String {
     text
 }
 
-/// A gate with its table, a line for each of left's levels, and its two wires.
+/// Writes a gate with its table, one line for each of left's levels, and its two wires.
 fn gate_lines(net: &Net, gate: usize) -> String {
     let own = id(net, Wire::Gate(gate));
     let rows: Vec<String> = (0..net.levels())

@@ -10,7 +10,7 @@ const CELL: i32 = 20;
 /// The room above a gate's grid, and around it.
 const TITLE: i32 = 24;
 const PADDING: i32 = 8;
-/// Between two boxes above each other, and between two columns of boxes.
+/// The gap between two boxes above each other, and between two columns of boxes.
 const GAP: i32 = 16;
 const COLUMN_GAP: i32 = 56;
 const INPUT_HEIGHT: i32 = 28;
@@ -163,8 +163,8 @@ fn put(tree: &Larger, source: Source, top: i32, places: &mut Places) {
     }
 }
 
-/// Draws the wires of a gate: each to the right, then up or down in the gap before the gate, then into it. Of wires that go down the lower
-/// ones turn first, and of those that go up the upper ones, so that none cross.
+/// Draws the wires of a gate: each to the right, then up or down in the gap before the gate, then into it. Among wires that go down the lower
+/// ones turn first, and among those that go up the upper ones, so that none cross.
 fn wires(page: &mut Elements, tree: &Larger, gate: usize, places: &Places) {
     let own = places.gates[gate];
     let sources = &tree.gates[gate].sources;

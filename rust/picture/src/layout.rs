@@ -1,21 +1,21 @@
-//! Where each box and wire of a tree lies. Inputs stand in a column at the left, the output gate at the right.
+//! The place of each box and wire of a tree. Inputs are in a column at the left, the output gate is at the right.
 //!
-//! A subtree has a band of the page's height to itself: left's band lies above right's. So no box lies on another, and a
+//! A subtree has a band of the page's height to itself: left's band is above right's. So boxes never overlap, and a
 //! wire that runs to the right inside its own band meets nothing before it turns in the gap before its gate. Inputs that no
-//! gate refers to stand below the tree, each in a band of its own.
+//! gate refers to are below the tree, each in a band of its own.
 
 use crate::tree::root;
 use sitgurp::{Gate, Net, Wire};
 
 /// A digit's cell in a gate's grid.
 pub const CELL: i32 = 20;
-/// The room for the levels beside and above a gate's grid.
+/// The room for the levels to the left of and above a gate's grid.
 pub const HEADING: i32 = 16;
 /// The room for a gate's number above its grid.
 pub const TITLE: i32 = 24;
 /// The room inside a gate's box at its right and its bottom.
 pub const PADDING: i32 = 8;
-/// The room for what is written under the tree.
+/// The room for the text under the tree.
 pub const CAPTION: i32 = 60;
 /// The room for the output's wire and its word.
 pub const OUTPUT: i32 = 72;
@@ -24,15 +24,15 @@ const MARGIN: i32 = 24;
 const INPUT_HEIGHT: i32 = 28;
 /// At least the width of a letter of an input's name.
 const LETTER: i32 = 9;
-/// Between two bands.
+/// The gap between two bands.
 const BAND_GAP: i32 = 16;
-/// Between two columns; wires turn in its middle.
+/// The gap between two columns; wires turn in its middle.
 const COLUMN_GAP: i32 = 48;
 /// The distance from a gate's corner, and from its middle, at which a wire that has turned meets it.
 const INSET: i32 = 12;
-/// A wire that would turn by no more than this goes straight on.
+/// A wire that would turn by no more than this continues straight.
 const LEAST_TURN: i32 = 6;
-/// The narrowest page that holds what is written under the tree.
+/// The narrowest page that holds the text under the tree.
 const LEAST_WIDTH: i32 = 360;
 
 /// A box; y grows downward.
@@ -53,7 +53,7 @@ impl Area {
         self.y + self.height
     }
 
-    /// The height at which its wire leaves.
+    /// Returns the height at which its wire leaves.
     pub fn middle(&self) -> i32 {
         self.y + self.height / 2
     }
@@ -99,7 +99,7 @@ pub struct Layout {
     pub wires: Vec<[Path; 2]>,
 }
 
-/// How far a subtree's band reaches above and below the middle of its root.
+/// How far a subtree's band extends above and below the middle of its root.
 #[derive(Clone, Copy)]
 struct Reach {
     above: i32,
@@ -129,24 +129,24 @@ impl Layout {
     }
 }
 
-/// Where the band of the k-th unused input begins, from 0, below a tree that ends at `bottom`.
+/// Returns where the band of the k-th unused input begins, counted from 0, below a tree that ends at `bottom`.
 fn unused_top(bottom: i32, k: usize) -> i32 {
     bottom + (BAND_GAP + INPUT_HEIGHT) * k as i32
 }
 
-/// The width and height of every gate of the tree.
+/// Returns the width and height of every gate of the tree.
 fn gate_size(net: &Net) -> (i32, i32) {
     let grid = HEADING + CELL * net.levels() as i32;
     (PADDING + grid + PADDING, TITLE + grid + PADDING)
 }
 
-/// The width of every input's box: the longest name decides.
+/// Returns the width of every input's box: the longest name decides.
 fn input_width(net: &Net) -> i32 {
     let letters = net.names().iter().map(String::len).max().unwrap_or(0);
     LETTER * letters as i32 + 2 * INSET
 }
 
-/// A gate's wires come from earlier gates, so each gate's reach follows from those before it.
+/// Returns the reach of every wire. A gate's wires come from earlier gates, so each gate's reach follows from those before it.
 fn reaches(net: &Net) -> Each<Reach> {
     let input = Reach {
         above: INPUT_HEIGHT / 2,
@@ -168,12 +168,12 @@ fn reaches(net: &Net) -> Each<Reach> {
     reaches
 }
 
-/// Half of what lies between the middles of a gate's left and right.
+/// Returns half the distance between the middles of a gate's left and right.
 fn half_apart(left: Reach, right: Reach) -> i32 {
     (left.below + BAND_GAP + right.above + 1) / 2
 }
 
-/// The middle of every box of the tree, from the output gate back to the inputs.
+/// Returns the middle of every box of the tree, from the output gate back to the inputs.
 fn middles(net: &Net, reaches: &Each<Reach>) -> Each<i32> {
     let mut middles = Each {
         inputs: vec![0; net.names().len()],
@@ -189,7 +189,7 @@ fn middles(net: &Net, reaches: &Each<Reach>) -> Each<i32> {
     middles
 }
 
-/// A gate stands in the column after the later one of its left's and its right's.
+/// Returns the column of every gate: the one after the later of its left's and its right's.
 fn columns(net: &Net) -> Vec<i32> {
     let mut columns = Each {
         inputs: vec![-1; net.names().len()],
@@ -225,7 +225,7 @@ fn areas(net: &Net, middles: &Each<i32>) -> Each<Area> {
     }
 }
 
-/// The wires of a gate's left and right. Left's meets the gate above its middle, right's below it.
+/// Returns the wires of a gate's left and right. Left's meets the gate above its middle, right's below it.
 fn paths(gate: &Gate, own: Area, areas: &Each<Area>) -> [Path; 2] {
     let path = |from: Area, highest: i32, lowest: i32| Path {
         from: (from.right(), from.middle()),
@@ -239,7 +239,7 @@ fn paths(gate: &Gate, own: Area, areas: &Each<Area>) -> [Path; 2] {
     ]
 }
 
-/// The height at which a wire that comes at some height meets its gate.
+/// Returns the height at which a wire that arrives at some height meets its gate.
 fn pin(height: i32, highest: i32, lowest: i32) -> i32 {
     let nearest = height.clamp(highest, lowest);
     if (nearest - height).abs() <= LEAST_TURN {

@@ -1,4 +1,4 @@
-//! A partition matrix drawn as SVG: columns gathered by class, shaded by ink, the classes counted.
+//! A partition matrix drawn as SVG: columns grouped by class, shaded by ink, the classes counted.
 
 use crate::elements::Elements;
 use crate::layout::Area;
@@ -12,7 +12,7 @@ const STYLE: &str = "\
 
 const MARGIN: i32 = 24;
 const CELL: i32 = 22;
-/// Between two classes.
+/// The gap between two classes.
 const GAP: i32 = 12;
 /// A line of levels above the columns.
 const LINE: i32 = 16;
@@ -23,7 +23,7 @@ const TITLE: i32 = 28;
 const CLASS: i32 = 22;
 const ABOVE: i32 = 8;
 
-/// The matrix of a group: bit i of its number is input i.
+/// Draws the matrix of a group. Bit i of its number is input i.
 pub fn draw(table: &Table, group: usize) -> String {
     let partition = Partition::of(table, group);
     let places = Places::of(&partition);
@@ -41,7 +41,7 @@ pub fn draw(table: &Table, group: usize) -> String {
     page.close()
 }
 
-/// `b, c: 3 classes; a wire carries 2 levels`.
+/// Returns a title like `b, c: 3 classes; a wire carries 2 levels`.
 fn title(table: &Table, partition: &Partition) -> String {
     let classes = match partition.classes.len() {
         1 => "1 class".to_string(),
@@ -54,7 +54,7 @@ fn title(table: &Table, partition: &Partition) -> String {
     )
 }
 
-/// Where each column stands, and the rows.
+/// The place of each column, and of the rows.
 struct Places {
     columns: Vec<i32>,
     left: i32,
@@ -91,14 +91,14 @@ impl Places {
     }
 }
 
-/// The letters of the widest text at the left: a name of the group, or the others' names or levels.
+/// Returns the number of letters of the widest text at the left: a name of the group, or the others' names or levels.
 fn widest_head(partition: &Partition) -> usize {
     let names = partition.member_names();
     let longest = names.iter().map(|name| name.len()).max().unwrap_or(0);
     longest.max(partition.other_names().join(" ").len())
 }
 
-/// The group's names beside the columns' levels; the others' names above the rows' levels.
+/// Adds the group's names next to the columns' levels, and the others' names above the rows' levels.
 fn heads(page: &mut Elements, partition: &Partition, places: &Places) {
     let x = places.left - GAP;
     for (k, name) in partition.member_names().iter().enumerate() {
@@ -116,7 +116,7 @@ fn heads(page: &mut Elements, partition: &Partition, places: &Places) {
     }
 }
 
-/// The frame around a class, and its number from 1.
+/// Adds the frame around a class, and its number from 1.
 fn frame(page: &mut Elements, places: &Places, class: usize, columns: &[usize]) {
     let x = places.columns[columns[0]];
     let width = CELL * columns.len() as i32;

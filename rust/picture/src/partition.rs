@@ -1,5 +1,5 @@
 //! The partition matrix of a table over a group of inputs: a column for each assignment of the group, a row for each assignment of the other inputs, and the
-//! inks in it. Columns that are equal make a class.
+//! inks in it. Equal columns form a class.
 
 use sitgurp::Table;
 
@@ -11,12 +11,12 @@ pub struct Partition<'a> {
     /// The index that each column, and each row, adds to a cell's.
     column_offsets: Vec<usize>,
     row_offsets: Vec<usize>,
-    /// The columns of each class, by the first of them.
+    /// The columns of each class. The classes are in the order of their first columns.
     pub classes: Vec<Vec<usize>>,
 }
 
 impl<'a> Partition<'a> {
-    /// Bit i of the group's number is input i. The group is not empty and has no other bits: the library refuses any other.
+    /// Returns the matrix of a group. Bit i of its number is input i. The group is not empty and has no other bits: the library refuses any other.
     pub fn of(table: &'a Table, group: usize) -> Partition<'a> {
         let inputs = table.names().len();
         let (members, others): (Vec<usize>, Vec<usize>) =
@@ -49,11 +49,11 @@ impl<'a> Partition<'a> {
         self.row_offsets.len()
     }
 
-    /// The index of a cell in the table.
+    /// Returns the index of a cell in the table.
     ///
     /// # Panics
     ///
-    /// Where there is no such row or column, here and in the functions below.
+    /// If there is no such row or column, here and in the functions below.
     pub fn index(&self, row: usize, column: usize) -> usize {
         self.row_offsets[row] + self.column_offsets[column]
     }
@@ -62,27 +62,27 @@ impl<'a> Partition<'a> {
         self.table.inks()[self.index(row, column)]
     }
 
-    /// The first row in which two columns differ.
+    /// Returns the first row in which two columns differ.
     pub fn first_apart(&self, first: usize, second: usize) -> Option<usize> {
         (0..self.rows()).find(|&row| self.ink(row, first) != self.ink(row, second))
     }
 
-    /// The levels of the group's inputs in a column.
+    /// Returns the levels of the group's inputs in a column.
     pub fn column(&self, column: usize) -> Vec<u8> {
         levels(self.table, self.members.len(), column)
     }
 
-    /// The levels of the other inputs in a row.
+    /// Returns the levels of the other inputs in a row.
     pub fn row(&self, row: usize) -> Vec<u8> {
         levels(self.table, self.others.len(), row)
     }
 
-    /// The names of the group's inputs.
+    /// Returns the names of the group's inputs.
     pub fn member_names(&self) -> Vec<&str> {
         self.names(&self.members)
     }
 
-    /// The names of the other inputs.
+    /// Returns the names of the other inputs.
     pub fn other_names(&self) -> Vec<&str> {
         self.names(&self.others)
     }
@@ -93,7 +93,7 @@ impl<'a> Partition<'a> {
     }
 }
 
-/// What each assignment of some inputs adds to a cell's index; the first-listed input is slowest.
+/// Returns what each assignment of some inputs adds to a cell's index; the first-listed input changes slowest.
 fn offsets(table: &Table, inputs: &[usize]) -> Vec<usize> {
     let (levels, count) = (table.levels(), table.names().len());
     let mut offsets = vec![0];
@@ -105,7 +105,7 @@ fn offsets(table: &Table, inputs: &[usize]) -> Vec<usize> {
     offsets
 }
 
-/// The levels of an assignment of so many inputs, by its place in the count.
+/// Returns the levels of an assignment of this many inputs, by its place in counting order.
 fn levels(table: &Table, inputs: usize, mut place: usize) -> Vec<u8> {
     let mut levels = vec![0; inputs];
     for level in levels.iter_mut().rev() {

@@ -66,7 +66,7 @@ fn gate(page: &mut Elements, net: &Net, gate: usize, area: &Area) {
     }
 }
 
-/// Left's levels down the grid, right's across it.
+/// Adds left's levels down the grid, and right's across it.
 fn levels(page: &mut Elements, levels: usize, x: i32, y: i32) {
     for level in 0..levels {
         let along = CELL * level as i32 + CELL / 2;

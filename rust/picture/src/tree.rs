@@ -1,17 +1,17 @@
-//! A net as it is drawn: its output's wire, and a digit of a gate's table by row and column.
+//! A net as it is drawn: its output's wire, and the digits of a gate's table by row and column.
 
 use sitgurp::{Net, Wire};
 
-/// The output's wire.
+/// Returns the output's wire.
 pub fn root(net: &Net) -> Wire {
     Wire::Gate(net.gates().len() - 1)
 }
 
-/// The digit of a gate where left has the level `row` and right the level `column`.
+/// Returns the digit of a gate when left has the level `row` and right the level `column`.
 ///
 /// # Panics
 ///
-/// Where the net has no such gate, or its table no such digit.
+/// If the net has no such gate, or its table no such digit.
 pub fn digit(net: &Net, gate: usize, row: usize, column: usize) -> u8 {
     net.gates()[gate].digits[row * net.levels() + column]
 }

@@ -2,7 +2,7 @@
 
 use crate::common::net_sheets;
 
-/// The statements that are due for a sheet, from its lines alone.
+/// Returns the statements expected for a sheet, from its lines alone.
 fn due(sheet: &str) -> Vec<String> {
     let lines: Vec<&str> = sheet.lines().collect();
     let used = |name: &str| {

@@ -1,13 +1,13 @@
-//! The net that a reader sees in a drawing, by looking at where boxes, texts and wires lie, is the net of the sheet.
+//! The net that a reader sees in a drawing, from the places of boxes, texts and wires, is the net of the sheet.
 
 use crate::common::{net_sheets, Drawn, Rect};
 use reference::net::Wire;
 use reference::sheet::read_net_sheet;
 
-/// A gate as it is seen: its number, what its left and right come from, its digits by rows.
+/// A gate as seen in the drawing: its number, the sources of its left and right, its digits by rows.
 type Seen = (String, String, String, String);
 
-/// What a box is called: an input's name, or a gate's number.
+/// Returns the name in a box: an input's name, or a gate's number.
 fn called(drawn: &Drawn, rect: &Rect) -> String {
     let class = if rect.class == "gate" {
         "number"
@@ -19,7 +19,7 @@ fn called(drawn: &Drawn, rect: &Rect) -> String {
     texts[0].trim_start_matches("gate ").to_string()
 }
 
-/// The box at whose right edge a wire begins.
+/// Returns the box at whose right edge a wire begins.
 fn source(drawn: &Drawn, wire: &[(i32, i32)]) -> String {
     let (x, y) = wire[0];
     let starts = |rect: &&&Rect| rect.right == x && rect.y < y && y < rect.bottom;
@@ -29,7 +29,7 @@ fn source(drawn: &Drawn, wire: &[(i32, i32)]) -> String {
     called(drawn, found[0])
 }
 
-/// The wires that end at a gate's left edge, from the top.
+/// Returns the sources of the wires that end at a gate's left edge, from the top.
 fn sources(drawn: &Drawn, gate: &Rect) -> Vec<String> {
     let end = |wire: &[(i32, i32)]| *wire.last().expect("a corner");
     let mut wires: Vec<_> = drawn.wires.iter().collect();
@@ -48,7 +48,7 @@ fn seen(drawn: &Drawn, gate: &Rect) -> Seen {
     (called(drawn, gate), left, right, digits)
 }
 
-/// The inputs and the gates of a sheet, as the second implementation reads it; beside an input, whether some gate refers to it.
+/// Returns the inputs and gates of a sheet, as read by the second implementation, and for each input whether some gate refers to it.
 fn due(sheet: &[u8]) -> (Vec<(String, bool)>, Vec<Seen>) {
     let (header, net) = read_net_sheet(sheet).expect("a good sheet");
     let name = |bytes: &Vec<u8>| String::from_utf8(bytes.clone()).expect("a name");

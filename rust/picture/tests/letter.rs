@@ -1,4 +1,4 @@
-//! The letter of docs/COMMANDS.md and the glyph printed from it are drawn as they stand in docs/pictures.
+//! The letter of docs/COMMANDS.md and the glyph printed from it are drawn exactly as in docs/pictures.
 
 use std::fs;
 use std::path::Path;

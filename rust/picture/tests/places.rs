@@ -1,10 +1,10 @@
-//! Nothing lies on anything else: boxes, wires and texts, by their coordinates in the drawing.
+//! Nothing overlaps: boxes, wires and texts are compared by their coordinates in the drawing.
 
 use crate::common::{net_sheets, Drawn, Rect};
 
 /// The least distance between two boxes, and between a box and the page's edge.
 const ROOM: i32 = 8;
-/// At most the width of a letter for each pixel of its height, in the fonts that are named.
+/// An upper bound for the width of a letter per pixel of its height, in the fonts named in the style.
 const LETTER: f64 = 0.63;
 
 type Segment = ((i32, i32), (i32, i32));
@@ -26,7 +26,7 @@ fn page(drawn: &Drawn) -> &Rect {
         .expect("a page")
 }
 
-/// Closed ranges that have a number in common.
+/// Tests whether two closed ranges have a number in common.
 fn meet(a: (i32, i32), b: (i32, i32)) -> bool {
     a.0 <= b.1 && b.0 <= a.1
 }
@@ -40,7 +40,7 @@ fn segments(wire: &[(i32, i32)]) -> impl Iterator<Item = Segment> + '_ {
     wire.windows(2).map(|pair| (pair[0], pair[1]))
 }
 
-/// The ranges of x and of y that a level or upright segment takes.
+/// Returns the ranges of x and of y that a horizontal or vertical segment covers.
 fn ranges(((x, y), (u, v)): Segment) -> ((i32, i32), (i32, i32)) {
     ((x.min(u), x.max(u)), (y.min(v), y.max(v)))
 }
@@ -50,7 +50,7 @@ fn cross(a: Segment, b: Segment) -> bool {
     meet(ax, bx) && meet(ay, by)
 }
 
-/// Whether a segment comes inside a box; at the edge it is still outside.
+/// Tests whether a segment enters the inside of a box; the edge is outside.
 fn enters(segment: Segment, rect: &Rect) -> bool {
     let (x, y) = ranges(segment);
     meet(x, (rect.x + 1, rect.right - 1)) && meet(y, (rect.y + 1, rect.bottom - 1))
@@ -98,7 +98,7 @@ fn no_two_wires_meet() {
     }
 }
 
-/// The size of a class's font, as the style says.
+/// Returns the font size of a class, from the style.
 fn font_size(svg: &str, class: &str) -> f64 {
     let rule = svg
         .lines()
@@ -112,7 +112,7 @@ fn font_size(svg: &str, class: &str) -> f64 {
         .expect("a font size")
 }
 
-/// The rectangle that a text takes at most.
+/// Returns the largest rectangle that a text can cover.
 fn taken(svg: &str, text: &crate::common::Text) -> Rect {
     let size = font_size(svg, &text.class);
     let width = (LETTER * size * text.text.len() as f64).ceil() as i32;

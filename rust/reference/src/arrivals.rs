@@ -1,7 +1,7 @@
 //! "Arrival times known only between bounds": when a net's output settles.
 //!
-//! Times are whole numbers of quarter microseconds here, and become floats in
-//! the answer alone.
+//! Times are whole numbers of quarter microseconds here. Only the answer converts
+//! them to floats.
 
 use crate::net::Net;
 
@@ -55,8 +55,8 @@ pub fn settling_time(net: &Net, arrivals: &[u64], delay: u64) -> u64 {
     times.max().expect("every gate refers to something")
 }
 
-/// The settling when every input arrives as early as it may, and when every one
-/// arrives as late as it may: a later arrival never makes the output settle
+/// Returns the settling when every input arrives as early as possible, and when every
+/// one arrives as late as possible: a later arrival never makes the output settle
 /// earlier.
 pub fn settling(net: &Net, arrivals: &[Arrival], delay: u64) -> Settling {
     let settled_at = |end: fn(Arrival) -> u64| {
@@ -69,8 +69,8 @@ pub fn settling(net: &Net, arrivals: &[Arrival], delay: u64) -> Settling {
     }
 }
 
-/// Quarters as microseconds. Both the number of quarters and its fourth part are
-/// floats, so nothing is rounded.
+/// Converts quarters to microseconds. Both the number of quarters and its fourth part
+/// are floats, so nothing is rounded.
 fn microseconds(quarters: u64) -> f64 {
     quarters as f64 / 4.0
 }

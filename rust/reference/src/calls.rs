@@ -1,4 +1,4 @@
-//! Every call of document 01, and of document 02, with the buffers lent to it.
+//! Every call of documents 01 and 02, with its buffers.
 //!
 //! "15 and 16 leave cells and marks written where the call has them, the output
 //! untouched. Every other refusal changes no buffer." "Longer buffers keep their
@@ -24,22 +24,22 @@ use crate::sheet::{
     read_table_sheet, Header,
 };
 
-/// What a check answers: "agreement or the lowest index that differs".
+/// The answer of a check: "agreement or the lowest index that differs".
 #[derive(Clone, Copy, Debug, PartialEq, Eq)]
 pub enum Verdict {
     Agree,
     Differ(u64),
 }
 
-/// What a shallow making or settling answers: the length of the sheet that it
-/// wrote, and "the answer carries the count" of layers too.
+/// The answer of shallow making or settling: the length of the sheet written,
+/// and "the answer carries the count" of layers too.
 #[derive(Clone, Copy, Debug, PartialEq, Eq)]
 pub struct Layered {
     pub length: usize,
     pub layers: usize,
 }
 
-/// What keeping a wiring answers: the length of the sheet that it wrote, and "the
+/// The answer of keeping a wiring: the length of the sheet written, and "the
 /// set of the gates whose table field differs from the old one".
 #[derive(Clone, Copy, Debug, PartialEq, Eq)]
 pub struct Kept {
@@ -58,14 +58,14 @@ pub fn multiplicity(m: u64, n: u64, cells: &[u8], group: u64) -> Result<u64, Ref
     Ok(groups::multiplicity(&table, group as usize) as u64)
 }
 
-/// Every group's multiplicity, at its number, of a table sheet; 0 for group 0,
+/// Returns every group's multiplicity, at its number, for a table sheet; 0 for group 0,
 /// which has none. Refusals 1 to 6, 27.
 pub fn multiplicities(sheet: &[u8]) -> Result<Vec<usize>, Refusal> {
     let (_, table) = read_full_table_sheet(sheet)?;
     Ok(groups::multiplicities(&table))
 }
 
-/// The fewest levels that the gates' wires would have to carry for a table
+/// Returns the fewest levels that the gates' wires would have to carry for a table
 /// sheet to have a tree: at most m exactly when it has one. Refusals 1 to 6, 27.
 pub fn fewest_levels(sheet: &[u8]) -> Result<usize, Refusal> {
     let (_, table) = read_full_table_sheet(sheet)?;
@@ -83,7 +83,7 @@ pub fn marking(m: u64, n: u64, cells: &[u8], marks: &mut [u8]) -> Result<u8, Ref
     Ok(of_groups[whole(table.n)])
 }
 
-/// A net sheet to the settled net sheet of its table.
+/// Turns a net sheet into the settled net sheet of its table.
 /// Refusals 1 to 8, 26, 13, 14, 15.
 pub fn settle(
     sheet: &[u8],
@@ -96,7 +96,7 @@ pub fn settle(
     Ok(written.length)
 }
 
-/// A table sheet to the settled net sheet of its table.
+/// Turns a table sheet into the settled net sheet of its table.
 /// Refusals 1 to 6, 27, 13, 14, 16, 15.
 pub fn make(
     sheet: &[u8],
@@ -109,7 +109,7 @@ pub fn make(
     Ok(written.length)
 }
 
-/// A net sheet to the sheet of the shallow net of its table: "a making and a
+/// Turns a net sheet into the sheet of the shallow net of its table: "a making and a
 /// settling that choose the tree with the fewest layers and are otherwise as
 /// document 01 has them". Refusals 1 to 8, 26, 13, 14, 15.
 pub fn settle_shallow(
@@ -122,7 +122,7 @@ pub fn settle_shallow(
     write_tree(shallow_net, &header, &net.table(), cells, marks, out)
 }
 
-/// A table sheet to the sheet of the shallow net of its table.
+/// Turns a table sheet into the sheet of the shallow net of its table.
 /// Refusals 1 to 6, 27, 13, 14, 16, 15.
 pub fn make_shallow(
     sheet: &[u8],
@@ -161,11 +161,11 @@ pub fn family_tree(
     write_sheet(&print_net_sheet(&header, &net), out)
 }
 
-/// The tree chosen for a table with these marks; none if it has no tree.
+/// The tree chosen for a table with these marks, or nothing if it has no tree.
 type Choice = fn(&Table, &[u8]) -> Option<Net>;
 
-/// What settling and making share: the table into the cells, the marks into the
-/// marks, the sheet of the chosen tree into the output.
+/// What settling and making share: writes the table to the cells, the marks to the
+/// marks buffer and the sheet of the chosen tree to the output.
 fn write_tree(
     choice: Choice,
     header: &Header,
@@ -181,7 +181,7 @@ fn write_tree(
     Ok(Layered { length, layers })
 }
 
-/// What making writes, of a table whose marks are known. Refusals 13, 14, 16, 15.
+/// Writes what making writes, for a table whose marks are known. Refusals 13, 14, 16, 15.
 pub(crate) fn write_settled(
     header: &Header,
     table: &Table,
@@ -197,7 +197,7 @@ pub(crate) fn write_settled(
     write_sheet(&print_net_sheet(header, &net), out)
 }
 
-/// The table into the cells, its marks into the marks; answers the marks.
+/// Writes the table to the cells and its marks to the marks buffer, and returns the marks.
 fn write_marks(table: &Table, cells: &mut [u8], marks: &mut [u8]) -> Result<Vec<u8>, Refusal> {
     require_room(table, cells, marks)?;
     let of_groups = marks_of(table);
@@ -206,7 +206,7 @@ fn write_marks(table: &Table, cells: &mut [u8], marks: &mut [u8]) -> Result<Vec<
     Ok(of_groups)
 }
 
-/// Refusals 13 and 14, of a table and its marks.
+/// Checks the room for a table and its marks: refusals 13 and 14.
 fn require_room(table: &Table, cells: &[u8], marks: &[u8]) -> Result<(), Refusal> {
     require(refusal::CELLS_SHORT, cells.len(), table.inks.len())?;
     require(refusal::MARKS_SHORT, marks.len(), marks::needed(table.n))
@@ -218,7 +218,7 @@ fn no_tree(marks: &[u8], n: usize) -> Refusal {
     Refusal::new(refusal::NO_TREE, stuck as u64)
 }
 
-/// A net sheet against a table sheet. It "puts the table sheet's inks in the
+/// Checks a net sheet against a table sheet. It "puts the table sheet's inks in the
 /// cells buffer", whether they agree or not. "A check passes over open assignments,
 /// for its agreement and for the lowest index that differs."
 /// Refusals: the net's 1 to 8 and 26, the table's 1 to 6, 12, 13.
@@ -258,7 +258,7 @@ pub fn keep(
     Ok(Kept { length, changed })
 }
 
-/// A net and a table under one header. "A call that refuses either of two sheets
+/// Reads a net and a table with the same header. "A call that refuses either of two sheets
 /// judges the net first"; 12: the "sheets differ in m, n or names; place 0".
 fn read_both(net_sheet: &[u8], table_sheet: &[u8]) -> Result<(Header, Net, Table), Refusal> {
     let (header, net) = read_net_sheet(net_sheet)?;
@@ -272,8 +272,8 @@ fn read_both(net_sheet: &[u8], table_sheet: &[u8]) -> Result<(Header, Net, Table
 /// "A call takes two net sheets and hands back the shallower sheet itself, the
 /// first when level. An unreadable sheet loses to a readable one, and two
 /// unreadable ones give an empty part of the first; in this call alone [..] no
-/// number is given." Each sheet is taken as it is wired, whatever m, n and the
-/// names of the other.
+/// number is given." Each sheet is taken as it is wired, for any m, n and names
+/// of the other.
 pub fn shallower<'a>(first: &'a [u8], second: &'a [u8]) -> &'a [u8] {
     let layers = |sheet| read_net_sheet(sheet).ok().map(|(_, net)| net.layers());
     match (layers(first), layers(second)) {
@@ -295,13 +295,13 @@ pub fn arrivals(net_sheet: &[u8], arrival_sheet: &[u8], delay: u8) -> Result<Set
     Ok(arrivals::settling(&net, &of_inputs, u64::from(delay)))
 }
 
-/// A net sheet to the table sheet of its table. Refusals 1 to 8, 26, 15.
+/// Turns a net sheet into the table sheet of its table. Refusals 1 to 8, 26, 15.
 pub fn write_table(net_sheet: &[u8], out: &mut [u8]) -> Result<usize, Refusal> {
     let (header, net) = read_net_sheet(net_sheet)?;
     write_sheet(&print_table_sheet(&header, &net.table()), out)
 }
 
-/// A loosely laid table sheet to the table sheet of document 01. It "puts the inks
+/// Turns a loose table sheet into the table sheet of document 01. It "puts the inks
 /// in the cells buffer and writes the table sheet"; "13 and 15 follow" the sheet's
 /// refusals. "Tidying carries the sign." Refusals 1 to 6, 20, 13, 15.
 pub fn tidy(sheet: &[u8], cells: &mut [u8], out: &mut [u8]) -> Result<usize, Refusal> {
@@ -311,8 +311,8 @@ pub fn tidy(sheet: &[u8], cells: &mut [u8], out: &mut [u8]) -> Result<usize, Ref
     write_sheet(&print_table_sheet(&header, &table), out)
 }
 
-/// A net's value at every cell of a picture, into the output; answers how many
-/// cells that are. The offsets are across then down for each input. 24 and 25 are
+/// Writes a net's value at every cell of a picture to the output, and returns the
+/// number of cells. The offsets are across then down for each input. 24 and 25 are
 /// "judged in that order after the net sheet and before 15, place 0".
 /// Refusals: the net's 1 to 8 and 26, 24, 25, 15.
 pub fn glyph(
@@ -345,7 +345,7 @@ fn put(buffer: &mut [u8], bytes: &[u8]) {
     buffer[..bytes.len()].copy_from_slice(bytes);
 }
 
-/// A table sheet of a full table. Refusals 1 to 6, 27; each names the sheet.
+/// Reads the table sheet of a full table. Refusals 1 to 6, 27; each names the sheet.
 pub(crate) fn read_full_table_sheet(sheet: &[u8]) -> Result<(Header, Table), Refusal> {
     let (header, table) = read_table_sheet(sheet)?;
     require_full(&table).map_err(|refusal| refusal.naming(Sheet::Table))?;
@@ -360,7 +360,7 @@ fn require_full(table: &Table) -> Result<(), Refusal> {
     }
 }
 
-/// Bare cells as a table. 9: "m, n or the cell count outside a sheet's bounds,
+/// Returns bare cells as a table. 9: "m, n or the cell count outside a sheet's bounds,
 /// or length not m to the n". "Bare cells may be m, so 10 now means above m."
 fn bare_table(m: u64, n: u64, cells: &[u8]) -> Result<Table, Refusal> {
     if cell_count(m, n) != Some(cells.len() as u64) {

@@ -1,11 +1,11 @@
-//! Damaged sheets: what the readers of sheets are tried on.
+//! Damaged sheets, to test the readers of sheets.
 
 use crate::fields::OPEN;
 use crate::generate::Generator;
 use std::collections::HashSet;
 use std::ops::Range;
 
-/// One way to spoil a sheet. The result may by chance still be a good sheet.
+/// One way to damage a sheet. The result may by chance still be a good sheet.
 #[derive(Clone, Copy, Debug, PartialEq, Eq)]
 pub enum Damage {
     ChangeByte,
@@ -43,21 +43,21 @@ impl Damage {
     ];
 }
 
-/// Bytes that tell readers apart: separators, look-alikes of separators, the sign
+/// Bytes that distinguish readers: separators, look-alikes of separators, the sign
 /// of an open cell, digits, letters, and bytes outside ASCII.
 pub const TELLING_BYTES: [u8; 14] = [
     b' ', b'\n', b'\r', b'\t', 0, b'-', b'0', b'1', b'9', b'a', b'i', b'A', 0x80, 0xff,
 ];
 
 impl Generator {
-    /// The sheet with one damage of a random kind.
+    /// Returns the sheet with one damage of a random kind.
     pub fn damaged(&mut self, sheet: &[u8]) -> Vec<u8> {
         let damage = *self.rng.pick(&Damage::ALL);
         self.damage(sheet, damage)
     }
 
-    /// The sheet with one damage of the given kind; unchanged if it has nothing
-    /// that can be damaged so.
+    /// Returns the sheet with one damage of the given kind, or unchanged if nothing in it
+    /// can be damaged in this way.
     pub fn damage(&mut self, sheet: &[u8], damage: Damage) -> Vec<u8> {
         let fields = fields(sheet);
         if fields.is_empty() {
@@ -94,7 +94,7 @@ impl Generator {
         } else {
             (second, first)
         };
-        // The later field first, so that the earlier one's place still holds.
+        // The later field first, so that the earlier one's place stays valid.
         let swapped = replace(sheet, &late, &sheet[early.clone()]);
         replace(&swapped, &early, &sheet[late])
     }
@@ -104,7 +104,7 @@ impl Generator {
         replace(sheet, &(start..start), b"0")
     }
 
-    /// A name of line 3 made empty, too long, `ink`, or another name of line 3.
+    /// Makes a name of line 3 empty, too long, `ink`, or another name of line 3.
     fn bad_name(&mut self, sheet: &[u8]) -> Vec<u8> {
         let names = fields_of_line(sheet, 2);
         if names.is_empty() {
@@ -117,8 +117,8 @@ impl Generator {
         replace(sheet, &name, text)
     }
 
-    /// A field that is a reference if this is a net sheet (an input level if it
-    /// is a table sheet) made a number that no reference may be.
+    /// Replaces a field that is a reference in a net sheet (an input level in a table
+    /// sheet) by a number that no reference may be.
     fn bad_reference(&mut self, sheet: &[u8]) -> Vec<u8> {
         let lines = lines(sheet).len();
         if lines < 5 {
@@ -141,8 +141,8 @@ impl Generator {
         replace(sheet, &fields[self.rng.below(2)], text.as_bytes())
     }
 
-    /// One gate line more, of references that no line has if there are two, and
-    /// with the table of the line before it: the sheet may be good, a gate may be
+    /// Adds a gate line, with references that no line has if there are two, and with
+    /// the table of the line before it: the sheet may be good, a gate may be
     /// unused, or it is one line too many.
     fn add_gate(&mut self, sheet: &[u8]) -> Vec<u8> {
         let gates = lines(sheet).len().saturating_sub(LINES_BEFORE_GATES);
@@ -160,7 +160,7 @@ impl Generator {
         [sheet, &line, b"\n"].concat()
     }
 
-    /// A reference made the name of an unused input, if there is one, or of any
+    /// Replaces a reference by the name of an unused input, if there is one, or of any
     /// input: if it was a gate's number, that gate is now unused.
     fn other_reference(&mut self, sheet: &[u8]) -> Vec<u8> {
         let gates = lines(sheet).len().saturating_sub(LINES_BEFORE_GATES);
@@ -177,8 +177,8 @@ impl Generator {
         replace(sheet, &fields[self.rng.below(2)], &name)
     }
 
-    /// The last field of some line made the sign of an open cell: a table sheet is
-    /// then often still good.
+    /// Replaces the last field of some line by the sign of an open cell: a table sheet
+    /// is then often still good.
     fn open_cell(&mut self, sheet: &[u8]) -> Vec<u8> {
         let line = self.rng.below(lines(sheet).len());
         match fields_of_line(sheet, line).last() {
@@ -187,7 +187,7 @@ impl Generator {
         }
     }
 
-    /// Some line again, before some line or at the end.
+    /// Repeats some line, before some line or at the end.
     fn add_line(&mut self, sheet: &[u8]) -> Vec<u8> {
         let mut lines = lines(sheet);
         let line = *self.rng.pick(&lines);
@@ -205,13 +205,13 @@ impl Generator {
 /// The lines before the first gate line of a net sheet.
 const LINES_BEFORE_GATES: usize = 4;
 
-/// The names in line 3.
+/// Returns the names in line 3.
 fn names_of(sheet: &[u8]) -> Vec<Vec<u8>> {
     let fields = fields_of_line(sheet, 2).into_iter();
     fields.map(|field| sheet[field].to_vec()).collect()
 }
 
-/// Those of the references that no gate line has.
+/// Returns those of the references that no gate line has.
 fn not_referred_to(sheet: &[u8], references: Vec<Vec<u8>>) -> Vec<Vec<u8>> {
     let gates = lines(sheet).into_iter().skip(LINES_BEFORE_GATES);
     let used: HashSet<&[u8]> = gates
@@ -227,7 +227,7 @@ fn drop_last_line(sheet: &[u8]) -> Vec<u8> {
     lines.concat()
 }
 
-/// Every sheet that differs from this one by one byte changed to a telling byte,
+/// Returns every sheet that differs from this one by one byte changed to a telling byte,
 /// dropped or doubled, and every shorter front part of it.
 pub fn byte_damages(sheet: &[u8]) -> impl Iterator<Item = Vec<u8>> + '_ {
     (0..sheet.len()).flat_map(move |place| {
@@ -241,8 +241,8 @@ pub fn byte_damages(sheet: &[u8]) -> impl Iterator<Item = Vec<u8>> + '_ {
     })
 }
 
-/// Every sheet that one edit makes of this one: a cut, one byte dropped, any byte
-/// put in at any place or in the stead of any byte.
+/// Returns every sheet that is one edit from this one: a cut, one byte dropped, any byte
+/// inserted at any place or replacing any byte.
 pub fn single_edits(sheet: &[u8]) -> impl Iterator<Item = Vec<u8>> + '_ {
     (0..=sheet.len()).flat_map(move |place| {
         let put_in = move |byte| replace(sheet, &(place..place), &[byte]);
@@ -256,12 +256,12 @@ pub fn single_edits(sheet: &[u8]) -> impl Iterator<Item = Vec<u8>> + '_ {
     })
 }
 
-/// The lines of a sheet, each with its line feed if it has one.
+/// Returns the lines of a sheet, each with its line feed if it has one.
 pub(crate) fn lines(sheet: &[u8]) -> Vec<&[u8]> {
     sheet.split_inclusive(|&byte| byte == b'\n').collect()
 }
 
-/// Where the fields of a sheet lie.
+/// Returns the places of a sheet's fields.
 fn fields(sheet: &[u8]) -> Vec<Range<usize>> {
     let mut fields = Vec::new();
     let mut start = 0;
@@ -276,7 +276,7 @@ fn fields(sheet: &[u8]) -> Vec<Range<usize>> {
     fields
 }
 
-/// Where the fields of one line lie, lines counted from 0.
+/// Returns the places of the fields of one line, lines counted from 0.
 pub(crate) fn fields_of_line(sheet: &[u8], line: usize) -> Vec<Range<usize>> {
     let lines = lines(sheet);
     if line >= lines.len() {

@@ -1,4 +1,4 @@
-//! "The whole family of trees": every wiring of a table on its leaves, under a
+//! "The whole family of trees": every wiring of a table on its leaves, by
 //! number.
 
 use crate::groups::members;
@@ -8,14 +8,14 @@ use crate::net::{Net, Table};
 use crate::settled::net_by;
 use std::collections::HashMap;
 
-/// How many trees each group has, at the group's number. "A group's count comes
+/// Returns how many trees each group has, at the group's number. "A group's count comes
 /// from its splits, and a split's count from its two groups. A split is counted
 /// once, with the first-listed input on the left." A single input is wired in
 /// one way, and a group whose mark is not 2 in none.
 pub fn counts(marks: &[u8], n: usize) -> Vec<u64> {
     let mut counts = Vec::new();
     for group in 0..marks.len() {
-        // A part of a group has a lower number, so its count is there already.
+        // A part of a group has a lower number, so its count is already there.
         let count = match members(group, n).len() {
             1 => 1,
             _ if marks[group] != TREE => 0,
@@ -38,7 +38,7 @@ pub fn count(table: &Table, marks: &[u8]) -> u64 {
     counts(marks, table.n)[leaves(table)]
 }
 
-/// The tree of a table under an order number, "from 0"; none if the number is
+/// Returns the tree of a table with an order number, "from 0", or nothing if the number is
 /// not below the count.
 pub fn family_net(table: &Table, marks: &[u8], number: u64) -> Option<Net> {
     let n = table.n;

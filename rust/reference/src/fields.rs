@@ -1,12 +1,12 @@
-//! The judges of single fields, "Sheets" and its refusals 1 to 8, and the fields
-//! of an arrival sheet. A field that comes here is not empty.
+//! The judges of single fields: "Sheets" with its refusals 1 to 8, and the fields
+//! of an arrival sheet. Fields are never empty here.
 
 use crate::limits::{self, cell_count, MOST_NAME_BYTES, MOST_QUARTERS};
 use crate::net::Wire;
 use crate::refusal;
 use crate::sheet::Header;
 
-/// A judge answers a field's meaning, or the number that refuses it.
+/// A judge returns a field's meaning, or the number that refuses it.
 pub type Judged<T> = Result<T, u8>;
 
 pub fn fixed_word(field: &[u8], word: &[u8]) -> Judged<()> {
@@ -16,8 +16,8 @@ pub fn fixed_word(field: &[u8], word: &[u8]) -> Judged<()> {
     Ok(())
 }
 
-/// The one of these values that the field is the decimal of. A decimal as Rust
-/// prints it has no leading zero, so a field of any length can be held against
+/// Returns the one of these values whose decimal is the field. A decimal as Rust
+/// prints it has no leading zero, so a field of any length can be compared with
 /// it.
 fn decimal_of(field: &[u8], mut values: impl Iterator<Item = u64>) -> Option<u64> {
     values.find(|value| value.to_string().as_bytes() == field)
@@ -79,13 +79,13 @@ pub fn digits_field(field: &[u8], m: usize) -> Judged<Vec<u8>> {
         .ok_or(refusal::DIGITS)
 }
 
-/// The level that a byte is the digit of, if it is below m.
+/// Returns the level whose digit a byte is, if it is below m.
 fn digit_below(byte: u8, m: usize) -> Option<u8> {
     (0..m as u8).find(|&level| digit(level) == byte)
 }
 
-/// "Row's input level isn't the next in the count": 5 for anything but the one
-/// digit that is due.
+/// "Row's input level isn't the next in the count": 5 for anything except the one
+/// expected digit.
 pub fn count_field(field: &[u8], due: u8) -> Judged<()> {
     if field != [digit(due)] {
         return Err(refusal::COUNT);
@@ -98,8 +98,8 @@ pub fn level_field(field: &[u8], m: usize) -> Judged<u8> {
     one_digit_below(field, m).ok_or(refusal::COUNT)
 }
 
-/// An ink is one digit below m, or `-` where the cell is left open, and "a cell
-/// holds m for it": how an ink field is judged is said here alone.
+/// An ink is one digit below m, or `-` if the cell is left open, and "a cell
+/// holds m for it": only this function judges an ink field.
 pub fn ink_field(field: &[u8], m: usize) -> Judged<u8> {
     if field == [OPEN] {
         return Ok(m as u8);
@@ -135,12 +135,12 @@ pub fn time_field(field: &[u8], least: u64) -> Judged<u64> {
 /// "Its maker writes `-` as their ink."
 pub const OPEN: u8 = b'-';
 
-/// The one byte that a level is written as.
+/// Returns the byte that writes a level.
 pub fn digit(level: u8) -> u8 {
     b'0' + level
 }
 
-/// The one byte that an ink is written as.
+/// Returns the byte that writes an ink.
 pub fn ink_byte(ink: u8, m: usize) -> u8 {
     if usize::from(ink) == m {
         return OPEN;

@@ -1,4 +1,4 @@
-//! Seeded good sheets of every allowed size; `damage` spoils them. The same seed
+//! Seeded good sheets of every allowed size; `damage` damages them. The same seed
 //! gives the same sheets.
 
 use crate::arrivals::Arrival;
@@ -7,7 +7,7 @@ use crate::net::{all_inputs, place_in_count, Gate, Net, Table, Wire};
 use crate::rng::Rng;
 use crate::sheet::{print_arrival_sheet, print_net_sheet, print_table_sheet, Header};
 
-/// Where a table comes from.
+/// The origin of a table.
 #[derive(Clone, Copy, Debug, PartialEq, Eq)]
 pub enum TableKind {
     /// The table of a random net of all inputs: it has a tree.
@@ -22,15 +22,15 @@ pub enum TableKind {
     Constant,
     /// The sum of the levels modulo m: every wiring computes it.
     Sum,
-    /// Least and greatest by turns down the list of inputs.
+    /// Least and greatest alternately, along the list of inputs.
     MinMaxChain,
     /// One random gate after another, each with one more input, in any order.
     AnyChain,
-    /// All 0 but for a few cells near the end.
+    /// All 0 except for a few cells near the end.
     FewCells,
-    /// Random inks that hang on three inputs alone.
+    /// Random inks that depend on three inputs only.
     ThreeMatter,
-    /// Random inks that hang on two inputs at most.
+    /// Random inks that depend on at most two inputs.
     TwoMatter,
 }
 
@@ -61,13 +61,13 @@ impl Generator {
         }
     }
 
-    /// Some allowed (m, n).
+    /// Returns a random allowed (m, n).
     pub fn size(&mut self) -> (usize, usize) {
         let (m, n) = *self.rng.pick(&allowed_sizes());
         (m as usize, n as usize)
     }
 
-    /// n different good names of 1 to 8 bytes.
+    /// Returns n different good names of 1 to 8 bytes.
     pub fn names(&mut self, n: usize) -> Vec<Vec<u8>> {
         let mut names: Vec<Vec<u8>> = Vec::new();
         while names.len() < n {
@@ -92,7 +92,7 @@ impl Generator {
         Header { m, n, names }
     }
 
-    /// A net of any wiring; half of them may leave inputs out.
+    /// Returns a net with any wiring; half of them may leave inputs out.
     pub fn net(&mut self, m: usize, n: usize) -> Net {
         match self.rng.below(2) {
             0 => self.net_of_all_inputs(m, n),
@@ -104,14 +104,14 @@ impl Generator {
         self.net_of(m, n, &all_inputs(n))
     }
 
-    /// A net that leaves out one input or more, if there are more than two.
+    /// Returns a net that leaves out one input or more, if there are more than two.
     pub fn net_of_some_inputs(&mut self, m: usize, n: usize) -> Net {
         let used = 2 + self.rng.below(n.max(3) - 2);
         let inputs = self.some_inputs(n, used);
         self.net_of(m, n, &inputs)
     }
 
-    /// So many of n inputs, in any order.
+    /// Returns `count` of n inputs, in any order.
     fn some_inputs(&mut self, n: usize, count: usize) -> Vec<usize> {
         let mut inputs = all_inputs(n);
         self.rng.shuffle(&mut inputs);
@@ -119,8 +119,8 @@ impl Generator {
         inputs
     }
 
-    /// A net of any wiring of these inputs: two loose ends are joined by a gate
-    /// until one is left, so the gates stand in a random order that is valid.
+    /// Returns a net with any wiring of these inputs: a gate joins two loose ends
+    /// until one is left, so the gates are in a random valid order.
     fn net_of(&mut self, m: usize, n: usize, inputs: &[usize]) -> Net {
         let mut loose: Vec<Wire> = inputs.iter().map(|&input| Wire::Input(input)).collect();
         let mut gates = Vec::new();
@@ -138,9 +138,9 @@ impl Generator {
         Net { m, n, gates }
     }
 
-    /// A gate's digits. Random digits alone would make deep nets nearly
-    /// constant, so many gates carry on all they are given; some give two levels
-    /// alone, so that the gate after them has digits that no assignment reaches.
+    /// Returns a gate's digits. Random digits alone would make deep nets nearly
+    /// constant. Therefore many gates pass on all their information; some give only two levels,
+    /// so that the gate after them has digits that no assignment reaches.
     fn digits(&mut self, m: usize) -> Vec<u8> {
         let kind = self.rng.below(6);
         let shift = self.rng.below(m);
@@ -182,7 +182,7 @@ impl Generator {
         }
     }
 
-    /// The table with a few of its cells left open, or with many.
+    /// Returns the table with a few of its cells left open, or with many.
     pub fn with_open_cells(&mut self, table: Table) -> Table {
         let mut table = table;
         let cells = table.inks.len();
@@ -210,8 +210,8 @@ impl Generator {
         table
     }
 
-    /// The inputs in a random order, each joined to the gate before it, on
-    /// either side.
+    /// Returns a chain of the inputs in a random order, each joined to the gate before it,
+    /// on either side.
     fn any_chain(&mut self, m: usize, n: usize) -> Net {
         let mut inputs: Vec<Wire> = (0..n).map(Wire::Input).collect();
         self.rng.shuffle(&mut inputs);
@@ -233,7 +233,7 @@ impl Generator {
         Net { m, n, gates }
     }
 
-    /// One to four cells of the last eighth are not 0.
+    /// Returns a table in which one to four cells of the last eighth are not 0.
     fn few_cells(&mut self, m: usize, n: usize) -> Table {
         let mut table = Table::of(m, n, |_| 0);
         let cells = table.inks.len();
@@ -244,7 +244,7 @@ impl Generator {
         table
     }
 
-    /// Any inks that hang on so many inputs at most.
+    /// Returns random inks that depend on at most `most` inputs.
     fn few_matter(&mut self, m: usize, n: usize, most: usize) -> Table {
         let inputs = self.some_inputs(n, most);
         let inner = self.random_table(m, inputs.len());
@@ -253,21 +253,21 @@ impl Generator {
         })
     }
 
-    /// A good net sheet.
+    /// Returns a good net sheet.
     pub fn net_sheet(&mut self, m: usize, n: usize) -> Vec<u8> {
         let header = self.header(m, n);
         let net = self.net(m, n);
         print_net_sheet(&header, &net)
     }
 
-    /// A good arrival sheet for the inputs of a header.
+    /// Returns a good arrival sheet for the inputs of a header.
     pub fn arrival_sheet(&mut self, header: &Header) -> Vec<u8> {
         let arrivals: Vec<Arrival> = (0..header.n).map(|_| self.arrival()).collect();
         print_arrival_sheet(header, &arrivals)
     }
 
-    /// A fixed time as often as a range; the times of one sheet may be near each
-    /// other or at the bounds, so that any input may be the last to matter.
+    /// Returns a fixed time as often as a range; the times of one sheet may be near each
+    /// other or at the bounds, so that any input may determine when the output settles.
     fn arrival(&mut self) -> Arrival {
         let (one, other) = (self.time(), self.time());
         match self.rng.below(2) {
@@ -286,14 +286,14 @@ impl Generator {
         }
     }
 
-    /// A good table sheet with open cells.
+    /// Returns a good table sheet with open cells.
     pub fn open_table_sheet(&mut self, m: usize, n: usize, kind: TableKind) -> Vec<u8> {
         let header = self.header(m, n);
         let table = self.table(m, n, kind);
         print_table_sheet(&header, &self.with_open_cells(table))
     }
 
-    /// A good sheet of a full table.
+    /// Returns a good sheet of a full table.
     pub fn table_sheet(&mut self, m: usize, n: usize, kind: TableKind) -> Vec<u8> {
         let header = self.header(m, n);
         let table = self.table(m, n, kind);
@@ -301,8 +301,8 @@ impl Generator {
     }
 }
 
-/// A table in which the group of the first `size` inputs has as many classes as
-/// it can: an assignment's place in the count, as digits, last digit first, is
+/// Returns a table in which the group of the first `size` inputs has as many classes as
+/// possible: an assignment's place in counting order, as digits, last digit first, is
 /// its column.
 pub fn most_classes_table(m: usize, n: usize, size: usize) -> Table {
     let column = m.pow((n - size) as u32);

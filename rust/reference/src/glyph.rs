@@ -12,7 +12,7 @@ pub struct Picture<'a> {
 }
 
 impl<'a> Picture<'a> {
-    /// The picture with these sides; none if a "side, cell count or a cell's level"
+    /// Returns the picture with these sides, or nothing if a "side, cell count or a cell's level"
     /// is wrong.
     pub fn of(width: u64, height: u64, cells: &'a [u8], m: usize) -> Option<Picture<'a>> {
         let sides = LEAST_SIDE..=MOST_SIDE;
@@ -32,7 +32,7 @@ impl<'a> Picture<'a> {
         })
     }
 
-    /// The level of the cell in column x and row y, both from 0: "outside the
+    /// Returns the level of the cell in column x and row y, both from 0: "outside the
     /// picture the level is 0".
     fn level(&self, x: i64, y: i64) -> u8 {
         if !(0..self.width).contains(&x) || !(0..self.height).contains(&y) {
@@ -49,7 +49,7 @@ pub struct Offset {
     pub down: i8,
 }
 
-/// The offsets of n inputs, across then down for each; none if one is "missing,
+/// Returns the offsets of n inputs, across then down for each, or nothing if one is "missing,
 /// extra or too far".
 pub fn offsets_of(numbers: &[i8], n: usize) -> Option<Vec<Offset>> {
     let near = |number: &i8| (-FARTHEST_OFFSET..=FARTHEST_OFFSET).contains(number);
@@ -64,7 +64,7 @@ pub fn offsets_of(numbers: &[i8], n: usize) -> Option<Vec<Offset>> {
     Some(offsets.collect())
 }
 
-/// The new picture, row by row: "each cell of the new picture is the net's value
+/// Returns the new picture, row by row: "each cell of the new picture is the net's value
 /// with input i read from the old cell at its offset".
 pub fn printed(net: &Net, picture: Picture, offsets: &[Offset]) -> Vec<u8> {
     let mut new = Vec::new();

@@ -1,6 +1,6 @@
 //! "Groups": which assignments of a group are alike.
 //!
-//! A group's assignment stands for a column of Butler's partition matrix: the
+//! A group's assignment corresponds to a column of Butler's partition matrix: the
 //! inks at that assignment over all assignments of the other inputs. Two
 //! assignments are alike exactly when their columns are equal.
 
@@ -11,8 +11,8 @@ use std::collections::HashMap;
 pub struct Classes {
     /// How many classes there are: the multiplicity.
     pub count: usize,
-    /// The class of each assignment, in the order in which they are counted,
-    /// first-listed member slowest. Classes are numbered from 0 as they first
+    /// The class of each assignment, in counting order, the first-listed member
+    /// slowest. Classes are numbered from 0 as they first
     /// appear in that order.
     pub of: Vec<usize>,
 }
@@ -23,30 +23,30 @@ pub fn is_member(group: usize, input: usize) -> bool {
     (group >> input) & 1 == 1
 }
 
-/// The members of a group, first-listed first.
+/// Returns the members of a group, first-listed first.
 pub fn members(group: usize, n: usize) -> Vec<usize> {
     (0..n).filter(|&input| is_member(group, input)).collect()
 }
 
-/// The inputs outside a group, first-listed first.
+/// Returns the inputs outside a group, first-listed first.
 pub fn others(group: usize, n: usize) -> Vec<usize> {
     (0..n).filter(|&input| !is_member(group, input)).collect()
 }
 
-/// The number of the group of the listed inputs.
+/// Returns the number of the group of the listed inputs.
 pub fn group_of(listed: &[usize]) -> usize {
     listed.iter().map(|&input| 1 << input).sum()
 }
 
-/// The number of the group of all inputs.
+/// Returns the number of the group of all inputs.
 pub fn whole(n: usize) -> usize {
     (1 << n) - 1
 }
 
-/// The index of each assignment of the listed inputs, as they are counted, the
-/// first-listed slowest, with all other inputs at 0. An input's level counts as
-/// often as the inputs after it in line 3 have assignments, so the index of a
-/// whole assignment is that of a group's part and that of the others' together.
+/// Returns the index of each assignment of the listed inputs, in counting order, the
+/// first-listed slowest, with all other inputs at 0. The weight of an input's level is
+/// the number of assignments of the inputs after it in line 3. So the index of a
+/// whole assignment is the sum of a group's part and the others' part.
 pub fn indices(table: &Table, listed: &[usize]) -> Vec<usize> {
     let mut all = vec![0];
     for &input in listed {
@@ -57,7 +57,7 @@ pub fn indices(table: &Table, listed: &[usize]) -> Vec<usize> {
     all
 }
 
-/// The classes of a group.
+/// Returns the classes of a group.
 pub fn classes(table: &Table, group: usize) -> Classes {
     let others = indices(table, &others(group, table.n));
     let mut seen: HashMap<Vec<u8>, usize> = HashMap::new();
@@ -77,8 +77,8 @@ pub fn multiplicity(table: &Table, group: usize) -> usize {
     classes(table, group).count
 }
 
-/// The multiplicity of every group, at the group's number. The empty group has
-/// none, and 0 stands there.
+/// Returns the multiplicity of every group, at the group's number. The empty group has
+/// none; its entry is 0.
 pub fn multiplicities(table: &Table) -> Vec<usize> {
     let groups = 1..=whole(table.n);
     let counts = groups.map(|group| multiplicity(table, group));

@@ -1,4 +1,4 @@
-//! "Marking that yields to the pen": marking as a job that goes one group further
+//! "Marking that yields to the pen": marking as a job that processes one more group
 //! at each step.
 
 use crate::calls::{read_full_table_sheet, write_settled};
@@ -19,7 +19,7 @@ pub struct Job {
 }
 
 impl Job {
-    /// A job on a table sheet, which "needs a full table [..] at its opening". "A
+    /// Opens a job on a table sheet, which "needs a full table [..] at its opening". "A
     /// sheet that is turned back opens an empty job beside its refusal."
     /// Refusals 1 to 6, 27.
     pub fn open(sheet: &[u8]) -> (Job, Option<Refusal>) {
@@ -54,13 +54,13 @@ impl Job {
         Job::of(header, table)
     }
 
-    /// The groups still to go. "After 2 to the n, less 1, steps it is done, never
+    /// Returns the number of groups still to go. "After 2 to the n, less 1, steps it is done, never
     /// earlier."
     pub fn to_go(&self) -> usize {
         whole(self.table.n) - self.passed
     }
 
-    /// The mark of every group, at its number, as the job keeps them.
+    /// Returns the mark of every group, at its number, as the job keeps them.
     pub fn marks(&self) -> &[u8] {
         &self.marks
     }
@@ -87,7 +87,7 @@ impl Job {
         Ok((group <= self.passed).then(|| self.marks[group]))
     }
 
-    /// "Finishing writes what making writes." Of an empty job it is 9 at 0; 22:
+    /// "Finishing writes what making writes." For an empty job the refusal is 9 at 0; 22:
     /// "finish on an unfinished one, place the groups still to go", "judged before
     /// 13". Refusals 9, 22, 13, 14, 16, 15.
     pub fn finish(

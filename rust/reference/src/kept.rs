@@ -1,11 +1,11 @@
-//! "Keep my wiring": the gates of a given net filled anew for another table.
+//! "Keep my wiring": the gates of a given net, refilled for another table.
 
 use crate::groups::{group_of, multiplicity};
 use crate::leaves::matters;
 use crate::net::{Gate, Net, Table, Wire};
 use crate::settled::{digits, Output};
 
-/// The net with "the gates anew by the settled net's class rule over the given
+/// Returns the net with "the gates anew by the settled net's class rule over the given
 /// wiring": sides, line order and numbers stay. If the wiring leaves out an input
 /// that matters, or some gate's group has more than m classes, no filling of it
 /// computes the table; then 0, or the number of the first such gate.
@@ -38,13 +38,13 @@ pub fn refilled(net: &Net, table: &Table) -> Result<Net, usize> {
     })
 }
 
-/// Whether the wiring "leaves out an input that matters".
+/// Returns whether the wiring "leaves out an input that matters".
 fn leaves_out(net: &Net, table: &Table) -> bool {
     let mut unused = (0..net.n).filter(|&input| !net.uses(Wire::Input(input)));
     unused.any(|input| matters(table, input))
 }
 
-/// The group of inputs that a wire hangs on, given the earlier gates' groups.
+/// Returns the group of inputs that a wire depends on, given the earlier gates' groups.
 fn group_below(wire: Wire, groups: &[usize]) -> usize {
     match wire {
         Wire::Input(input) => 1 << input,

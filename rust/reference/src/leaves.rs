@@ -3,7 +3,7 @@
 use crate::groups::{group_of, others};
 use crate::net::{all_inputs, count_up, Table};
 
-/// How many leaves a tree has at least: a gate refers to two.
+/// The fewest leaves of a tree: a gate refers to two.
 const FEWEST_LEAVES: usize = 2;
 
 /// "An input matters when some two assignments differing only there differ in
@@ -26,7 +26,7 @@ pub fn matters(table: &Table, input: usize) -> bool {
     }
 }
 
-/// The group of the leaves: "just the inputs that matter [..]; if fewer than two
+/// Returns the group of the leaves: "just the inputs that matter [..]; if fewer than two
 /// do, the first-listed others make up two".
 pub fn leaves(table: &Table) -> usize {
     let inputs = all_inputs(table.n).into_iter();

@@ -1,8 +1,8 @@
-//! The second implementation of document 01 ("Shade nets"), with what document
-//! 02 changes in it, written from their text alone. The proved implementation is
-//! held against this one.
+//! The second implementation of document 01 ("Shade nets"), with the changes of
+//! document 02, written from their text alone. The proved implementation is
+//! compared with this one.
 //!
-//! One module for one section of document 01, or one request of document 02:
+//! One module for each section of document 01 and each request of document 02:
 //!
 //! | module     | section or request                                        |
 //! |------------|-----------------------------------------------------------|
@@ -16,20 +16,20 @@
 //! | `marks`    | "Marks", and document 02's packing of them in a buffer    |
 //! | `leaves`   | document 02, "Inputs that never matter"                   |
 //! | `settled`  | "The settled net"                                         |
-//! | `shallow`  | document 02, "Shallow nets": the tree of fewest layers    |
+//! | `shallow`  | document 02, "Shallow nets": the tree with fewest layers  |
 //! | `family`   | document 02, "The whole family of trees": counts, numbers |
 //! | `arrivals` | document 02, "Arrival times known only between bounds"     |
 //! | `job`      | document 02, "Marking that yields to the pen"             |
 //! | `kept`     | document 02, "Keep my wiring"                             |
 //! | `glyph`    | document 02, "Whole glyphs"                               |
-//! | `calls`    | every call with the buffers lent to it                    |
+//! | `calls`    | every call with its buffers                               |
 //! | `lister`   | "Listing"                                                 |
 //! | `programs` | "Two programs", and the one that tidies                   |
 //! | `rng`, `generate`, `loose`, `damage` | seeded sheets, good, loose and  |
 //! |            | damaged, for tests                                        |
 //!
-//! Plain rather than quick: an assignment is a list of levels, a group's class
-//! is a column of inks, and nothing is reckoned that the text does not name.
+//! Simple rather than fast: an assignment is a list of levels, a group's class
+//! is a column of inks, and nothing is computed that the text does not name.
 
 pub mod arrivals;
 pub mod calls;

@@ -1,11 +1,11 @@
-//! The bounds of a sheet. Every bound of document 01, as document 02, K6, has
-//! raised two of them, stands here and nowhere else.
+//! The bounds of a sheet. Every bound of document 01, two of them raised by
+//! document 02, K6, is defined here and nowhere else.
 
 /// "Levels, written m, is one digit from 2 to 9."
 pub const LEAST_LEVELS: u64 = 2;
 pub const MOST_LEVELS: u64 = 9;
 
-/// "Inputs, written n, is 2 to .." and no more than document 02, K6, has: "The
+/// "Inputs, written n, is 2 to .." and no more than document 02, K6, allows: "The
 /// cell limit rises to 4,096 and inputs to 12".
 pub const LEAST_INPUTS: u64 = 2;
 pub const MOST_INPUTS: u64 = 12;
@@ -32,8 +32,8 @@ pub const MOST_SIDE: u64 = 64;
 /// "An offset across and down from −2 to 2."
 pub const FARTHEST_OFFSET: i8 = 2;
 
-/// The number of cells, if m, n and that number are within a sheet's bounds.
-/// Any two numbers may come in: the power stops growing at the bound.
+/// Returns the number of cells, if m, n and that number are within a sheet's bounds.
+/// Both may be any number: the power stops growing at the bound.
 pub fn cell_count(m: u64, n: u64) -> Option<u64> {
     if !(LEAST_LEVELS..=MOST_LEVELS).contains(&m) || !(LEAST_INPUTS..=MOST_INPUTS).contains(&n) {
         return None;
@@ -48,7 +48,7 @@ pub fn cell_count(m: u64, n: u64) -> Option<u64> {
     Some(cells)
 }
 
-/// Every (m, n) that a sheet may have, by rising m, then rising n.
+/// Returns every (m, n) that a sheet may have, by increasing m, then increasing n.
 pub fn allowed_sizes() -> Vec<(u64, u64)> {
     let mut sizes = Vec::new();
     for m in LEAST_LEVELS..=MOST_LEVELS {

@@ -1,5 +1,5 @@
-//! Loosely laid table sheets, as spreadsheets export them, and the damages that
-//! tell readers of these apart.
+//! Loose table sheets, as spreadsheets export them, and damages that
+//! distinguish readers of them.
 
 use crate::damage::{fields_of_line, lines, replace};
 use crate::generate::Generator;
@@ -9,14 +9,14 @@ use crate::limits::MOST_INPUTS;
 const LINES_BEFORE_ROWS: usize = 3;
 
 impl Generator {
-    /// A table sheet with its rows in any order and spaces wherever a loose sheet
+    /// Returns a table sheet with its rows in any order and spaces wherever a loose sheet
     /// may have them.
     pub fn loosened(&mut self, sheet: &[u8]) -> Vec<u8> {
         let shuffled = self.rows_shuffled(sheet);
         self.spaced(&shuffled)
     }
 
-    /// The sheet with its rows in any order.
+    /// Returns the sheet with its rows in any order.
     pub fn rows_shuffled(&mut self, sheet: &[u8]) -> Vec<u8> {
         let mut lines = lines(sheet);
         let rows = lines.len().min(LINES_BEFORE_ROWS);
@@ -24,7 +24,7 @@ impl Generator {
         lines.concat()
     }
 
-    /// The sheet with more spaces beside those that part fields, and some before
+    /// Returns the sheet with more spaces next to those between fields, and some before
     /// line feeds.
     pub fn spaced(&mut self, sheet: &[u8]) -> Vec<u8> {
         let mut spaced = Vec::new();
@@ -38,7 +38,7 @@ impl Generator {
         spaced
     }
 
-    /// The sheet with its rows in any order and its columns aligned: a level has
+    /// Returns the sheet with its rows in any order and its columns aligned: a level has
     /// as many spaces after it in every row.
     pub fn aligned(&mut self, sheet: &[u8]) -> Vec<u8> {
         let shuffled = self.rows_shuffled(sheet);
@@ -60,8 +60,8 @@ impl Generator {
         aligned
     }
 
-    /// A loose sheet with one damage, often one of those that a strict reader
-    /// would not tell from any other.
+    /// Returns a loose sheet with one damage, often one that a strict reader
+    /// would not distinguish from any other.
     pub fn loosely_damaged(&mut self, sheet: &[u8]) -> Vec<u8> {
         let line = self.rng.below(lines(sheet).len().max(1));
         let fields = fields_of_line(sheet, line);
@@ -71,15 +71,15 @@ impl Generator {
         match self.rng.below(6) {
             // a space at a line's start
             0 => replace(sheet, &(first.start..first.start), b" "),
-            // the last field away, and the spaces before it left
+            // the last field removed, the spaces before it left
             1 => replace(sheet, last, b""),
-            // the last field away, with all spaces before it
+            // the last field removed, with all spaces before it
             2 => {
                 let before = fields.iter().rev().nth(1);
                 let start = before.map_or(first.start, |field| field.end);
                 replace(sheet, &(start..last.end), b"")
             }
-            // the line in the stead of another
+            // the line replaces another
             3 => {
                 let mut lines = lines(sheet);
                 let other = self.rng.below(lines.len());

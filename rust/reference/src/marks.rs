@@ -13,18 +13,18 @@ pub const STUCK: u8 = 1;
 /// two non-empty groups that both have mark 2."
 pub const TREE: u8 = 2;
 
-/// The mark of every group, at the group's number.
+/// Returns the mark of every group, at the group's number.
 pub fn marks_of(table: &Table) -> Vec<u8> {
     marks_with(&multiplicities(table), table.n, table.m)
 }
 
-/// The mark of one group, from the marks of the groups of lower number: a part of
+/// Returns the mark of one group, from the marks of the groups with lower numbers: a part of
 /// a group has a lower number.
 pub fn mark_of(table: &Table, lower: &[u8], group: usize) -> u8 {
     mark_with(multiplicity(table, group), lower, group, table.n, table.m)
 }
 
-/// The marks that groups of these multiplicities have with `most` in place of
+/// Returns the marks of groups with these multiplicities, with `most` instead of
 /// m.
 fn marks_with(multiplicities: &[usize], n: usize, most: usize) -> Vec<u8> {
     let mut marks = Vec::new();
@@ -34,8 +34,8 @@ fn marks_with(multiplicities: &[usize], n: usize, most: usize) -> Vec<u8> {
     marks
 }
 
-/// A single input has mark 2 whatever `most` is: it is a leaf, and no gate gives
-/// it.
+/// Returns the mark of one group in the same way. A single input has mark 2 for any `most`:
+/// it is a leaf, and no gate computes it.
 fn mark_with(multiplicity: usize, lower: &[u8], group: usize, n: usize, most: usize) -> u8 {
     match members(group, n).len() {
         0 => NONE,
@@ -46,7 +46,7 @@ fn mark_with(multiplicity: usize, lower: &[u8], group: usize, n: usize, most: us
     }
 }
 
-/// The least k for which the leaves have mark 2 with k in place of m: how many
+/// Returns the least k for which the leaves have mark 2 with k instead of m: how many
 /// levels the gates' wires would have to carry for a tree to exist. The output is
 /// such a wire, so k is not below the number of distinct inks.
 pub fn fewest_levels(table: &Table) -> usize {
@@ -57,9 +57,9 @@ pub fn fewest_levels(table: &Table) -> usize {
         .expect("with as many as the largest multiplicity every group has mark 2")
 }
 
-/// The splits of a group into (A, B), both of mark 2, A holding its first-listed
-/// input, by rising number of A. As one of the two parts of any split holds the
-/// first-listed input, the group has a split at all exactly when it has one of
+/// Returns the splits of a group into (A, B), both of mark 2, A containing its first-listed
+/// input, by increasing number of A. One of the two parts of any split contains the
+/// first-listed input, so the group has a split exactly when it has one of
 /// these.
 pub fn splits(marks: &[u8], group: usize, n: usize) -> impl Iterator<Item = (usize, usize)> + '_ {
     let first = members(group, n).first().copied();
@@ -69,13 +69,13 @@ pub fn splits(marks: &[u8], group: usize, n: usize) -> impl Iterator<Item = (usi
     splits.filter(|&(a, b)| marks[a] == TREE && marks[b] == TREE)
 }
 
-/// The split of the settled net: "A holding its first-listed input, A of lowest
+/// Returns the split of the settled net: "A holding its first-listed input, A of lowest
 /// number".
 pub fn split(marks: &[u8], group: usize, n: usize) -> Option<(usize, usize)> {
     splits(marks, group, n).next()
 }
 
-/// The place of refusal 16: "the group of fewest members, then lowest number,
+/// Returns the place of refusal 16: "the group of fewest members, then lowest number,
 /// with mark 1".
 pub fn first_stuck(marks: &[u8], n: usize) -> Option<usize> {
     (0..marks.len())
@@ -83,10 +83,10 @@ pub fn first_stuck(marks: &[u8], n: usize) -> Option<usize> {
         .min_by_key(|&group| (members(group, n).len(), group))
 }
 
-// How marks lie in a lent buffer: "packed four to a byte, group 0 in the lowest
-// two bits of byte 0". The three functions below say it, and nothing else does.
+// How marks are stored in a buffer: "packed four to a byte, group 0 in the lowest
+// two bits of byte 0". Only the three functions below know it.
 
-/// "The length needed is 2 to the n, divided by 4", which is whole, as n is 2 or
+/// "The length needed is 2 to the n, divided by 4", which is a whole number, since n is 2 or
 /// more.
 pub fn needed(n: usize) -> usize {
     (1 << n) / 4
@@ -99,7 +99,7 @@ pub fn store(marks: &[u8], buffer: &mut [u8]) {
     }
 }
 
-/// The mark of a group in a buffer that marks were stored to.
+/// Returns the mark of a group in a buffer that marks were stored in.
 pub fn stored(buffer: &[u8], group: usize) -> u8 {
     let shifted = match group % 4 {
         0 => 1,

@@ -10,7 +10,7 @@ pub enum Wire {
     Gate(usize),
 }
 
-/// One gate line. The digits stand with left's level slowest.
+/// One gate line. In the digits left's level changes slowest.
 #[derive(Clone, Debug, PartialEq, Eq)]
 pub struct Gate {
     pub left: Wire,
@@ -37,7 +37,7 @@ pub struct Table {
 }
 
 /// Counts the listed inputs up by one, the last-listed fastest, and leaves the
-/// others alone. Answers false after the last assignment of the listed inputs,
+/// others alone. Returns false after the last assignment of the listed inputs,
 /// when all of them are back at 0.
 pub fn count_up(levels: &mut [u8], listed: &[usize], m: usize) -> bool {
     for &input in listed.iter().rev() {
@@ -50,7 +50,7 @@ pub fn count_up(levels: &mut [u8], listed: &[usize], m: usize) -> bool {
     false
 }
 
-/// The place, from 0, of the listed inputs' levels in their own count.
+/// Returns the place, from 0, of the listed inputs' levels in counting order.
 pub fn place_in_count(levels: &[u8], listed: &[usize], m: usize) -> usize {
     let mut place = 0;
     for &input in listed {
@@ -59,7 +59,7 @@ pub fn place_in_count(levels: &[u8], listed: &[usize], m: usize) -> usize {
     place
 }
 
-/// All inputs, in the order of line 3.
+/// Returns all inputs, in the order of line 3.
 pub fn all_inputs(n: usize) -> Vec<usize> {
     (0..n).collect()
 }
@@ -77,13 +77,13 @@ impl Net {
         *values.last().expect("every net has a gate")
     }
 
-    /// Whether some gate refers to this input or gate.
+    /// Returns whether some gate refers to this input or gate.
     pub fn uses(&self, wire: Wire) -> bool {
         let mut gates = self.gates.iter();
         gates.any(|gate| gate.left == wire || gate.right == wire)
     }
 
-    /// The inputs that some gate refers to, in the order of line 3.
+    /// Returns the inputs that some gate refers to, in the order of line 3.
     pub fn used_inputs(&self) -> Vec<usize> {
         let inputs = (0..self.n).filter(|&input| self.uses(Wire::Input(input)));
         inputs.collect()
@@ -97,9 +97,9 @@ impl Net {
         ways.max().expect("every gate refers to something")
     }
 
-    /// How many gates are passed from a used input to the output: the one that
+    /// Returns how many gates are on the way from a used input to the output: the one that
     /// refers to the input, the one that refers to that gate, and so on. A gate
-    /// refers to earlier ones, so they come up in this order.
+    /// refers to earlier ones, so they appear in this order.
     pub fn gates_on_the_way(&self, input: usize) -> usize {
         let mut end = Wire::Input(input);
         let mut passed = 0;
@@ -118,7 +118,7 @@ impl Net {
     }
 }
 
-/// The value on a wire, given the inputs' levels and the earlier gates' values.
+/// Returns the value on a wire, given the inputs' levels and the earlier gates' values.
 fn carried(wire: Wire, levels: &[u8], values: &[u8]) -> usize {
     match wire {
         Wire::Input(input) => usize::from(levels[input]),
@@ -127,7 +127,7 @@ fn carried(wire: Wire, levels: &[u8], values: &[u8]) -> usize {
 }
 
 impl Table {
-    /// The table of a rule from assignments to inks.
+    /// Returns the table of a rule from assignments to inks.
     pub fn of(m: usize, n: usize, rule: impl Fn(&[u8]) -> u8) -> Table {
         let inputs = all_inputs(n);
         let mut levels = vec![0; n];
@@ -140,17 +140,17 @@ impl Table {
         }
     }
 
-    /// Whether the cell of this index is left open.
+    /// Returns whether the cell with this index is left open.
     pub fn is_open(&self, index: usize) -> bool {
         usize::from(self.inks[index]) == self.m
     }
 
-    /// The lowest index of an open cell; none of a full table.
+    /// Returns the lowest index of an open cell, or nothing for a full table.
     pub fn first_open(&self) -> Option<usize> {
         (0..self.inks.len()).find(|&index| self.is_open(index))
     }
 
-    /// The ink at an assignment: "a cell's index is its line's place in that
+    /// Returns the ink at an assignment: "a cell's index is its line's place in that
     /// count", all inputs counted, the last fastest.
     pub fn ink(&self, levels: &[u8]) -> u8 {
         let mut index = 0;

@@ -6,20 +6,20 @@ use crate::limits::{MOST_CELLS, MOST_INPUTS, MOST_NET_SHEET_BYTES, PROGRAM_BYTES
 use crate::marks;
 use crate::refusal::Refusal;
 
-/// A call from a sheet to a sheet: settling or making.
+/// A call that turns a sheet into a sheet: settling or making.
 type Call = fn(&[u8], &mut [u8], &mut [u8], &mut [u8]) -> Result<usize, Refusal>;
 
-/// The settling program's whole output.
+/// Returns the settling program's whole output.
 pub fn settle_program(stdin: &[u8]) -> Vec<u8> {
     run(stdin, settle)
 }
 
-/// The making program's whole output.
+/// Returns the making program's whole output.
 pub fn make_program(stdin: &[u8]) -> Vec<u8> {
     run(stdin, make)
 }
 
-/// The tidying program's whole output: it has room for as many bytes as it reads.
+/// Returns the tidying program's whole output: it has room for as many bytes as it reads.
 pub fn tidy_program(stdin: &[u8]) -> Vec<u8> {
     let mut cells = vec![0; MOST_CELLS as usize];
     let mut out = vec![0; PROGRAM_BYTES];
@@ -29,12 +29,12 @@ pub fn tidy_program(stdin: &[u8]) -> Vec<u8> {
     }
 }
 
-/// What a program reads of its standard input.
+/// Returns the part of its standard input that a program reads.
 fn read_of(stdin: &[u8]) -> &[u8] {
     &stdin[..stdin.len().min(PROGRAM_BYTES)]
 }
 
-/// The programs lend buffers that are long enough for every size.
+/// Runs a call with buffers that are long enough for every size.
 fn run(stdin: &[u8], call: Call) -> Vec<u8> {
     let mut cells = vec![0; MOST_CELLS as usize];
     let mut marks = vec![0; marks::needed(MOST_INPUTS as usize)];

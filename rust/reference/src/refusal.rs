@@ -1,4 +1,4 @@
-//! What turns a call back: document 01's number and place.
+//! Refusals: document 01's number and place.
 
 /// The sheet that a refusal names.
 ///
@@ -52,7 +52,7 @@ pub const UNUSED_GATE: u8 = 26;
 pub const OPEN_CELL: u8 = 27;
 
 impl Refusal {
-    /// A refusal that names no sheet (yet).
+    /// Returns a refusal that names no sheet (yet).
     pub fn new(number: u8, place: u64) -> Refusal {
         Refusal {
             number,
@@ -61,7 +61,7 @@ impl Refusal {
         }
     }
 
-    /// The same refusal, naming the sheet it is about.
+    /// Returns the same refusal, naming the sheet it is about.
     pub fn naming(self, sheet: Sheet) -> Refusal {
         Refusal { sheet, ..self }
     }

@@ -1,4 +1,4 @@
-//! A tiny deterministic source of numbers (SplitMix64): the same seed gives the
+//! A tiny deterministic random number generator (SplitMix64): the same seed gives the
 //! same sheets on every machine.
 
 #[derive(Clone, Debug)]
@@ -19,12 +19,12 @@ impl Rng {
         mixed ^ (mixed >> 31)
     }
 
-    /// A number below the bound; the bound is 1 or more.
+    /// Returns a number below the bound; the bound is at least 1.
     pub fn below(&mut self, bound: usize) -> usize {
         (self.number() % bound as u64) as usize
     }
 
-    /// A level of m levels.
+    /// Returns one of m levels.
     pub fn level(&mut self, m: usize) -> u8 {
         self.below(m) as u8
     }

@@ -1,23 +1,23 @@
-//! "The settled net": the one net that document 01 fixes for a table, on the leaves
+//! "The settled net": the one net that document 01 defines for a table, on the leaves
 //! that document 02 gives it; and how the gates of a tree are written and filled,
-//! however its groups are parted.
+//! for any way of splitting its groups.
 
 use crate::groups::{classes, indices, members};
 use crate::leaves::leaves;
 use crate::marks::{split, TREE};
 use crate::net::{count_up, place_in_count, Gate, Net, Table, Wire};
 
-/// The settled net of a table with these marks; none if the leaves' mark is
+/// Returns the settled net of a table with these marks, or nothing if the leaves' mark is
 /// not 2.
 pub fn settled_net(table: &Table, marks: &[u8]) -> Option<Net> {
     net_by(table, marks, &|group| split(marks, group, table.n))
 }
 
-/// How a group of mark 2 with several members is parted, as (A, B).
+/// How a group of mark 2 with several members is split, as (A, B).
 type Splitting<'a> = &'a dyn Fn(usize) -> Option<(usize, usize)>;
 
-/// The net of a table with these marks whose groups are parted so. "A table is
-/// refused for want of a tree exactly when none stands on those leaves": none if
+/// Returns the net of a table with these marks whose groups are split in this way. "A table is
+/// refused for want of a tree exactly when none stands on those leaves": nothing if
 /// the leaves' mark is not 2.
 pub fn net_by(table: &Table, marks: &[u8], splitting: Splitting) -> Option<Net> {
     let leaves = leaves(table);
@@ -37,7 +37,7 @@ pub fn net_by(table: &Table, marks: &[u8], splitting: Splitting) -> Option<Net> 
     })
 }
 
-/// A table, and the group of the inputs that the last gate hangs on: every input
+/// A table, and the group of the inputs that the last gate depends on: every input
 /// that matters is in it.
 pub struct Output<'a> {
     pub table: &'a Table,
@@ -45,7 +45,7 @@ pub struct Output<'a> {
 }
 
 /// "A goes left. Gate lines: A's, then B's, then the group's own. A single input
-/// is wired by name." Answers the wire that carries the group.
+/// is wired by name." Returns the wire that carries the group.
 fn add_gates(output: &Output, splitting: Splitting, group: usize, gates: &mut Vec<Gate>) -> Wire {
     if let [input] = members(group, output.table.n)[..] {
         return Wire::Input(input);
@@ -62,8 +62,8 @@ fn add_gates(output: &Output, splitting: Splitting, group: usize, gates: &mut Ve
     Wire::Gate(gates.len())
 }
 
-/// The digits of the gate that joins the parts a and b of a group: at what the
-/// two parts carry, what the group carries. "A digit that no assignment reaches
+/// Returns the digits of the gate that joins the parts a and b of a group: at the values
+/// of the two parts, the value of the group. "A digit that no assignment reaches
 /// is 0."
 pub fn digits(output: &Output, group: usize, a: usize, b: usize) -> Vec<u8> {
     let table = output.table;
@@ -84,7 +84,7 @@ pub fn digits(output: &Output, group: usize, a: usize, b: usize) -> Vec<u8> {
     }
 }
 
-/// What a group's wire carries at each of its assignments, as they are counted:
+/// Returns what a group's wire carries at each of its assignments, in counting order:
 /// a single input its level, the last gate the ink, any other its class.
 fn carried_by(output: &Output, group: usize) -> Vec<u8> {
     let table = output.table;
@@ -93,7 +93,7 @@ fn carried_by(output: &Output, group: usize) -> Vec<u8> {
         return (0..table.m as u8).collect();
     }
     if group == output.group {
-        // no other input matters, so they may be 0
+        // no other input matters, so they can be 0
         let indices = indices(table, &members).into_iter();
         return indices.map(|index| table.inks[index]).collect();
     }

@@ -1,4 +1,4 @@
-//! "Sheets": reading them with the number and place of what is wrong, and
+//! "Sheets": reading them, with the number and place of what is wrong, and
 //! printing them.
 //!
 //! "Sheets are judged from the front, field by field. An empty field is 1.
@@ -15,7 +15,7 @@ use crate::refusal::{self, Refusal, Sheet};
 const SPACE: u8 = b' ';
 const LINE_FEED: u8 = b'\n';
 
-/// The first three lines of a sheet, `ink` aside. Two headers are equal when m,
+/// The first three lines of a sheet, without `ink`. Two headers are equal if m,
 /// n and the names in their order are.
 #[derive(Clone, Debug, PartialEq, Eq)]
 pub struct Header {
@@ -24,7 +24,7 @@ pub struct Header {
     pub names: Vec<Vec<u8>>,
 }
 
-/// What may stand between one field and the next.
+/// What may be between one field and the next.
 #[derive(Clone, Copy, Debug, PartialEq, Eq)]
 enum Spacing {
     /// "Fields are parted by exactly one space."
@@ -46,7 +46,7 @@ impl<'a> Reader<'a> {
     }
 
     /// "A field is a longest run of bytes other than space (32) and line
-    /// feed": the run that starts here, up to the sheet's end if need be.
+    /// feed": the run that starts here, possibly up to the sheet's end.
     fn run(&self) -> &'a [u8] {
         let rest = &self.sheet[self.at..];
         let ends = |&byte: &u8| byte == SPACE || byte == LINE_FEED;
@@ -54,7 +54,7 @@ impl<'a> Reader<'a> {
         &rest[..length]
     }
 
-    /// One field and the separator due after it. "The place is the field's first
+    /// Reads one field and the separator required after it. "The place is the field's first
     /// byte, or the byte where the separator should stand".
     fn field<T>(
         &mut self,
@@ -71,9 +71,9 @@ impl<'a> Reader<'a> {
         Ok(value)
     }
 
-    /// The byte due after a field, with the spaces that a loose sheet may have
+    /// Reads the byte required after a field, with the spaces that a loose sheet may have
     /// before a line feed or after a space. There "1 is placed after any spaces
-    /// passed"; but no space is passed at a line's start, where it is 1.
+    /// passed"; but no space is skipped at a line's start, where it is 1.
     fn separator(&mut self, due: u8) -> Result<(), Refusal> {
         if due == LINE_FEED && self.spacing == Spacing::Loose {
             self.pass_spaces();
@@ -107,7 +107,7 @@ impl<'a> Reader<'a> {
         Refusal::new(number, self.at as u64)
     }
 
-    /// The first two lines: m and n.
+    /// Reads the first two lines: m and n.
     fn size(&mut self) -> Result<(usize, usize), Refusal> {
         self.field(|field| fixed_word(field, b"levels"), SPACE)?;
         self.field(|field| fixed_word(field, b"inputs"), LINE_FEED)?;
@@ -116,7 +116,7 @@ impl<'a> Reader<'a> {
         Ok((m as usize, n as usize))
     }
 
-    /// n names, the last with the given byte after it.
+    /// Reads n names, the last with the given byte after it.
     fn names(&mut self, n: usize, after_last: u8) -> Result<Vec<Vec<u8>>, Refusal> {
         let mut names: Vec<Vec<u8>> = Vec::new();
         for input in 0..n {
@@ -127,7 +127,7 @@ impl<'a> Reader<'a> {
         Ok(names)
     }
 
-    /// The first three lines of a table sheet: "line 3 has the n input names and
+    /// Reads the first three lines of a table sheet: "line 3 has the n input names and
     /// then `ink`".
     fn table_header(&mut self) -> Result<Header, Refusal> {
         let (m, n) = self.size()?;
@@ -136,7 +136,7 @@ impl<'a> Reader<'a> {
         Ok(Header { m, n, names })
     }
 
-    /// The gate lines: "from 1 to n − 1 [..], and the sheet's end closes it".
+    /// Reads the gate lines: "from 1 to n − 1 [..], and the sheet's end closes it".
     fn gates(&mut self, header: &Header) -> Result<Vec<Gate>, Refusal> {
         let mut used: Vec<Wire> = Vec::new();
         let mut gates = Vec::new();
@@ -156,7 +156,7 @@ impl<'a> Reader<'a> {
         Ok(gates)
     }
 
-    /// One of the references of the gate line of this number.
+    /// Reads one of the references of the gate line with this number.
     fn reference(
         &mut self,
         header: &Header,
@@ -186,7 +186,7 @@ impl<'a> Reader<'a> {
     }
 
     /// "Rows in any order": as many as there are cells, and each names another
-    /// assignment, so every assignment is named. Answers the inks in index order.
+    /// assignment, so every assignment is named. Returns the inks in index order.
     fn inks_in_any_order(&mut self, header: &Header) -> Result<Vec<u8>, Refusal> {
         let inputs = all_inputs(header.n);
         let cells = header.m.pow(header.n as u32);
@@ -264,7 +264,7 @@ fn read_table(sheet: &[u8]) -> Result<(Header, Table), Refusal> {
     Ok((header, Table { m, n, inks }))
 }
 
-/// Reads a loosely laid table sheet: "one or more spaces between fields, spaces
+/// Reads a loose table sheet: "one or more spaces between fields, spaces
 /// before a line feed, rows in any order". A refusal names it.
 pub fn read_loose_table_sheet(sheet: &[u8]) -> Result<(Header, Table), Refusal> {
     read_loose_table(sheet).map_err(|refusal| refusal.naming(Sheet::Table))
@@ -300,12 +300,12 @@ fn push_line(sheet: &mut Vec<u8>, fields: &[Vec<u8>]) {
     sheet.push(LINE_FEED);
 }
 
-/// The first two lines.
+/// Prints the first two lines.
 fn print_size(header: &Header) -> Vec<u8> {
     format!("levels inputs\n{} {}\n", header.m, header.n).into_bytes()
 }
 
-/// The net sheet with this header and these gates.
+/// Prints the net sheet with this header and these gates.
 pub fn print_net_sheet(header: &Header, net: &Net) -> Vec<u8> {
     let mut sheet = print_size(header);
     push_line(&mut sheet, &header.names);
@@ -326,7 +326,7 @@ fn reference_text(header: &Header, wire: Wire) -> Vec<u8> {
     }
 }
 
-/// The table sheet with this header and these inks.
+/// Prints the table sheet with this header and these inks.
 pub fn print_table_sheet(header: &Header, table: &Table) -> Vec<u8> {
     let mut sheet = print_size(header);
     let mut names = header.names.clone();
@@ -343,7 +343,7 @@ pub fn print_table_sheet(header: &Header, table: &Table) -> Vec<u8> {
     sheet
 }
 
-/// The arrival sheet with these inputs and their arrivals.
+/// Prints the arrival sheet with these inputs and their arrivals.
 pub fn print_arrival_sheet(header: &Header, arrivals: &[Arrival]) -> Vec<u8> {
     let mut sheet = b"name from to\n".to_vec();
     for (name, arrival) in header.names.iter().zip(arrivals) {

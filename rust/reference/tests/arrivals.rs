@@ -1,6 +1,6 @@
-//! Arrival times: the arrival sheet's refusals, and the settling against every
+//! Arrival times: the arrival sheet's refusals, and the settling compared with every
 //! arrival inside the ranges. In the sheets below `/` is a line feed and `^` marks
-//! the place (it is no part of the sheet).
+//! the place (it is not part of the sheet).
 
 use crate::common::*;
 use reference::damage::single_edits;
@@ -19,7 +19,7 @@ fn of_arrivals(number: u8, place: u64) -> Refusal {
     }
 }
 
-/// An arrival sheet from its lines, parted by `/`, without the first.
+/// Returns an arrival sheet from its lines, separated by `/`, without the first.
 fn arrival_sheet(rest: &str) -> Vec<u8> {
     lines(&format!("name from to/{rest}/"))
 }
@@ -95,7 +95,7 @@ fn the_extremes_bit_for_bit() {
 }
 
 /// A fixed arrival at each time, and a range down to 0: whole microseconds and
-/// the four quarters are told apart.
+/// the four quarters are distinguished.
 #[test]
 fn every_time_is_exact() {
     let net = net_sheet(2, "a b", "a b 0110");
@@ -114,10 +114,10 @@ fn every_time_is_exact() {
     }
 }
 
-// ---- against every arrival inside the ranges
+// ---- compared with every arrival inside the ranges
 
-/// The gates on the way from an input, from the text of the net sheet; none for an
-/// input that no gate refers to.
+/// Returns the gates on the way from an input, from the text of the net sheet, or nothing
+/// for an input that no gate refers to.
 fn gates_on_the_way(sheet: &[u8], name: &str) -> Option<u64> {
     let text = std::str::from_utf8(sheet).expect("ASCII");
     let gates: Vec<Vec<&str>> = text
@@ -134,7 +134,7 @@ fn gates_on_the_way(sheet: &[u8], name: &str) -> Option<u64> {
     (passed > 0).then_some(passed)
 }
 
-/// Every list of numbers within the ranges.
+/// Returns every list of numbers within the ranges.
 fn every_choice(ranges: &[(u64, u64)]) -> Vec<Vec<u64>> {
     let mut all = vec![Vec::new()];
     for &(from, to) in ranges {
@@ -176,7 +176,7 @@ fn assert_ranges(net: &[u8], names: &[String], ranges: &[(u64, u64)], delay: u8,
             times.max().expect("an input")
         })
         .collect();
-    // of the finer units there are 4 · finer to a microsecond
+    // there are 4 · finer units to a microsecond
     let in_units = |time: f64| time * 4.0 * finer as f64;
     let least = *times.iter().min().expect("some arrivals");
     let most = *times.iter().max().expect("some arrivals");
@@ -211,7 +211,7 @@ fn every_arrival_inside_the_ranges() {
     }
 }
 
-/// At every size, against the gates on the way as the text has them.
+/// At every size, compared with the gates on the way as given by the text.
 #[test]
 fn nets_of_every_size() {
     let seed = 65_534;
@@ -315,10 +315,10 @@ fn refusal_18_not_the_next_input() {
             "name from to/^1 0 0/b 0 0/c 0 0/",
             "name from to/^ink 0 0/",
             "name from to/^123456789012345678901234567890 0 0/",
-            // Judged before the byte after it, also at the end.
+            // Judged before the byte after it, even at the end.
             "name from to/^b/",
             "name from to/^b",
-            // A line again, a line left out.
+            // A repeated line, a missing line.
             "name from to/a 0 0/^a 0 0/b 0 0/c 0 0/",
             "name from to/a 0 0/^c 0 0/",
             "name from to/a 0 0/b 0 0/^b 0 0/",
@@ -346,7 +346,7 @@ fn refusal_19_times() {
             "name from to/a ^99999 99999/b 0 0/c 0 0/",
             "name from to/a ^100000 0/b 0 0/c 0 0/",
             "name from to/a ^065535 65535/b 0 0/c 0 0/",
-            // 2 to the 16, the 32 and the 64 more than 1.
+            // 1 more than 2 to the 16, to the 32 and to the 64.
             "name from to/a 0 ^65537/b 0 0/c 0 0/",
             "name from to/a 0 ^4294967297/b 0 0/c 0 0/",
             "name from to/a 0 ^18446744073709551617/b 0 0/c 0 0/",
@@ -359,7 +359,7 @@ fn refusal_19_times() {
             "name from to/a 10 ^9/b 0 0/c 0 0/",
             "name from to/a 65535 ^65534/b 0 0/c 0 0/",
             "name from to/a 0 0/b 0 0/c 2 ^1/",
-            // Judged before the byte after it, also at the end.
+            // Judged before the byte after it, even at the end.
             "name from to/a ^x/",
             "name from to/a ^x",
             "name from to/a 1 ^0 0/b 0 0/c 0 0/",
@@ -390,7 +390,7 @@ fn the_net_sheet_is_judged_first() {
     );
 }
 
-/// Whether an arrival sheet of a and b keeps the rules: whether it is the print
+/// Returns whether an arrival sheet of a and b keeps the rules: whether it is the print
 /// of the four times in it.
 fn keeps_the_rules(sheet: &[u8]) -> bool {
     let text = String::from_utf8_lossy(sheet);
@@ -402,8 +402,8 @@ fn keeps_the_rules(sheet: &[u8]) -> bool {
     p <= q && r <= s && text == format!("name from to\na {p} {q}\nb {r} {s}\n")
 }
 
-/// Every single edit of a small sheet is accepted exactly when it keeps the
-/// rules. What lies behind a refused field and the byte after it does not matter.
+/// Every single edit of a small sheet is accepted exactly if it keeps the
+/// rules. What follows a refused field and the byte after it does not matter.
 #[test]
 fn every_single_edit() {
     let net = lines("levels inputs/2 2/a b/left right table/a b 0110/");

@@ -4,7 +4,7 @@ use crate::common::*;
 use reference::generate::{most_classes_table, Generator, TableKind};
 use reference::{allowed_sizes, marking, multiplicity};
 
-/// Sizes that would wrap round to a small number of cells, and all others that
+/// Sizes that would wrap around to a small number of cells, and all others that
 /// are out of bounds.
 #[test]
 fn refusal_9_bare_sizes() {
@@ -101,7 +101,7 @@ fn refusal_11_groups() {
 fn multiplicity_counts_all_classes() {
     for m in 2..=9 {
         for count in 1..=m * m {
-            // The first input's group has m classes at most; the two together
+            // The first input's group has at most m classes; the two together
             // have as many as there are inks.
             let inks = inks_of(m, 2, |x| (x[0] * m + x[1]).min(count - 1) % m);
             let distinct = count.min(m) as u64;
@@ -111,7 +111,7 @@ fn multiplicity_counts_all_classes() {
                 "{m} {count}"
             );
         }
-        // Three inputs, each pair of levels of the first two another column.
+        // Three inputs; each pair of levels of the first two has a different column.
         let inks = inks_of(m, 3, |x| if x[2] == 0 { x[0] } else { x[1] });
         assert_eq!(multiplicity(m as u64, 3, &inks, 3), Ok((m * m) as u64));
         assert_eq!(multiplicity(m as u64, 3, &inks, 4), Ok(2));
@@ -142,7 +142,7 @@ fn multiplicity_of_groups_at_every_size() {
     assert!(few > 100 && many > 100 && most > 100);
 }
 
-/// How many classes a group of some size can have: no more than it has
+/// Returns how many classes a group of some size can have: no more than it has
 /// assignments, and no more than there are columns of inks.
 fn most_classes(m: usize, n: usize, size: usize) -> usize {
     let column = m.pow((n - size) as u32);

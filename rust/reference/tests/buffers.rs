@@ -1,4 +1,4 @@
-//! What every call leaves in the buffers lent to it: each length around each
+//! What every call leaves in its buffers: each length around each
 //! need, with the bytes beyond the need and the bytes after a refusal. The marks
 //! buffer of marking is in rust/sitgurp/tests/bare.rs, for both implementations.
 
@@ -8,20 +8,20 @@ use reference::{
     tidy, write_table, Job, Kept, Refusal, Verdict,
 };
 
-/// A lent buffer with something in it: no two neighbours are equal, and none is
+/// Returns a buffer with some content: no two neighbours are equal, and none is
 /// a level, a mark or a byte of a sheet.
 fn lent(length: usize) -> Vec<u8> {
     (0..length).map(|place| 200 + (place % 50) as u8).collect()
 }
 
-/// What the buffer holds after `front` was written to it.
+/// Returns the buffer's content after `front` was written to it.
 fn written(length: usize, front: &[u8]) -> Vec<u8> {
     let mut buffer = lent(length);
     buffer[..front.len()].copy_from_slice(front);
     buffer
 }
 
-/// 0, one less than the need, the need, one more, many more.
+/// Returns 0, one less than the need, the need, one more, many more.
 fn lengths(need: usize) -> [usize; 5] {
     [0, need - 1, need, need + 1, need + 60]
 }
@@ -46,7 +46,7 @@ fn make_shallow_length(
     make_shallow(sheet, cells, marks, out).map(|answer| answer.length)
 }
 
-/// The tree of number 2.
+/// Writes the tree with number 2.
 fn third_tree(
     sheet: &[u8],
     cells: &mut [u8],
@@ -56,7 +56,7 @@ fn third_tree(
     family_tree(sheet, 2, cells, marks, out)
 }
 
-/// A job on the sheet, gone all its steps and finished.
+/// Finishes a job on the sheet after all its steps.
 fn finished_job(
     sheet: &[u8],
     cells: &mut [u8],
@@ -69,18 +69,18 @@ fn finished_job(
     job.finish(cells, marks, out)
 }
 
-/// A sheet with what settling or making is to write from it.
+/// A sheet and what settling or making must write from it.
 struct Example {
     call: Call,
     sheet: Vec<u8>,
     cells: Vec<u8>,
     marks: Vec<u8>,
-    /// The sheet that is written, or refusal 16, or 17 in its place.
+    /// The sheet that is written, or refusal 16, or 17 instead.
     result: Result<Vec<u8>, Refusal>,
 }
 
 impl Example {
-    /// Document 01's order: 13, 14, 16 (or 17), 15.
+    /// Returns the answer in document 01's order: 13, 14, 16 (or 17), 15.
     fn expected(&self, cells: usize, marks: usize, out: usize) -> Result<usize, Refusal> {
         if cells < self.cells.len() {
             return Err(of_neither(13, self.cells.len() as u64));
@@ -152,7 +152,7 @@ fn make_at_every_length() {
             call,
             sheet: rule_sheet(3, "a b c d", rule),
             cells: inks_of(3, 4, rule),
-            // {a, d}, {a, b, d} and the whole have trees, {a, b, c} has none.
+            // {a, d}, {a, b, d} and the whole group have trees, {a, b, c} has none.
             marks: packed(&[0, 2, 2, 0, 2, 0, 0, 1, 2, 2, 0, 2, 0, 0, 0, 2]),
             result: Ok(net_sheet(3, "a b c d", gates)),
         }
@@ -197,7 +197,7 @@ fn shallow_calls_at_every_length() {
     }
 }
 
-/// The exclusive or of three inputs has the tree of number 2; where there is no
+/// The exclusive or of three inputs has a tree with number 2; if there is no
 /// such number, 17 comes before 15 and leaves cells and marks written.
 #[test]
 fn a_tree_of_the_family_at_every_length() {
@@ -230,7 +230,7 @@ fn a_tree_of_the_family_at_every_length() {
     .assert_all_lengths();
 }
 
-/// Of a table of three inputs with 2 levels.
+/// Checks a table of three inputs with 2 levels.
 fn assert_count_at_every_length(inks: [u8; 8], of_groups: [u8; 8], count: u64) {
     let of_groups = packed(&of_groups);
     let sheet = table_sheet(2, "a b c", &inks);

@@ -5,7 +5,7 @@ use reference::groups::classes;
 use reference::net::Table;
 use reference::{make_program, marking, multiplicity, settle_program};
 
-/// The names and the gate lines of a settled sheet, for both roads to it: from a
+/// Checks the names and the gate lines of a settled sheet, made in both ways: from a
 /// net sheet by settling, from its table sheet by making.
 fn assert_settles(m: usize, names: &str, gates: &str, expected: &str) {
     let sheet = net_sheet(m, names, gates);
@@ -85,7 +85,7 @@ fn case_7_the_first_split_leads_nowhere() {
     assert_made(3, "a b c d", rule, gates);
 }
 
-/// Figure 1 of document 003 as it stands in the scanned text, all 81 cells of
+/// Figure 1 of document 003 as in the scanned text, all 81 cells of
 /// it: rows are z3 z4 = 00, 01, 02, 10, ..., 22, columns are z1 z2 likewise.
 const FIGURE_1: [&str; 9] = [
     "1 0 1 0 0 1 0 1 0", // z3 z4 = 00
@@ -146,7 +146,7 @@ fn case_9_numbers_and_places() {
     }
 }
 
-/// A full net sheet of any size: a chain of gates down the list of inputs.
+/// Returns a full net sheet of any size: a chain of gates along the list of inputs.
 fn full_net_sheet(m: usize, n: usize) -> Vec<u8> {
     let names: Vec<String> = (0..n).map(|input| format!("x{input}")).collect();
     let digits: String = (0..m * m)
@@ -161,7 +161,7 @@ fn full_net_sheet(m: usize, n: usize) -> Vec<u8> {
     net_sheet(m, &names.join(" "), &gates.join("/"))
 }
 
-/// A full table sheet of any size, the same rule.
+/// Returns a full table sheet of any size, with the same rule.
 fn full_table_sheet(m: usize, n: usize) -> Vec<u8> {
     let names: Vec<String> = (0..n).map(|input| format!("x{input}")).collect();
     rule_sheet(m, &names.join(" "), |levels| {

@@ -1,5 +1,5 @@
-//! The check of a net sheet against a table sheet: refusal 12, the sheet that is
-//! named, and the lowest index that differs.
+//! The check of a net sheet against a table sheet: refusal 12, the named sheet,
+//! and the lowest index that differs.
 
 use crate::common::*;
 use reference::{check, Verdict};
@@ -17,7 +17,7 @@ fn refusal_12_unlike_sheets() {
         rule_sheet(2, "a bb", |_| 0),
     ];
     for table in tables {
-        // Before 13: no cells are lent, or enough, and they keep their bytes.
+        // Before 13: with no cells or enough of them, and they keep their bytes.
         assert_eq!(check(&net, &table, &mut []), Err(of_neither(12, 0)));
         let mut cells = [7; CELLS];
         assert_eq!(check(&net, &table, &mut cells), Err(of_neither(12, 0)));

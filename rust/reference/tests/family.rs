@@ -1,5 +1,5 @@
-//! The family of a table's trees, against every wiring of its leaves: at small
-//! sizes each one is tried, and which of them compute the table is told without
+//! The family of a table's trees, compared with every wiring of its leaves: at small
+//! sizes each one is tried, and which of them compute the table is decided without
 //! the library's groups and marks. "Every wiring that computes the table turns up
 //! under just one number", and "a family numbers the wirings on just these" leaves.
 
@@ -11,9 +11,9 @@ use reference::{allowed_sizes, family_count, family_tree, make};
 use std::cmp::Ordering;
 use std::collections::{BTreeMap, HashSet};
 
-/// Every wiring over a group, sides and gate numbers aside: each further input is
-/// hung onto every place of every wiring of those before it. As it stands on the
-/// right of what it is hung onto, the first-listed input of a gate's group is
+/// Returns every wiring over a group, ignoring sides and gate numbers: each further input
+/// is attached at every place of every wiring of those before it. It is on the
+/// right of what it is attached to, so the first-listed input of a gate's group is
 /// always on the left.
 fn all_wirings(group: usize) -> Vec<Wiring> {
     let mut inputs = (0..usize::BITS as usize).filter(|input| group >> input & 1 == 1);
@@ -28,12 +28,12 @@ fn all_wirings(group: usize) -> Vec<Wiring> {
     all
 }
 
-/// The group of n inputs.
+/// Returns the group of n inputs.
 fn whole(n: usize) -> usize {
     (1 << n) - 1
 }
 
-/// The input joined to the whole, or hung onto a place of one of the two parts.
+/// Returns the wirings with the input joined to the whole, or attached inside one of the two parts.
 fn hung_onto(wiring: &Wiring, input: usize) -> Vec<Wiring> {
     let mut all = vec![Wiring::node(wiring.clone(), Wiring::Leaf(input))];
     if let Wiring::Node(left, right) = wiring {
@@ -65,7 +65,7 @@ fn the_wirings_are_all_there_once() {
         let all = all_wirings(whole(n));
         assert_eq!(all.len(), count);
         assert_eq!(all.iter().collect::<HashSet<_>>().len(), count);
-        // the order tells any two of them apart
+        // the order distinguishes any two of them
         assert!(all
             .windows(2)
             .all(|pair| order(&pair[0], &pair[1]) == Ordering::Less));
@@ -79,8 +79,8 @@ fn the_wirings_are_all_there_once() {
     }
 }
 
-/// Holds a table's family against the wirings that compute it, in their order;
-/// of the trees one in so many. Answers how many there are.
+/// Compares a table's family with the wirings that compute it, in their order;
+/// checks one tree in every `step`. Returns how many there are.
 fn assert_family(m: usize, n: usize, inks: &[u8], computing: &[&Wiring], step: usize) -> usize {
     let sheet = table_sheet(m, names(n), inks);
     let count = computing.len() as u64;
@@ -102,7 +102,7 @@ fn assert_family(m: usize, n: usize, inks: &[u8], computing: &[&Wiring], step: u
 
 // ---- two levels: every filling of every wiring
 
-/// For every table that has a tree on any leaves, the wirings on its own leaves
+/// Returns for every table that has a tree on any leaves the wirings on its own leaves
 /// that compute it, in their order.
 fn by_filling(n: usize, wirings: &[Wiring]) -> BTreeMap<Bits, Vec<&Wiring>> {
     let mut computing: BTreeMap<Bits, Vec<&Wiring>> = BTreeMap::new();
@@ -117,13 +117,13 @@ fn by_filling(n: usize, wirings: &[Wiring]) -> BTreeMap<Bits, Vec<&Wiring>> {
     computing
 }
 
-/// Every wiring of any of n inputs.
+/// Returns every wiring of any of n inputs.
 fn wirings_of_any(n: usize) -> Vec<Wiring> {
     all_leaves(n).flat_map(all_wirings).collect()
 }
 
-/// The tables that have a tree, one in so many: how many there are, and the most
-/// trees of any of them.
+/// Checks one in every `step` of the tables that have a tree: returns how many there are,
+/// and the most trees of any of them.
 fn assert_trees(n: usize, step: usize) -> (usize, usize) {
     let wirings = wirings_of_any(n);
     let computing = by_filling(n, &wirings);
@@ -159,7 +159,7 @@ fn a_table_without_a_tree_has_no_family() {
     }
 }
 
-// ---- any levels: a wiring computes a table when its wires can carry it
+// ---- any levels: a wiring computes a table if its wires can carry it
 
 #[test]
 fn tables_of_more_levels_against_every_wiring() {
@@ -247,7 +247,7 @@ fn the_families_of_sums() {
     assert_eq!(numbered(&sum_sheet(4), 15), Err(of_neither(17, 15)));
 }
 
-/// Every wiring computes a sum: 1, 3, 15, .. trees, and the last of them takes the
+/// Every wiring computes a sum: 1, 3, 15, .. trees, and the last of them joins the
 /// last-listed input to the first, then the one before it, and so on.
 #[test]
 fn sums_have_every_wiring() {
@@ -306,8 +306,8 @@ fn constants_and_single_inputs_have_one_wiring() {
     }
 }
 
-/// Least and greatest by turns can be wired in one way only where each gate is of
-/// another kind than the next.
+/// Least and greatest alternately can be wired in only one way, if each gate is of
+/// a different kind from the next.
 #[test]
 fn a_family_of_one() {
     for n in 3..=11 {
@@ -324,7 +324,7 @@ fn a_family_of_one() {
 
 /// Trees of every size, picked at random from the family of a random net: all
 /// compute the table, number 0 is the settled net, and all settle to it. The
-/// random net's own wiring turns up.
+/// random net's own wiring is among them.
 #[test]
 fn trees_of_every_size() {
     let seed = 1_946;
@@ -351,8 +351,8 @@ fn trees_of_every_size() {
 
 // ---- refusals
 
-/// "Leaves what 16 leaves": a refusal by making, and by both calls of a family on
-/// equal buffers, is of one number and place but for 16, and leaves the same
+/// "Leaves what 16 leaves": making and both calls of a family on equal buffers refuse
+/// with the same number and place, except for 16, and leave the same
 /// bytes.
 fn assert_refused_as_by_making(sheet: &[u8], number: u64, out: usize) {
     let lent = || ([9u8; CELLS], [9u8; MARKS], [9u8; NET_SHEET]);

@@ -1,6 +1,6 @@
-//! The fewest levels that a tree would need, against trees: every wiring of a
-//! table's inputs, and every filling of its gates. Nothing of the library's
-//! groups and marks is used to tell them.
+//! The fewest levels that a tree would need, compared with trees: every wiring of a
+//! table's inputs, and every filling of its gates. The library's groups and
+//! marks are not used to find them.
 
 use crate::common::*;
 use reference::generate::{Generator, TableKind};
@@ -17,7 +17,7 @@ fn fewest(m: usize, n: usize, inks: &[u8]) -> usize {
     fewest_levels(&Table { m, n, inks })
 }
 
-/// Every part of a group that holds its first-listed input, but the group
+/// Returns every part of a group that contains its first-listed input, except the group
 /// itself.
 fn parts(group: usize) -> impl Iterator<Item = usize> {
     let first = group & group.wrapping_neg();
@@ -26,7 +26,7 @@ fn parts(group: usize) -> impl Iterator<Item = usize> {
 
 // ---- every wiring
 
-/// Every wiring over a group, as the groups of its gates.
+/// Returns every wiring over a group, as the groups of its gates.
 fn wirings(group: usize) -> Vec<Vec<usize>> {
     if group.is_power_of_two() {
         return vec![vec![]];
@@ -42,7 +42,7 @@ fn wirings(group: usize) -> Vec<Vec<usize>> {
     all
 }
 
-/// The least k for which some wiring has no gate whose group has more than k
+/// Returns the least k for which some wiring has no gate whose group has more than k
 /// classes.
 fn by_wirings(m: usize, n: usize, inks: &[u8], wirings: &[Vec<usize>]) -> usize {
     let mut classes = vec![0; 1 << n];
@@ -63,7 +63,7 @@ fn binary_inks(n: usize, table: usize) -> Vec<u8> {
 
 #[test]
 fn every_table_of_two_levels_against_every_wiring() {
-    // (2n - 3)!! wirings, sides not told apart
+    // (2n - 3)!! wirings, ignoring sides
     for (n, count) in [(2, 1), (3, 3), (4, 15)] {
         let wirings = wirings((1 << n) - 1);
         assert_eq!(wirings.len(), count);
@@ -100,11 +100,11 @@ fn tables_of_more_levels_against_every_wiring() {
 
 // ---- every filling
 
-/// What a wire carries at each cell's index.
+/// What a wire carries at the index of each cell.
 type Carried = Vec<usize>;
 
-/// Numbers the pairs that two wires carry, in the order in which they first
-/// appear: the number at each index, and how many there are.
+/// Numbers the pairs that two wires carry, in order of first appearance:
+/// returns the number at each index, and how many there are.
 fn pairs(left: &Carried, right: &Carried) -> (Vec<usize>, usize) {
     let mut numbers = HashMap::new();
     let number = |pair| {
@@ -115,8 +115,8 @@ fn pairs(left: &Carried, right: &Carried) -> (Vec<usize>, usize) {
     (at, numbers.len())
 }
 
-/// Every way to give that many pairs one of k values each. The next gate can
-/// undo a renaming of the values, so they are named as they first appear.
+/// Returns every way to give this many pairs one of k values each. The next gate can
+/// undo a renaming of the values, so they are named in order of appearance.
 fn gates(pairs: usize, k: usize) -> Vec<Vec<usize>> {
     let mut all = vec![vec![]];
     for _ in 0..pairs {
@@ -132,7 +132,7 @@ fn gates(pairs: usize, k: usize) -> Vec<Vec<usize>> {
     all
 }
 
-/// For every group but the whole one, all that a wire above it can carry where
+/// Returns for every group except the whole one all that a wire above it can carry if
 /// a gate's wire has k values.
 fn all_carried(m: usize, n: usize, k: usize) -> Vec<Vec<Carried>> {
     let mut by_group: Vec<Vec<Carried>> = vec![vec![]];
@@ -158,8 +158,8 @@ fn all_carried(m: usize, n: usize, k: usize) -> Vec<Vec<Carried>> {
     by_group
 }
 
-/// Whether some last gate makes the inks of what two wires carry: its digits
-/// are forced, or at odds.
+/// Returns whether some last gate computes the inks from what two wires carry: its digits
+/// are forced, or contradict each other.
 fn last_gate(left: &Carried, right: &Carried, inks: &[u8]) -> bool {
     let width = 1 + right.iter().max().expect("some cells");
     let height = 1 + left.iter().max().expect("some cells");
@@ -170,7 +170,7 @@ fn last_gate(left: &Carried, right: &Carried, inks: &[u8]) -> bool {
     })
 }
 
-/// Whether some filling of some tree computes the inks.
+/// Returns whether some filling of some tree computes the inks.
 fn computes(carried: &[Vec<Carried>], inks: &[u8]) -> bool {
     let whole = carried.len();
     parts(whole).any(|a| {
@@ -182,9 +182,9 @@ fn computes(carried: &[Vec<Carried>], inks: &[u8]) -> bool {
     })
 }
 
-/// Holds the answer against fillings whose wires below the last gate carry 1, 2,
-/// ... values. The last gate gives the ink, so of the two the answer is the
-/// larger: the fewest below the last gate, and the number of inks.
+/// Compares the answer with fillings whose wires below the last gate carry 1, 2,
+/// ... values. The last gate gives the ink, so the answer is the larger of two
+/// numbers: the fewest values below the last gate, and the number of inks.
 fn assert_fillings(m: usize, n: usize, tables: &[Vec<u8>], most: usize) {
     let by_k: Vec<_> = (0..=most).map(|k| all_carried(m, n, k)).collect();
     let mut of_answers = vec![0; most + 1];
@@ -195,7 +195,7 @@ fn assert_fillings(m: usize, n: usize, tables: &[Vec<u8>], most: usize) {
         let distinct = inks.iter().collect::<HashSet<_>>().len();
         let answer = fewest(m, n, inks);
         assert_eq!(answer, below.max(distinct), "{inks:?}");
-        // where there is no tree yet, the inks are too few to matter
+        // if there is no tree yet, the inks are too few to matter
         assert!(answer == below || answer <= m);
         of_answers[answer] += 1;
     }
@@ -223,7 +223,7 @@ fn three_levels_against_every_filling() {
         for kind in TableKind::ALL {
             tables.push(generator.table(3, 3, kind).inks);
         }
-        // few columns for two of the three inputs, so that every answer is seen
+        // few columns for two of the three inputs, so that every answer occurs
         let few = 1 + generator.rng.below(9);
         let columns: Vec<u8> = (0..3 * few).map(|_| generator.rng.level(3)).collect();
         let of_pair: Vec<usize> = (0..9).map(|_| generator.rng.below(few)).collect();
@@ -234,9 +234,9 @@ fn three_levels_against_every_filling() {
     assert_fillings(3, 3, &tables, 9);
 }
 
-// ---- what the answer is for
+// ---- the use of the answer
 
-/// The same rule with more levels: an input above the old levels acts as the
+/// Returns the same rule with more levels: an input above the old levels acts as the
 /// last of them.
 fn widened(m: usize, n: usize, inks: &[u8], k: usize) -> Vec<u8> {
     inks_of(k, n, |x| {
@@ -247,7 +247,7 @@ fn widened(m: usize, n: usize, inks: &[u8], k: usize) -> Vec<u8> {
     })
 }
 
-/// With k levels a widened table is made exactly when k is enough.
+/// With k levels a widened table is made exactly if k is enough.
 #[test]
 fn a_widened_table_is_made_with_so_many_levels() {
     let seed = 9;
@@ -283,7 +283,7 @@ fn answers_of_the_cases() {
     assert_eq!(fewest(3, 3, &inks_of(3, 3, two_of_three)), 3);
     // At least five of eleven: the ones among four inputs are 0 to 4, and so are
     // those among another four; of the eight together it matters whether they
-    // are at most 1, or 2, 3, 4, or at least 5. Five levels do, and any wiring
+    // are at most 1, or 2, 3, 4, or at least 5. Five levels suffice, and any wiring
     // has a wire that needs them.
     let five_of_eleven = |x: &[usize]| usize::from(x.iter().sum::<usize>() >= 5);
     assert_eq!(fewest(2, 11, &inks_of(2, 11, five_of_eleven)), 5);

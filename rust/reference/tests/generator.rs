@@ -49,7 +49,7 @@ fn good_sheets_are_accepted_at_every_size() {
     }
 }
 
-/// Some cells are left open, and some sheets have no other.
+/// Some cells are left open, and some sheets have only open cells.
 #[test]
 fn sheets_with_open_cells() {
     let mut generator = Generator::new(94);
@@ -82,7 +82,7 @@ fn the_same_seed_gives_the_same_sheets() {
     assert_ne!(sheets(5), sheets(6));
 }
 
-/// What has a tree by its making is made; what has none by chance is refused.
+/// Tables that have a tree by construction are made; those that by chance have none are refused.
 #[test]
 fn tables_are_made_or_refused_as_their_kind_tells() {
     let seed = 91;
@@ -107,7 +107,7 @@ fn tables_are_made_or_refused_as_their_kind_tells() {
     }
 }
 
-/// How many inputs of a table matter.
+/// Returns how many inputs of a table matter.
 fn count_mattering(table: &Table) -> u32 {
     mattering(table.m, table.n, &table.inks).count_ones()
 }
@@ -133,7 +133,7 @@ fn few_cells_near_the_end_and_three_inputs_that_matter() {
     assert!(count_mattering(&table) > 0);
 }
 
-/// Nets of every number of used inputs turn up, and tables in which none, one and
+/// Nets with every number of used inputs occur, and tables in which none, one and
 /// two inputs matter.
 #[test]
 fn nets_that_leave_inputs_out() {
@@ -154,14 +154,14 @@ fn nets_that_leave_inputs_out() {
     assert!(matter.iter().all(|&count| count > 50));
 }
 
-/// The end of the run of bytes that starts at the refused place.
+/// Returns the end of the run of bytes that starts at the refused place.
 fn end_of_field(sheet: &[u8], place: usize) -> usize {
     let rest = &sheet[place..];
     let ends = |&byte: &u8| byte == b' ' || byte == b'\n';
     place + rest.iter().position(ends).unwrap_or(rest.len())
 }
 
-/// "Sheets are judged from the front": what lies behind the refused field and
+/// "Sheets are judged from the front": what follows the refused field and
 /// the byte after it does not matter.
 fn assert_judged_from_the_front(
     sheet: &[u8],
@@ -180,7 +180,7 @@ fn assert_judged_from_the_front(
 
 fn judge_net(sheet: &[u8]) -> Result<(), Refusal> {
     let (header, net) = read_net_sheet(sheet)?;
-    // An accepted sheet is the one print of what was read from it.
+    // An accepted sheet is the only print of what was read from it.
     assert_eq!(print_net_sheet(&header, &net), sheet);
     Ok(())
 }
@@ -191,7 +191,7 @@ fn judge_table(sheet: &[u8]) -> Result<(), Refusal> {
     Ok(())
 }
 
-/// Judges a damaged sheet as a net and as a table; counts what was answered.
+/// Judges a damaged sheet as a net and as a table, and counts the answers.
 fn judge_both(sheet: &[u8], answers: &mut HashMap<u8, usize>) {
     for judge in [judge_net, judge_table] {
         let number = match judge(sheet) {
@@ -205,7 +205,7 @@ fn judge_both(sheet: &[u8], answers: &mut HashMap<u8, usize>) {
     }
 }
 
-/// Every number of a sheet turns up, and so does acceptance.
+/// Every number of a sheet occurs, and so does acceptance.
 fn assert_all_answers(answers: &HashMap<u8, usize>) {
     println!("answers: {answers:?}");
     for number in (0..=8).chain([26]) {
@@ -250,7 +250,7 @@ fn every_byte_of_a_sheet_damaged() {
     assert_all_answers(&answers);
 }
 
-/// Damaged sheets through the calls themselves, buffers and all.
+/// Damaged sheets through the calls themselves, with buffers.
 #[test]
 fn damaged_sheets_go_through_the_calls() {
     let seed = 120;

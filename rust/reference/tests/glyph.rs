@@ -5,12 +5,12 @@ use reference::generate::Generator;
 use reference::sheet::read_net_sheet;
 use reference::{allowed_sizes, glyph, settle, Refusal};
 
-/// A picture from its rows, a digit for each cell.
+/// Returns a picture from its rows, a digit for each cell.
 fn cells_of(rows: &[&str]) -> Vec<u8> {
     rows.concat().bytes().map(|digit| digit - b'0').collect()
 }
 
-/// The new picture, row by row.
+/// Returns the new picture, row by row.
 fn printed(
     net: &[u8],
     width: u64,
@@ -30,7 +30,7 @@ fn assert_prints(net: &[u8], old: &[&str], offsets: &[i8], new: &[&str]) {
     assert_eq!(printed, Ok(cells_of(new)), "{offsets:?}");
 }
 
-/// Nets whose value is their first input's level: the picture shifted.
+/// Nets whose value is the level of their first input: the picture shifted.
 #[test]
 fn offsets_by_hand() {
     let first = net_sheet(3, "a b", "a b 000111222");
@@ -55,17 +55,17 @@ fn two_cells_by_hand() {
     let old = ["0120", "2001"];
     assert_prints(&larger, &old, &[0, 0, 1, 0], &["1220", "2011"]);
     assert_prints(&larger, &old, &[0, 1, 0, 0], &["2121", "2001"]);
-    // What is 0 outside is not 0 once it has gone through the net.
+    // A 0 outside the picture is not 0 after the net.
     let turned = net_sheet(3, "a b", "a b 210210210");
     assert_prints(&turned, &["01"], &[0, 0, -1, 0], &["22"]);
     assert_prints(&turned, &["01"], &[0, 0, 2, 2], &["22"]);
-    // The new picture is never read where the old one is meant.
+    // The new picture is never read instead of the old one.
     let sum = net_sheet(2, "a b", "a b 0110");
     assert_prints(&sum, &["1111"], &[0, 0, -1, 0], &["1000"]);
     assert_prints(&sum, &["1111"], &[0, 0, 1, 0], &["0001"]);
 }
 
-/// The net's inks, from the text of its table sheet.
+/// Returns the net's inks, from the text of its table sheet.
 fn inks_written(net: &[u8]) -> Vec<u8> {
     let table = table_written(net).expect("a good net sheet");
     let text = String::from_utf8(table).expect("ASCII");
@@ -74,7 +74,7 @@ fn inks_written(net: &[u8]) -> Vec<u8> {
         .collect()
 }
 
-/// Every cell by the net's table, with a border of zeros around the picture.
+/// Computes every cell by the net's table, with a border of zeros around the picture.
 fn by_table(net: &[u8], size: [usize; 2], picture: &[u8], offsets: &[i8]) -> Vec<u8> {
     let (header, _) = read_net_sheet(net).expect("a good net sheet");
     let inks = inks_written(net);
@@ -183,7 +183,7 @@ fn refusal_24_sides_and_cells() {
         (2, 2, 5),
         (64, 64, 4_095),
         (64, 64, 4_097),
-        // products that wrap round to a small number
+        // products that wrap around to a small number
         (1 << 32, 1 << 32, 0),
         (1 << 63, 2, 0),
         (huge, huge, 1),

@@ -1,4 +1,4 @@
-//! Marking as a job: every list of steps and askings, and what finishing writes.
+//! Marking as a job: every list of steps and questions, and what finishing writes.
 
 use crate::common::*;
 use reference::damage::byte_damages;
@@ -7,12 +7,12 @@ use reference::marks::marks_of;
 use reference::sheet::read_table_sheet;
 use reference::{allowed_sizes, make, Job};
 
-/// Buffers of these lengths, full of something.
+/// Returns buffers of these lengths with some content.
 fn lent(cells: usize, marks: usize, out: usize) -> [Vec<u8>; 3] {
     [vec![201; cells], vec![202; marks], vec![203; out]]
 }
 
-/// Opens a job on a good sheet and goes so many steps.
+/// Opens a job on a good sheet and makes this many steps.
 fn stepped(sheet: &[u8], steps: usize) -> Job {
     let (mut job, refusal) = Job::open(sheet);
     assert_eq!(refusal, None);
@@ -22,14 +22,14 @@ fn stepped(sheet: &[u8], steps: usize) -> Job {
     job
 }
 
-/// Groups that no job of n inputs has.
+/// Returns groups that no job of n inputs has.
 fn no_groups(n: usize) -> [u64; 6] {
     let beyond = 1 << n;
     [0, beyond, beyond + 1, beyond + (1 << 32), 1 << 63, u64::MAX]
 }
 
-/// Everything that can be asked of a job that has passed so many groups, with the
-/// marks that its table has: and it stays the same.
+/// Checks everything that can be asked of a job that has passed this many groups, against
+/// the marks of its table. The job stays the same.
 fn assert_asked(job: &Job, n: usize, passed: usize, of_groups: &[u8]) {
     let before = job.clone();
     let groups = of_groups.len() - 1;
@@ -102,7 +102,7 @@ fn jobs_of_every_size() {
     }
 }
 
-/// "For every list of steps and askings from a newly opened job": the askings
+/// "For every list of steps and askings from a newly opened job": the questions
 /// change nothing.
 #[test]
 fn lists_of_steps_and_askings() {

@@ -1,4 +1,4 @@
-//! Keeping a wiring: which tables a wiring computes under some filling is told
+//! Keeping a wiring: which tables a wiring computes for some filling is decided
 //! without the library's groups and marks.
 
 use crate::common::wirings::*;
@@ -10,7 +10,7 @@ use reference::{allowed_sizes, check, keep, Verdict};
 /// A wiring as the text of its gate lines: for each gate its two references.
 type Lines = Vec<[String; 2]>;
 
-/// The wiring of a net sheet's text.
+/// Returns the wiring from a net sheet's text.
 fn lines_of(sheet: &[u8]) -> Lines {
     let text = std::str::from_utf8(sheet).expect("ASCII");
     let references = |line: &str| {
@@ -20,15 +20,15 @@ fn lines_of(sheet: &[u8]) -> Lines {
     text.lines().skip(4).map(references).collect()
 }
 
-/// The table fields of a net sheet's text.
+/// Returns the table fields from a net sheet's text.
 fn tables_in(sheet: &[u8]) -> Vec<String> {
     let text = std::str::from_utf8(sheet).expect("ASCII");
     let last = |line: &str| line.split(' ').next_back().expect("a field").to_string();
     text.lines().skip(4).map(last).collect()
 }
 
-/// What holds of every accepted answer: the wiring is the caller's, the table is
-/// the asked one, the set is that of the changed table fields, and keeping again
+/// Checks what holds for every accepted answer: the wiring is the caller's, the table is
+/// the requested one, the set is that of the changed table fields, and keeping again
 /// changes nothing.
 fn assert_kept(net: &[u8], table: &[u8], new: &[u8], changed: u64) {
     assert_eq!(lines_of(new), lines_of(net));
@@ -58,17 +58,17 @@ fn wirings_by_hand() {
     assert_keeps(names, "b c 1001/a 1 1001", &sum, "b c 0110/a 1 0110", 6);
     assert_keeps(names, "b c 0110/a 1 1001", &sum, "b c 0110/a 1 0110", 4);
     assert_keeps(names, "b c 1001/a 1 0110", &sum, "b c 0110/a 1 0110", 2);
-    // Sides and the lines' order stay; the first-listed member counts slowest.
+    // The sides and the order of the lines stay; the first-listed member changes slowest.
     assert_keeps(names, "c b 0000/1 a 0000", &sum, "c b 0110/1 a 0110", 6);
     let below = inks_of(2, 2, |x| usize::from(x[0] < x[1]));
     assert_keeps("a b", "a b 0000", &below, "a b 0100", 2);
     assert_keeps("a b", "b a 0000", &below, "b a 0010", 2);
-    // A digit that no assignment reaches is 0, whatever it was.
+    // A digit that no assignment reaches becomes 0.
     let zeros = [0; 8];
     assert_keeps(names, "a b 1111/1 c 1111", &zeros, "a b 0000/1 c 0000", 6);
     let last = inks_of(2, 3, |x| x[2]);
     assert_keeps(names, "a b 0110/1 c 0101", &last, "a b 0000/1 c 0100", 6);
-    // Gates in another order than the settled net's.
+    // Gates in a different order from the settled net's.
     let four = inks_of(2, 4, |x| (x[0] & x[1]) ^ (x[2] | x[3]));
     let old = "d c 0111/b a 0001/2 1 0110";
     assert_keeps("a b c d", old, &four, old, 0);
@@ -89,7 +89,7 @@ fn refusal_23_at_the_first_gate_by_number() {
         let net = net_sheet(2, "a b c", gates);
         assert_eq!(kept(&net, &table), Err(of_neither(23, 1)));
     }
-    // {a, b} and {c, d} have too many classes, {e, f} has not.
+    // {a, b} and {c, d} have too many classes, {e, f} does not.
     let rule = |x: &[usize]| most(&[x[0], x[1], x[4] ^ x[5]]) ^ most(&[x[2], x[3], x[4] ^ x[5]]);
     let table = rule_sheet(2, "a b c d e f", rule);
     for (gates, gate) in [
@@ -103,7 +103,7 @@ fn refusal_23_at_the_first_gate_by_number() {
     }
 }
 
-/// Wirings that leave out inputs that do not matter; those that they have need not
+/// Wirings that leave out inputs that do not matter; the inputs that they have may not
 /// matter either.
 #[test]
 fn wirings_that_leave_inputs_out() {
@@ -111,7 +111,7 @@ fn wirings_that_leave_inputs_out() {
     let pair = inks_of(2, 4, |x| x[1] & x[3]);
     assert_keeps(names, "b d 0110", &pair, "b d 0001", 2);
     assert_keeps(names, "d b 0001", &pair, "d b 0001", 0);
-    // a is read and does not matter: its classes are one
+    // a is read and does not matter: it has one class
     assert_keeps(names, "d b 1001/a 1 0110", &pair, "d b 0001/a 1 0101", 6);
     assert_keeps(names, "a d 0000/1 b 0000", &pair, "a d 0101/1 b 0001", 6);
     assert_keeps(
@@ -132,7 +132,7 @@ fn wirings_that_leave_inputs_out() {
 #[test]
 fn refusal_23_at_0_before_the_gates() {
     let most = |x: &[usize]| usize::from(x.iter().sum::<usize>() >= 2);
-    // of these gates the first would have too many classes
+    // the first of these gates would have too many classes
     let table = rule_sheet(2, "a b c d", |x| most(&x[..3]));
     for (gates, place) in [
         ("a b 0001", 0),
@@ -158,7 +158,7 @@ fn refusal_23_at_0_before_the_gates() {
 
 // ---- two levels: every filling of every wiring
 
-/// The wirings of a group of inputs: with every choice of sides.
+/// Returns the wirings of a group of inputs, with every choice of sides.
 fn all_wirings(group: usize) -> Vec<Wiring> {
     if group.count_ones() == 1 {
         return vec![Wiring::Leaf(group.trailing_zeros() as usize)];
@@ -174,7 +174,7 @@ fn all_wirings(group: usize) -> Vec<Wiring> {
     all
 }
 
-/// The gate lines of a wiring, every table field the same. Left's gates come
+/// Returns the gate lines of a wiring, every table field the same. Left's gates come
 /// before right's, or after them.
 fn gate_lines(wiring: &Wiring, right_first: bool, digits: &str) -> String {
     fn add(wiring: &Wiring, right_first: bool, lines: &mut Vec<String>) -> String {
@@ -255,8 +255,8 @@ fn tables_of_two_levels_against_every_filling() {
 
 // ---- three levels: every filling of the inner gate
 
-/// Whether some filling of `p q`, then that with `r`, computes a table of three
-/// inputs with three levels: whether some gate of p and q, with r, tells the ink.
+/// Returns whether some filling of `p q`, then that with `r`, computes a table of three
+/// inputs with three levels: whether some gate of p and q, with r, determines the ink.
 fn some_filling(inks: &[u8], [p, q, r]: [usize; 3]) -> bool {
     (0..3_usize.pow(9)).any(|filling| {
         let digits: Vec<usize> = levels_of(filling, 3, 9);
@@ -301,8 +301,8 @@ fn tables_of_three_levels_against_every_filling() {
 
 // ---- at every size
 
-/// A net keeps its own wiring for its own table; the settled net and the trees of
-/// the family are what keeping makes of their own wirings.
+/// A net keeps its own wiring for its own table; keeping the wirings of the settled net
+/// and of the trees of the family returns these nets.
 #[test]
 fn nets_of_every_size() {
     let seed = 2_301;

@@ -1,5 +1,5 @@
 //! Inputs that never matter: which inputs a settled net has as leaves, by hand and
-//! at every size. What stands on the leaves is held against every wiring in
+//! at every size. Trees on the leaves are compared with every wiring in
 //! `trees`, `shallow` and `family`.
 
 use crate::common::*;
@@ -49,7 +49,7 @@ fn some_matter() {
     );
 }
 
-/// Two of three inputs that matter have no tree, and the place is that of the
+/// At least two of three, on the three inputs that matter, has no tree; the place is that of the
 /// marks, which cover every group.
 #[test]
 fn refusal_16_beside_idle_inputs() {
@@ -65,7 +65,7 @@ fn refusal_16_beside_idle_inputs() {
 }
 
 /// "Equal settling still means equal tables, unused inputs included": nets that use
-/// other inputs settle to one sheet where their tables are equal.
+/// different inputs settle to one sheet if their tables are equal.
 #[test]
 fn nets_of_other_inputs_settle_alike() {
     let names = "a b c d";
@@ -93,7 +93,7 @@ fn nets_of_other_inputs_settle_alike() {
     }
 }
 
-/// What matters, and the leaves, as two cells at a time tell; a tree on the leaves
+/// What matters, and the leaves, decided by two cells at a time; a tree on the leaves
 /// exists exactly when the whole group has mark 2.
 #[test]
 fn leaves_at_every_size() {
@@ -121,8 +121,8 @@ fn leaves_at_every_size() {
     assert!(idle > 100);
 }
 
-/// A table with inputs that never matter is made as the table of the leaves alone
-/// is, under the names of those.
+/// A table with inputs that never matter is made like the table of the leaves alone,
+/// with their names.
 #[test]
 fn made_as_the_table_of_the_leaves_alone() {
     let seed = 1_201;
@@ -161,7 +161,7 @@ fn number_of(answer: &Result<Vec<u8>, reference::Refusal>) -> u8 {
     answer.as_ref().expect_err("no tree").number
 }
 
-/// The table of the leaves alone, the other inputs at 0.
+/// Returns the table of the leaves alone, the other inputs at 0.
 fn on_leaves(header: &Header, table: &Table) -> (Header, Table) {
     let leaves = leaves(table.m, table.n, &table.inks);
     let kept: Vec<usize> = (0..table.n).filter(|i| leaves >> i & 1 == 1).collect();
@@ -178,7 +178,7 @@ fn on_leaves(header: &Header, table: &Table) -> (Header, Table) {
     (Header { m, n, names }, few)
 }
 
-/// The lines after the fourth.
+/// Returns the lines after the fourth.
 fn gate_lines(sheet: &[u8]) -> Vec<u8> {
     let lines = sheet.split_inclusive(|&byte| byte == b'\n');
     lines.skip(4).collect::<Vec<_>>().concat()

@@ -4,7 +4,7 @@ use crate::common::*;
 use reference::generate::Generator;
 use reference::{allowed_sizes, Lister};
 
-/// Whether the line is a part of the sheet itself and not a copy.
+/// Returns whether the line is a part of the sheet itself and not a copy.
 fn lies_at(sheet: &[u8], place: usize, line: &[u8]) -> bool {
     std::ptr::eq(&sheet[place..place + line.len()], line)
 }

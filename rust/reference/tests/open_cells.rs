@@ -1,4 +1,4 @@
-//! Cells left open: the sign in a sheet, what a check passes over, and what needs a
+//! Open cells: the sign in a sheet, what a check skips, and what needs a
 //! full table.
 
 use crate::common::*;
@@ -42,7 +42,7 @@ fn tidying_carries_the_sign() {
     assert_eq!(cells, [0, 2, 2, 1, 9]);
     assert_eq!(out[..50], lines(OPEN));
     assert_eq!(tidied(&lines(OPEN)), Ok(lines(OPEN)));
-    // a row that is given again is 20 before its ink, open or not
+    // a repeated row is 20 before its ink is judged, open or not
     for (text, place) in [
         ("levels inputs/2 2/a b ink/0 0 -/^0 0 0/", 20),
         ("levels inputs/2 2/a b ink/0 0 0/^0 0 -/", 20),
@@ -142,7 +142,7 @@ fn refusal_27_of_bare_cells() {
     assert_eq!(multiplicity(3, 2, &[2; 9], 3), Ok(1));
 }
 
-/// Every call that needs a full table, on buffers of these lengths: each is refused
+/// Makes every call that needs a full table, with buffers of these lengths: each is refused
 /// with 27 at this index, and changes no buffer.
 fn assert_refused(sheet: &[u8], index: u64, cells: usize, marks: usize, out: usize) {
     let due = of_table(27, index);
@@ -162,13 +162,13 @@ fn assert_refused(sheet: &[u8], index: u64, cells: usize, marks: usize, out: usi
     assert_eq!(job, Job::open(b"").0);
 }
 
-/// "After 12 and before 13": before every buffer is looked at.
+/// "After 12 and before 13": before any buffer is checked.
 #[test]
 fn refusal_27_of_a_table_sheet() {
     for (cells, marks, out) in [(0, 0, 0), (4, 1, 48), (3, 9, 99)] {
         assert_refused(&lines(OPEN), 1, cells, marks, out);
     }
-    // the sheet's own faults come first, wherever the sign stands
+    // the sheet's own faults come first, wherever the sign is
     let bad = lines("levels inputs/2 2/a b ink/0 0 -/0 1 -/1 0 -/1 1 2/");
     assert_eq!(made(&bad), Err(of_table(6, 48)));
     let more = lines("levels inputs/2 2/a b ink/0 0 -/0 1 -/1 0 -/1 1 -/0/");
@@ -237,14 +237,14 @@ fn open_tables_of_every_size() {
             assert_checked(&mut generator, &header, &open, &sheet);
             let net = print_net_sheet(&header, &generator.net(m, n));
             assert_eq!(kept(&net, &sheet), Err(of_table(27, index)));
-            // with its cells filled it is an accepted sheet like any other
+            // with its cells filled it is accepted like any other sheet
             let filled = print_table_sheet(&header, &full);
             assert_eq!(made(&filled).map_err(|r| r.number).err().unwrap_or(16), 16);
         }
     }
 }
 
-/// The check against a net, by the cells that are not open.
+/// Checks the table against a net, by the cells that are not open.
 fn assert_checked(
     generator: &mut Generator,
     header: &reference::sheet::Header,

@@ -1,4 +1,4 @@
-//! How marks lie in a lent buffer: "packed four to a byte, group 0 in the lowest
+//! How marks are stored in a buffer: "packed four to a byte, group 0 in the lowest
 //! two bits of byte 0".
 
 use crate::common::*;
@@ -6,8 +6,8 @@ use reference::generate::{Generator, TableKind};
 use reference::marks::{marks_of, needed, store, stored};
 use reference::{allowed_sizes, marking};
 
-/// One mark among zeros: only its own two bits are set, and what lies behind the
-/// needed length is kept.
+/// One mark among zeros: only its own two bits are set, and the bytes beyond the
+/// needed length are kept.
 #[test]
 fn a_mark_has_two_bits_of_its_own() {
     for n in 2..=5 {
@@ -36,7 +36,7 @@ fn the_lengths_needed() {
     );
 }
 
-/// At every size: the marks that are written are those of the groups, whatever
+/// At every size: the marks written are those of the groups, whatever
 /// the buffer held, and the answer is the whole group's.
 #[test]
 fn marks_of_every_size() {

@@ -8,7 +8,7 @@ use std::process::{Command, Stdio};
 use std::thread::sleep;
 use std::time::Duration;
 
-/// Runs `reference NAME` with the pieces on standard input, one write a piece.
+/// Runs `reference NAME` with the pieces on standard input, one write per piece.
 fn run(name: &str, pieces: &[&[u8]]) -> Vec<u8> {
     let mut child = Command::new(env!("CARGO_BIN_EXE_reference"))
         .arg(name)
@@ -18,7 +18,7 @@ fn run(name: &str, pieces: &[&[u8]]) -> Vec<u8> {
         .expect("the binary starts");
     let mut stdin = child.stdin.take().expect("a pipe");
     for piece in pieces {
-        // The program may have read all it wants and gone.
+        // The program may have read all it needs and ended.
         let _ = stdin.write_all(piece);
         let _ = stdin.flush();
         sleep(Duration::from_millis(5));
@@ -60,7 +60,7 @@ fn a_refusal_is_two_lines() {
     assert_eq!(run("make", &[&table]), b"number place\n16 7\n");
 }
 
-/// A sheet that goes on past the first 65,536 bytes is turned back like its
+/// A sheet longer than the first 65,536 bytes is refused like its
 /// front part, and the rest need not be read.
 #[test]
 fn a_sheet_and_then_far_too_much() {
@@ -73,13 +73,13 @@ fn a_sheet_and_then_far_too_much() {
     assert_eq!(make_program(&vec![b' '; 100_000]), b"number place\n1 0\n");
 }
 
-/// The table sheet of a sum, with names of 8 bytes.
+/// Returns the table sheet of a sum, with names of 8 bytes.
 fn long_table_sheet(m: usize, n: usize) -> Vec<u8> {
     let names: Vec<String> = (0..n).map(|input| format!("longna{input:02}")).collect();
     rule_sheet(m, &names.join(" "), |x| x.iter().sum::<usize>() % m)
 }
 
-/// Every table sheet but those of 2 with 12 is within the bytes read.
+/// Every table sheet except those of 2 with 12 is within the bytes read.
 #[test]
 fn the_largest_table_sheets_go_through_the_program() {
     for (m, n, length) in [(2, 11, 49_274), (4, 6, 57_420), (8, 4, 41_018)] {
@@ -100,7 +100,7 @@ fn a_table_sheet_that_has_not_ended_by_then() {
     assert!(made(&table).is_ok());
     let refusal = b"number place\n1 65536\n";
     assert_eq!(run("make", &[&table]), refusal);
-    // Up to the last byte read it has no fault; from there on it does not count.
+    // Up to the last byte read it has no fault; what follows does not matter.
     for place in [65_536, 65_537, 106_626] {
         let mut damaged = table.clone();
         damaged[place] = b'x';

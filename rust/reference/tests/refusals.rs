@@ -1,6 +1,6 @@
 //! Refusals 1 to 8 and 26: the number, the place and the sheet named, in every call that
 //! reads the sheet. In the sheets below `/` is a line feed and `^` marks the place
-//! (it is no part of the sheet).
+//! (it is not part of the sheet).
 
 use crate::common::*;
 use reference::{check, make_program, settle_program, Lister, Refusal};
@@ -8,18 +8,18 @@ use reference::{check, make_program, settle_program, Lister, Refusal};
 const NET: &str = "levels inputs/2 3/a b c/left right table/a b 0110/1 c 0001/";
 const TABLE: &str = "levels inputs/2 2/a b ink/0 0 0/0 1 0/1 0 0/1 1 1/";
 
-/// The sheet and the marked place.
+/// Returns the sheet and the marked place.
 fn marked(text: &str) -> (Vec<u8>, u64) {
     let place = text.find('^').expect("a marked place");
     (lines(&text.replace('^', "")), place as u64)
 }
 
-/// Every call that reads a net sheet turns it back alike.
+/// Every call that reads a net sheet refuses it in the same way.
 fn assert_net_refused(sheet: &[u8], refusal: Refusal, why: &str) {
     assert_eq!(settled(sheet), Err(refusal), "{why}");
     assert_eq!(table_written(sheet), Err(refusal), "{why}");
     assert_eq!(Lister::start(sheet).err(), Some(refusal), "{why}");
-    // The net is judged first, even beside a table sheet that is refused.
+    // The net is judged first, even if the table sheet is refused too.
     for table in [TABLE, ""] {
         let verdict = check(sheet, &lines(table), &mut [7; CELLS]);
         assert_eq!(verdict, Err(refusal), "{why}");
@@ -28,7 +28,7 @@ fn assert_net_refused(sheet: &[u8], refusal: Refusal, why: &str) {
     assert_eq!(settle_program(sheet), printed.into_bytes(), "{why}");
 }
 
-/// Every call that reads a table sheet turns it back alike.
+/// Every call that reads a table sheet refuses it in the same way.
 fn assert_table_refused(sheet: &[u8], refusal: Refusal, why: &str) {
     assert_eq!(made(sheet), Err(refusal), "{why}");
     let verdict = check(&lines(NET), sheet, &mut [7; CELLS]);
@@ -51,7 +51,7 @@ fn assert_tables_refused(number: u8, texts: &[&str]) {
     }
 }
 
-/// Sheets that go wrong in the lines that both kinds share.
+/// Checks sheets that have a fault in the lines that both kinds share.
 fn assert_both_refused(number: u8, texts: &[&str]) {
     assert_nets_refused(number, texts);
     assert_tables_refused(number, texts);
@@ -231,7 +231,7 @@ fn refusal_2_levels() {
             "levels inputs/^2\t3/a b c/",
             "levels inputs/^2\r/3/a b c/",
             "levels inputs/^123456789012345678901234567890 3/a b c/",
-            // The field is judged before the byte after it, also at the end.
+            // The field is judged before the byte after it, even at the end.
             "levels inputs/^1/3/",
             "levels inputs/^1",
         ],
@@ -345,7 +345,7 @@ fn refusal_5_rows_out_of_count() {
             "levels inputs/2 2/a b ink/^x 0 0/0 1 0/1 0 0/1 1 1/",
             "levels inputs/2 2/a b ink/^-0 0 0/0 1 0/1 0 0/1 1 1/",
             "levels inputs/2 2/a b ink/0 ^- 0/0 1 0/1 0 0/1 1 1/",
-            // A row again, a row left out, a level that is none.
+            // A repeated row, a missing row, a level that is not one.
             "levels inputs/2 2/a b ink/0 0 0/0 ^0 0/1 0 0/1 1 1/",
             "levels inputs/2 2/a b ink/0 0 0/^1 0 0/1 1 1/",
             "levels inputs/2 2/a b ink/0 0 0/0 1 0/1 0 0/1 ^2 1/",
@@ -366,7 +366,7 @@ fn refusal_6_inks() {
             "levels inputs/2 2/a b ink/0 0 ^00/0 1 0/1 0 0/1 1 1/",
             "levels inputs/2 2/a b ink/0 0 ^01/0 1 0/1 0 0/1 1 1/",
             "levels inputs/2 2/a b ink/0 0 ^x/0 1 0/1 0 0/1 1 1/",
-            // The sign of an open cell is one byte, and of an ink alone.
+            // The sign of an open cell is one byte, and only an ink may be it.
             "levels inputs/2 2/a b ink/0 0 ^--/0 1 0/1 0 0/1 1 1/",
             "levels inputs/2 2/a b ink/0 0 ^-0/0 1 0/1 0 0/1 1 1/",
             "levels inputs/2 2/a b ink/0 0 ^0-/0 1 0/1 0 0/1 1 1/",
@@ -413,7 +413,7 @@ fn refusal_7_no_such_reference() {
             "levels inputs/2 3/a b c/left right table/^A b 0110/1 c 0001/",
             "levels inputs/2 3/a b c/left right table/^a\r b 0110/1 c 0001/",
             "levels inputs/2 3/a b c/left right table/^aa b 0110/1 c 0001/",
-            // A gate that is not earlier, or no gate's number as it is written.
+            // A gate that is not earlier, or something that is not a gate's number as written.
             "levels inputs/2 3/a b c/left right table/^1 b 0110/a c 0001/",
             "levels inputs/2 3/a b c/left right table/a ^1 0110/b c 0001/",
             "levels inputs/2 3/a b c/left right table/^2 b 0110/1 c 0001/",
@@ -482,7 +482,7 @@ fn refusal_26_is_judged_last() {
         (7, "^3 e 0110/"),
         (8, "^a e 0110/"),
         (6, "2 e ^011/"),
-        // a fourth line may still come, a fifth not
+        // a fourth line may follow, a fifth may not
         (1, "2 e 0110/1 3 0110/^3 4 0110/"),
     ];
     for (number, rest) in judged {

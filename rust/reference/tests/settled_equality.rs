@@ -9,7 +9,7 @@ use reference::rng::Rng;
 use reference::sheet::{print_net_sheet, Header};
 use std::collections::HashMap;
 
-/// The value on a wire, from the output down to the inputs.
+/// Returns the value on a wire, from the output down to the inputs.
 fn wire_value(net: &Net, wire: Wire, levels: &[usize]) -> usize {
     match wire {
         Wire::Input(input) => levels[input],
@@ -27,7 +27,7 @@ fn inks_of_net(net: &Net) -> Vec<u8> {
     inks_of(net.m, net.n, |levels| wire_value(net, output, levels))
 }
 
-/// Left and right of one gate changed over, with its digits.
+/// Swaps left and right of one gate, and its digits accordingly.
 fn swap_sides(net: &mut Net, rng: &mut Rng) {
     let m = net.m;
     let gate = rng.below(net.gates.len());
@@ -41,7 +41,7 @@ fn swap_sides(net: &mut Net, rng: &mut Rng) {
     }
 }
 
-/// The levels of one inner wire renamed, at its gate and where it is read.
+/// Renames the levels of one inner wire, at its gate and where it is read.
 fn relabel(net: &mut Net, rng: &mut Rng) {
     let m = net.m;
     let chosen = rng.below(net.gates.len() - 1);
@@ -63,7 +63,7 @@ fn relabel(net: &mut Net, rng: &mut Rng) {
     }
 }
 
-/// The gates in another order in which each refers to earlier ones only.
+/// Puts the gates in another order in which each refers to earlier ones only.
 fn reorder(net: &mut Net, rng: &mut Rng) {
     let mut left: Vec<usize> = (1..=net.gates.len()).collect();
     let mut order: Vec<usize> = Vec::new();
@@ -106,7 +106,7 @@ fn renumber(net: &mut Net, order: &[usize]) {
     net.gates = gates.collect();
 }
 
-/// New digits wherever no assignment reaches.
+/// Changes the digits that no assignment reaches.
 fn change_free_digits(net: &mut Net, rng: &mut Rng) {
     let (m, n) = (net.m, net.n);
     let mut changed = net.clone();
@@ -127,8 +127,8 @@ fn change_free_digits(net: &mut Net, rng: &mut Rng) {
     *net = changed;
 }
 
-/// An unused input, if there is one, joined to the output by a gate that passes
-/// over it.
+/// Joins an unused input, if there is one, to the output by a gate that ignores
+/// it.
 fn hang_unused(net: &mut Net, rng: &mut Rng) {
     let inputs = 0..net.n;
     let unused: Vec<Wire> = inputs.map(Wire::Input).filter(|w| !net.uses(*w)).collect();
@@ -143,7 +143,7 @@ fn hang_unused(net: &mut Net, rng: &mut Rng) {
     });
 }
 
-/// Some steps that change the net and not its table.
+/// Makes some steps that change the net but not its table.
 fn rewire(net: &mut Net, rng: &mut Rng) {
     for _ in 0..12 {
         match rng.below(4) {
@@ -171,7 +171,7 @@ fn sizes() -> impl Iterator<Item = (usize, usize)> {
     sizes.map(|(m, n)| (m as usize, n as usize))
 }
 
-/// Fewer rounds where there are many cells.
+/// Returns fewer rounds for many cells.
 fn rounds(m: usize, n: usize) -> usize {
     (20_000 / m.pow(n as u32)).clamp(8, 100)
 }
@@ -219,7 +219,7 @@ fn small_changes_settle_as_the_tables_tell() {
     assert!(equal > 300 && unequal > 300);
 }
 
-/// Many nets over few tables: one settled sheet a table, one table a settled
+/// Many nets over few tables: one settled sheet per table, one table per settled
 /// sheet.
 #[test]
 fn one_settled_sheet_for_each_table() {
@@ -245,7 +245,7 @@ fn one_settled_sheet_for_each_table() {
 }
 
 /// The sum modulo m and the constant: every wiring of all inputs computes them, so
-/// every one settles to the same sheet; the constant's also those of some inputs.
+/// every one settles to the same sheet; for the constant also those of some inputs.
 #[test]
 fn every_wiring_of_a_sum_settles_alike() {
     let seed = 74;

@@ -1,13 +1,13 @@
-//! Every sentence of "The settled net", held against the settled sheet itself at
+//! Every sentence of "The settled net", checked on the settled sheet itself at
 //! every size: the leaves, the wiring, the order of the gate lines, the digits. And
-//! the same of the shallow net and of the other trees of the family, whose wiring
-//! alone is another.
+//! the same for the shallow net and for the other trees of the family, which differ
+//! only in their wiring.
 
 use crate::common::*;
 use reference::generate::{Generator, TableKind};
 use reference::{allowed_sizes, family_count, family_tree, make, make_shallow, marking};
 
-/// A gate line as it stands on the sheet, with the group of inputs below it.
+/// A gate line of the sheet, with the group of inputs below it.
 struct Line {
     left: String,
     right: String,
@@ -38,7 +38,7 @@ struct Made {
 }
 
 impl Made {
-    /// Makes the table; none if it has no tree.
+    /// Makes the table; returns nothing if it has no tree.
     fn from(choice: Choice, m: usize, n: usize, inks: Vec<u8>) -> Option<Made> {
         // The first-listed name is not the first in the alphabet.
         let names: Vec<String> = (0..n).map(|input| format!("z{}", n - input)).collect();
@@ -93,7 +93,7 @@ impl Made {
         });
     }
 
-    /// The inputs below a reference.
+    /// Returns the inputs below a reference.
     fn group(&self, reference: &str) -> usize {
         match self.gate(reference) {
             Some(gate) => gate.left_group | gate.right_group,
@@ -140,7 +140,7 @@ impl Made {
         [left, right, vec![own]].concat()
     }
 
-    /// The gates on the longest way from an input to a reference.
+    /// Returns the number of gates on the longest way from an input to a reference.
     fn layers(&self, reference: &str) -> usize {
         let gate = self.gate(reference);
         gate.map_or(0, |gate| {
@@ -148,13 +148,13 @@ impl Made {
         })
     }
 
-    /// The parts of a group that leave a group of mark 2 and have mark 2.
+    /// Returns the parts of a group that have mark 2 and leave a group of mark 2.
     fn parts(&self, group: usize) -> impl Iterator<Item = usize> + '_ {
         let parts = (1..group).filter(move |part| part & !group == 0);
         parts.filter(move |part| self.marks[*part] == 2 && self.marks[group - part] == 2)
     }
 
-    /// The fewest layers of each group of mark 2, by all its parts.
+    /// Returns the fewest layers of each group of mark 2, over all its parts.
     fn fewest(&self) -> Vec<usize> {
         let mut fewest: Vec<usize> = Vec::new();
         for group in 0..1 << self.n {
@@ -166,7 +166,7 @@ impl Made {
         fewest
     }
 
-    /// "A holding its first-listed input, A of lowest number", both of mark 2; of
+    /// "A holding its first-listed input, A of lowest number", both of mark 2; for
     /// a shallow net "the part A of lowest number that keeps its own group
     /// shallowest"; in the last tree of a family A of highest number.
     fn assert_split(&self, gate: &Line, fewest: &[usize]) {
@@ -183,8 +183,8 @@ impl Made {
         assert_eq!(due, Some(gate.left_group));
     }
 
-    /// Every assignment of all inputs in which the inputs outside the group
-    /// stand at 0; index order counts the group, first-listed slowest.
+    /// Returns every assignment of all inputs in which the inputs outside the group
+    /// are 0; index order counts the group, first-listed slowest.
     fn assignments(&self, group: usize) -> Vec<Vec<usize>> {
         let all = (0..self.inks.len()).map(|index| levels_of(index, self.m, self.n));
         let outside_at_0 =
@@ -212,13 +212,13 @@ impl Made {
         }
     }
 
-    /// The index of an assignment given in two parts.
+    /// Returns the index of an assignment given in two parts.
     fn index_of_sum(&self, one: &[usize], other: &[usize]) -> usize {
         let levels = one.iter().zip(other).map(|(a, b)| a + b);
         levels.fold(0, |index, level| index * self.m + level)
     }
 
-    /// "A digit that no assignment reaches is 0." Answers how many there are.
+    /// "A digit that no assignment reaches is 0." Returns how many there are.
     fn assert_free_digits(&self, gate: &Line) -> usize {
         let mut reached = vec![false; self.m * self.m];
         for levels in self.assignments(gate.left_group | gate.right_group) {
@@ -232,7 +232,7 @@ impl Made {
         reached.iter().filter(|reached| !**reached).count()
     }
 
-    /// All of it; answers the number of free digits.
+    /// Checks all of it; returns the number of free digits.
     fn assert_rules(&self) -> usize {
         let output = self.gates.len().to_string();
         assert_eq!(self.group(&output), leaves(self.m, self.n, &self.inks));

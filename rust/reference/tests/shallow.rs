@@ -1,5 +1,5 @@
-//! Shallow making and settling, against every wiring of any of a table's inputs:
-//! at small sizes each one is tried, and which of them compute the table is told
+//! Shallow making and settling, compared with every wiring of any of a table's inputs:
+//! at small sizes each one is tried, and which of them compute the table is decided
 //! without the library's groups and marks.
 
 use crate::common::wirings::*;
@@ -10,13 +10,13 @@ use reference::sheet::read_net_sheet;
 use reference::{allowed_sizes, make, make_shallow, settle, settle_shallow};
 use std::collections::BTreeMap;
 
-/// Every wiring of any of n inputs.
+/// Returns every wiring of any of n inputs.
 fn all_wirings(n: usize) -> Vec<Wiring> {
     all_leaves(n).flat_map(wirings).collect()
 }
 
-/// Holds a shallow sheet and its count against the joints of all wirings that
-/// compute the table, whatever their leaves: no tree has fewer layers, and none has
+/// Compares a shallow sheet and its count with the joints of all wirings that
+/// compute the table, on any leaves: no tree has fewer layers, and none has
 /// a gate for the same inputs with fewer layers below it, or as few and a left part
 /// of lower number.
 fn assert_shallowest(net: &[u8], count: usize, computing: &[&Vec<Joint>]) {
@@ -35,8 +35,8 @@ fn assert_shallowest(net: &[u8], count: usize, computing: &[&Vec<Joint>]) {
     }
 }
 
-/// Holds making a table's shallow net against the wirings that compute it;
-/// whether it has layers to spare below the settled one.
+/// Compares making a table's shallow net with the wirings that compute it; returns
+/// whether it has fewer layers than the settled one.
 fn assert_table(m: usize, n: usize, inks: &[u8], computing: &[&Vec<Joint>]) -> bool {
     let sheet = table_sheet(m, names(n), inks);
     match made_shallow(&sheet) {
@@ -58,7 +58,7 @@ fn assert_table(m: usize, n: usize, inks: &[u8], computing: &[&Vec<Joint>]) -> b
 
 // ---- two levels: every filling of every wiring
 
-/// For every table that has a tree, the joints of each wiring that computes it.
+/// Returns for every table that has a tree the joints of each wiring that computes it.
 fn by_filling(n: usize) -> BTreeMap<Bits, Vec<Vec<Joint>>> {
     let mut computing: BTreeMap<Bits, Vec<Vec<Joint>>> = BTreeMap::new();
     for wiring in all_wirings(n) {
@@ -69,8 +69,8 @@ fn by_filling(n: usize) -> BTreeMap<Bits, Vec<Vec<Joint>>> {
     computing
 }
 
-/// The tables that have a tree, one in so many: how many there are, and of how
-/// many held the settled net has more layers than it need have.
+/// Checks one in every `step` of the tables that have a tree: returns how many there are,
+/// and for how many of those checked the settled net has more layers than necessary.
 fn assert_trees(n: usize, step: usize) -> (usize, usize) {
     let computing = by_filling(n);
     let spared = computing.iter().step_by(step).filter(|(&table, wirings)| {
@@ -97,7 +97,7 @@ fn tables_of_two_levels_against_every_filling() {
 
 #[test]
 fn the_wirings_are_all_there() {
-    // (2n - 3)!!, sides not told apart
+    // (2n - 3)!!, ignoring sides
     let counts = [2, 3, 4, 5, 6].map(|n| wirings((1 << n) - 1).len());
     assert_eq!(counts, [1, 3, 15, 105, 945]);
 }
@@ -113,9 +113,9 @@ fn a_table_without_a_tree_is_refused_as_by_making() {
     }
 }
 
-// ---- any levels: a wiring computes a table when its wires can carry it
+// ---- any levels: a wiring computes a table if its wires can carry it
 
-/// The joints of the wirings that have every input that matters as a leaf, and
+/// Returns the joints of the wirings that have every input that matters as a leaf, and
 /// whose gates have at most m columns each.
 fn by_columns<'a>(
     m: usize,
@@ -165,7 +165,7 @@ fn tables_of_more_levels_against_every_wiring() {
     assert!(spared > 100);
 }
 
-/// The first four come out in two layers, where a third would not make the whole
+/// The first four inputs are joined in two layers, where a third would not make the whole
 /// any deeper.
 #[test]
 fn a_group_is_shallow_where_the_whole_has_room_to_spare() {
@@ -182,8 +182,8 @@ fn a_group_is_shallow_where_the_whole_has_room_to_spare() {
     assert_eq!(Wiring::of_sheet(&settled).layers(), 4);
 }
 
-/// A sum may be wired in any way, so its layers are the least that n inputs can
-/// have; least and greatest by turns can be wired in one way only.
+/// A sum may be wired in any way, so its layers are the fewest that n inputs can
+/// have; least and greatest alternately can be wired in only one way.
 #[test]
 fn sums_and_chains() {
     let layers = [1, 2, 2, 3, 3, 3, 3, 4, 4, 4, 4];
@@ -220,7 +220,7 @@ fn nets_of_every_size() {
             assert_eq!(settled_shallow(&shallow), Ok((shallow.clone(), layers)));
             assert_eq!(table_written(&shallow), Ok(table));
             assert_eq!(settled(&shallow), settled(&net));
-            // both use the same inputs, and each gate but the last, once
+            // both use the same inputs, and each gate except the last, once
             let settled = settled(&net).expect("a good net sheet");
             assert_eq!(shallow.len(), settled.len());
             let [of_shallow, of_net, of_settled] =
@@ -234,7 +234,7 @@ fn nets_of_every_size() {
 }
 
 /// The shallow call and document 01's on the same sheet and equal buffers: they
-/// refuse alike, and leave the same cells and marks.
+/// refuse in the same way, and leave the same cells and marks.
 macro_rules! assert_refused_alike {
     ($shallow:ident, $default:ident, $sheet:expr, $length:expr) => {
         let lent = || ([9; CELLS], [9; MARKS], [9; NET_SHEET]);

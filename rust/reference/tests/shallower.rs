@@ -1,22 +1,22 @@
-//! The shallower of two net sheets: the sheet itself, so each answer is told by
-//! where it lies, and not by its bytes alone.
+//! The shallower of two net sheets: the sheet itself, so each answer is identified by
+//! its address, and not only by its bytes.
 
 use crate::common::*;
 use reference::generate::Generator;
 use reference::shallower;
 use reference::sheet::read_net_sheet;
 
-/// The very part of memory, not only the same bytes.
+/// Returns whether the part is the same memory, not only the same bytes.
 fn is(part: &[u8], sheet: &[u8]) -> bool {
     part.as_ptr() == sheet.as_ptr() && part.len() == sheet.len()
 }
 
-/// Four inputs in two layers.
+/// Returns a net of four inputs in two layers.
 fn two_layers() -> Vec<u8> {
     net_sheet(2, "a b c d", "a b 0110/c d 0110/1 2 0110")
 }
 
-/// Four inputs in three layers.
+/// Returns a net of four inputs in three layers.
 fn three_layers() -> Vec<u8> {
     net_sheet(2, "a b c d", "a b 0110/1 c 0110/2 d 0110")
 }
@@ -82,8 +82,8 @@ fn an_unreadable_sheet_loses_to_a_readable_one() {
     }
 }
 
-/// The most gates on a way, from the text: the inputs' names have a letter
-/// first, and gates are numbered.
+/// Returns the most gates on a way, from the text: the inputs' names start with a letter,
+/// and gates are numbered.
 fn layers_of(sheet: &[u8]) -> usize {
     let text = std::str::from_utf8(sheet).expect("ASCII");
     let mut gates: Vec<usize> = Vec::new();

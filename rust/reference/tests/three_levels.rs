@@ -1,4 +1,4 @@
-//! 3 levels, 3 and 4 inputs: samples against searches that know no marks.
+//! 3 levels, 3 and 4 inputs: samples compared with searches that do not use marks.
 
 use crate::common::*;
 use reference::generate::Generator;
@@ -23,7 +23,7 @@ impl Function {
         }
     }
 
-    /// The value when wire w stands at `at(w)`.
+    /// Returns the value when wire w has the value `at(w)`.
     fn value(&self, at: impl Fn(usize) -> usize) -> u8 {
         let mut index = 0;
         for (wire, radix) in self.radices.iter().enumerate() {
@@ -32,7 +32,7 @@ impl Function {
         self.values[index]
     }
 
-    /// The values with the wires of `slow` counted outside and the others
+    /// Returns the values with the wires of `slow` counted outside and the others
     /// inside: one row for each assignment of `slow`.
     fn rows(&self, slow: &[usize]) -> Vec<Vec<u8>> {
         let fast: Vec<usize> = (0..self.radices.len())
@@ -53,8 +53,8 @@ impl Function {
         rows
     }
 
-    /// The wires i and j replaced by one new wire, the slowest, with one value
-    /// for each different row; none if there are more than m of those.
+    /// Replaces the wires i and j by one new wire, the slowest, with one value
+    /// for each different row; nothing if there are more than m of those.
     fn joined(&self, i: usize, j: usize) -> Option<Function> {
         let rows = self.rows(&[i, j]);
         let mut distinct: Vec<Vec<u8>> = Vec::new();
@@ -74,7 +74,7 @@ impl Function {
     }
 
     /// Butler's second algorithm, from the inputs to the output, over every pair
-    /// at every step: join two wires by a gate and go on with what is left.
+    /// at every step: joins two wires by a gate and continues with what is left.
     fn has_tree(&self) -> bool {
         let wires = self.radices.len();
         if wires <= 2 {
@@ -85,7 +85,7 @@ impl Function {
         joined.any(|function| function.has_tree())
     }
 
-    /// The classes of some wires, as a function of just these.
+    /// Returns the classes of some wires, as a function of only these.
     fn classes(&self, wires: &[usize]) -> (Function, usize) {
         let rows = self.rows(wires);
         let mut distinct: Vec<&Vec<u8>> = Vec::new();
@@ -102,7 +102,7 @@ impl Function {
     }
 }
 
-/// Every point of the given radices, the last fastest.
+/// Returns every point of the given radices, the last fastest.
 fn points(radices: &[usize]) -> Vec<Vec<usize>> {
     let mut points = vec![Vec::new()];
     for &radix in radices {
@@ -118,7 +118,7 @@ fn group_members(group: usize, n: usize) -> Vec<usize> {
     (0..n).filter(|input| group & (1 << input) != 0).collect()
 }
 
-/// A group's mark said through trees: 2 when some tree over its members tells
+/// Returns a group's mark, found by trees: 2 if some tree over its members computes
 /// its classes.
 fn mark_by_search(function: &Function, group: usize) -> u8 {
     let members = group_members(group, function.radices.len());
@@ -133,7 +133,7 @@ fn mark_by_search(function: &Function, group: usize) -> u8 {
     }
 }
 
-/// Holds marking and making against the search; whether the table has a tree.
+/// Compares marking and making with the search; returns whether the table has a tree.
 fn assert_table(n: usize, names: &str, inks: &[u8]) -> bool {
     let function = Function::of_table(n, inks);
     let expected: Vec<u8> = (0..1 << n)
@@ -157,7 +157,7 @@ fn assert_table(n: usize, names: &str, inks: &[u8]) -> bool {
     has_tree
 }
 
-/// A rule that sees only two kinds of level at each input: it often has a tree
+/// Returns a rule that distinguishes only two kinds of level at each input: it often has a tree
 /// at 3 levels although it would have none at 2.
 fn collapsed_table(rng: &mut Rng, n: usize) -> Vec<u8> {
     let maps: Vec<Vec<usize>> = (0..n)
@@ -170,7 +170,7 @@ fn collapsed_table(rng: &mut Rng, n: usize) -> Vec<u8> {
     })
 }
 
-/// A net's table with some inks changed.
+/// Returns a net's table with some inks changed.
 fn perturbed_table(generator: &mut Generator, n: usize, changes: usize) -> Vec<u8> {
     let mut inks = generator.net(M, n).table().inks;
     for _ in 0..changes {
@@ -180,7 +180,7 @@ fn perturbed_table(generator: &mut Generator, n: usize, changes: usize) -> Vec<u
     inks
 }
 
-/// Samples of every kind; both answers must turn up often.
+/// Samples of every kind; both answers must occur often.
 fn assert_samples(seed: u64, n: usize, names: &str, rounds: usize) {
     println!("seed {seed}");
     let mut generator = Generator::new(seed);
@@ -230,13 +230,13 @@ fn the_table_of_every_net_is_made() {
     }
 }
 
-/// All digits of a gate, for all 19,683 gates of 3 levels.
+/// Returns all digits of a gate, for all 19,683 gates of 3 levels.
 fn every_gate() -> Vec<Vec<usize>> {
     points(&[M; 9])
 }
 
-/// Whether some tree over 3 inputs computes the table, by every lower gate of
-/// every pair; the last gate's digits are then forced or at odds.
+/// Returns whether some tree over 3 inputs computes the table, by every lower gate of
+/// every pair; the last gate's digits are then forced or contradict each other.
 fn has_tree_by_gates(inks: &[u8], gates: &[Vec<usize>]) -> bool {
     let levels: Vec<Vec<usize>> = (0..inks.len()).map(|p| levels_of(p, M, 3)).collect();
     [(0, 1, 2), (0, 2, 1), (1, 2, 0)].iter().any(|&(i, j, k)| {
@@ -275,7 +275,7 @@ fn three_inputs_against_every_gate() {
     assert!(with > 30 && without > 30);
 }
 
-/// A table over a, b, c, d against Butler's Conjecture 3: two pairs can each be
+/// A table over a, b, c, d that contradicts Butler's Conjecture 3: two pairs can each be
 /// joined by a gate, and only one of them leads to a tree.
 const CONJECTURE: &[u8] = b"\
     111111111 111000000 111111111 \
@@ -320,7 +320,7 @@ fn conjecture_table_is_made() {
     assert_eq!(made(&table_sheet(3, "a b c d", &inks)), Ok(net));
 }
 
-/// {b, c} joined leaves a table over e, a, d with a tree; {c, d} joined leaves
+/// Joining {b, c} leaves a table over e, a, d with a tree; joining {c, d} leaves
 /// one over e, a, b without. Both joined wires use all three values, so neither
 /// table has a free cell.
 #[test]

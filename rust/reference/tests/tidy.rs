@@ -1,5 +1,5 @@
-//! The tidier of loosely laid table sheets. In the sheets below `/` is a line feed
-//! and `^` marks the place of a refusal (it is no part of the sheet).
+//! The tidier of loose table sheets. In the sheets below `/` is a line feed
+//! and `^` marks the place of a refusal (it is not part of the sheet).
 
 use crate::common::*;
 use reference::damage::single_edits;
@@ -27,7 +27,7 @@ fn loose_sheets_by_hand() {
     ] {
         assert_tidies(loose, STRICT);
     }
-    // The row that names an assignment gives its ink, wherever it stands.
+    // The row that names an assignment gives its ink, wherever the row is.
     assert_tidies(
         "levels inputs/3 2/x y ink/2 2 1/2 1 0/2 0 2/1 2 2/1 1 1/1 0 0/0 2 1/0 1 2/0 0 0/",
         "levels inputs/3 2/x y ink/0 0 0/0 1 2/0 2 1/1 0 0/1 1 1/1 2 2/2 0 2/2 1 0/2 2 1/",
@@ -46,7 +46,7 @@ fn the_cells_are_in_index_order() {
 }
 
 /// "A strict sheet comes back unchanged"; with more spaces and its rows in any
-/// order it comes back too.
+/// order the result is the same.
 #[test]
 fn sheets_of_every_size() {
     let seed = 2_020;
@@ -263,7 +263,7 @@ fn refusal_20_a_row_again() {
             "levels inputs/2 2/a b ink/0 0 0/^0   0   ",
         ],
     );
-    // But after the byte that parts the last input field from it.
+    // But after the byte that separates the last input field from it.
     assert_refused(
         1,
         &[
@@ -274,10 +274,10 @@ fn refusal_20_a_row_again() {
     );
 }
 
-// ---- against the strict reader
+// ---- compared with the strict reader
 
-/// The sheet with its spaces set right and its rows in order, if no line starts
-/// with a space: each line's fields parted by one space, and the rows sorted.
+/// Returns the sheet with its spaces corrected and its rows in order, if no line starts
+/// with a space: each line's fields are separated by one space, and the rows sorted.
 fn set_right(sheet: &[u8]) -> Option<Vec<u8>> {
     let lines: Vec<&[u8]> = sheet.split_inclusive(|&byte| byte == b'\n').collect();
     let mut right = Vec::new();
@@ -296,7 +296,7 @@ fn set_right(sheet: &[u8]) -> Option<Vec<u8>> {
     Some(right.concat())
 }
 
-/// A loose sheet is accepted exactly when a strict one is, once it is set right;
+/// A loose sheet is accepted exactly if its corrected form is accepted as a strict one,
 /// and it tidies to that one.
 fn assert_as_set_right(sheet: &[u8]) -> u8 {
     let right = set_right(sheet).filter(|right| read_table_sheet(right).is_ok());
@@ -312,8 +312,8 @@ fn assert_as_set_right(sheet: &[u8]) -> u8 {
     }
 }
 
-/// What lies behind the refused field and the byte after it does not matter; of a
-/// row that comes again, behind its last input field and a space.
+/// What follows the refused field and the byte after it does not matter; in a
+/// repeated row, what follows its last input field and a space.
 fn assert_judged_from_the_front(sheet: &[u8]) {
     let Err(refusal) = tidied(sheet) else {
         return;

@@ -1,9 +1,9 @@
-//! 2 levels, 3 and 4 inputs: every table against every wiring of any of the inputs
+//! 2 levels, 3 and 4 inputs: every table compared with every wiring of any of the inputs
 //! and every gate.
 //!
-//! A table of n inputs is a number here, its bit p the ink at index p, so that a
-//! tree is filled and evaluated for all assignments at once. Nothing of the
-//! library's groups and marks is used to tell what has a tree.
+//! A table of n inputs is a number here: its bit p is the ink at index p, so that a
+//! tree is filled and evaluated for all assignments at once. The library's groups
+//! and marks are not used to decide what has a tree.
 
 use crate::common::*;
 use reference::marking;
@@ -16,8 +16,8 @@ enum Wiring {
     Node(Box<Wiring>, Box<Wiring>),
 }
 
-/// Every wiring over a set of inputs (as a sum of powers of 2), left and right
-/// told apart.
+/// Returns every wiring over a set of inputs (as a sum of powers of 2), with left and right
+/// distinguished.
 fn wirings(inputs: usize) -> Vec<Wiring> {
     if inputs.count_ones() == 1 {
         return vec![Wiring::Leaf(inputs.trailing_zeros() as usize)];
@@ -33,7 +33,7 @@ fn wirings(inputs: usize) -> Vec<Wiring> {
     all
 }
 
-/// The table that is an input's own level.
+/// Returns the table that is an input's own level.
 fn projection(input: usize, n: usize) -> u16 {
     let level = |p: usize| levels_of(p, 2, n)[input];
     (0..1 << n).fold(0, |table, p| table | (level(p) as u16) << p)
@@ -43,7 +43,7 @@ fn mask(n: usize) -> u16 {
     u16::MAX >> (16 - (1 << n))
 }
 
-/// A gate over two tables; bit 2u + v of the gate is its digit at (u, v).
+/// Applies a gate to two tables; bit 2u + v of the gate is its digit at (u, v).
 fn joined(gate: u16, left: u16, right: u16, n: usize) -> u16 {
     let mut table = 0;
     for (digit, here) in [!left & !right, !left & right, left & !right, left & right]
@@ -57,7 +57,7 @@ fn joined(gate: u16, left: u16, right: u16, n: usize) -> u16 {
     table & mask(n)
 }
 
-/// The tables of a wiring under every filling of its gates.
+/// Returns the tables of a wiring for every filling of its gates.
 fn tables_of(wiring: &Wiring, n: usize) -> HashSet<u16> {
     match wiring {
         Wiring::Leaf(input) => HashSet::from([projection(*input, n)]),
@@ -74,7 +74,7 @@ fn tables_of(wiring: &Wiring, n: usize) -> HashSet<u16> {
     }
 }
 
-/// For every set of inputs, the tables that some tree over just them computes.
+/// Returns for every set of inputs the tables that some tree over only them computes.
 fn computable(n: usize) -> Vec<HashSet<u16>> {
     let mut by_inputs = vec![HashSet::new()];
     for inputs in 1..1 << n {
@@ -87,10 +87,10 @@ fn computable(n: usize) -> Vec<HashSet<u16>> {
     by_inputs
 }
 
-/// The classes of a set of inputs as a table, if there are at most two: at each
+/// Returns the classes of a set of inputs as a table, if there are at most two: at each
 /// index, whether the assignment there is alike with the all-zero one.
 fn class_table(table: u16, inputs: usize, n: usize) -> Option<u16> {
-    // Input i stands at bit n - 1 - i of an index.
+    // Input i is bit n - 1 - i of an index.
     let held = (0..n)
         .filter(|i| inputs >> i & 1 == 1)
         .fold(0, |held, i| held | 1 << (n - 1 - i));
@@ -116,8 +116,8 @@ fn class_table(table: u16, inputs: usize, n: usize) -> Option<u16> {
     Some(classes)
 }
 
-/// The place of refusal 16 from trees alone: a group of several members with at
-/// most two classes has mark 1 when no tree over it tells its classes.
+/// Returns the place of refusal 16 from trees alone: a group of several members with at
+/// most two classes has mark 1 if no tree over it computes its classes.
 fn stuck_group(table: u16, n: usize, computable: &[HashSet<u16>]) -> Option<usize> {
     let several = |group: &usize| group.count_ones() >= 2;
     let mut groups: Vec<usize> = (1..1 << n).filter(several).collect();
@@ -127,7 +127,7 @@ fn stuck_group(table: u16, n: usize, computable: &[HashSet<u16>]) -> Option<usiz
     })
 }
 
-/// The inputs that a net sheet's gate lines refer to.
+/// Returns the inputs that a net sheet's gate lines refer to.
 fn used_inputs(net: &[u8], names: &str) -> usize {
     let text = std::str::from_utf8(net).expect("ASCII");
     let gates = text.lines().skip(4);
@@ -138,9 +138,9 @@ fn used_inputs(net: &[u8], names: &str) -> usize {
     used.map(|(input, _)| 1 << input).sum()
 }
 
-/// Holds making against the enumeration for one table; whether it was made. "A
+/// Compares making with the enumeration for one table; returns whether it was made. "A
 /// table is refused for want of a tree exactly when none stands on those leaves",
-/// which is when none stands on any; and no tree has fewer gates.
+/// which is when there is none on any leaves; and no tree has fewer gates.
 fn assert_table(table: u16, n: usize, names: &str, computable: &[HashSet<u16>]) -> bool {
     let inks: Vec<u8> = (0..1 << n).map(|p| (table >> p & 1) as u8).collect();
     let sheet = table_sheet(2, names, &inks);

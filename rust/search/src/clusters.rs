@@ -1,10 +1,10 @@
-//! A first tree near a table: wires are joined two by two, and of each pair the columns that are most alike are made alike, whatever rows
-//! that changes. The pair that changes fewest rows goes first.
+//! A first tree near a table: wires are joined two by two, and for each pair the most similar columns are made alike, whatever rows
+//! that changes. The pair that changes the fewest rows is joined first.
 
 use crate::near_tree::{Gate, Tree};
 use crate::random::Random;
 
-/// How many rows of the table have which ink, for each value of each wire: `m` numbers a cell.
+/// How many rows of the table have each ink, for each value of each wire: `m` numbers per cell.
 struct Tally {
     m: usize,
     sizes: Vec<usize>,
@@ -12,14 +12,14 @@ struct Tally {
     rows: Vec<u16>,
 }
 
-/// Two wires with the colours of their columns, and how many rows change.
+/// Two wires with the colours of their columns, and the number of rows that change.
 struct Join {
     changed: u32,
     places: (usize, usize),
     colours: Vec<usize>,
 }
 
-/// Returns a tree near a table. `chance` is how much the choice of pairs is left to chance.
+/// Returns a tree near a table. `chance` says how much the choice of pairs is left to chance.
 pub fn clustered(m: usize, n: usize, inks: &[u8], chance: f64, random: &mut Random) -> Tree {
     let mut tally = Tally::of(m, n, inks);
     let mut tree = Tree {
@@ -84,7 +84,7 @@ impl Tally {
         columns
     }
 
-    /// Returns the join that changes fewest rows, by and large.
+    /// Returns the join that changes the fewest rows, up to chance.
     fn best_join(&self, chance: f64, random: &mut Random) -> Join {
         let mut best: Option<(f64, Join)> = None;
         for second in 1..self.sizes.len() {
@@ -99,7 +99,7 @@ impl Tally {
         best.expect("two wires or more").1
     }
 
-    /// Makes the columns of two wires alike, the nearest first, until a wire can carry them. The last gate carries inks.
+    /// Makes the columns of two wires alike, the most similar first, until a wire can carry them. The last gate carries inks.
     fn join(&self, first: usize, second: usize) -> Join {
         let places = (first, second);
         let indices = self.indices(first, second);
@@ -158,7 +158,7 @@ impl Tally {
     }
 }
 
-/// Returns how many rows change in a column with these numbers of inks, where each cell takes its most frequent one.
+/// Returns how many rows change in a column with these numbers of inks, if each cell takes its most frequent one.
 fn minority(column: &[u16], other: &[u16], m: usize) -> u32 {
     let cells = column.chunks(m).zip(other.chunks(m));
     let changed = cells.map(|(a, b)| {

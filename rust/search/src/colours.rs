@@ -1,22 +1,22 @@
-//! Columns of two wires as a gate makes them alike: a colouring of the columns with so many colours, in which no two columns of one colour
-//! have different inks in a row. In such a colouring the inks of a colour agree in every row, so pairs are all that has to be looked at.
+//! Columns of two wires as a gate makes them alike: a colouring of the columns with a given number of colours, in which no two columns of one colour
+//! have different inks in a row. In such a colouring the inks of a colour agree in every row, so only pairs need to be compared.
 
 use crate::grid::OPEN;
 use crate::random::Random;
 
-/// How often a colouring is taken back before it is given up.
+/// How often a colouring may backtrack before the search gives up.
 const MOST_STEPS: usize = 4_000;
 
-/// What there is to know of some columns before they are coloured.
+/// What is computed about some columns before they are coloured.
 pub struct Columns {
-    /// Of each column those that conflict with it.
+    /// For each column those that conflict with it.
     conflicts: Vec<u128>,
     /// In how many rows two columns have the same ink.
     agreeing: Vec<Vec<u32>>,
 }
 
 impl Columns {
-    /// Compares every two columns: at most 81 of them, since a wire has 9 values at most.
+    /// Compares every two columns. There are at most 81, since a wire has at most 9 values.
     pub fn of(columns: &[Vec<u8>]) -> Columns {
         let count = columns.len();
         let mut conflicts = vec![0; count];
@@ -47,8 +47,8 @@ impl Columns {
         pairs as usize / 2
     }
 
-    /// Returns a colour for each column, of at most so many, or None where none was found. Columns that agree in many rows share a colour
-    /// first, as far as `chance` is not 1. All colours are used if there are columns enough: a gate that keeps more columns apart never rules
+    /// Returns a colour for each column, with at most `most` colours, or None if none was found. Columns that agree in many rows share a colour
+    /// first, unless `chance` is 1. All colours are used if there are enough columns: a gate that keeps more columns apart never rules
     /// out a tree.
     pub fn coloured(&self, most: usize, chance: f64, random: &mut Random) -> Option<Vec<usize>> {
         let count = self.conflicts.len();
@@ -75,7 +75,7 @@ impl Columns {
     }
 }
 
-/// Returns in how many rows two columns have the same ink, or None where they have different ones in some row.
+/// Returns in how many rows two columns have the same ink, or None if they have different inks in some row.
 fn agreement(first: &[u8], second: &[u8]) -> Option<u32> {
     let mut rows = 0;
     for (&a, &b) in first.iter().zip(second) {
@@ -89,23 +89,23 @@ fn agreement(first: &[u8], second: &[u8]) -> Option<u32> {
     Some(rows)
 }
 
-/// A colouring on its way.
+/// A partial colouring.
 struct Work<'a> {
     columns: &'a Columns,
     most: usize,
-    /// Which of two columns goes first if nothing else decides.
+    /// Decides which of two columns comes first if nothing else does.
     order: Vec<f64>,
     colours: Vec<Option<usize>>,
     /// The columns of each colour.
     members: Vec<u128>,
     steps: usize,
-    /// How much of the choices is left to chance.
+    /// How much the choices are left to chance.
     chance: f64,
     random: &'a mut Random,
 }
 
 impl Work<'_> {
-    /// Colours the columns that are left, or leaves them as they are and returns false.
+    /// Colours the remaining columns, or leaves them as they are and returns false.
     fn rest(&mut self) -> bool {
         let Some(column) = self.next() else {
             return true;
@@ -132,7 +132,7 @@ impl Work<'_> {
         false
     }
 
-    /// Returns the column with the fewest colours to choose from; of these the one with most conflicts.
+    /// Returns the column with the fewest colours to choose from; among these the one with the most conflicts.
     fn next(&self) -> Option<usize> {
         let left = (0..self.colours.len()).filter(|&column| self.colours[column].is_none());
         let key = |column: &usize| {
@@ -147,7 +147,7 @@ impl Work<'_> {
         left.max_by(|a, b| key(a).partial_cmp(&key(b)).expect("numbers"))
     }
 
-    /// Returns the colours that a column may have, the one whose columns agree with it in most rows first, and a new one last. Chance may
+    /// Returns the colours that a column may have. The colour whose columns agree with it in most rows comes first, a new one last. Chance may
     /// change the order.
     fn choices(&mut self, column: usize) -> Vec<usize> {
         let conflicts = self.columns.conflicts[column];
@@ -170,7 +170,7 @@ impl Work<'_> {
         free.into_iter().map(|(_, colour)| colour).collect()
     }
 
-    /// Returns a number that is smaller by chance.
+    /// Returns the number, reduced by chance.
     fn perhaps(&mut self, number: f64) -> f64 {
         number * (1.0 - self.chance * self.random.part())
     }
@@ -182,7 +182,7 @@ impl Work<'_> {
             .sum()
     }
 
-    /// Gives colours that are left to columns that agree least with their colour's others.
+    /// Gives unused colours to the columns that agree least with the others of their colour.
     fn split(&mut self) {
         while self.members.len() < self.most {
             let mut least: Option<(f64, usize, usize)> = None;

@@ -1,9 +1,9 @@
-//! Class counts of a table with open cells. Columns of a group that have different inks in some row are different in every filling. So many
-//! such columns, any two of them different, are so many classes in every filling.
+//! Class counts of a table with open cells. Columns of a group that have different inks in some row are different in every filling. If any
+//! two of k columns are different in this way, the group has at least k classes in every filling.
 
 use crate::grid::OPEN;
 
-/// Which groups may have no more classes than there are levels, and which of them a tree may be made of.
+/// Which groups may have no more classes than there are levels, and which of them can be in a tree.
 pub struct Counts {
     /// Whether no `levels` + 1 columns were found that are different in every filling.
     possible: Vec<bool>,
@@ -19,7 +19,7 @@ impl Counts {
         Counts { possible }
     }
 
-    /// Returns whether wires over these groups may be joined to a tree. If not, no filling has a tree that contains these groups.
+    /// Returns whether wires over these groups may be joined into a tree. If not, no filling has a tree that contains these groups.
     pub fn may_join(&self, groups: &[usize]) -> bool {
         let count = groups.len();
         let mut unions = vec![0; 1 << count];
@@ -37,19 +37,19 @@ impl Counts {
         trees[(1 << count) - 1]
     }
 
-    /// Returns whether a gate may give a group.
+    /// Returns whether a gate may have this group.
     pub fn may_be(&self, group: usize) -> bool {
         self.possible[group]
     }
 }
 
-/// Lists the subsets of a set, none first and the set itself last.
+/// Lists the subsets of a set, the empty set first and the set itself last.
 pub fn subsets(set: usize) -> impl Iterator<Item = usize> {
     let next = move |part: &usize| (*part != set).then(|| part.wrapping_sub(set) & set);
     std::iter::successors(Some(0), next)
 }
 
-/// Returns whether a group has more classes than levels in every filling, as far as a quick search sees.
+/// Returns whether a group has more classes than levels in every filling, as far as a quick search can tell.
 fn is_crowded(levels: usize, inputs: usize, inks: &[u8], group: usize) -> bool {
     let columns = offsets(levels, inputs, group);
     let rows = offsets(levels, inputs, (1 << inputs) - 1 - group);
@@ -74,7 +74,7 @@ fn is_crowded(levels: usize, inputs: usize, inks: &[u8], group: usize) -> bool {
     })
 }
 
-/// Lists what each assignment of a group adds to a cell's index, the first-listed input slowest.
+/// Lists what each assignment of a group adds to a cell's index; the first-listed input changes slowest.
 pub fn offsets(levels: usize, inputs: usize, group: usize) -> Vec<usize> {
     let mut offsets = vec![0];
     for input in (0..inputs).filter(|input| group >> input & 1 == 1) {

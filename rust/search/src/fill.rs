@@ -1,8 +1,8 @@
-//! Inks for open cells, with which a table has a tree.
+//! Finds inks for open cells with which a table has a tree.
 //!
-//! Every filling is tried where there are few, and the library judges each. Otherwise wires are joined two by two, from single inputs up: a
-//! gate joins two wires if their columns can be coloured with as many colours as there are levels. What is then left open takes any ink. The
-//! library makes the tree of what is found, and checks it against the open table.
+//! If there are few fillings, all are tried, and the library judges each. Otherwise wires are joined two by two, starting from single inputs: a
+//! gate joins two wires if their columns can be coloured with as many colours as there are levels. Cells that remain open take any ink. The
+//! library makes the tree of the result, and checks it against the open table.
 
 use crate::colours::Columns;
 use crate::counts::Counts;
@@ -11,30 +11,30 @@ use crate::random::Random;
 use sitgurp::{Net, Refusal, Table, Verdict};
 use std::time::{Duration, Instant};
 
-/// The most fillings that are all tried.
+/// The largest number of fillings that are all tried.
 pub const MOST_FILLINGS: u64 = 65_536;
-/// So many fillings of a few cells that are not filled yet are worth a look at the class counts.
+/// If this many fillings remain when some cells are filled, checking the class counts pays off.
 const MANY: u64 = 512;
-/// How many attempts there are at least if nobody asks for more time, and how many cells further attempts may go through. After so many
-/// attempts all is left to chance.
+/// The least number of attempts if nobody asks for more time, and the number of cells that further attempts may process. After this many
+/// attempts everything is left to chance.
 const ATTEMPTS: u64 = 64;
 const CELLS: u64 = 200_000;
 /// How many gates an attempt tries, for each gate of the tree.
 const GATES: usize = 6;
-/// How many ways to go on are tried at each step.
+/// How many ways to continue are tried at each step.
 const WAYS: usize = 3;
 
 /// What to search for, and how long.
 pub struct Wish<'a> {
     /// Prefers fewest layers.
     pub shallow: bool,
-    /// Goes on for so long where the search is not exhaustive.
+    /// How long to continue if the search is not exhaustive.
     pub time: Option<Duration>,
-    /// Is told now and then how long the search has taken.
+    /// Called now and then with the time that the search has taken.
     pub tell: &'a mut dyn FnMut(Duration),
 }
 
-/// What came of a search.
+/// The result of a search.
 pub enum Filling {
     Found(Box<Filled>),
     /// No filling has a tree: all were tried, or class counts show it.
@@ -50,20 +50,20 @@ pub enum Filling {
 pub struct Filled {
     pub table: Table,
     pub net: Net,
-    /// Whether every filling was tried that goes before this one: those with lower inks, or with fewer layers.
+    /// Whether every filling that comes before this one was tried: those with lower inks, or with fewer layers.
     pub every: bool,
 }
 
 /// Why no filling has a tree.
 #[derive(Clone, Copy, Debug, PartialEq, Eq)]
 pub enum Ground {
-    /// The library refuses each of so many fillings. Class counts may have ruled out some of them.
+    /// The library refuses each of this many fillings. Class counts may have ruled out some of them.
     Tried(u64),
     /// Every way to join the inputs has a group with more classes than levels, whatever the open cells hold.
     Counted,
 }
 
-/// Searches inks for the open cells of a table. A table without open cells has one filling, itself.
+/// Searches for inks for the open cells of a table. A table without open cells has one filling, itself.
 ///
 /// ```
 /// use search::{fill, Filling, Wish};
@@ -91,7 +91,7 @@ pub fn fill<'a>(table: &'a Table, wish: Wish<'a>) -> Filling {
     }
 }
 
-/// Returns how many fillings there are, or None where they are too many to count.
+/// Returns how many fillings there are, or None if there are too many to count.
 pub fn fillings(levels: usize, open: usize) -> Option<u64> {
     (levels as u64).checked_pow(open as u32)
 }
@@ -102,7 +102,7 @@ pub fn with_inks(table: &Table, inks: &[u8]) -> Result<Table, Refusal> {
     Table::from_rule(table.levels(), table.names(), |_| inks.next().unwrap_or(0))
 }
 
-/// Returns the tree of a filling and its layers, if it has one and the library finds that it agrees with the open table.
+/// Returns the tree of a filling and its layers, if it has one and the library confirms that it agrees with the open table.
 fn judged(open: &Table, inks: &[u8], shallow: bool) -> Option<(Table, Net, usize)> {
     let table = with_inks(open, inks).ok()?;
     let net = match shallow {
@@ -113,7 +113,7 @@ fn judged(open: &Table, inks: &[u8], shallow: bool) -> Option<(Table, Net, usize
     matches!(net.check(open), Ok(Verdict::Agree)).then_some((table, net, layers))
 }
 
-/// Returns the fewest layers that a tree of a table can have: an input matters for certain if two cells differ that differ in it alone.
+/// Returns the fewest layers that a tree of a table can have. An input certainly matters if two cells that differ only in it have different inks.
 fn least_layers(table: &Table) -> usize {
     let (m, n) = (table.levels(), table.names().len());
     let full = |ink: u8| usize::from(ink) < m;
@@ -165,7 +165,7 @@ impl<'a> Every<'a> {
         }
     }
 
-    /// Tries all fillings of the cells from the k-th open one on. Returns whether no better one is to come.
+    /// Tries all fillings of the open cells from the k-th on. Returns whether no better filling can follow.
     fn below(&mut self, k: usize, count: u64) -> bool {
         let m = self.table.levels();
         let Some(&index) = self.open.get(k) else {
@@ -188,7 +188,7 @@ impl<'a> Every<'a> {
         false
     }
 
-    /// Asks the library for the mark of the whole group, and for the tree where that is 2.
+    /// Asks the library for the mark of the whole group and, if that is 2, for the tree.
     fn judge(&mut self) -> bool {
         let (m, n) = (self.table.levels(), self.table.names().len());
         if sitgurp::marking(m, n, &self.cells, &mut [0; sitgurp::MOST_MARKS]) != Ok(2) {
@@ -212,7 +212,7 @@ impl<'a> Every<'a> {
     }
 }
 
-/// Attempts to join the inputs, each with other choices.
+/// Attempts to join the inputs, each with different choices.
 struct Attempts<'a> {
     table: &'a Table,
     grid: Grid,
@@ -220,14 +220,14 @@ struct Attempts<'a> {
     wish: Wish<'a>,
     started: Instant,
     random: Random,
-    /// How much chance there is in the order of the ways to go on.
+    /// How much the order of the ways to continue is left to chance.
     chance: f64,
-    /// How many gates this attempt may still try, and how many were tried in all.
+    /// How many gates this attempt may still try, and how many were tried in total.
     left: usize,
     gates: u64,
 }
 
-/// A way to go on: two wires, and the colours of their columns.
+/// A way to continue: two wires, and the colours of their columns.
 struct Way {
     score: f64,
     wires: (usize, usize),
@@ -313,7 +313,7 @@ impl<'a> Attempts<'a> {
         None
     }
 
-    /// Lists the best ways to join two wires. Columns that can be coloured although many of them conflict hardly can by accident.
+    /// Lists the best ways to join two wires. If columns can be coloured although many of them conflict, this is hardly an accident.
     fn ways(&mut self, grid: &Grid) -> Vec<Way> {
         let levels = self.table.levels();
         let mut ways = Vec::new();

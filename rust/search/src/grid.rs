@@ -1,5 +1,5 @@
-//! A table over wires. At first every input is a wire; joining two wires by a gate gives a smaller table, in which columns that the gate
-//! makes alike have become one.
+//! A table over wires. At first every input is a wire. Joining two wires by a gate gives a smaller table, in which columns that the gate
+//! makes alike are one column.
 
 /// An open cell.
 pub const OPEN: u8 = u8::MAX;
@@ -50,7 +50,7 @@ impl Grid {
         rows
     }
 
-    /// Returns the columns of two wires: of each pair of values the inks over all values of the other wires.
+    /// Returns the columns of two wires: for each pair of values, the inks over all values of the other wires.
     pub fn columns(&self, first: usize, second: usize) -> Vec<Vec<u8>> {
         let steps = self.steps();
         let rows = self.rows(first, second, &steps);
@@ -93,7 +93,7 @@ impl Grid {
         grid
     }
 
-    /// Returns an ink for each cell of the table; 0 where the grid leaves it open.
+    /// Returns an ink for each cell of the table; 0 if the grid leaves it open.
     pub fn filled(&self) -> Vec<u8> {
         let ink = |&place: &usize| match self.inks[place] {
             OPEN => 0,
@@ -103,7 +103,7 @@ impl Grid {
     }
 }
 
-/// Returns the items without two of them.
+/// Returns the items except two of them.
 fn without(items: &[usize], first: usize, second: usize) -> Vec<usize> {
     let kept = items
         .iter()

@@ -1,10 +1,10 @@
-//! A tree with larger gates, for a table without a tree of two-input gates: of all trees the one whose largest gate has fewest inputs, and of
-//! these one with fewest gates of that size. Every wire is a group with at most as many classes as there are levels; the library counts them.
+//! A tree with larger gates, for a table without a tree of two-input gates: among all trees one whose largest gate has the fewest inputs, and among
+//! these one with the fewest gates of that size. Every wire is a group with at most as many classes as there are levels; the library counts them.
 
 use crate::counts::{offsets, subsets};
 use sitgurp::{Refusal, Table};
 
-/// A tree of gates with two inputs or more. It is no net sheet: a net's gates have two inputs.
+/// A tree of gates with two inputs or more. It is not a net sheet: a net's gates have two inputs.
 #[derive(Clone, Debug, PartialEq, Eq)]
 pub struct Larger {
     pub levels: usize,
@@ -13,11 +13,11 @@ pub struct Larger {
     pub gates: Vec<LargerGate>,
 }
 
-/// A gate of any number of inputs.
+/// A gate with any number of inputs.
 #[derive(Clone, Debug, PartialEq, Eq)]
 pub struct LargerGate {
     pub sources: Vec<Source>,
-    /// A digit for each assignment of the sources, the first one slowest.
+    /// A digit for each assignment of the sources; the first source changes slowest.
     pub digits: Vec<u8>,
 }
 
@@ -29,11 +29,11 @@ pub enum Source {
     Gate(usize),
 }
 
-/// The gates of the largest size, then the digits of all gates.
+/// The number of gates of the largest size, then the number of digits of all gates.
 type Cost = (usize, usize);
 
 /// Returns the tree with the smallest largest gate, on the inputs that matter. A table with a tree of two-input gates gives such a tree.
-/// Refusal 27 where a cell is open.
+/// Refuses with 27 if a cell is open.
 ///
 /// ```
 /// let majority = |levels: &[u8]| u8::from(levels[..3].iter().sum::<u8>() >= 2);
@@ -56,12 +56,12 @@ pub fn larger(table: &Table) -> Result<Larger, Refusal> {
     let all = used.iter().map(|input| 1 << input).sum();
     let most = used.len();
     let tree = (2..=most).find_map(|size| Sizes::of(table.levels(), size, all, &is_wire).tree(all));
-    // one gate on all inputs always is a tree
+    // one gate on all inputs is always a tree
     let parts = tree.expect("a gate on all inputs");
     Ok(Gates::of(table).with(&parts))
 }
 
-/// Returns the inputs that matter; the first-listed others make up two.
+/// Returns the inputs that matter; if there are fewer than two, the first-listed others are added.
 fn used_inputs(table: &Table, classes: &[usize]) -> Vec<usize> {
     let inputs = 0..table.names().len();
     let (mut used, idle): (Vec<usize>, Vec<usize>) =
@@ -72,9 +72,9 @@ fn used_inputs(table: &Table, classes: &[usize]) -> Vec<usize> {
     used
 }
 
-/// The best trees of all groups with gates of at most so many inputs.
+/// The best trees of all groups with gates of at most this many inputs.
 struct Sizes {
-    /// `best[k][group]`: the group as k wires; as one wire, for k = 1. Each with the first of the wires.
+    /// `best[k][group]`: the cost of the group as k wires, or as one wire for k = 1. Each with the first of the wires.
     best: Vec<Vec<Option<(Cost, usize)>>>,
 }
 
@@ -110,7 +110,7 @@ impl Sizes {
         sizes
     }
 
-    /// Returns the best way to part a group in so many wires, and its first wire.
+    /// Returns the cost of the best way to split a group into this many wires, and its first wire.
     fn parted(&self, group: usize, count: usize) -> Option<(Cost, usize)> {
         let first = group & group.wrapping_neg();
         let rest = group - first;
@@ -141,7 +141,7 @@ impl Sizes {
     }
 }
 
-/// Gates on their way, with the value of each wire in every cell.
+/// The gates so far, with the value of each wire in every cell.
 struct Gates<'a> {
     table: &'a Table,
     tree: Larger,
@@ -163,7 +163,7 @@ impl<'a> Gates<'a> {
         self.tree
     }
 
-    /// Adds a gate after those below it. `values` is what the gate gives in every cell.
+    /// Adds a gate after those below it. `values` is the gate's value in every cell.
     fn gate(&mut self, parts: &Parts, values: &[u8]) -> Source {
         let mut sources = Vec::new();
         let mut rows = vec![0; values.len()];
@@ -185,7 +185,7 @@ impl<'a> Gates<'a> {
         Source::Gate(self.tree.gates.len() - 1)
     }
 
-    /// Returns the class of a group's assignment in every cell, numbered as they first appear; an input's own level where it is one.
+    /// Returns the class of a group's assignment in every cell, numbered in order of appearance; for a single input its own level.
     fn classes(&self, group: usize) -> Vec<u8> {
         let (m, n, inks) = (
             self.table.levels(),
@@ -227,7 +227,7 @@ impl Larger {
             .unwrap_or(0)
     }
 
-    /// Returns how many gates have so many inputs.
+    /// Returns how many gates have this many inputs.
     pub fn of_size(&self, inputs: usize) -> usize {
         self.gates
             .iter()

@@ -1,9 +1,9 @@
 //! Answers for tables that the proved library refuses. Everything here is outside the proofs: the library makes each tree, counts the classes
-//! and checks what is found.
+//! and checks the results.
 //!
 //! | module    | idea                                                                        |
 //! |-----------|-----------------------------------------------------------------------------|
-//! | `grid`    | a table over wires, and what joining two of them leaves                     |
+//! | `grid`    | a table over wires, and the result of joining two of them                   |
 //! | `colours` | which columns a gate can make alike                                         |
 //! | `counts`  | class counts of a table with open cells, and whether there can be a tree    |
 //! | `fill`    | inks for open cells                                                         |

@@ -57,7 +57,7 @@ impl Tree {
         own.iter().zip(inks).filter(|(a, b)| a != b).count()
     }
 
-    /// Chooses the digits of one gate after the other so that fewest rows differ, until no gate can be bettered. Returns how many differ.
+    /// Chooses the digits of one gate after the other so that the fewest rows differ, until no gate can be improved. Returns how many differ.
     pub fn descend(&mut self, inks: &[u8]) -> usize {
         let mut least = self.differing(inks);
         for _ in 0..ROUNDS {
@@ -73,7 +73,7 @@ impl Tree {
         self.differing(inks)
     }
 
-    /// Chooses the best digits of one gate while the others stay. A digit stays where no other is better.
+    /// Chooses the best digits of one gate while the others stay. A digit stays if no other is better.
     fn better(&mut self, gate: usize, inks: &[u8]) {
         let values = self.values();
         let (m, own) = (self.m, &self.gates[gate]);
@@ -128,7 +128,7 @@ impl Tree {
             .position(|gate| gate.left == wire || gate.right == wire)
     }
 
-    /// Returns the tree with two subtrees in each other's place, if two that were chosen do not hold one another.
+    /// Returns the tree with two subtrees swapped, if neither of the two chosen contains the other.
     pub fn swapped(&self, random: &mut Random) -> Option<Tree> {
         let wires = self.n + self.gates.len() - 1;
         let (a, b) = (random.below(wires), random.below(wires));
@@ -149,7 +149,7 @@ impl Tree {
         Some(tree.in_order())
     }
 
-    /// Returns whether a wire's subtree holds another wire.
+    /// Returns whether a wire's subtree contains another wire.
     fn holds(&self, wire: usize, other: usize) -> bool {
         wire == other
             || wire >= self.n && {

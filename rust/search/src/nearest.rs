@@ -18,24 +18,24 @@ pub struct Change {
 /// Changes with which a table without a tree has one.
 #[derive(Clone, Debug)]
 pub struct Nearest {
-    /// Each is a way of its own; all change equally many rows. There is one at least.
+    /// The ways found; all change equally many rows. There is at least one.
     pub ways: Vec<Vec<Change>>,
-    /// No tree is had with fewer changed rows than this. It is 1 at least.
+    /// No tree is possible with fewer changed rows than this. It is at least 1.
     pub at_least: usize,
-    /// Whether `ways` has every change of so few rows.
+    /// Whether `ways` has every change of this many rows.
     pub all: bool,
 }
 
-/// Tables of so many cells are searched for all changes of one row and of two.
+/// Tables of up to this many cells are searched for all changes of one row and of two.
 pub const ALL_UP_TO: usize = 729;
-/// How many calls of the library a larger table is worth.
+/// The most calls of the library for a larger table.
 const MOST_LOOKS: usize = 2_000;
 /// How much work the search from several trees may take: cells times gates times levels.
 const WORK: usize = 2_000_000;
-/// How many trees it starts from at least.
+/// The least number of trees it starts from.
 const STARTS: usize = 6;
 
-/// Returns the fewest changed rows that can be found for a full table without a tree. None where the table has a tree, or open cells.
+/// Returns the fewest changed rows that can be found for a full table without a tree. None if the table has a tree or open cells.
 ///
 /// ```
 /// let majority = |levels: &[u8]| u8::from(levels.iter().sum::<u8>() >= 2);
@@ -50,7 +50,7 @@ pub fn nearest(table: &Table) -> Option<Nearest> {
         return None;
     }
     let (m, n) = (table.levels(), table.names().len());
-    // a changed row takes at most one class from a group
+    // a changed row removes at most one class from a group
     let mut at_least = table.fewest_levels().ok()?.saturating_sub(m).max(1);
     let most = if table.inks().len() <= ALL_UP_TO {
         usize::MAX
@@ -108,7 +108,7 @@ fn change(table: &Table, (index, to): (usize, u8)) -> Change {
 ///
 /// # Panics
 ///
-/// Where a change is to an index, or an ink, that the table does not have.
+/// If a change has an index or an ink that the table does not have.
 pub fn changed(table: &Table, changes: &[Change]) -> Table {
     let mut inks = table.inks().to_vec();
     for change in changes {
@@ -117,7 +117,7 @@ pub fn changed(table: &Table, changes: &[Change]) -> Table {
     with_inks(table, &inks).expect("an ink below levels")
 }
 
-/// Leaves out a way whose table the library does not make. None where no way is left.
+/// Drops every way whose table the library does not make. None if no way is left.
 fn checked(table: &Table, mut nearest: Nearest) -> Option<Nearest> {
     nearest
         .ways

@@ -1,11 +1,11 @@
 //! All changes of one row, or of two, with which a table has a tree.
 //!
-//! A changed row takes at most one class from a group. So a tree that k changed rows give is made of groups with at most k classes too many,
-//! and some group of it has too many. There are few ways to take a class from a group:
+//! A changed row removes at most one class from a group. So a tree after k changed rows consists of groups with at most k classes too many,
+//! and some group of it has too many. There are few ways to remove a class from a group:
 //!
-//! - one row: a column that is a class of its own becomes like another, from which it differs in one row;
-//! - two rows: such a column differs from another in two rows; two columns, each a class of its own, meet at a third; or the two columns of a
-//!   class each become like another class.
+//! - one row: a column that is a class of its own becomes equal to another, from which it differs in one row;
+//! - two rows: such a column differs from another in two rows; two columns, each a class of its own, both change to a common one; or the two
+//!   columns of a class each become equal to another class.
 //!
 //! Each way is tried: the library counts the classes, and marks every changed table.
 
@@ -24,15 +24,15 @@ pub struct Repairs {
     left: usize,
 }
 
-/// All changes of one size, or that the work was too much.
+/// All changes of one size, or that the search was too much work.
 pub enum Found {
-    /// Every change of so many rows, by index; none where there is no such change.
+    /// Every change of this many rows, by index; empty if there is none.
     All(Vec<Vec<Cell>>),
     TooMuch,
 }
 
 impl Repairs {
-    /// Of a full table; `most` bounds how many tables are looked at.
+    /// Prepares a full table; `most` bounds how many tables are marked or counted.
     pub fn of(m: usize, n: usize, cells: &[u8], most: usize) -> Repairs {
         Repairs {
             m,
@@ -56,7 +56,7 @@ impl Repairs {
         Found::All(found.into_iter().collect())
     }
 
-    /// Lists the changes of two rows that give a tree, where no change of one row does.
+    /// Lists the changes of two rows that give a tree, if no change of one row does.
     pub fn of_two_rows(&mut self) -> Found {
         let mut found = BTreeSet::new();
         for pair in self.double() {
@@ -123,7 +123,7 @@ impl Repairs {
             .collect()
     }
 
-    /// Lists the changes of one row that take a class from a group with at most `over` too many.
+    /// Lists the changes of one row that remove a class from a group with at most `over` too many.
     fn single(&mut self, over: usize) -> BTreeSet<Cell> {
         let mut found = BTreeSet::new();
         for group in self.crowded(over) {
@@ -137,7 +137,7 @@ impl Repairs {
         found
     }
 
-    /// Lists the changes of two rows that take a class from a group with one too many, and of which neither does alone.
+    /// Lists the changes of two rows that together, but not alone, remove a class from a group with one too many.
     fn double(&mut self) -> BTreeSet<[Cell; 2]> {
         let mut found = BTreeSet::new();
         for group in self.crowded(2) {
@@ -158,7 +158,7 @@ fn in_order(pair: [Cell; 2]) -> Vec<Cell> {
     pair
 }
 
-/// Lists the ways to part a group in two.
+/// Lists the ways to split a group in two.
 fn splits(group: usize) -> impl Iterator<Item = (usize, usize)> {
     let first = group & group.wrapping_neg();
     let rest = group - first;
@@ -218,7 +218,7 @@ impl<'a> Matrix<'a> {
         single.flat_map(|x| self.others(x).map(move |y| (x, y)))
     }
 
-    /// Lists a column of each class but that of `x`, which is the first of its class.
+    /// Lists a column of each class except that of `x`, which is the first of its class.
     fn others(&self, x: usize) -> impl Iterator<Item = usize> + '_ {
         self.classes
             .iter()
@@ -226,7 +226,7 @@ impl<'a> Matrix<'a> {
             .filter(move |&y| y != x)
     }
 
-    /// A column of its own becomes like another, from which it differs in two rows.
+    /// Adds the changes in which a column that is its own class becomes equal to another that differs in two rows.
     fn moved_by_two(&self, found: &mut BTreeSet<[Cell; 2]>) {
         for (x, y) in self.singles() {
             if let [first, second] = self.apart(x, y, 2)[..] {
@@ -235,7 +235,7 @@ impl<'a> Matrix<'a> {
         }
     }
 
-    /// Two columns, each of its own, become like each other, one row changed in each.
+    /// Adds the changes in which two columns, each its own class, become equal by one changed row in each.
     fn met(&self, levels: usize, found: &mut BTreeSet<[Cell; 2]>) {
         let is_single = |y: usize| self.classes.iter().any(|class| class[..] == [y]);
         for (x, y) in self.singles().filter(|&(_, y)| is_single(y)) {
@@ -255,7 +255,7 @@ impl<'a> Matrix<'a> {
         }
     }
 
-    /// The two columns of a class each become like another class, one row changed in each.
+    /// Adds the changes in which the two columns of a class each become equal to another class by one changed row.
     fn both_moved(&self, found: &mut BTreeSet<[Cell; 2]>) {
         for class in self.classes.iter().filter(|class| class.len() == 2) {
             let changes = |x: usize| {

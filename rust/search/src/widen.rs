@@ -2,7 +2,7 @@
 
 use sitgurp::{Refusal, Table};
 
-/// Returns the table of the same rule with more levels: an input above its own levels acts as its highest. Refusal 3 where no sheet is so large.
+/// Returns the table of the same rule with more levels: an input above the old levels acts as the old highest. Refuses with 3 if it is too large.
 ///
 /// ```
 /// let majority = |levels: &[u8]| u8::from(levels.iter().sum::<u8>() >= 2);

@@ -1,4 +1,4 @@
-//! Fillings, held against all fillings that the library judges.
+//! Fillings, compared with all fillings that the library judges.
 
 use reference::generate::{Generator, TableKind};
 use search::{fill, fillings, with_inks, Filled, Filling, Ground, Wish};
@@ -17,14 +17,14 @@ fn filled(table: &Table, shallow: bool) -> Filling {
     fill(table, wish(shallow, &mut |_| ()))
 }
 
-/// The table of these inks, with open cells where they are `m`.
+/// Returns the table with these inks; cells whose ink is `m` are open.
 fn table(m: usize, n: usize, inks: &[u8]) -> Table {
     let names: Vec<String> = (0..n).map(|k| format!("i{k}")).collect();
     let mut inks = inks.iter().copied();
     Table::from_rule(m, &names, |_| inks.next().expect("an ink")).expect("a table")
 }
 
-/// The inks of every filling with a tree, each with its fewest layers, the lowest inks first.
+/// Returns the inks of every filling with a tree, each with its fewest layers, the lowest inks first.
 fn every(open: &Table) -> Vec<(Vec<u8>, usize)> {
     let (m, cells) = (open.levels() as u64, open.open());
     let count = fillings(open.levels(), cells.len()).expect("a number");
@@ -44,7 +44,7 @@ fn every(open: &Table) -> Vec<(Vec<u8>, usize)> {
     (0..count).filter_map(filling).collect()
 }
 
-/// With few fillings the lowest inks are found, fewest layers if asked for, and 'impossible' is said exactly where there is none.
+/// With few fillings the lowest inks are found, or the fewest layers if asked for, and the answer is 'impossible' exactly if there is none.
 #[test]
 fn few_fillings() {
     let mut generator = Generator::new(43);
@@ -90,7 +90,7 @@ fn few_fillings() {
     );
 }
 
-/// Of a tree with many cells opened a filling with a tree is found, and it agrees with the cells that are not open.
+/// For a tree with many cells opened, a filling with a tree is found, and it agrees with the cells that are not open.
 #[test]
 fn many_fillings() {
     let mut generator = Generator::new(7);
@@ -116,8 +116,8 @@ fn many_fillings() {
     }
 }
 
-/// A table that no filling makes good, with more fillings than are tried: it is not called impossible unless class counts show it, and time that is given
-/// is used.
+/// A table with no good filling and more fillings than are tried: it is not called impossible unless class counts show it, and the given time is
+/// used.
 #[test]
 fn none_found() {
     let mut generator = Generator::new(5);

@@ -1,4 +1,4 @@
-//! Trees with larger gates: they give the table, and no smaller gates do.
+//! Trees with larger gates: they compute the table, and no smaller gates do.
 
 use reference::generate::{Generator, TableKind};
 use search::{larger, Source};
@@ -18,7 +18,7 @@ fn tables() -> Vec<Table> {
     tables
 }
 
-/// Lists the ways to part a group in two or more.
+/// Lists the ways to split a group into two or more parts.
 fn partitions(group: usize) -> Vec<Vec<usize>> {
     if group == 0 {
         return vec![Vec::new()];
@@ -37,7 +37,7 @@ fn partitions(group: usize) -> Vec<Vec<usize>> {
     parts.flat_map(with).collect()
 }
 
-/// The fewest gates of `size` inputs in a tree over a group that has none larger, by trying everything.
+/// Returns the fewest gates of `size` inputs in a tree over a group that has none larger, by trying everything.
 fn fewest(table: &Table, group: usize, size: usize) -> Option<usize> {
     if group.is_power_of_two() {
         return Some(0);
@@ -90,7 +90,7 @@ fn the_smallest_gates() {
     assert!(sizes[2..].iter().all(|&count| count > 1), "{sizes:?}");
 }
 
-/// A digit that is wrong is seen.
+/// A wrong digit is detected.
 #[test]
 fn a_wrong_tree_is_seen() {
     let table = Table::from_rule(2, &["a", "b", "c"], |levels| {

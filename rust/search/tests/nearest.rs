@@ -1,4 +1,4 @@
-//! Changes of few rows, held against all changes that the library judges.
+//! Changes of few rows, compared with all changes that the library judges.
 
 use reference::generate::{Generator, TableKind};
 use search::{changed, nearest, Change};
@@ -10,7 +10,7 @@ fn table(m: usize, n: usize, inks: &[u8]) -> Table {
     Table::from_rule(m, &names, |_| inks.next().expect("an ink")).expect("a table")
 }
 
-/// Every change of one row, or of two, with which the library marks the table as having a tree.
+/// Returns every change of one row, or of two, after which the library marks the table as having a tree.
 fn every(table: &Table, rows: usize) -> Vec<Vec<Change>> {
     let (m, n) = (table.levels(), table.names().len());
     let mut cells = table.inks().to_vec();
@@ -42,7 +42,7 @@ fn every(table: &Table, rows: usize) -> Vec<Vec<Change>> {
     found
 }
 
-/// All changes of one row are found, or all of two, and fewer is never possible than is said.
+/// All changes of one row are found, or all of two, and fewer changes than reported are never possible.
 #[test]
 fn one_row_or_two() {
     let mut generator = Generator::new(43);
@@ -91,7 +91,7 @@ fn one_row_or_two() {
     assert!(ways.iter().all(|&count| count > 10), "{ways:?}");
 }
 
-/// Where a few rows of a tree's table were changed, no more than these are changed back.
+/// If a few rows of a tree's table were changed, the search changes no more rows than these.
 #[test]
 fn a_few_rows() {
     let mut generator = Generator::new(9);

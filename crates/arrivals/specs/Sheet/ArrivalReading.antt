@@ -1,4 +1,4 @@
--- What reading an arrival sheet answers.
+-- The result of reading an arrival sheet.
 -- Assumes nothing.
 use Prim.Native.Nat.{ℕ}
 use mathlib.Core.Path.{_≡_, ap, _∙_}
@@ -25,7 +25,7 @@ pub record ArrivalsReads (names : List (List ℕ)) (s : List ℕ) (r : ArrivalsR
   pub answer : outcomeAs (arrivalsIn (r .times) (length names)) (r .outcome) ≡ readArrivals names s
   pub held : r .outcome ≡ Accepted → TimesHeld (r .times) (length names)
 
--- what is left of one is read by `reader`
+-- `reader` reads the rest of an arrival sheet
 abbrev pub ArrivalsRest : List (List ℕ) → List ℕ → ℕ → Reader (List Arrival) → ArrivalsRead → Type 0
 ArrivalsRest names s at reader r = Answers s at reader (arrivalsIn (r .times) (length names)) (TimesHeld (r .times) (length names)) (r .outcome)
 

@@ -24,7 +24,7 @@ fromTo from = field (timeField from) newline >>= λ to. give (arrivalOf from to)
 unfoldable pub fromFrom : Reader Arrival
 fromFrom = field (timeField 0) space >>= fromTo
 
--- what is left of a line is read by `reader`; of one that was read, the two times are in order and within the bound
+-- `reader` reads the rest of a line; if the line is read, its two times are in order and within the bound
 pub record LineRest (s : List ℕ) (at : ℕ) (reader : Reader Arrival) (r : LineRead) : Type 0 where
   pub reads : stepAs (λ _. arrivalOf (r .from) (r .to)) s (r .step) ≡ reader (drop at s) at
   pub held : (value next : ℕ) → r .step ≡ On value next → (r .from ≤ r .to) × (r .to ≤ mostTime)

@@ -30,7 +30,7 @@ use Rattle.arrivals.specs.Sheet.Line.{LineRest}
 unfoldable pub arrivalsIn : Times → ℕ → List Arrival
 arrivalsIn times count = map (λ i. arrivalOf (getD (times .from) i 0) (getD (times .to) i 0)) (range 0 count)
 
--- what they keep
+-- the properties of the times that were read
 pub record TimesHeld (times : Times) (count : ℕ) : Type 0 where
   pub from-many : length (times .from) ≡ mostInputs
   pub to-many : length (times .to) ≡ mostInputs
@@ -46,7 +46,7 @@ pub name-at : (s : List ℕ) (h : Header) (i : ℕ) → i < h .inputs → getD (
 unfolding headerOf
 name-at s h i below = map-range-at (nameIn s h) 0 (h .inputs) i [] below ∙ ap (nameIn s h) (zero-add i)
 
--- ---- one line more
+-- ---- one more line
 
 lines-more : (names : List (List ℕ)) (i : ℕ) (earlier : List Arrival) (t : List ℕ) (p : ℕ) → i < length names
     → arrivalLines (drop i names) earlier t p ≡ then (arrivalLine (getD names i []) t p) (λ a. arrivalLines (drop (i + 1) names) (earlier ++ (a ∷ [])))

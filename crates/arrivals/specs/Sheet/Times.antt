@@ -26,7 +26,7 @@ use Rattle.laws.specs.Numbers.Digits.{digit-iff, decimal-digits, is-decimal, di
 abbrev pub mostBytes : ℕ
 mostBytes = 5
 
--- as many bytes as a time may have, and no needless zero in front
+-- an allowed length for a time, and no needless leading zero
 unfoldable pub leads : List ℕ → Bool
 leads w = not (eqb (length w) 0) && leb (length w) mostBytes && (eqb (length w) 1 || not (eqb (getD w 0 0) zeroByte))
 
@@ -34,14 +34,14 @@ leads w = not (eqb (length w) 0) && leb (length w) mostBytes && (eqb (length w) 
 unfoldable pub digitsValue : List ℕ → Option ℕ
 digitsValue w = elim (all (isDigit 10) w) [ true ↦ some (valueOf 0 w) | false ↦ none ]
 
--- it is short
+-- such a field is short
 pub leads-short : (w : List ℕ) → leads w ≡ true → length w ≤ mostBytes
 unfolding leads
 leads-short w led =
     let (front, _) = and-eq-true-iff (not (eqb (length w) 0) && leb (length w) mostBytes) (eqb (length w) 1 || not (eqb (getD w 0 0) zeroByte)) .0 led in
     leb-true (length w) mostBytes (and-eq-true-iff (not (eqb (length w) 0)) (leb (length w) mostBytes) .0 front .1)
 
--- ---- what is no time
+-- ---- fields that are not times
 
 no-digits : (w : List ℕ) → all (isDigit 10) w ≡ false → isDecimal w ≡ false
 no-digits w other =
@@ -85,7 +85,7 @@ module _ (least : ℕ) (w : List ℕ) where
       go true d q = let z : _≡_ {A = ℕ} 0 1 = cc in absurd (omega arith)
       go false d q = no-decimal (no-digits w d)
 
-  -- ---- what is one
+  -- ---- fields that are times
 
   module _ (led : leads w ≡ true) (value : ℕ) (found : Option ℕ) (is : found ≡ digitsValue w) (e : found ≡ some value) where
     digits-all : (all (isDigit 10) w ≡ true) × (valueOf 0 w ≡ value)
@@ -127,7 +127,7 @@ module _ (least : ℕ) (w : List ℕ) where
 
 -- ---- the digits one by one
 
--- bytes that are no digits
+-- bytes that are not digits
 pub below-digits : (b : ℕ) → b < 48 → isDigit 10 b ≡ false
 unfolding isDigit
 below-digits b h = simp (lt-leb 48 b h)

@@ -24,7 +24,7 @@ use nets::forms::Header;
 use nets::names::name_of;
 use radix::limits::MOST_INPUTS;
 
-// What reading one line comes to: on a step onward the two times are the line's.
+// The result of reading one line. The two times are set if the step is `On`.
 pub struct LineRead {
     pub step: Step,
     pub from: usize,
@@ -37,13 +37,13 @@ pub struct Times {
     pub to: [u16; MOST_INPUTS],
 }
 
-// What reading the lines comes to: on a step onward the times are whole.
+// The result of reading the lines. The times are complete if the step is `On`.
 pub struct TimesRead {
     pub step: Step,
     pub times: Times,
 }
 
-// The sheet is turned back: no times.
+// Returns a refusal, with no times.
 fn turned(number: usize, place: usize) -> LineRead
     ensures { λ r. ⌜ r .step ≡ Back number place ⌝ }
 {
@@ -63,7 +63,7 @@ pub fn next_name(s: &[u8], at: usize, name: &[u8]) -> Step
     after_field(s, at, w, verdict, SPACE)
 }
 
-// From a line's second time on.
+// Reads a line from its second time on.
 fn from_to(s: &[u8], at: usize, from: usize) -> LineRead
     requires { ⌜ from ≤ mostTime ⌝ }
     ensures { λ r. ⌜ LineRest (now (s .entry)) at (fromTo from) r ⌝ }
@@ -78,7 +78,7 @@ fn from_to(s: &[u8], at: usize, from: usize) -> LineRead
     }
 }
 
-// From a line's first time on.
+// Reads a line from its first time on.
 fn from_from(s: &[u8], at: usize) -> LineRead
     ensures { λ r. ⌜ LineRest (now (s .entry)) at fromFrom r ⌝ }
 {
@@ -98,7 +98,7 @@ pub fn arrival_line(s: &[u8], at: usize, name: &[u8]) -> LineRead
     }
 }
 
-// Reads the lines of the arrival sheet s, from `at` on, for the inputs of the net sheet `net`.
+// Reads the lines of the arrival sheet s, starting at `at`, for the inputs of the net sheet `net`.
 pub fn arrival_lines(net: &[u8], header: Header, s: &[u8], at: usize) -> TimesRead
     requires { ⌜ HeaderHeld (now net) header ⌝ }
     ensures { λ r. ⌜ LinesRead (namesIn (now (net .entry)) header) (now (s .entry)) at r ⌝ }

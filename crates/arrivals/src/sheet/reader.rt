@@ -13,13 +13,13 @@ use fields::words::three_words;
 use nets::forms::Header;
 use radix::limits::MOST_INPUTS;
 
-// What reading an arrival sheet comes to: the times are the sheet's where it is accepted.
+// The result of reading an arrival sheet. The times are set if it is accepted.
 pub struct ArrivalsRead {
     pub outcome: Outcome,
     pub times: Times,
 }
 
-// The sheet is turned back: no times.
+// Returns a refusal, with no times.
 fn refused(number: usize, place: usize) -> ArrivalsRead
     ensures { λ r. ⌜ r .outcome ≡ Refused number place ⌝ }
 {
@@ -33,7 +33,7 @@ fn refused(number: usize, place: usize) -> ArrivalsRead
     }
 }
 
-// From the first input's line on. Nothing stands after the last one.
+// Reads an arrival sheet from the first input's line on. Nothing may follow the last line.
 fn from_lines(net: &[u8], header: Header, s: &[u8], at: usize) -> ArrivalsRead
     requires { ⌜ HeaderHeld (now net) header ⌝ }
     ensures { λ r. ⌜ ArrivalsRest (namesIn (now (net .entry)) header) (now (s .entry)) at (fromLines (namesIn (now (net .entry)) header)) r ⌝ }
@@ -47,7 +47,7 @@ fn from_lines(net: &[u8], header: Header, s: &[u8], at: usize) -> ArrivalsRead
     }
 }
 
-// Reads the arrival sheet s, any bytes, for the inputs of the net sheet `net`.
+// Reads the arrival sheet s, which may be any bytes, for the inputs of the net sheet `net`.
 pub fn read_arrivals(net: &[u8], header: Header, s: &[u8]) -> ArrivalsRead
     requires { ⌜ HeaderHeld (now net) header ⌝ }
     ensures { λ r. ⌜ ArrivalsReads (namesIn (now (net .entry)) header) (now (s .entry)) r ⌝ }

@@ -13,7 +13,7 @@ use fields::steps::Step;
 use fields::steps::Verdict;
 use radix::limits;
 
-// Has w as many bytes as a time may have, and no needless zero in front?
+// Tests whether w has an allowed length for a time and no needless leading zero.
 fn is_lead(w: &[u8]) -> bool
     ensures { λ r. ⌜ r ≡ leads (now (w .entry)) ⌝ }
 {
@@ -29,7 +29,7 @@ fn is_lead(w: &[u8]) -> bool
     w[0] != b'0'
 }
 
-// The number that the digits w write; none where another byte is among them.
+// Returns the number that the digits w write, or nothing if some byte is not a digit.
 fn digits_value(w: &[u8]) -> Found
     requires { ⌜ length (now w) ≤ mostBytes ⌝ }
     ensures { λ r. ⌜ optionOf r ≡ digitsValue (now (w .entry)) ⌝ }

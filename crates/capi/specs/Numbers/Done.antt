@@ -1,4 +1,4 @@
--- What a call answers that has nothing to tell but a refusal, as two numbers.
+-- The answer of a call that returns only a refusal or nothing, as two numbers.
 -- Assumes nothing.
 use Rattle.rules.specs.Calls.Answers.{Answer, accepted, refused}
 use Rattle.capi.specs.declared.numbers.flat.SitgurpAnswer.{SitgurpAnswer}

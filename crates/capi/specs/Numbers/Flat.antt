@@ -1,4 +1,4 @@
--- An answer as two numbers, as the calls for C and Rust give it.
+-- An answer as two numbers, as the calls for C and Rust return it.
 -- Assumes nothing.
 use Prim.Native.Nat.{ℕ}
 use Rattle.rules.specs.Calls.Answers.{Answer, accepted, refused}

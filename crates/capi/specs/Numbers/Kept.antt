@@ -1,4 +1,4 @@
--- What keeping a wiring answers, as four numbers.
+-- The answer of the keep call, as four numbers.
 -- Assumes nothing.
 use Rattle.rules.specs.Calls.Keeping.{Keeping, rewritten, turnedAway}
 use Rattle.capi.specs.Numbers.Named.{flatNamed}

@@ -1,4 +1,4 @@
--- What a job answers for a group, as the call for C gives it; and that the two numbers tell the answer.
+-- A job's answer for a group, as the call for C returns it. The two numbers determine the answer.
 -- Assumes nothing.
 use Prim.Native.Nat.{ℕ, _^_}
 use mathlib.Core.Path.{_≡_, refl}
@@ -10,13 +10,13 @@ use Rattle.laws.specs.Calls.Answers.{not-refused}
 use Rattle.laws.specs.Lists.Tests.{by-test}
 use Rattle.capi.specs.declared.numbers.reached.SitgurpMark.{SitgurpMark}
 
--- kind 0 with the mark; kind 1 where it is not reached; otherwise the refusal's number with its place
+-- kind 0 with the mark; kind 1 if the group is not reached; otherwise the refusal's number with its place
 abbrev pub flatReached : Answer Reached → SitgurpMark
 flatReached (accepted (final mark)) = record { kind = 0; value = mark }
 flatReached (accepted notReached) = record { kind = 1; value = 0 }
 flatReached (refused number place) = record { kind = number; value = place }
 
--- the answer that a kind and a value stand for
+-- the answer that a kind and a value represent
 abbrev pub reachedFrom : SitgurpMark → Answer Reached
 reachedFrom r =
     elim (eqb (r .kind) 0) [
@@ -33,7 +33,7 @@ module _ (job : Job) (g : ℕ) where
       by-test (λ (a : Answer Reached). (number place : ℕ) → a ≡ refused number place → flatReached a ≡ record { kind = 11; value = 0 })
       (eqb g 0 || leb (2 ^ job .table .header .inputs) g) _ _ (λ _ _ _. refl) (λ number place e. absurd (not-refused _ number place e))
 
-  -- the two numbers tell the answer, of every job and group
+  -- the two numbers determine the answer, for every job and group
   pub reached-told : reachedFrom (flatReached (askJob job g .answer)) ≡ askJob job g .answer
   unfolding askJob
   reached-told =

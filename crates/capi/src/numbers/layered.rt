@@ -4,8 +4,8 @@ ghost use Rattle.answers.specs.Layered.{layeredOf};
 ghost use Rattle.capi.specs.Numbers.Layered.{flatLayered};
 use answers::layered::Layered;
 
-// Number 0: accepted, `value` is the sheet's length and `layers` its net's. Any other number: that refusal, `value` is its place and
-// `layers` 0.
+// Number 0: accepted, `value` is the sheet's length and `layers` the layers of its net. Any other number: that refusal, `value` is its place and
+// `layers` is 0.
 #[repr(C)]
 pub struct SitgurpShallow {
     pub number: usize,

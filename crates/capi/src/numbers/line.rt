@@ -1,7 +1,7 @@
 // A gate line at a position of a sheet, as numbers.
 
-// Kind 0: none is left, and `start` and `length` are 0. Kind 1: a line, `length` bytes from `start` on. `next` is the position of the next line, or
-// the sheet's end.
+// Kind 0: no line is left, and `start` and `length` are 0. Kind 1: a line of `length` bytes that begins at `start`. `next` is the position of the
+// next line, or the sheet's end.
 #[repr(C)]
 pub struct SitgurpLine {
     pub kind: usize,

@@ -1,4 +1,4 @@
-// What a job answers for a group, as two numbers.
+// A job's answer for a group, as two numbers.
 ghost use mathlib.Core.Path.{_≡_};
 ghost use Rattle.jobs.specs.Asking.{reachedAs};
 ghost use Rattle.capi.specs.Numbers.Reached.{flatReached};

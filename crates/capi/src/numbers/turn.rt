@@ -5,7 +5,7 @@ ghost use Rattle.capi.specs.Numbers.Turn.{flatTurn};
 use net_sheets::lister::calls::Listed;
 use net_sheets::lister::turns::Turn;
 
-// Kind 0: none is left. Kind 1: a gate line, `second` bytes from `first` on. Kind 2: the sheet is refused, with number `first` at
+// Kind 0: no line is left. Kind 1: a gate line of `second` bytes that begins at `first`. Kind 2: the sheet is refused, with number `first` at
 // place `second`.
 #[repr(C)]
 pub struct SitgurpTurn {

@@ -1,5 +1,5 @@
--- Document 02, K3: "One call takes a table sheet with making's cells and marks buffers, no output, and answers the count of the trees." "A table with no
--- tree gets count 0, never 16." What the count counts is in `FamilySheets`.
+-- Document 02, K3: "One call takes a table sheet with making's cells and marks buffers, no output, and answers the count of the trees." "A table with
+-- no tree gets count 0, never 16." What the count counts is in `FamilySheets`.
 -- Assumes nothing.
 use Prim.Native.Nat.{ℕ, _^_, _≤_, _<_}
 use mathlib.Core.Path.{_≡_, refl, sym, ap, _∙_}
@@ -23,11 +23,11 @@ use Rattle.demands.specs.Families.FamilyTables.{none-counted, table-boun
 use Rattle.rules.specs.Calls.OpenCells.{readFull}
 use Rattle.demands.specs.Sheets.FullSheets.{full-accepted}
 
--- ---- beside making, whatever the sheet and the buffers
+-- ---- compared with making, whatever the sheet and the buffers
 
 module _ (s cells marks : List ℕ) where
   module _ (output : List ℕ) where
-    -- the cells and the marks are left as making leaves them
+    -- the cells and the marks end as making leaves them
     pub count-leaves : (familyCountCall s cells marks .cells ≡ makeCall s cells marks output .cells)
         × (familyCountCall s cells marks .marks ≡ makeCall s cells marks output .marks)
     count-leaves = go (judge s cells marks)
@@ -40,7 +40,7 @@ module _ (s cells marks : List ℕ) where
             let left = marked-leaves t cells marks output in
             rw (is .counts, is .makes output) (sym (left .cells), sym (left .marks))
 
-    -- it refuses as making does, but with 15 and 16
+    -- it refuses as making does, except with 15 and 16
     pub count-refuses : (number place : ℕ)
         → (familyCountCall s cells marks .answer ≡ refused number place)
         ↔ ((makeCall s cells marks output .answer ≡ refused number place) × (number ≡ 15 → ⊥) × (number ≡ 16 → ⊥))
@@ -68,7 +68,7 @@ module _ (s cells marks : List ℕ) where
           λ (e, not-15, not-16). absurd (marked-numbers t cells marks output number place not-15 not-16 (sym (made-answer (is .makes output)) ∙ e)),
         )
 
-    -- "A table with no tree gets count 0, never 16.": 0 exactly where making refuses with 16
+    -- "A table with no tree gets count 0, never 16.": 0 exactly if making refuses with 16
     pub count-0 : (familyCountCall s cells marks .answer ≡ accepted 0) ↔ ((place : ℕ) × (makeCall s cells marks output .answer ≡ refused 16 place))
     unfolding any
     count-0 = go (judge s cells marks)
@@ -110,10 +110,10 @@ module _ (s : List ℕ) (t : Table) (reads : readFull s ≡ accepted t) where
     pub counts-trees : familyCountCall s cells marks .answer ≡ accepted (countOfTable t)
     counts-trees = counted-answer (on-with s cells marks t reads cells-fit marks-fit .counts)
 
-    -- .. and 0 exactly when no gate list, whatever its wiring and its tables, is a net that computes the table, ..
+    -- .. and 0 exactly if no gate list, whatever its wiring and its tables, is a net that computes the table, ..
     pub count-0-no-tree : (familyCountCall s cells marks .answer ≡ accepted 0) ↔ (HasTree t → ⊥)
     count-0-no-tree = Iff·trans (count-0 s cells marks []) (make-refuses s t reads cells marks [] cells-fit marks-fit)
 
-    -- .. and so exactly when no accepted net sheet of those levels and names has it.
+    -- .. and so exactly if no accepted net sheet with those levels and names has it.
     pub count-0-no-sheet : (familyCountCall s cells marks .answer ≡ accepted 0) ↔ (HasSheet t → ⊥)
     count-0-no-sheet = Iff·trans (count-0 s cells marks []) (make-refuses-sheets s t reads cells marks [] cells-fit marks-fit)

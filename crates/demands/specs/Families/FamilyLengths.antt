@@ -1,5 +1,5 @@
--- With buffers of the lengths that include/sitgurp.h calls enough, the count call refuses with its sheet's numbers alone, and the call of a number with
--- those and 17.
+-- With buffers of the lengths that include/sitgurp.h calls enough, the count call refuses only with its sheet's numbers, and the call for a number
+-- with those and 17.
 -- Assumes nothing.
 use Prim.Native.Nat.{ℕ, _≤_, _<_}
 use mathlib.Core.Path.{_≡_, refl, sym, _∙_}

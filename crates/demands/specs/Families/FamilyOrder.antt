@@ -1,5 +1,5 @@
--- Document 02, K3: "The order is by A's number, then A's tree, then B's." The order of two trees said by their shapes, with no counts; and the wirings of a
--- group's numbers stand in it. Marks are any list here.
+-- Document 02, K3: "The order is by A's number, then A's tree, then B's." Defines the order of two trees by their shapes, without counts, and proves
+-- that the wirings of a group's numbers follow it. Marks are any list here.
 -- Assumes nothing.
 use Prim.Native.Nat.{ℕ, zero, suc, _+_, _-_, _*_, _/_, _%_, _^_, _≤_, _<_}
 use mathlib.Core.Path.{_≡_, refl, sym, ap, _∙_, subst}
@@ -23,15 +23,15 @@ use Rattle.trees.specs.Families.Families.{wired, wired-several, split-a-below, 
 
 -- ---- the order
 
--- "The order is by A's number, then A's tree, then B's.": of two trees of one group, A being the group on the left
+-- "The order is by A's number, then A's tree, then B's.": for two trees of one group, where A is the group on the left
 abbrev pub Earlier : Wiring → Wiring → Type 0
 Earlier (gate a b) (gate c d) = (groupOf a < groupOf c) ⊎ ((groupOf a ≡ groupOf c) × (Earlier a c ⊎ ((a ≡ c) × Earlier b d)))
 Earlier (gate a b) (input j) = ⊥
 Earlier (input i) v = ⊥
 
--- ---- numbers in a row of parts
+-- ---- numbers in a sequence of parts
 
--- each number stands before all that follow it
+-- each number is below all that follow it
 abbrev Rises : List ℕ → Type 0
 Rises [] = Unit {0}
 Rises (x ∷ xs) = ((y : ℕ) → List·Memᴰ y xs → x < y) × Rises xs
@@ -96,13 +96,13 @@ module _ (n : ℕ) (marks : List ℕ) where
   unfolding splitsOf
   splits-rise g = those-rise (isA n marks g) 1 (g - 1)
 
-  -- the trees of a split and a number in it
+  -- the tree of a split and a number in it
   abbrev parted : ℕ → ℕ → Numbered → Wiring
   parted fuel g at =
       gate (wired n marks fuel (at .part) (at .number / groupTrees n marks (g - at .part)))
       (wired n marks fuel (g - at .part) (at .number % groupTrees n marks (g - at .part)))
 
-  -- smaller groups are in order
+  -- the trees of smaller groups are in order
   abbrev pub InOrder : ℕ → Type 0
   InOrder fuel = (g r s : ℕ) → g < 2 ^ n → size n g ≤ fuel → r < s → s < groupTrees n marks g → Earlier (wired n marks fuel g r) (wired n marks fuel g s)
 

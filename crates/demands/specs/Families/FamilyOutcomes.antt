@@ -1,5 +1,5 @@
--- Making and the two calls of a family judge the same first: the sheet, then room for the cells and for the marks. So all three refuse alike and change
--- no buffer, or each goes on from the same table.
+-- Making and the two calls of a family first judge the same: the sheet, then room for the cells and for the marks. So either all three refuse in the
+-- same way and change no buffer, or each continues with the same table.
 -- Assumes nothing.
 use Prim.Native.Nat.{ℕ, _^_, _≤_, _<_}
 use mathlib.Core.Path.{_≡_, refl, ap, _∙_}
@@ -25,19 +25,19 @@ use Rattle.demands.specs.Numbers.Numbers.{not-given, refuses}
 use Rattle.demands.specs.Numbers.SettlingNumbers.{sheet-numbers, room-numbers}
 use Rattle.rules.specs.Calls.OpenCells.{readFull}
 
--- what comes to the same answers the same
+-- equal results have equal answers
 pub made-answer : {made other : Made} → made ≡ other → made .answer ≡ other .answer
 made-answer e = ap (λ (m : Made). m .answer) e
 
 pub counted-answer : {counted other : Counted} → counted ≡ other → counted .answer ≡ other .answer
 counted-answer e = ap (λ (c : Counted). c .answer) e
 
--- those of a sheet of a full table, 13 and 14
+-- the numbers for a sheet of a full table, 13 and 14
 abbrev pub judgedNumbers : List ℕ
 judgedNumbers = 1 ∷ 2 ∷ 3 ∷ 4 ∷ 5 ∷ 6 ∷ 27 ∷ 13 ∷ 14 ∷ []
 
 module _ (s cells marks : List ℕ) where
-  -- all three refuse alike
+  -- all three refuse in the same way
   pub record TurnedBack (number place : ℕ) : Type 0 where
     pub listed : In number judgedNumbers
     pub counts : familyCountCall s cells marks ≡ record { answer = refused number place; cells = cells; marks = marks }
@@ -45,7 +45,7 @@ module _ (s cells marks : List ℕ) where
         → familyTreeCall s r cells marks output ≡ record { answer = refused number place; cells = cells; marks = marks; output = output }
     pub makes : (output : List ℕ) → makeCall s cells marks output ≡ record { answer = refused number place; cells = cells; marks = marks; output = output }
 
-  -- each goes on
+  -- each continues
   pub record GoesOn (t : Table) : Type 0 where
     pub reads : readFull s ≡ accepted t
     pub cells-fit : t .header .levels ^ t .header .inputs ≤ length cells
@@ -73,7 +73,7 @@ module _ (s cells marks : List ℕ) where
     makes = λ output. make-accepted s cells marks output t reads ∙ into-marked t cells marks output _ cells-fit marks-fit;
   }
 
-  -- any sheet and any buffers
+  -- for any sheet and any buffers
   pub judge : SheetJudged s cells marks
   unfolding any all
   judge = sheet (readFull s) refl
@@ -123,7 +123,7 @@ module _ (t : Table) (cells marks output : List ℕ) where
       go (yes two) = rw (marked-tree settledNet t cells marks output two) (sheet-leaves (printedNet (settledNet t)) inkCells allMarks output)
       go (no none) = rw (marked-16 settledNet t cells marks output none) (record { cells = refl; marks = refl })
 
-  -- .. and refuses with 16 or 15 only
+  -- .. and refuses only with 16 or 15
   pub marked-numbers : (number place : ℕ) → (number ≡ 15 → ⊥) → (number ≡ 16 → ⊥)
       → afterMarks settledNet t cells marks output .answer ≡ refused number place → ⊥
   unfolding any
@@ -140,9 +140,9 @@ module _ (t : Table) (cells marks output : List ℕ) where
           rw (marked-16 settledNet t cells marks output none)
           (not-given {A = ℕ} (16 ∷ 15 ∷ []) _ (refuses (16 ∷ 15 ∷ []) 16 _ refl) number place not-listed)
 
--- ---- the call of a number, once all is judged before it
+-- ---- the call for a number, after everything judged before it
 
--- all three calls refuse; or the number is not below the count; or the sheet of that number is written, where the output has room
+-- all three calls refuse; or the number is not below the count; or the sheet of that number is written, if the output has room
 pub data NumberJudged (s : List ℕ) (r : ℕ) (cells marks output : List ℕ) : Type 0 where
   refuses-all : (number place : ℕ) → TurnedBack s cells marks number place → NumberJudged s r cells marks output
   no-number : (t : Table) → GoesOn s cells marks t → countOfTable t ≤ r

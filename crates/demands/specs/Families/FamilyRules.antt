@@ -1,6 +1,6 @@
--- Document 02, K3, by which rules the sheets of a family are chosen and stand in a row: "A split is counted once, with the first-listed input on the left. The
--- order is by A's number, then A's tree, then B's. Gate tables follow the settled net's rule.", and all "on just these" leaves (K12). Said of what is
--- written, with no counts.
+-- Document 02, K3, the rules by which the sheets of a family are chosen and ordered: "A split is counted once, with the first-listed input on the
+-- left. The order is by A's number, then A's tree, then B's. Gate tables follow the settled net's rule.", and all "on just these" leaves (K12).
+-- Stated for what is written, without counts.
 -- Assumes nothing.
 use Prim.Native.Nat.{ℕ, _^_, _<_}
 use mathlib.Core.Path.{_≡_, refl, sym, ap, _∙_, subst, subst₂}
@@ -35,7 +35,7 @@ use Rattle.demands.specs.Families.FamilyOrder.{Earlier, in-order}
 use Rattle.rules.specs.Calls.OpenCells.{readFull}
 use Rattle.demands.specs.Sheets.FullSheets.{FullTableRules, full-accepted}
 
--- a wiring of a group of two or more is that of its links, filled
+-- filling the links of a wiring of two or more inputs gives that wiring back
 filled-wiring : (m n : ℕ) (f : ℕ → ℕ) (g : ℕ) → 1 < size n g → (w : Wiring) → WiringOf n g w → wiringIn (lastTree n (filled m n f (linksOf n 0 w))) ≡ w
 unfolding groupOf fill
 filled-wiring m n f g several (input i) of = absurd (omega (arith, size-single i n (of .0), ap (size n) (of .1)))
@@ -44,11 +44,11 @@ filled-wiring m n f g several (gate a b) of =
     ∙ ap wiringIn (lines-tree n _ (fill m n f false a) (fill m n f false b) (rw (fill-wiring m n f false a, fill-wiring m n f false b) (of .0)))
     ∙ fill-wiring m n f true (gate a b)
 
--- the wiring of a net: its tree's
+-- the wiring of a net: that of its tree
 abbrev pub wiringOfNet : Net → Wiring
 wiringOfNet net = wiringIn (lastTree (net .header .inputs) (net .gates))
 
--- what a net of a table's family is
+-- properties of a net in a table's family
 pub record FamilyMember (t : Table) (net : Net) : Type 0 where
   -- it has the table's levels, inputs and names
   pub header : net .header ≡ t .header
@@ -77,7 +77,7 @@ module _ (t : Table) (kept : FullTableRules t) where
   unfolding countOfTable treeCount
   gives r h = number-gives (t .header .levels) (t .header .inputs) pos (inkIn (t .inks)) (leavesOfTable t) leaves< r h
 
-  -- is that of its net
+  -- it is the wiring of its net
   net-wiring : (r : ℕ) → r < countOfTable t → wiringOfNet (familyNet r t) ≡ numberWiring r
   unfolding familyNet familyGates
   net-wiring r h = filled-wiring (t .header .levels) (t .header .inputs) (inkIn (t .inks)) (leavesOfTable t) several (numberWiring r) (gives r h .of)
@@ -102,12 +102,12 @@ module _ (s : List ℕ) (t : Table) (reads : readFull s ≡ accepted t) where
   kept-table : FullTableRules t
   kept-table = full-accepted s t reads .1
 
-  -- the net of a sheet that is written
+  -- the net of a written sheet
   the-net : (r : ℕ) (cells marks output sheet : List ℕ) → sheetOf (familyTreeCall s r cells marks output) ≡ accepted sheet
       → (net : Net) → readNet sheet ≡ accepted net → familyNet r t ≡ net
   the-net r cells marks output sheet e net reads-net = accepted-inj (familyNet r t) net (sym (tree-sheet s t reads r cells marks output sheet e .0) ∙ reads-net)
 
-  -- What the call of a number writes has the first-listed input on the left and the settled net's gate tables.
+  -- The sheet that the call for a number writes has the first-listed input on the left and the settled net's gate tables.
   pub written-by-rule : (r : ℕ) (cells marks output sheet : List ℕ) → sheetOf (familyTreeCall s r cells marks output) ≡ accepted sheet
       → (net : Net) → readNet sheet ≡ accepted net → FamilyMember t net
   written-by-rule r cells marks output sheet e net reads-net =

@@ -1,7 +1,7 @@
--- Document 02, K3, the sheets of a family: "Every wiring that computes the table turns up under just one number", where "a family numbers the wirings on
--- just these" leaves (K12). What the call of a number below the count writes is an accepted net sheet with exactly the table, on just its leaves; the sheets
--- of two numbers are of two wirings; every net on the leaves that has the table is one wiring with what the call of just one number writes, and no
--- other net is.
+-- Document 02, K3, the sheets of a family: "Every wiring that computes the table turns up under just one number", where "a family numbers the wirings
+-- on just these" leaves (K12). What the call for a number below the count writes is an accepted net sheet with exactly the table, on just its leaves.
+-- The sheets of two numbers have different wirings. Every net on the leaves that has the table is one wiring with what the call for exactly one
+-- number writes, and no other net is.
 -- Assumes nothing.
 use Prim.Native.Nat.{ℕ, _≤_, _<_}
 use mathlib.Core.Path.{_≡_, sym, ap, _∙_, subst, subst₂}
@@ -35,14 +35,14 @@ use Rattle.demands.specs.Families.FamilyTables.{number-of, numbers-on-le
 use Rattle.rules.specs.Calls.OpenCells.{readFull}
 use Rattle.demands.specs.Sheets.FullSheets.{FullTableRules, full-accepted}
 
--- a sheet that is written is the one that was to be
+-- the written sheet is the intended one
 front-written : (sheet cells marks output found : List ℕ) → sheetOf (writtenSheet sheet cells marks output) ≡ accepted found → sheet ≡ found
 unfolding sheetIn writtenSheet
 front-written sheet cells marks output found =
     by-test (λ made. sheetOf made ≡ accepted found → sheet ≡ found) (ltb (length output) (length sheet)) _ _ (λ e. absurd (not-refused found 15 _ (sym e)))
     (λ e. sym (written-front output sheet) ∙ accepted-inj _ found e)
 
--- the net that a sheet is, up to "which side is left, .. gate numbers or .. gate tables"
+-- the sheet's net is one wiring with the gates, up to "which side is left, .. gate numbers or .. gate tables"
 pub record OneWiring (n : ℕ) (gates : List Gate) (sheet : List ℕ) : Type 0 where
   pub net : Net
   pub reads : readNet sheet ≡ accepted net
@@ -54,7 +54,7 @@ module _ (s : List ℕ) (t : Table) (reads : readFull s ≡ accepted t) where
 
   -- ---- the sheet of a number
 
-  -- "writes the tree of that number, from 0": of each number below the count, in buffers that are long enough for making, ..
+  -- "writes the tree of that number, from 0": for each number below the count, in buffers that are long enough for making, ..
   pub writes-tree : (r : ℕ) → r < countOfTable t → (cells marks output : List ℕ) → Long t cells marks output
       → sheetOf (familyTreeCall s r cells marks output) ≡ accepted (printedNet (familyNet r t))
   unfolding sheetIn
@@ -86,7 +86,7 @@ module _ (s : List ℕ) (t : Table) (reads : readFull s ≡ accepted t) where
   pub tree-short : (r : ℕ) → r < countOfTable t → length (printedNet (familyNet r t)) ≤ mostSettled
   tree-short r h = net-length (familyNet r t) (family-kept t kept r h)
 
-  -- whatever the buffers, a sheet that is written is that one
+  -- whatever the buffers, a written sheet is that one
   pub tree-written : (r : ℕ) (cells marks output sheet : List ℕ) → sheetOf (familyTreeCall s r cells marks output) ≡ accepted sheet
       → (r < countOfTable t) × (printedNet (familyNet r t) ≡ sheet)
   unfolding sheetIn
@@ -106,7 +106,7 @@ module _ (s : List ℕ) (t : Table) (reads : readFull s ≡ accepted t) where
       let (below, same) = tree-written r cells marks output sheet e in
       (ap readNet (sym same) ∙ tree-accepted r below, tree-has-table r below)
 
-  -- all sheets of a family are equally long
+  -- all sheets of a family have the same length
   pub equally-long-sheets : (a b : ℕ) (cells marks output cells' marks' output' sheet sheet' : List ℕ)
       → sheetOf (familyTreeCall s a cells marks output) ≡ accepted sheet → sheetOf (familyTreeCall s b cells' marks' output') ≡ accepted sheet'
       → length sheet ≡ length sheet'
@@ -117,14 +117,14 @@ module _ (s : List ℕ) (t : Table) (reads : readFull s ≡ accepted t) where
 
   -- ---- one number for each wiring
 
-  -- a sheet that is written is of the wiring of its number's net
+  -- a written sheet is one wiring with its number's net
   pub one-wiring : (r : ℕ) (cells marks output sheet : List ℕ) → sheetOf (familyTreeCall s r cells marks output) ≡ accepted sheet
       → (gates : List Gate) → OneWiring (t .header .inputs) gates sheet → SameWiring (t .header .inputs) gates (familyNet r t .gates)
   one-wiring r cells marks output sheet e gates is =
       subst (λ (net : Net). SameWiring (t .header .inputs) gates (net .gates))
       (accepted-inj (is .net) (familyNet r t) (sym (is .reads) ∙ tree-sheet r cells marks output sheet e .0)) (is .same)
 
-  -- The sheets of two numbers are of two wirings.
+  -- The sheets of two numbers have different wirings.
   pub two-wirings : (a b : ℕ) (cells marks output cells' marks' output' sheet sheet' : List ℕ)
       → sheetOf (familyTreeCall s a cells marks output) ≡ accepted sheet → sheetOf (familyTreeCall s b cells' marks' output') ≡ accepted sheet'
       → (net other : Net) → readNet sheet ≡ accepted net → readNet sheet' ≡ accepted other
@@ -135,8 +135,8 @@ module _ (s : List ℕ) (t : Table) (reads : readFull s ≡ accepted t) where
       numbers-apart t kept a b (tree-written a cells marks output sheet e .0) (tree-written b cells' marks' output' sheet' d .0)
       (subst₂ (λ (x y : Net). SameWiring (t .header .inputs) (x .gates) (y .gates)) is-a is-b same)
 
-  -- What it is to turn up "under just one number": the call of that number, in all buffers that are long enough for making, writes a sheet that shows it; and
-  -- whatever the buffers, no call of another number does.
+  -- What it means to turn up "under just one number": the call for that number, in all buffers that are long enough for making, writes a sheet that
+  -- shows it; and whatever the buffers, no call for another number does.
   pub record UnderOneNumber (Shows : List ℕ → Type 0) : Type 0 where
     pub number : ℕ
     pub below : number < countOfTable t
@@ -161,8 +161,8 @@ module _ (s : List ℕ) (t : Table) (reads : readFull s ≡ accepted t) where
             is .only r (tree-written r cells marks output sheet e .0) (one-wiring r cells marks output sheet e gates one);
       }
 
-  -- .. and every accepted net sheet of the table's levels and inputs that has the table and uses just the leaves, whatever its names, sides, gate numbers and
-  -- gate tables
+  -- .. and every accepted net sheet with the table's levels and inputs that has the table and uses just the leaves, whatever its names, sides, gate
+  -- numbers and gate tables
   pub every-sheet : (q : List ℕ) (net : Net) → readNet q ≡ accepted net → net .header .levels ≡ t .header .levels → net .header .inputs ≡ t .header .inputs
       → UsesJust (t .header .inputs) (net .gates) (leavesOfTable t) → tableOfNet net .inks ≡ t .inks
       → UnderOneNumber (OneWiring (t .header .inputs) (net .gates))

@@ -1,5 +1,5 @@
--- The family of an accepted full table, under the table's header: the net of each number below the count keeps a net sheet's rules, has exactly the
--- table and stands on just the table's leaves, its sheet is as long as the settled net's, and number 0 is the settled net. There is a number exactly when
+-- The family of an accepted full table, under the table's header: the net of each number below the count follows a net sheet's rules, has exactly the
+-- table and is on just the table's leaves, its sheet is as long as the settled net's, and number 0 is the settled net. There is a number exactly if
 -- the whole group has mark 2.
 -- Assumes nothing.
 use Prim.Native.Nat.{ℕ, zero, suc, _+_, _^_, _≤_, _<_}
@@ -62,7 +62,7 @@ module _ (t : Table) (kept : FullTableRules t) where
 
   -- ---- how many
 
-  -- a tree, and so a number
+  -- if there is a tree, there is a number
   pub tree-counted : WholeTwo t → 0 < countOfTable t
   unfolding countOfTable treeCount
   tree-counted two =
@@ -75,7 +75,7 @@ module _ (t : Table) (kept : FullTableRules t) where
       leaves-marked (t .header .levels) (t .header .inputs) pos (inkIn (t .inks)) several .0
       (counted-two (t .header .inputs) (marksOfTable t) (leavesOfTable t) leaves< some)
 
-  -- "A table with no tree gets count 0": exactly when no gate list is a net that computes it
+  -- "A table with no tree gets count 0": exactly if no gate list is a net that computes it
   pub none-counted : (countOfTable t ≡ 0) ↔ (HasTree t → ⊥)
   unfolding countOfTable
   none-counted = no-family (t .header .levels) (t .header .inputs) pos several (inkIn (t .inks)) inks-below
@@ -124,14 +124,14 @@ module _ (t : Table) (kept : FullTableRules t) where
       let same = family-settled (t .header .levels) (t .header .inputs) pos several (inkIn (t .inks)) some in
       λ i. record { header = t .header; gates = same i }
 
-  -- all sheets of the family are equally long, ..
+  -- all sheets of the family have the same length, ..
   pub numbers-long : (a b : ℕ) → a < countOfTable t → b < countOfTable t → length (printedNet (familyNet a t)) ≡ length (printedNet (familyNet b t))
   unfolding familyNet
   numbers-long a b h k =
       equally-long (familyNet a t) (familyNet b t) (family-kept a h) (family-kept b k) refl
       (same-inputs (t .header .inputs) (familyNet a t .gates) (familyNet b t .gates) (leavesOfTable t) (family-on-leaves a h) (family-on-leaves b k))
 
-  -- .. and so as long as the settled net's
+  -- .. and so the same as the settled net's
   pub family-as-long : (r : ℕ) → r < countOfTable t → length (printedNet (familyNet r t)) ≡ length (printedNet (settledNet t))
   family-as-long r h =
       let some : 0 < countOfTable t = omega arith in
@@ -139,13 +139,13 @@ module _ (t : Table) (kept : FullTableRules t) where
 
   -- ---- wirings
 
-  -- two numbers are two wirings, ..
+  -- two numbers have different wirings, ..
   pub numbers-apart : (a b : ℕ) → a < countOfTable t → b < countOfTable t
       → SameWiring (t .header .inputs) (familyNet a t .gates) (familyNet b t .gates) → a ≡ b
   unfolding countOfTable familyNet
   numbers-apart a b h k same = family-differ (t .header .levels) (t .header .inputs) pos several (inkIn (t .inks)) a b h k same
 
-  -- .. each net on the leaves that has the table is one wiring with that of just one number, ..
+  -- .. each net on the leaves that has the table is one wiring with that of exactly one number, ..
   pub record NumberOf (gates : List Gate) : Type 0 where
     pub number : ℕ
     pub below : number < countOfTable t

@@ -1,6 +1,6 @@
--- The sheets of a family over Section I's trees themselves: "Nets that differ only in which side is left, in gate numbers or in gate tables are one
--- wiring. Every wiring that computes the table turns up under just one number". Every tree on just the table's leaves that computes it, whatever its digits,
--- differs only in which side is left from the tree of what the call of just one number writes; no tree on other leaves does.
+-- The sheets of a family, for Section I's trees themselves: "Nets that differ only in which side is left, in gate numbers or in gate tables are one
+-- wiring. Every wiring that computes the table turns up under just one number". Every tree on just the table's leaves that computes it, whatever its
+-- digits, differs only in which side is left from the tree that the call for exactly one number writes; no tree on other leaves does.
 -- Assumes nothing.
 use Prim.Native.Nat.{ℕ, _+_, _-_}
 use mathlib.Core.Path.{_≡_, sym, ap, _∙_, subst}
@@ -34,7 +34,7 @@ use Rattle.demands.specs.Families.FamilySheets.{OneWiring, tree-written,
 use Rattle.rules.specs.Calls.OpenCells.{readFull}
 use Rattle.demands.specs.Sheets.FullSheets.{FullTableRules, full-accepted}
 
--- the tree that a gate list is: that of its last gate
+-- the tree of a gate list: that of its last gate
 abbrev pub lastTree : ℕ → List Gate → Tree
 lastTree n gates = treeAt (withTrees (inputTrees n) gates) (n + length gates - 1)
 
@@ -45,13 +45,13 @@ pub record TurnedSheet (tree : Tree) (sheet : List ℕ) : Type 0 where
   pub turned : Turned (wiringIn tree) (wiringIn (lastTree (net .header .inputs) (net .gates)))
 
 module _ (m n : ℕ) where
-  -- two nets are one wiring exactly when their trees differ only in which side is left
+  -- two nets are one wiring exactly if their trees differ only in which side is left
   pub same-trees : (gates others : List Gate) → IsNet m n gates → IsNet m n others
       → SameWiring n gates others ↔ Turned (wiringIn (lastTree n gates)) (wiringIn (lastTree n others))
   same-trees gates others net net' =
       rw (← (net-tree m n gates net .last), ← (net-tree m n others net' .last)) (same-wiring m n gates others net net')
 
-  -- a tree with a gate is that of its own lines
+  -- a tree with a gate is the tree of its own lines
   own-lines : (tree : Tree) → GateTree m n tree
       → (gates : List Gate) × IsNet m n gates × ((p : ℕ) → value m n gates p ≡ treeValue m n tree p) × UsesJust n gates (groupOf (wiringIn tree))
       × (lastTree n gates ≡ tree)
@@ -69,7 +69,7 @@ module _ (s : List ℕ) (t : Table) (reads : readFull s ≡ accepted t) where
   kept : FullTableRules t
   kept = full-accepted s t reads .1
 
-  -- a sheet that is written is one wiring with some gates exactly when the trees differ only in which side is left
+  -- a written sheet is one wiring with some gates exactly if the trees differ only in which side is left
   shows-tree : (gates : List Gate) → IsNet (t .header .levels) (t .header .inputs) gates → (r : ℕ) (cells marks output sheet : List ℕ)
       → sheetOf (familyTreeCall s r cells marks output) ≡ accepted sheet
       → OneWiring (t .header .inputs) gates sheet ↔ TurnedSheet (lastTree (t .header .inputs) gates) sheet

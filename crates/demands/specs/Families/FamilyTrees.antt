@@ -1,6 +1,6 @@
--- Document 02, K3: "The other takes a table sheet, an order number and all of making's buffers, and writes the tree of that number, from 0." 17: "order
--- number not below the count, place the number, judged after 14 and before 15; it takes the place of 16 in the second call and leaves what 16
--- leaves." For every other number the call comes to what making does, but for the sheet; and for number 0 to just what making does.
+-- Document 02, K3: "The other takes a table sheet, an order number and all of making's buffers, and writes the tree of that number, from 0." 17:
+-- "order number not below the count, place the number, judged after 14 and before 15; it takes the place of 16 in the second call and leaves what 16
+-- leaves." For every other number the call has the same result as making, except for the sheet; for number 0 exactly the same result.
 -- Assumes nothing.
 use Prim.Native.Nat.{ℕ, _≤_}
 use mathlib.Core.Path.{_≡_, refl, sym, ap, _∙_}
@@ -30,18 +30,18 @@ use Rattle.demands.specs.Sheets.FullSheets.{FullTableRules, full-accepte
 same-place : (number a b : ℕ) → _≡_ {A = Answer ℕ} (refused number a) (refused number b) → a ≡ b
 same-place number a b e = cc
 
--- a refusal that all three calls give is none of the later ones
+-- a refusal that all three calls give is not one of the later ones
 not-judged : (s cells marks : List ℕ) (k at : ℕ) → TurnedBack s cells marks k at → (number place : ℕ) → NotIn number judgedNumbers
     → _≡_ {A = Answer ℕ} (refused k at) (refused number place) → ⊥
 not-judged s cells marks k at is number place other = not-given judgedNumbers (refused k at) (refuses judgedNumbers k at (is .listed)) number place other
 
--- what holds of any sheet and any buffers
+-- for any sheet and any buffers
 module _ (s cells marks output : List ℕ) where
   kept-on : (t : Table) → GoesOn s cells marks t → FullTableRules t
   kept-on t is = full-accepted s t (is .reads) .1
 
   module _ (r : ℕ) where
-    -- the cells and the marks are left as making leaves them
+    -- the cells and the marks end as making leaves them
     pub tree-leaves : (familyTreeCall s r cells marks output .cells ≡ makeCall s cells marks output .cells)
         × (familyTreeCall s r cells marks output .marks ≡ makeCall s cells marks output .marks)
     tree-leaves = go (judge-number s r cells marks output)
@@ -58,8 +58,8 @@ module _ (s cells marks output : List ℕ) where
             let left = sheet-leaves (printedNet (familyNet r t)) (written cells (t .inks)) (written marks (storedMarks (marksOfTable t))) output in
             rw (e, is .makes output) (left .cells ∙ sym (made .cells), left .marks ∙ sym (made .marks))
 
-    -- "17, order number not below the count, place the number": and it "leaves what 16 leaves", the cells and the marks that the count call and making leave
-    -- (`count-leaves`) and the output as it was
+    -- "17, order number not below the count, place the number": and it "leaves what 16 leaves", the cells and the marks that the count call and
+    -- making leave (`count-leaves`) and the output unchanged
     pub past-count : (count : ℕ) → familyCountCall s cells marks .answer ≡ accepted count → count ≤ r
         → familyTreeCall s r cells marks output
         ≡ record { answer = refused 17 r; cells = familyCountCall s cells marks .cells; marks = familyCountCall s cells marks .marks; output = output }
@@ -74,7 +74,7 @@ module _ (s cells marks output : List ℕ) where
             let same = accepted-inj (countOfTable t) count (sym (counted-answer (is .counts)) ∙ d) in
             absurd (omega arith)
 
-    -- it refuses with 17 then alone: judged after 14, since the count call accepts, and before 15, since the output has no say
+    -- it refuses with 17 only then: judged after 14, since the count call accepts, and before 15, since the output does not matter
     pub refuses-17 : (place : ℕ)
         → (familyTreeCall s r cells marks output .answer ≡ refused 17 place)
         ↔ ((count : ℕ) × (familyCountCall s cells marks .answer ≡ accepted count) × (count ≤ r) × (place ≡ r))
@@ -90,7 +90,7 @@ module _ (s cells marks output : List ℕ) where
         go (no-number t is large e) d = (countOfTable t, counted-answer (is .counts), large, same-place 17 place r (sym d ∙ made-answer e))
         go (has-tree t is small e) d = absurd (not-given (15 ∷ []) _ (sheet-numbers (15 ∷ []) refl _ _ _ output) 17 place refl (sym (made-answer e) ∙ d))
 
-    -- "it takes the place of 16 in the second call": where making refuses with 16 each number is refused with 17, and all buffers are left as making
+    -- "it takes the place of 16 in the second call": if making refuses with 16, each number is refused with 17, and all buffers end as making
     -- leaves them
     pub in-place-of-16 : (place : ℕ) → makeCall s cells marks output .answer ≡ refused 16 place
         → familyTreeCall s r cells marks output
@@ -119,7 +119,7 @@ module _ (s cells marks output : List ℕ) where
             rw (is .makes output, marked-16 settledNet t cells marks output (λ two. no-tree t is (two-tree t (kept-on t is) .1 two))) e
         go (has-tree t is small e) = absurd (omega (arith, none-counted t (kept-on t is) .1 (no-tree t is)))
 
-    -- Where it does not refuse with 17 it comes to what making does, but for the sheet: 15 too, with the same place.
+    -- If it does not refuse with 17, it has the same result as making, except for the sheet: 15 too, with the same place.
     pub tree-but-sheet : ((place : ℕ) → familyTreeCall s r cells marks output .answer ≡ refused 17 place → ⊥)
         → ButSheet (familyTreeCall s r cells marks output) (makeCall s cells marks output)
     tree-but-sheet not-17 = go (judge-number s r cells marks output)
@@ -131,7 +131,7 @@ module _ (s cells marks output : List ℕ) where
             rw (e, is .makes output ∙ marked-tree settledNet t cells marks output (some-two t (kept-on t is) (omega arith)))
             (sheets-but (printedNet (familyNet r t)) (printedNet (settledNet t)) _ _ output (family-as-long t (kept-on t is) r small))
 
-  -- "number 0 is the settled net": where making does not refuse with 16, the call of number 0 comes to just what making does
+  -- "number 0 is the settled net": if making does not refuse with 16, the call for number 0 has exactly the same result as making
   pub first-as-making : ((place : ℕ) → makeCall s cells marks output .answer ≡ refused 16 place → ⊥)
       → familyTreeCall s 0 cells marks output ≡ makeCall s cells marks output
   first-as-making not-16 = go (judge-number s 0 cells marks output)

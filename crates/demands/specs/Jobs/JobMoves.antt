@@ -1,4 +1,4 @@
--- What a job is after any list of steps and askings: its table is the one that it had, each step passes one group until all are passed, and the marks
+-- The job after any list of steps and questions: its table is unchanged, each step passes one group until all are passed, and the marks
 -- of the groups passed are document 01's, every other mark 0.
 -- Assumes nothing.
 use Prim.Native.Nat.{ℕ, suc, _+_, _-_, _^_, _≤_, _<_}
@@ -30,7 +30,7 @@ Done job = groupsOf job ≤ job .passed
 
 -- ---- any list
 
--- what holds of a job, and with it of the job one group further, holds after any list of steps and askings
+-- if a property holds for a job and is kept one group further, it holds after any list of steps and questions
 pub kept-by : (P : Job → Type 0) → ((job : Job) → P job → job .passed < groupsOf job → P (further job))
     → (moves : List Move) (job : Job) → P job → P (afterMoves moves job)
 unfolding afterMoves moved askJob
@@ -71,7 +71,7 @@ moves-all (step ∷ moves) job low h = go (decLe (groupsOf job) (job .passed)) (
     go (no more) stays on =
         ap (λ (s : Stepped). afterMoves moves (s .job) .passed) (step-on job (lt-of-not-le more)) ∙ on (omega (arith, lt-of-not-le more)) (omega arith)
 
--- "stays the same": the askings may be left out
+-- "stays the same": the questions may be left out
 pub moves-steps : (moves : List Move) (job : Job) → afterMoves moves job ≡ afterMoves (replicate (stepsIn moves) step) job
 unfolding afterMoves moved askJob stepsIn
 moves-steps [] job = refl

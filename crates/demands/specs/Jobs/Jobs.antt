@@ -1,5 +1,5 @@
--- Document 02, K9: what is promised of jobs. "For every list of steps and askings from a newly opened job, the marks passed are those of document 01 and
--- every other mark in the job is 0."
+-- Document 02, K9: the promises about jobs. "For every list of steps and askings from a newly opened job, the marks passed are those of document 01
+-- and every other mark in the job is 0."
 -- Assumes nothing.
 use Prim.Native.Nat.{ℕ, _+_, _-_, _^_, _≤_, _<_}
 use mathlib.Core.Path.{_≡_, refl, sym, ap, _∙_, subst}
@@ -26,7 +26,7 @@ use Rattle.demands.specs.Jobs.JobMoves.{stepsIn, Done, moves-table, move
 use Rattle.rules.specs.Calls.OpenCells.{fullCells, readFull}
 use Rattle.demands.specs.Sheets.FullSheets.{full-accepted, full-keeps}
 
--- ---- a job on an accepted sheet of a full table, after any list of steps and askings
+-- ---- a job on an accepted sheet of a full table, after any list of steps and questions
 
 module _ (s : List ℕ) (t : Table) (reads : readFull s ≡ accepted t) (moves : List Move) where
   -- the job
@@ -46,7 +46,7 @@ module _ (s : List ℕ) (t : Table) (reads : readFull s ≡ accepted t) (moves :
   pos : 0 < t .header .levels
   pos = levels-pos (t .header .levels) (full-accepted s t reads .1 .header .levels)
 
-  -- "full-keeps its own copy of names, cells"
+  -- "keeps its own copy of names, cells"
   pub keeps-table : jobAfter .table ≡ t
   unfolding newJob
   keeps-table = ap (λ (job : Job). job .table) new-after ∙ moves-table moves (newJob t)
@@ -102,7 +102,7 @@ module _ (s : List ℕ) (t : Table) (reads : readFull s ≡ accepted t) (moves :
         ap (λ (s : Stepped). s .job .passed) (step-on jobAfter on) ∙ ap (λ (k : ℕ). k + 1) (passed-steps (omega arith)),
       )
 
-  -- ---- an asking
+  -- ---- asking
 
   module _ (g : ℕ) where
     keeps-below : g < 2 ^ t .header .inputs → g < 2 ^ jobAfter .table .header .inputs
@@ -130,7 +130,7 @@ module _ (s : List ℕ) (t : Table) (reads : readFull s ≡ accepted t) (moves :
       ∙ cells-kept t (full-keeps t (full-accepted s t reads .1)) (full-accepted s t reads .1 .below)
 
   module _ (cells marks output : List ℕ) where
-    -- "finishing writes what making writes", and hands back the job, which may be finished again
+    -- "finishing writes what making writes", and returns the job, which may be finished again
     pub finishes : groups ≤ stepsIn moves → finishJob jobAfter cells marks output ≡ record { job = jobAfter; made = makeCall s cells marks output }
     finishes h =
         finish-on jobAfter cells marks output (may-on jobAfter own-cells (done-exactly .1 h))
@@ -154,19 +154,19 @@ module _ (s : List ℕ) (t : Table) (reads : readFull s ≡ accepted t) (moves :
   finished-marks h =
       all-marked jobAfter (subst (λ (t : Table). 0 < t .header .levels) (sym keeps-table) pos) along (done-exactly .1 h) ∙ ap marksOfTable keeps-table
 
-  -- "and stays the same": the askings might have been left out
+  -- "and stays the same": the questions might have been left out
   pub askings-nothing : jobAfter ≡ afterMoves (replicate (stepsIn moves) step) (openJob s .job)
   askings-nothing = moves-steps moves (openJob s .job)
 
--- ---- every job whatsoever
+-- ---- every job
 
 module _ (job : Job) where
-  -- an asking hands back the job as it was, ..
+  -- asking returns the job unchanged, ..
   pub asked-same : (g : ℕ) → askJob job g .job ≡ job
   unfolding askJob
   asked-same g = refl
 
-  -- .. and so does finishing, which may be done again
+  -- .. and so does finishing, which may be repeated
   pub finished-same : (cells marks output : List ℕ) → finishJob job cells marks output .job ≡ job
   unfolding finishJob
   finished-same cells marks output = refl

@@ -1,7 +1,7 @@
--- Document 02, K10, said of the call. "Past 12 and 13 it is refused with 23 exactly when no filling of that wiring computes the table": no digits
--- whatever. "A kept wiring that leaves out an input that matters is refused with 23 at place 0, before its gates are judged." (K12) Otherwise the
--- sheet written is an accepted net with the given wiring and exactly the table, and the set is exactly the gates that changed. Keeping again changes
--- nothing; keeping the wiring of the settled net gives making's very sheet; every sheet of a family is what keeping makes of its own wiring.
+-- Document 02, K10, stated for the call. "Past 12 and 13 it is refused with 23 exactly when no filling of that wiring computes the table": no
+-- digits at all. "A kept wiring that leaves out an input that matters is refused with 23 at place 0, before its gates are judged." (K12) Otherwise
+-- the sheet written is an accepted net with the given wiring and exactly the table, and the set is exactly the gates that changed. Keeping again
+-- changes nothing; keeping the wiring of the settled net gives making's sheet; keeping leaves every sheet of a family as it is.
 -- Assumes nothing.
 use Prim.Native.Nat.{ℕ, suc, _-_, _^_, _≤_, _<_}
 use mathlib.Core.Path.{_≡_, refl, sym, ap, ap₂, _∙_, subst, subst⁻¹}
@@ -45,7 +45,7 @@ use Rattle.demands.specs.Keeping.KeptNets.{FillingFor, Roomy, LeftOut, l
 use Rattle.demands.specs.Keeping.KeptNets.{kept-has-table, kept-wiring, own-roomy, filling-roomy, kept-header, kept-twice, settled-header}
 use Rattle.demands.specs.Keeping.KeptNets.{settled-refilled, family-header, family-kept-own, refilled, kept-by-wiring}
 
--- two answers that differ
+-- two different answers
 rewritten-not : (count changed : ℕ) (named : Named) (number place : ℕ) → _≡_ {A = Keeping} (rewritten count changed) (turnedAway named number place) → ⊥
 rewritten-not count changed named number place e = let z : _≡_ {A = ℕ} 0 1 = cc in omega arith
 
@@ -60,7 +60,7 @@ turned-place named named' number number' place place' e = cc
 same-answer : {a b c d : ℕ} → _≡_ {A = Keeping} (rewritten a b) (rewritten c d) → (a ≡ c) × (b ≡ d)
 same-answer e = (cc, cc)
 
--- what a call answers is in what it comes to
+-- equal results have equal answers
 answered : {made kept : KeptWiring} → made ≡ kept → made .answer ≡ kept .answer
 answered e = ap (λ (k : KeptWiring). k .answer) e
 
@@ -101,11 +101,11 @@ module _ (s r cells : List ℕ) (past : Past s r cells) where
   judged : (output : List ℕ) → keepCall s r cells output ≡ keptInto net t cells output
   judged output = keep-accepted s r cells output net (past .reads-net) t (full-t .0)
 
-  -- the sheet that is to be written
+  -- the sheet to be written
   abbrev pub sheetFor : List ℕ
   sheetFor = printedNet (keptNet net t)
 
-  -- the call there ends in one of four ways
+  -- the call then ends in one of four ways
   pub data PastEnds (output : List ℕ) : Type 0 where
     ends-23-0 : leavesOut net t ≡ true
         → keepCall s r cells output ≡ record { answer = turnedAway neither 23 0; cells = written cells (t .inks); output = output }
@@ -137,8 +137,8 @@ module _ (s r cells : List ℕ) (past : Past s r cells) where
       go false takes (yes roomy) (yes fits) =
           ends-written (takes, roomy) fits (judged output ∙ keep-written net t cells output same (full-t .1) cells-long takes roomy fits)
 
-  -- "Past 12 and 13 it is refused with 23 exactly when no filling of that wiring computes the table.": no gate lines with the same left and right, whatever
-  -- their tables, and whatever the output
+  -- "Past 12 and 13 it is refused with 23 exactly when no filling of that wiring computes the table.": no gate lines with the same left and right,
+  -- whatever their tables, and whatever the output
   pub refuses-23 : (output : List ℕ)
       → ((place : ℕ) × (keepCall s r cells output .answer ≡ turnedAway neither 23 place)) ↔ ((filling : List Gate) → FillingFor net t filling → ⊥)
   refuses-23 output = go (past-ends output)
@@ -162,13 +162,13 @@ module _ (s r cells : List ℕ) (past : Past s r cells) where
         λ none. absurd (not-roomy roomy none),
       )
 
-  -- "A kept wiring that leaves out an input that matters is refused with 23 at place 0, before its gates are judged.": whatever the output, and "leaves the
-  -- cells written", the output untouched, ..
+  -- "A kept wiring that leaves out an input that matters is refused with 23 at place 0, before its gates are judged.": whatever the output, and
+  -- "leaves the cells written", the output untouched, ..
   pub refuses-23-0 : LeftOut net t → (output : List ℕ)
       → keepCall s r cells output ≡ record { answer = turnedAway neither 23 0; cells = written cells (t .inks); output = output }
   refuses-23-0 is output = judged output ∙ keep-23-0 net t cells output same (full-t .1) cells-long (left-out net t .1 is)
 
-  -- .. and at place 0 no other is
+  -- .. and nothing else is refused with 23 at place 0
   pub place-0 : (output : List ℕ) → (keepCall s r cells output .answer ≡ turnedAway neither 23 0) ↔ LeftOut net t
   place-0 output = (λ d. left-out net t .0 (go d (past-ends output)), λ is. answered (refuses-23-0 is output))
     where
@@ -182,8 +182,8 @@ module _ (s r cells : List ℕ) (past : Past s r cells) where
   abbrev pub classesAt : ℕ → ℕ
   classesAt k = multiplicity (net .header .levels) (net .header .inputs) (inkIn (t .inks)) (getD (gateGroups (net .header .inputs) (net .gates)) (k - 1) 0)
 
-  -- "place the number of the first gate whose group has more than m classes", past place 0: every input that matters is used; that gate has, no gate
-  -- before it has; and what 23 leaves
+  -- "place the number of the first gate whose group has more than m classes", if not at place 0: every input that matters is used; that gate's group
+  -- has more, no earlier gate's has; and what 23 leaves
   pub record FirstCrowded (output : List ℕ) (place : ℕ) : Type 0 where
     pub uses : UsesMattering (net .header .levels) (net .header .inputs) (inkIn (t .inks)) (net .gates)
     pub gate : place ≤ length (net .gates)
@@ -220,7 +220,7 @@ module _ (s r cells : List ℕ) (past : Past s r cells) where
       go (ends-15 roomy short e) = absurd (omega (arith, turned-number neither neither 15 23 _ place (sym (answered e) ∙ d)))
       go (ends-written roomy fits e) = absurd (rewritten-not _ _ neither 23 place (sym (answered e) ∙ d))
 
-  -- ---- where some filling computes the table
+  -- ---- if some filling computes the table
 
   module _ (roomy : Roomy net t) where
     -- the sheet is accepted, as the net with the given header and wiring, filled by the class rule, ..
@@ -231,7 +231,7 @@ module _ (s r cells : List ℕ) (past : Past s r cells) where
     pub written-table : tableOfNet (keptNet net t) ≡ t
     written-table = kept-has-table net t kept-net kept-t (past .header) roomy
 
-    -- .. as long as the sheet handed in, ..
+    -- .. as long as the given sheet, ..
     pub kept-as-long : length sheetFor ≡ length s
     unfolding keptNet
     kept-as-long =
@@ -243,7 +243,7 @@ module _ (s r cells : List ℕ) (past : Past s r cells) where
     pub kept-short : length sheetFor ≤ mostSettled
     kept-short = net-length (keptNet net t) (kept-keeps net t kept-net kept-t (past .header) roomy)
 
-  -- so where some filling computes the table, and the output has room for the sheet, it is written
+  -- so if some filling computes the table, and the output has room for the sheet, it is written
   pub keeps : (filling : List Gate) → FillingFor net t filling → (output : List ℕ) → length sheetFor ≤ length output
       → keepCall s r cells output
       ≡ record {
@@ -279,7 +279,7 @@ own-comes-back net t kept kept-t header has own r reads cells output long fits =
     record { answer = rewritten (length (printedNet net)) changed; cells = written cells (t .inks); output = written output (printedNet net) })
     (none-changed (net .gates))
 
--- what a sheet that is its own filling comes to, in any buffers that are long enough
+-- the result for a sheet that is its own filling, in any buffers that are long enough
 pub record ComesBack (sheet r : List ℕ) (t : Table) : Type 0 where
   pub unchanged : (cells output : List ℕ) → t .header .levels ^ t .header .inputs ≤ length cells → length sheet ≤ length output
       → keepCall sheet r cells output ≡ record { answer = rewritten (length sheet) 0; cells = written cells (t .inks); output = written output sheet }
@@ -293,7 +293,7 @@ comes-back sheet r net t reads-net reads header has own =
 
 -- ---- whatever the sheets and the buffers
 
--- the call ends before the filling, and then leaves both buffers as they were, or it comes past 13
+-- either the call ends before the filling, and then leaves both buffers unchanged, or it gets past 13
 pub data KeepEnds (s r cells output : List ℕ) : Type 0 where
   ends-before : (named : Named) (number place : ℕ)
       → keepCall s r cells output ≡ record { answer = turnedAway named number place; cells = cells; output = output } → KeepEnds s r cells output
@@ -325,10 +325,10 @@ keep-ends s r cells output = go (readNet s) refl (readTable r) refl
               long = subst (λ (k : ℕ). k ≤ length cells) (table-accepted r t e .1 .count) fits;
             })
 
--- What an accepted answer says.
+-- What an accepted answer means.
 pub record Rewrites (s r cells output : List ℕ) (count changed : ℕ) : Type 0 where
   pub past : Past s r cells
-  -- the sheet that is written: "that many bytes from the front of the output"
+  -- the sheet written: "that many bytes from the front of the output"
   pub sheet : List ℕ
   pub front : take count (keepCall s r cells output .output) ≡ sheet
   -- it is accepted as a net with the given header, the given wiring, ..
@@ -336,15 +336,15 @@ pub record Rewrites (s r cells output : List ℕ) (count changed : ℕ) : Type 0
   pub reads : readNet sheet ≡ accepted net
   pub header : net .header ≡ past .net .header
   pub wiring : gateLinks (net .gates) ≡ gateLinks (past .net .gates)
-  -- .. filled "by the settled net's class rule over the given wiring" (`digit-rule` says what the rule is, and `digit-rule-only` that no other digits
-  -- keep it), ..
+  -- .. filled "by the settled net's class rule over the given wiring" (`digit-rule` states the rule, and `digit-rule-only` that no other digits
+  -- follow it), ..
   pub by-rule : net .gates ≡ filled (past .net .header .levels) (past .net .header .inputs) (inkIn (past .table .inks)) (gateLinks (past .net .gates))
   -- .. and exactly the table
   pub table : tableOfNet net ≡ past .table
   -- the set is exactly the gates that changed: bit k is gate k's, and there is no other
   pub below : changed < 2 ^ suc (length (past .net .gates))
   pub exactly : (k : ℕ) → (member k changed ≡ true) ↔ ((0 < k) × (k ≤ length (past .net .gates)) × (tableAt (past .net .gates) k ≢ tableAt (net .gates) k))
-  -- keeping again changes nothing, and answers the empty set
+  -- keeping again changes nothing, and returns the empty set
   pub again : ComesBack sheet r (past .table)
 
 -- the kept net's gates are filled by the class rule
@@ -390,21 +390,21 @@ rewrites s r cells output count changed d = go (keep-ends s r cells output)
 -- ---- the settled net and the family
 
 module _ (r : List ℕ) (t : Table) (reads : readFull r ≡ accepted t) where
-  -- the settled net's sheet, as making writes it, is what keeping makes of its own wiring, ..
+  -- keeping the settled net's own wiring gives the settled sheet, as making writes it, ..
   pub settled-comes-back : (cells marks output sheet : List ℕ) → sheetOf (makeCall r cells marks output) ≡ accepted sheet → ComesBack sheet r t
   settled-comes-back cells marks output sheet e =
       let (reads-net, has) = made-sheet r t reads cells marks output sheet e in
       comes-back sheet r (settledNet t) t reads-net reads (settled-header t) has (settled-refilled t)
 
-  -- .. and so is the sheet of each number of the family
+  -- .. and the same holds for the sheet of each number of the family
   pub family-comes-back : (number : ℕ) (cells marks output sheet : List ℕ) → sheetOf (familyTreeCall r number cells marks output) ≡ accepted sheet
       → ComesBack sheet r t
   family-comes-back number cells marks output sheet e =
       let (reads-net, has) = tree-sheet r t reads number cells marks output sheet e in
       comes-back sheet r (familyNet number t) t reads-net reads (family-header number t) has (family-kept-own number t)
 
-  -- Keeping the settled net's wiring, whatever the gate tables, gives making's very sheet: where making writes a sheet, and an accepted net sheet with the
-  -- table's header has the left and the right of each of its gate lines.
+  -- Keeping the settled net's wiring, whatever the gate tables, gives making's sheet: if making writes a sheet, and an accepted net sheet with the
+  -- table's header has the same left and right at each gate line.
   pub keep-as-making : (cells marks output made : List ℕ) → sheetOf (makeCall r cells marks output) ≡ accepted made
       → (s : List ℕ) (net : Net) → readNet s ≡ accepted net → net .header ≡ t .header → gateLinks (net .gates) ≡ gateLinks (settledNet t .gates)
       → (cells' output' : List ℕ) → t .header .levels ^ t .header .inputs ≤ length cells' → length made ≤ length output'

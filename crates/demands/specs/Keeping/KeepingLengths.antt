@@ -1,4 +1,4 @@
--- With the buffers of which include/sitgurp.h says that they always suffice, keeping a wiring refuses with the numbers of its two sheets, 27, 12 and 23 only.
+-- With the buffers that include/sitgurp.h says always suffice, keeping a wiring refuses only with the numbers of its two sheets, 27, 12 and 23.
 -- Assumes nothing.
 use Prim.Native.Nat.{ℕ, _^_, _≤_}
 use mathlib.Core.Path.{_≡_, refl, sym, ap, _∙_, subst₂}

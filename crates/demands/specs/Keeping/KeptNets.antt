@@ -1,4 +1,4 @@
--- Document 02, K10 and K12, said of nets and full tables: when a net's wiring can be filled for a table, and what filling it gives.
+-- Document 02, K10 and K12, stated for nets and full tables: when a net's wiring can be filled for a table, and what filling it gives.
 -- Assumes nothing.
 use Prim.Native.Nat.{ℕ, _^_, _≤_, _<_}
 use mathlib.Core.Path.{_≡_, refl, sym, ap, _∙_, subst⁻¹}
@@ -46,7 +46,7 @@ pub record LeftOut (net : Net) (t : Table) : Type 0 where
   pub unused : any (eqb input) (usedBy (net .gates)) ≡ false
   pub mattering : matters (net .header .levels) (net .header .inputs) (inkIn (t .inks)) input ≡ true
 
--- it is found by the test
+-- the test finds it
 pub left-out : (net : Net) (t : Table) → (leavesOut net t ≡ true) ↔ LeftOut net t
 unfolding leavesOut
 left-out net t = (
@@ -111,7 +111,7 @@ module _ (net : Net) (t : Table) (kept : NetRules net) (kept-t : FullTableRules 
         kept-fills m n pos (inkIn (t .inks)) (net .gates) (kept .gates)
         (all-roomy m n pos (inkIn (t .inks)) (net .gates) (kept .gates) .0 (roomy .1)) (leaves-out-none net t .0 (roomy .0)) inks-below
 
-    -- .. with which the net keeps every rule of a net sheet ..
+    -- .. with which the net follows every rule of a net sheet ..
     pub kept-keeps : NetRules (keptNet net t)
     unfolding keptNet
     kept-keeps = record {
@@ -171,21 +171,21 @@ pub family-header : (number : ℕ) (t : Table) → familyNet number t .header �
 unfolding familyNet
 family-header number t = refl
 
--- the settled net is what keeping makes of its own wiring, ..
+-- keeping the settled net's own wiring gives the settled net, ..
 pub settled-refilled : (t : Table) → keptNet (settledNet t) t ≡ settledNet t
 unfolding keptNet settledNet settledGates
 settled-refilled t =
     let same = filled-kept (t .header .levels) (t .header .inputs) (inkIn (t .inks)) _ in
     λ i. record { header = t .header; gates = same i }
 
--- .. so is every net of the family, ..
+-- .. the same holds for every net of the family, ..
 pub family-kept-own : (number : ℕ) (t : Table) → keptNet (familyNet number t) t ≡ familyNet number t
 unfolding keptNet familyNet familyGates
 family-kept-own number t =
     let same = filled-kept (t .header .levels) (t .header .inputs) (inkIn (t .inks)) _ in
     λ i. record { header = t .header; gates = same i }
 
--- .. and nets with one header and one wiring are kept as one net, whatever their gate tables
+-- .. and nets with the same header and wiring are kept as the same net, whatever their gate tables
 pub kept-by-wiring : (net other : Net) (t : Table) → other .header ≡ net .header → gateLinks (other .gates) ≡ gateLinks (net .gates)
     → keptNet other t ≡ keptNet net t
 unfolding keptNet
@@ -194,7 +194,7 @@ kept-by-wiring net other t header same =
     ap (λ (h : Header). record { header = h; gates = keptGates (h .levels) (h .inputs) (inkIn (t .inks)) (other .gates) }) header
     ∙ (λ i. record { header = net .header; gates = gates i })
 
--- and a filling of the one wiring is a filling of the other
+-- and a filling of one wiring is a filling of the other
 pub refilled : (net other : Net) (t : Table) → net .header ≡ other .header → gateLinks (net .gates) ≡ gateLinks (other .gates) → {filling : List Gate}
     → FillingFor other t filling → FillingFor net t filling
 refilled net other t header same {filling} fills =

@@ -1,6 +1,6 @@
--- Document 02, K12: which inputs matter and which are leaves, said without the tests that find them. "An input matters when some two assignments differing only
--- there differ in ink." The leaves are "just the inputs that matter .. if fewer than two do, the first-listed others make up two": each input that matters, two
--- at least and no more than that, and no other input while an earlier one is left out.
+-- Document 02, K12: which inputs matter and which are leaves, stated without the tests that find them. "An input matters when some two assignments
+-- differing only there differ in ink." The leaves are "just the inputs that matter .. if fewer than two do, the first-listed others make up two":
+-- each input that matters, at least two and otherwise no more, and another input only if no earlier one is left out.
 -- Assumes nothing.
 use Prim.Native.Nat.{ℕ, zero, suc, _-_, _<_, max}
 use mathlib.Core.Path.{_≡_, refl, sym, ap, _∙_}
@@ -45,7 +45,7 @@ level-at : (m n p j : ℕ) → j < n → getD (levelsAt m n p) j 0 ≡ level m n
 unfolding levelsAt
 level-at m n p j h = map-range-at (level m n p) 0 n j 0 h ∙ ap (level m n p) (zero-add j)
 
--- the first of a rising list are the lowest: those that a test lets through
+-- the first elements of a rising list that pass a test are the lowest that do
 first-those : (test : ℕ → Bool) (from count k i j : ℕ) → i < j → List·Memᴰ i (those test (range from count))
     → List·Memᴰ j (take k (those test (range from count)))
     → List·Memᴰ i (take k (those test (range from count)))
@@ -116,7 +116,7 @@ module _ (t : Table) (kept : TableRules t) where
   pub leaf-count : size n (leavesOfTable t) ≡ max 2 (length (mattering m n f))
   leaf-count = leaves-size m n pos f (inputs-several n (kept .header .inputs))
 
-  -- .. "the first-listed": a leaf that does not matter has no input before it that is no leaf
+  -- .. "the first-listed": every input before a leaf that does not matter is a leaf
   pub leaf-first : (i j : ℕ) → i < j → j < n → matters m n f j ≡ false → member j (leavesOfTable t) ≡ true → member i (leavesOfTable t) ≡ true
   unfolding leafInputs mattering
   leaf-first i j less j< idle is = go (matters m n f i) refl

@@ -1,7 +1,7 @@
--- Document 02, K12: "A table is refused for want of a tree exactly when none stands on those leaves". A tree on some leaves computes the table exactly when one
--- on just the table's leaves does, and exactly when one on all inputs does, "each input at just one leaf" (demand 3): so making refuses with 16
--- exactly when there is none on these, none on those, and none at all (`make-refuses`). The same of every group of two or more inputs with all that
--- matter. Over gate lists, accepted net sheets and Section I's trees.
+-- Document 02, K12: "A table is refused for want of a tree exactly when none stands on those leaves". Some tree computes the table exactly if one
+-- on just the table's leaves does, and exactly if one on all inputs does, "each input at just one leaf" (demand 3). So making refuses with 16
+-- exactly if there is none on the table's leaves, none on all inputs, and none at all (`make-refuses`). The same holds for every group of two or more
+-- inputs with all that matter. Stated for gate lists, accepted net sheets and Section I's trees.
 -- Assumes nothing.
 use Prim.Native.Nat.{ℕ, zero, suc, _^_, _≤_, _<_}
 use mathlib.Core.Path.{_≡_, sym, _∙_}
@@ -36,13 +36,13 @@ use Rattle.demands.specs.Sheets.FullSheets.{FullTableRules, full-accepte
 use Rattle.demands.specs.Settling.Makes.{TableLetters, tableLetters, leavesOfTable, HasTree, two-tree, netWith, gates-sheet, sheet-gates, make-refuses}
 use Rattle.demands.specs.Settling.TreeClause.{TreeFor, TreeAgrees, agrees-all}
 
--- some gate list that uses just the inputs of group g, whatever its wiring and digits, is a net of the table's levels and inputs and computes its inks
+-- some gate list that uses just the inputs of group g, whatever its wiring and digits, is a net with the table's levels and inputs and has its inks
 abbrev pub HasTreeOn : Table → ℕ → Type 0
 HasTreeOn t g =
     (gates : List Gate) × IsNet (t .header .levels) (t .header .inputs) gates × Computes (t .header .levels) (t .header .inputs) gates (inkIn (t .inks))
     × UsesJust (t .header .inputs) gates g
 
--- some accepted net sheet of the table's levels and names that uses just these has its inks
+-- some accepted net sheet with the table's levels and names that uses just these has its inks
 abbrev pub HasSheetOn : Table → ℕ → Type 0
 HasSheetOn t g = (r : List ℕ) × (net : Net) × (readNet r ≡ accepted net) × (tableOfNet net ≡ t) × UsesJust (t .header .inputs) (net .gates) g
 
@@ -82,7 +82,7 @@ module _ (t : Table) (kept : FullTableRules t) where
   whole-may = record { below = whole-below n; several = rw (size-whole n) several; mattering = λ i i< _. member-whole i n i< }
 
   module _ (g : ℕ) (may : MayBeLeaves t g) where
-    -- a net on any leaves, and one on just these: the group has mark 2 where all inputs together have
+    -- a net on any leaves, and one on just these: the group has mark 2 if all inputs together do
     pub tree-on : HasTree t ↔ HasTreeOn t g
     tree-on = (
       λ tree.
@@ -114,7 +114,7 @@ module _ (t : Table) (kept : FullTableRules t) where
           (gates, net, (λ p h. values p ∙ agrees-all t (kept .header) tree is .1 agrees p h), rw leaves at uses),
     )
 
--- ---- making, of a full table
+-- ---- making, for a full table
 
 module _ (s : List ℕ) (t : Table) (reads : readFull s ≡ accepted t) (cells marks output : List ℕ)
     (cells-fit : t .header .levels ^ t .header .inputs ≤ length cells) (marks-fit : marksLength (t .header .inputs) ≤ length marks) where
@@ -125,7 +125,7 @@ module _ (s : List ℕ) (t : Table) (reads : readFull s ≡ accepted t) (cells m
   kept-t : FullTableRules t
   kept-t = full-accepted s t reads .1
 
-  -- exactly when no net stands on these, ..
+  -- exactly if no net is on just these, ..
   module _ (g : ℕ) (may : MayBeLeaves t g) where
     pub make-refuses-on : Refuses16 ↔ (HasTreeOn t g → ⊥)
     make-refuses-on = Iff·trans (make-refuses s t reads cells marks output cells-fit marks-fit) (Iff·not (tree-on t kept-t g may))

@@ -1,7 +1,7 @@
 -- Document 02, K12: "Panel makers now charge extra for a gate that ignores an input. .. A settled tree now has just the inputs that matter as leaves;
--- if fewer than two do, the first-listed others make up two. .. The families, shallow trees and the finishing of jobs use the same leaves". Of every
--- sheet that a call writes from a table, whatever the buffers: which inputs it uses, that every leaf matters where two or more inputs do, that it has
--- no gate more than its leaves need, and that nothing with that table has fewer gates.
+-- if fewer than two do, the first-listed others make up two. .. The families, shallow trees and the finishing of jobs use the same leaves". For every
+-- sheet that a call writes from a table, whatever the buffers: which inputs it uses, that every leaf matters if two or more inputs do, that it has
+-- no more gates than its leaves need, and that nothing with that table has fewer gates.
 -- Assumes nothing.
 use Prim.Native.Nat.{ℕ, suc, _≤_, _<_, max}
 use mathlib.Core.Path.{_≡_, sym, ap, _∙_, subst}
@@ -53,17 +53,17 @@ use Rattle.demands.specs.Families.FamilySheets.{tree-written, tree-sheet
 
 -- ---- nets on just a table's leaves
 
--- What it is for a net to be on just a table's leaves.
+-- What it means for a net to be on just a table's leaves.
 pub record OnLeaves (t : Table) (net : Net) : Type 0 where
   -- "just the inputs that matter as leaves; if fewer than two do, the first-listed others make up two"
   pub leaves : UsesJust (t .header .inputs) (net .gates) (leavesOfTable t)
-  -- so an input is used exactly when it matters, where two or more do
+  -- so an input is used exactly if it matters, when two or more do
   pub each-matters : 1 < length (mattering (t .header .levels) (t .header .inputs) (inkIn (t .inks))) → (i : ℕ) → i < t .header .inputs
       → any (eqb i) (usedBy (net .gates)) ≡ matters (t .header .levels) (t .header .inputs) (inkIn (t .inks)) i
-  -- "the first-listed others": one that does not matter is used only where all inputs before it are
+  -- "the first-listed others": one that does not matter is used only if all inputs before it are
   pub first-listed : (i j : ℕ) → i < j → j < t .header .inputs → matters (t .header .levels) (t .header .inputs) (inkIn (t .inks)) j ≡ false
       → any (eqb j) (usedBy (net .gates)) ≡ true → any (eqb i) (usedBy (net .gates)) ≡ true
-  -- no gate more than the leaves need: one fewer than leaves, of which there are as many as inputs that matter, and two at least
+  -- no more gates than the leaves need: one fewer than leaves, and there are as many leaves as inputs that matter, but at least two
   pub gates : suc (length (net .gates)) ≡ max 2 (length (mattering (t .header .levels) (t .header .inputs) (inkIn (t .inks))))
   -- and no net that computes the table, whatever its leaves, its wiring and its tables, has fewer gates: no gate list, ..
   pub fewest : (gates : List Gate) → IsNet (t .header .levels) (t .header .inputs) gates
@@ -82,7 +82,7 @@ module _ (t : Table) (kept : FullTableRules t) where
   several : 1 < n
   several = inputs-several n (kept .header .inputs)
 
-  -- a net that uses just these is so
+  -- a net that uses just these has all these properties
   on-leaves : (net : Net) → IsNet m n (net .gates) → UsesJust n (net .gates) (leavesOfTable t) → OnLeaves t net
   on-leaves net is uses =
       let count : suc (length (net .gates)) ≡ size n (leavesOfTable t) =
@@ -110,7 +110,7 @@ module _ (t : Table) (kept : FullTableRules t) where
   unfolding shallowNet
   shallow-on two = on-leaves (shallowNet t) (shallow-kept t (full-keeps t kept) (kept .below) two .gates) (shallow-leaves m n pos several f two)
 
-  -- whatever the buffers, a sheet that is written of the one or the other is accepted as it
+  -- whatever the buffers, a sheet written for either of them is accepted as that net
   written-on : (netFor : Table → Net) → (WholeTwo t → NetRules (netFor t)) → (WholeTwo t → OnLeaves t (netFor t)) → (cells marks output sheet : List ℕ)
       → sheetOf (madeInto netFor t cells marks output) ≡ accepted sheet → (net : Net) → readNet sheet ≡ accepted net → OnLeaves t net
   written-on netFor kept-net on cells marks output sheet e net reads =
@@ -154,7 +154,7 @@ module _ (s : List ℕ) (t : Table) (reads : readFull s ≡ accepted t) where
       subst (OnLeaves t) (accepted-inj (familyNet r t) net (sym (tree-sheet s t reads r cells marks output sheet e .0) ∙ reads-net))
       (on-leaves t kept-t (familyNet r t) (family-kept t kept-t r below .gates) (tree-on-leaves s t reads r below))
 
-  -- .. and a job on that sheet, after any list of steps and askings, whenever finishing it writes a sheet
+  -- .. and a job on that sheet, after any list of steps and questions, whenever finishing it writes a sheet
   pub finished-on-leaves : (moves : List Move) (cells marks output sheet : List ℕ)
       → sheetOf (finishJob (afterMoves moves (openJob s .job)) cells marks output .made) ≡ accepted sheet
       → (net : Net) → readNet sheet ≡ accepted net → OnLeaves t net
@@ -186,7 +186,7 @@ module _ (s : List ℕ) (net : Net) (reads : readNet s ≡ accepted net) where
       shallow-written (tableOfNet net) (net-kept net kept-net) cells marks output sheet
       (sym (ap shallowSheetOf (settle-shallow-accepted s cells marks output net reads)) ∙ e)
 
-  -- .. and why no fewer leaves would do: every accepted net uses each input that matters to its table
+  -- .. and why fewer leaves do not suffice: every accepted net uses each input that matters to its table
   pub uses-each-mattering : (i : ℕ) → i < net .header .inputs
       → matters (net .header .levels) (net .header .inputs) (inkIn (tableOfNet net .inks)) i ≡ true → any (eqb i) (usedBy (net .gates)) ≡ true
   unfolding tableOfNet

@@ -1,4 +1,4 @@
--- The numbers with which the call of arrival times may refuse, by the sheet that it refuses.
+-- The numbers with which the call for arrival times may refuse, by the sheet that it refuses.
 -- Assumes nothing.
 use Prim.Native.Nat.{ℕ}
 use mathlib.Core.Path.{_≡_, subst}

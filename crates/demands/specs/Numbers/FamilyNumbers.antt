@@ -1,4 +1,4 @@
--- The numbers with which the two calls of a family may refuse: making's, but for 16. "A table with no tree gets count 0, never 16", and 17 "takes the
+-- The numbers with which the two calls of a family may refuse: making's, except 16. "A table with no tree gets count 0, never 16", and 17 "takes the
 -- place of 16 in the second call".
 -- Assumes nothing.
 use Prim.Native.Nat.{ℕ}
@@ -20,7 +20,7 @@ abbrev pub familyTreeNumbers : List ℕ
 familyTreeNumbers = 1 ∷ 2 ∷ 3 ∷ 4 ∷ 5 ∷ 6 ∷ 27 ∷ 13 ∷ 14 ∷ 17 ∷ 15 ∷ []
 
 module _ (s cells marks : List ℕ) where
-  -- the count: the sheet's, 13 and 14
+  -- the count: the sheet's numbers, 13 and 14
   pub family-count-numbers : Gives judgedNumbers (familyCountCall s cells marks .answer)
   family-count-numbers number place e = go (judge s cells marks)
     where
@@ -37,7 +37,7 @@ module _ (s cells marks : List ℕ) where
   family-count-never-16 place = not-given judgedNumbers _ family-count-numbers 16 place refl
 
 module _ (s : List ℕ) (r : ℕ) (cells marks output : List ℕ) where
-  -- the tree of a number: besides 17 and 15
+  -- the tree of a number: also 17 and 15
   pub family-tree-numbers : Gives familyTreeNumbers (familyTreeCall s r cells marks output .answer)
   unfolding any all
   family-tree-numbers number place e = go (judge-number s r cells marks output)
@@ -51,7 +51,7 @@ module _ (s : List ℕ) (r : ℕ) (cells marks output : List ℕ) where
       go (no-number t is large e) = refuses familyTreeNumbers 17 r refl number place (answer _ e)
       go (has-tree t is small e) = sheet-numbers familyTreeNumbers refl _ _ _ output number place (answer _ e)
 
-  -- 17 in the place of 16
+  -- 17 instead of 16
   pub family-tree-never-16 : (place : ℕ) → familyTreeCall s r cells marks output .answer ≡ refused 16 place → ⊥
   unfolding any
   family-tree-never-16 place = not-given familyTreeNumbers _ family-tree-numbers 16 place refl

@@ -28,7 +28,7 @@ abbrev pub glyphAmpleNumbers : List ℕ
 glyphAmpleNumbers = 1 ∷ 2 ∷ 3 ∷ 4 ∷ 6 ∷ 7 ∷ 8 ∷ 26 ∷ 24 ∷ 25 ∷ []
 
 module _ (s : List ℕ) (width height : ℕ) (picture : List ℕ) (offsets : List ℤ) (output : List ℕ) where
-  -- "New numbers: 24 .. 25 .. before 15", and 15 where the output is short of a picture, among whatever numbers
+  -- "New numbers: 24 .. 25 .. before 15", and 15 if the output is too short for a picture, among any numbers
   module _ (numbers : List ℕ) (h24 : In 24 numbers) (h25 : In 25 numbers)
       (h15 : (m : ℕ) → IsPicture m width height picture → length output < width * height → In 15 numbers) where
     judged-numbers : (m n : ℕ) → Gives numbers (glyphJudged m n width height picture offsets output)

@@ -1,5 +1,5 @@
--- The numbers with which a job's calls may refuse, whatever the job: opening with those of a sheet of a full table, a step with 21, an asking with 11,
--- finishing with 9, 10, 27, 22 and then making's; and that a refusal hands back the job as it was.
+-- The numbers with which a job's calls may refuse, for every job: opening with those of a sheet of a full table, a step with 21, asking with 11,
+-- finishing with 9, 10, 27, 22 and then making's; and that a refusal returns the job unchanged.
 -- Assumes nothing.
 use Prim.Native.Nat.{ℕ, _^_, _≤_}
 use mathlib.Core.Path.{_≡_, refl, sym, ap, _∙_}

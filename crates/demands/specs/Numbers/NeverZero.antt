@@ -39,7 +39,7 @@ use Rattle.demands.specs.Numbers.JobNumbers.{open-numbers, step-numbers,
 use Rattle.demands.specs.Numbers.KeepingNumbers.{keep-numbers, keepNumbers}
 use Rattle.demands.specs.Numbers.GlyphNumbers.{glyph-numbers, glyphNumbers}
 
--- No call refuses with 0: over C, where 0 says that a call accepted, the two are told apart.
+-- No call refuses with 0: so over C, where 0 means that a call accepted, the two can be distinguished.
 pub never-0 : (place : ℕ)
     → ((m n : ℕ) (cells : List ℕ) (g : ℕ) → multiplicityCall m n cells g ≡ refused 0 place → ⊥)
     × ((m n : ℕ) (cells marks : List ℕ) → markingCall m n cells marks .answer ≡ refused 0 place → ⊥)

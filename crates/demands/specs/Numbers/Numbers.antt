@@ -1,5 +1,5 @@
 -- Demand 1: ".. turned back with the one number and place that document 01 fixes, and so is every other call". Each call's equation
--- fixes the number. Here: what it is that a call gives certain numbers only, for all inputs and buffers, and how that is shown of its cases.
+-- fixes the number. Here: what it means that a call gives only certain numbers, for all inputs and buffers, and how to prove it case by case.
 -- Assumes nothing.
 use Prim.Native.Nat.{ℕ, _^_}
 use mathlib.Core.Path.{_≡_, refl, sym, _∙_, subst}
@@ -30,13 +30,13 @@ accepts numbers a number place e = absurd (not-refused a number place e)
 pub refuses : {A : Type 0} (numbers : List ℕ) (k at : ℕ) → In k numbers → Gives {A = A} numbers (refused k at)
 refuses numbers k at h number place e = subst (λ (k : ℕ). In k numbers) (let z : k ≡ number = cc in z) h
 
--- what holds of an accepted input and of a refusal
+-- what holds for an accepted input and for a refusal
 pub by-answer : {A X : Type 0} (P : X → Type 0) (a : Answer A) (f : A → X) (g : ℕ → ℕ → X) → ((x : A) → a ≡ accepted x → P (f x))
     → ((number place : ℕ) → a ≡ refused number place → P (g number place)) → P (elim a [ accepted x ↦ f x | refused number place ↦ g number place ])
 by-answer P (accepted x) f g h k = h x refl
 by-answer P (refused number place) f g h k = k number place refl
 
--- what holds in each arm of a test, by what the test found
+-- what holds in each branch of a test, given the test's result
 pub by-tested : {X : Type 0} (P : X → Type 0) (t : Bool) (a b : X) → (t ≡ true → P a) → (t ≡ false → P b) → P (elim t [ true ↦ a | false ↦ b ])
 by-tested P true a b h k = h refl
 by-tested P false a b h k = k refl
@@ -47,7 +47,7 @@ unfolding onward
 by-onward numbers (accepted x) next h k = k x
 by-onward numbers (refused number place) next h k = refuses numbers number place (h number place refl)
 
--- 9 or 10, among whatever numbers the rest of the call has
+-- 9 or 10, among any numbers that the rest of the call has
 pub bare-numbers : (m n : ℕ) (cells : List ℕ) (numbers : List ℕ) → In 9 numbers → In 10 numbers → Gives numbers (bareCells m n cells)
 unfolding bareCells
 bare-numbers m n cells numbers nine ten =
@@ -55,7 +55,7 @@ bare-numbers m n cells numbers nine ten =
     (by-test (Gives numbers) (all (λ c. leb c m) cells) _ _ (accepts numbers tt) (refuses numbers 10 _ ten))
     (refuses numbers 9 0 nine)
 
--- .. and 27 where the cells are to be full
+-- .. and 27 if the cells must be full
 pub full-numbers : (m : ℕ) (cells : List ℕ) (numbers : List ℕ) → In 27 numbers → Gives numbers (full m cells)
 unfolding full
 full-numbers m cells numbers open27 = by-test (Gives numbers) (any (isOpen m) cells) _ _ (refuses numbers 27 _ open27) (accepts numbers tt)

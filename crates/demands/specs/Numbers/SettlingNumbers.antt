@@ -36,7 +36,7 @@ unfolding writtenSheet
 sheet-numbers numbers h15 sheet cells marks output =
     by-test (MadeGives numbers) (ltb (length output) (length sheet)) _ _ (refuses numbers 15 _ h15) (accepts numbers _)
 
--- 13 or 14, among whatever numbers the rest of the call has
+-- 13 or 14, among any numbers that the rest of the call has
 pub room-numbers : (t : Table) (cells marks : List ℕ) (numbers : List ℕ) → In 13 numbers → In 14 numbers → Gives numbers (roomFor t cells marks)
 unfolding roomFor
 room-numbers t cells marks numbers h13 h14 =
@@ -51,7 +51,7 @@ in-room-numbers numbers h13 h14 t cells marks output rest h =
     by-answer (MadeGives numbers) (roomFor t cells marks) _ _ (λ _ _. h)
     (λ number place e. refuses numbers number place (room-numbers t cells marks numbers h13 h14 number place e))
 
--- 13, 14, 15, and 16 where the whole group has another mark than 2
+-- 13, 14, 15, and 16 if the whole group's mark is not 2
 pub into-numbers : (netFor : Table → Net) (numbers : List ℕ) → In 13 numbers → In 14 numbers → In 15 numbers → (t : Table) → ((WholeTwo t → ⊥) → In 16 numbers)
     → (cells marks output : List ℕ) → Gives numbers (madeInto netFor t cells marks output .answer)
 into-numbers netFor numbers h13 h14 h15 t h16 cells marks output = in-room-numbers numbers h13 h14 t cells marks output _ (marked (ℕ-discrete _ 2))
@@ -61,7 +61,7 @@ into-numbers netFor numbers h13 h14 h15 t h16 cells marks output = in-room-numbe
     marked (no other) = subst⁻¹ (MadeGives numbers) (marked-16 netFor t cells marks output other) (refuses numbers 16 _ (h16 other))
 
 module _ (s cells marks output : List ℕ) where
-  -- settling gives no 16: a net's table has a tree
+  -- settling never gives 16: a net's table has a tree
   pub settle-numbers : Gives settleNumbers (settleCall s cells marks output .answer)
   unfolding settleCall any all
   settle-numbers =

@@ -1,5 +1,5 @@
--- Document 02, K5: what the call of arrival times answers, and what that says of every arrival inside the ranges. "Arrival times count used inputs only."
--- (K12): the ranges of the others have no say.
+-- Document 02, K5: the answer of the call for arrival times, and what it says about all arrivals inside the ranges. "Arrival times count used inputs
+-- only." (K12): the ranges of the others do not matter.
 -- Assumes nothing.
 use Prim.Native.Nat.{ℕ, _+_, _-_, _*_, _≤_, _<_}
 use mathlib.Core.Path.{_≡_, refl, sym, ap, _∙_, subst}
@@ -29,9 +29,9 @@ use Rattle.readback.specs.Arrivals.ArrivalSheets as sheets
 use Rattle.trees.specs.Trees.UsedOnce.{listed-used}
 use Rattle.trees.specs.Arrivals.ArrivalTimes.{settling-last}
 
--- ---- what an answer is of
+-- ---- what an answer is about
 
--- two accepted sheets, and the ends of the one net for the one list of arrivals
+-- two accepted sheets, and the ends for that net and those arrivals
 pub record SettlesAs (s r : List ℕ) (delay : ℕ) (ends : Ends) : Type 0 where
   pub net : Net
   pub arrivals : List Arrival
@@ -39,7 +39,7 @@ pub record SettlesAs (s r : List ℕ) (delay : ℕ) (ends : Ends) : Type 0 where
   pub arrive : readArrivals (net .header .names) r ≡ accepted arrivals
   pub are : ends ≡ endsOf net arrivals delay
 
--- the call settles exactly on accepted sheets
+-- the call settles exactly if both sheets are accepted
 pub settles-as : (s r : List ℕ) (delay : ℕ) (ends : Ends) → arrivalsCall s r delay ≡ settles ends → SettlesAs s r delay ends
 settles-as s r delay ends e = go (readNet s) refl
   where
@@ -59,7 +59,7 @@ settles-as s r delay ends e = go (readNet s) refl
 
 -- ---- arrivals inside the ranges
 
--- Times in units of which k make a quarter, each inside its input's range, at the inputs that are meant.
+-- Times in a unit of 1/k quarter, each inside its input's range, at the inputs `Meant`.
 pub record Inside (Meant : ℕ → Type 0) (arrivals : List Arrival) (k : ℕ) (times : List ℕ) : Type 0 where
   pub not-before : (i : ℕ) → Meant i → earliestOf (arrivalAt arrivals i) * k ≤ getD times i 0
   pub not-after : (i : ℕ) → Meant i → getD times i 0 ≤ latestOf (arrivalAt arrivals i) * k
@@ -72,7 +72,7 @@ ArrivalsListed net i = i < net .header .inputs
 abbrev pub Used : Net → ℕ → Type 0
 Used net i = (i < net .header .inputs) × (any (eqb i) (usedBy (net .gates)) ≡ true)
 
--- a list with each number times k
+-- a list with each number multiplied by k
 scaled : ℕ → List ℕ → List ℕ
 scaled k times = map (λ time. time * k) times
 
@@ -88,14 +88,14 @@ module _ (net : Net) (arrivals : List Arrival) (delay : ℕ) where
   abbrev inputs : ℕ
   inputs = net .header .inputs
 
-  -- in those units, with the delay in them too
+  -- the settling time in that unit, with the delay in that unit too
   abbrev settledAt : ℕ → List ℕ → ℕ
   settledAt k times = settlingTime inputs (net .gates) (delay * k) times
 
   at-end : (end : Arrival → ℕ) → end (fixed 0) ≡ 0 → (k i : ℕ) → getD (scaled k (map end arrivals)) i 0 ≡ end (arrivalAt arrivals i) * k
   at-end end none k i = scaled-at k (map end arrivals) i ∙ ap (λ (time : ℕ). time * k) (end-at end none arrivals i)
 
-  -- the ends in those units
+  -- the ends in that unit
   earliest-scaled : (k : ℕ) → settledAt k (scaled k (map earliestOf arrivals)) ≡ earliestSettling net arrivals delay * k
   unfolding earliestSettling
   earliest-scaled k = settles-scaled inputs (net .gates) delay k (map earliestOf arrivals) (scaled k (map earliestOf arrivals))
@@ -106,12 +106,12 @@ module _ (net : Net) (arrivals : List Arrival) (delay : ℕ) where
   latest-scaled k = settles-scaled inputs (net .gates) delay k (map latestOf arrivals) (scaled k (map latestOf arrivals))
       (λ i _. scaled-at k (map latestOf arrivals) i)
 
-  -- times that are the same at the used inputs settle at the same time
+  -- times that agree at the used inputs settle at the same time
   pub used-alone : (k : ℕ) (times others : List ℕ) → ((i : ℕ) → Used net i → getD times i 0 ≡ getD others i 0) → settledAt k times ≡ settledAt k others
   used-alone k times others same =
       settles-same inputs (net .gates) (delay * k) times others (λ i listed. same i (listed-used inputs (net .gates) i listed))
 
-  -- "For any arrivals inside the ranges it lies within the answer", in quarters (k is 1) and in any finer unit; at the used inputs is enough
+  -- "For any arrivals inside the ranges it lies within the answer", in quarters (k is 1) and in any finer unit; only used inputs have to be inside
   pub settles-within : (k : ℕ) (times : List ℕ) → Inside (Used net) arrivals k times
       → (earliestSettling net arrivals delay * k ≤ settledAt k times) × (settledAt k times ≤ latestSettling net arrivals delay * k)
   settles-within k times inside = (
@@ -153,7 +153,7 @@ module _ (s r : List ℕ) (net : Net) (arrivals : List Arrival) (reads : readNet
   kept-net : NetRules net
   kept-net = net-accepted s net reads .1
 
-  -- the arrivals of an accepted sheet keep the rules, one for each input
+  -- the arrivals of an accepted sheet follow the rules, one for each input
   pub arrivals-kept : ArrivalSheetRules (net .header .names) arrivals
   arrivals-kept = sheets.arrivals-accepted (net .header .names) (kept-net .header .names) r arrivals arrive .1
 
@@ -182,9 +182,9 @@ module _ (s r : List ℕ) (net : Net) (arrivals : List Arrival) (reads : readNet
     unfolding endsOf latestSettling
     latest-exact = quarter-exact _ (settling-small latestOf refl (λ i. each-order arrivals (arrivals-kept .each) i .1))
 
--- ---- all of it, of the call
+-- ---- all of this, for the call
 
--- What the two floats say: they are exact, of `earliest` and `latest` quarters; arrivals inside the ranges settle between these, and some at each.
+-- What the two floats mean: they are exactly `earliest` and `latest` quarters; arrivals inside the ranges settle between these, and some at each.
 pub record Promised (s r : List ℕ) (delay : ℕ) (ends : Ends) : Type 0 where
   pub net : Net
   pub arrivals : List Arrival
@@ -224,7 +224,7 @@ arrivals-hold s r delay byte ends e =
 
 -- ---- the other inputs
 
--- "Arrival times count used inputs only.": two arrival sheets with the same arrival at every used input are answered alike
+-- "Arrival times count used inputs only.": two arrival sheets with the same arrival at every used input get the same answer
 pub used-answer : (s r q : List ℕ) (net : Net) (arrivals others : List Arrival) → readNet s ≡ accepted net
     → readArrivals (net .header .names) r ≡ accepted arrivals → readArrivals (net .header .names) q ≡ accepted others
     → ((i : ℕ) → Used net i → arrivalAt arrivals i ≡ arrivalAt others i) → (delay : ℕ) → arrivalsCall s r delay ≡ arrivalsCall s q delay

@@ -1,5 +1,5 @@
 -- Demand 2, checking and table writing: "the check of a net against a table says yes exactly when they agree on every
--- assignment", now of "the assignments that aren't open" (document 02, K13); the table sheet written from a net sheet is accepted, and checks against it.
+-- assignment", now for "the assignments that aren't open" (document 02, K13). The table sheet written from a net sheet is accepted, and agrees.
 -- Assumes nothing.
 use Prim.Native.Nat.{ℕ, _^_, _≤_, _<_}
 use mathlib.Core.Path.{_≡_, refl, sym, ap, _∙_, subst, subst⁻¹}
@@ -38,7 +38,7 @@ differ-same j k e = cc
 module _ (s r : List ℕ) (net : Net) (t : Table) (reads-net : readNet s ≡ accepted net) (reads-table : readTable r ≡ accepted t)
     (header : net .header ≡ t .header)
     (cells : List ℕ) (long : t .header .levels ^ t .header .inputs ≤ length cells) where
-  -- the inks are compared, and stand in the cells buffer whether they agree or not
+  -- the inks are compared, and are in the cells buffer whether they agree or not
   pub checked : checkCall s r cells ≡ record { answer = compared (t .header .levels) (tableOfNet net .inks) (t .inks); cells = written cells (t .inks) }
   checked =
       check-accepted s r cells net reads-net t reads-table
@@ -63,7 +63,7 @@ module _ (s r : List ℕ) (net : Net) (t : Table) (reads-net : readNet s ≡ acc
   abbrev AgreeThere : ℕ → Type 0
   AgreeThere p = (inkIn (t .inks) p ≡ t .header .levels → ⊥) → value (net .header .levels) (net .header .inputs) (net .gates) p ≡ inkIn (t .inks) p
 
-  -- the check says yes exactly when the net's value is the table's ink at every assignment that is not open
+  -- the check says yes exactly if the net's value is the table's ink at every assignment that is not open
   pub check-agrees : (checkCall s r cells .answer ≡ agree) ↔ ((p : ℕ) → p < t .header .levels ^ t .header .inputs → AgreeThere p)
   check-agrees = go (comparison (t .header .levels) (tableOfNet net .inks) (t .inks))
     where
@@ -78,7 +78,7 @@ module _ (s r : List ℕ) (net : Net) (t : Table) (reads-net : readNet s ≡ acc
         λ h. absurd (unlike (sym (value-at k l) ∙ h k (omega (arith, inks-length)) shut)),
       )
 
-  -- and otherwise the lowest index, not open, at which they differ
+  -- and otherwise it reports the lowest index, not open, at which they differ
   pub check-differs : (k : ℕ) → checkCall s r cells .answer ≡ differ k
       → (k < t .header .levels ^ t .header .inputs)
       × (inkIn (t .inks) k ≡ t .header .levels → ⊥)
@@ -101,7 +101,7 @@ module _ (s r : List ℕ) (net : Net) (t : Table) (reads-net : readNet s ≡ acc
             λ p b shut. let c : p < j = omega arith in value-at p (omega arith) ∙ earlier p c shut,
           )
 
--- What a yes of the check says: two accepted sheets with the same levels, inputs and names, a cells buffer of their length, and
+-- What a yes of the check means: two accepted sheets with the same levels, inputs and names, a cells buffer of sufficient length, and
 -- agreement on every assignment that is not open.
 pub record Agreeing (s r cells : List ℕ) : Type 0 where
   pub net : Net
@@ -164,7 +164,7 @@ module _ (s : List ℕ) (net : Net) (reads : readNet s ≡ accepted net) where
   printed-accepted : readTable (printedTable (tableOfNet net)) ≡ accepted (tableOfNet net)
   printed-accepted = table-read-back (tableOfNet net) (kept-table net (net-accepted s net reads .1))
 
-  -- .. and checks against it
+  -- .. and the check of the net against it says yes
   printed-checks : (cells : List ℕ) → net .header .levels ^ net .header .inputs ≤ length cells
       → checkCall s (printedTable (tableOfNet net)) cells .answer ≡ agree
   unfolding tableOfNet
@@ -172,7 +172,7 @@ module _ (s : List ℕ) (net : Net) (reads : readNet s ≡ accepted net) where
       check-agrees s (printedTable (tableOfNet net)) net (tableOfNet net) reads printed-accepted refl cells long .1
       (λ p h _. sym (table-at (net .header .levels) (net .header .inputs) (net .gates) p h))
 
-  -- it is what table writing writes, where the output is long enough, ..
+  -- it is what table writing writes, if the output is long enough, ..
   pub writes-table : (output : List ℕ) → length (printedTable (tableOfNet net)) ≤ length output
       → tableSheetOf (writeTableCall s output) ≡ accepted (printedTable (tableOfNet net))
   unfolding sheetIn
@@ -191,7 +191,7 @@ module _ (s : List ℕ) (net : Net) (reads : readNet s ≡ accepted net) where
   pub written-accepted : (output sheet : List ℕ) → tableSheetOf (writeTableCall s output) ≡ accepted sheet → readTable sheet ≡ accepted (tableOfNet net)
   written-accepted output sheet e = subst (λ (r : List ℕ). readTable r ≡ accepted (tableOfNet net)) (writes-only output sheet e) printed-accepted
 
-  -- .. and checks against the net sheet.
+  -- .. and the check of the net sheet against it says yes.
   pub written-checks : (output sheet : List ℕ) → tableSheetOf (writeTableCall s output) ≡ accepted sheet
       → (cells : List ℕ) → net .header .levels ^ net .header .inputs ≤ length cells → checkCall s sheet cells .answer ≡ agree
   written-checks output sheet e cells long =

@@ -1,4 +1,4 @@
--- What the number that the multiplicity call answers is worth: the fewest values that a wire in place of the group can carry.
+-- What the result of the multiplicity call means: the fewest values that a wire in place of the group can carry.
 -- Assumes nothing.
 use Prim.Native.Nat.{ℕ, _^_, _≤_, _<_}
 use mathlib.Core.Path.{_≡_, refl, sym, subst}
@@ -19,7 +19,7 @@ use Rattle.laws.specs.Lists.Tests.{or-false-iff}
 use Rattle.paper.specs.Decompositions.{SimpleBy, values-needed}
 
 module _ (m n : ℕ) (cells : List ℕ) (g k : ℕ) where
-  -- the table is F(g(X), Y) with g of j values exactly when j is at least the number answered
+  -- the table is F(g(X), Y) with g of j values exactly if j is at least the number returned
   abbrev pub FewestValues : Type 0
   FewestValues = (j : ℕ) → SimpleBy j m n (inkIn cells) g ↔ (k ≤ j)
 

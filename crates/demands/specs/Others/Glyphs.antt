@@ -32,7 +32,7 @@ use Rattle.demands.specs.Settling.Settles.{sheetOf, settled-accepted, se
 
 -- ---- "Each cell of the new picture is the net's value with input i read from the old cell at its offset"
 
--- the answer is the number of cells; each new cell; the further bytes of the output are kept
+-- the answer is the number of cells; each new cell; the output keeps its further bytes
 pub record Prints (net : Net) (width height : ℕ) (picture : List ℕ) (offsets : List ℤ) (output : List ℕ) (made : Written) : Type 0 where
   pub answer : made .answer ≡ accepted (width * height)
   pub cells : (x y : ℕ) → x < width → y < height → getD (made .output) (y * width + x) 0 ≡ newCell net width height picture offsets x y
@@ -57,7 +57,7 @@ written-prints net width height picture offsets output long =
       same = omega (arith, length-append new (drop (length new) output), length-drop (length new) output, cells);
     }
 
--- A picture, offsets and an output that are as they must be: the call prints the glyph.
+-- If the picture, the offsets and the output are valid, the call prints the glyph.
 pub glyph-prints : (s : List ℕ) (net : Net) → readNet s ≡ accepted net → (width height : ℕ) (picture : List ℕ) (offsets : List ℤ) (output : List ℕ)
     → IsPicture (net .header .levels) width height picture → AreOffsets (net .header .inputs) offsets → width * height ≤ length output
     → Prints net width height picture offsets output (glyphCall s width height picture offsets output)
@@ -66,16 +66,16 @@ glyph-prints s net reads width height picture offsets output is are long =
     (offsets-fit (net .header .inputs) offsets .1 are) long)
     (written-prints net width height picture offsets output long)
 
--- ---- the glyph is decided by the net's table
+-- ---- the net's table determines the glyph
 
--- a new cell from a table: its entry at the levels that are read
+-- a new cell from a table: its entry at the levels read
 abbrev cellFrom : Table → ℕ → ℕ → List ℕ → List ℤ → ℕ → ℕ → ℕ
 cellFrom t width height picture offsets x y = getD (t .inks) (indexOf (t .header .levels) (levelsRead (t .header .inputs) width height picture offsets x y)) 0
 
 abbrev glyphFrom : Table → ℕ → ℕ → List ℕ → List ℤ → List ℕ
 glyphFrom t width height picture offsets = concatMap (λ y. map (λ x. cellFrom t width height picture offsets x y) (range 0 width)) (range 0 height)
 
--- what the call comes to, by what it is judged to be, and the new picture
+-- the result of the call, from the verdict and the new picture
 abbrev judgedInto : Answer (Unit {0}) → ℕ → List ℕ → List ℕ → Written
 judgedInto judged count new output =
     elim judged [
@@ -83,13 +83,13 @@ judgedInto judged count new output =
       | accepted fits ↦ record { answer = accepted count; output = written output new }
     ]
 
--- all that the call does after the sheet is read, from a table
+-- everything the call does after reading the sheet, from a table
 abbrev intoFrom : Table → ℕ → ℕ → List ℕ → List ℤ → List ℕ → Written
 intoFrom t width height picture offsets output =
     judgedInto (glyphJudged (t .header .levels) (t .header .inputs) width height picture offsets output) (width * height)
     (glyphFrom t width height picture offsets) output
 
--- where 24 is not given, the picture is one
+-- if everything is judged good, the picture is valid
 judged-picture : (m n width height : ℕ) (picture : List ℕ) (offsets : List ℤ) (output : List ℕ)
     → glyphJudged m n width height picture offsets output ≡ accepted tt
     → IsPicture m width height picture
@@ -110,7 +110,7 @@ module _ (net : Net) (kept : NetRules net) where
       value-index (net .header .levels) (net .header .inputs) (net .gates) (levelsRead (net .header .inputs) width height picture offsets x y)
       (picture-levels-given (net .header .levels) width height picture is levels-some (net .header .inputs) offsets x y)
 
-  -- every new cell has a level, so that the new picture is a picture again
+  -- every new cell has a level, so the new picture is again a picture
   pub new-below : (width height : ℕ) (picture : List ℕ) (offsets : List ℤ) → IsPicture (net .header .levels) width height picture
       → (x y : ℕ) → newCell net width height picture offsets x y < net .header .levels
   unfolding tableOfNet
@@ -142,7 +142,7 @@ module _ (net : Net) (kept : NetRules net) where
             output = written output (same (judged-picture (net .header .levels) (net .header .inputs) width height picture offsets output e) i);
           }
 
--- Two net sheets with the same levels, inputs, names and table: the two calls come to the same, whatever else is lent to them.
+-- Two net sheets with the same levels, inputs, names and table: the two calls have the same result, whatever else is lent to them.
 pub same-table-glyph : (s r : List ℕ) (net other : Net) → readNet s ≡ accepted net → readNet r ≡ accepted other → tableOfNet net ≡ tableOfNet other
     → (width height : ℕ) (picture : List ℕ) (offsets : List ℤ) (output : List ℕ)
     → glyphCall s width height picture offsets output ≡ glyphCall r width height picture offsets output
@@ -155,7 +155,7 @@ same-table-glyph s r net other reads reads-other same width height picture offse
 
 -- ---- "Two nets that settle alike must print the same glyph from the same picture and offsets."
 
--- Settling writes one sheet for both: then the two glyph calls give the same, answer and output, with every picture, all offsets and every output.
+-- If settling writes the same sheet for both, the two glyph calls give the same answer and output, with every picture, all offsets and every output.
 pub settle-alike-print-alike : (s r sheet : List ℕ) (cells marks output cells' marks' output' : List ℕ)
     → sheetOf (settleCall s cells marks output) ≡ accepted sheet → sheetOf (settleCall r cells' marks' output') ≡ accepted sheet
     → (width height : ℕ) (picture : List ℕ) (offsets : List ℤ) (out : List ℕ)
@@ -187,7 +187,7 @@ module _ (net : Net) (width height : ℕ) (offsets : List ℤ) (still : (k : ℕ
       ∙ rw (add-zero, add-zero) (level-in width height picture x y h k))
       ∙ map-range-all (getD picture (y * width + x) 0) 0 (net .header .inputs))
 
-  -- .. so the new cell depends on that alone
+  -- .. so the new cell depends only on that
   pub own-alone : (picture other : List ℕ) → getD picture (y * width + x) 0 ≡ getD other (y * width + x) 0
       → newCell net width height picture offsets x y ≡ newCell net width height other offsets x y
   own-alone picture other e =

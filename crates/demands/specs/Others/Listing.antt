@@ -1,6 +1,6 @@
 -- Document 01, listing: "one gate line at each turn, as the part of the sheet that holds it without its line feed", and "after the
 -- last line .. none is left". On an accepted sheet there are as many turns as gates, "from 1 to n − 1" (document 02, K12): the lines given at
--- them, each with its line feed, are what stands after the first four lines, and every later turn gives none.
+-- them, each with its line feed, are everything after the first four lines, and every later turn gives none.
 -- Assumes nothing.
 use Prim.Native.Nat.{ℕ, zero, suc, _+_, _≤_, _<_}
 use mathlib.Core.Path.{_≡_, refl, sym, ap, ap₂, _∙_}
@@ -22,13 +22,13 @@ use Rattle.readback.specs.Sheets.ReadBack.{net-accepted}
 use Rattle.readback.specs.Sheets.Lines.{fed, linesUpTo, lines-first, headLines, fourLines, four-fed, four-unbroken, netLines}
 use Rattle.readback.specs.Nets.GateLines.{partOf, lineAt, sheet-lines, gate-count, gate-bytes}
 
--- what a turn gives of the sheet, with its line feed
+-- the line that a turn gives, with its line feed
 unfoldable pub lineGiven : List ℕ → Answer Turn → List ℕ
 lineGiven s (accepted (gateAt p)) = fed (partOf s p)
 lineGiven s (accepted noneLeft) = []
 lineGiven s (refused number place) = []
 
--- a list from an element for each of its places
+-- a list computed place by place
 places : {A B : Type 0} (f : ℕ → List B) (h : A → List B) (d : A) (from : ℕ) (xs : List A)
     → ((k : ℕ) → k < length xs → f (from + k) ≡ h (getD xs k d)) → concatMap f (range from (length xs)) ≡ concatMap h xs
 unfolding range concatMap
@@ -49,7 +49,7 @@ module _ (s : List ℕ) (net : Net) (reads : readNet s ≡ accepted net) where
   unfolding listing onward turnOf lineAt
   turn-line k h = rw (reads, listing, lt-ltb k (length (net .gates)) h, turnOf)
 
-  -- .. of which there is at least one, ..
+  -- .. and there is at least one, ..
   pub first-given : listing s 0 ≡ accepted (gateAt (lineAt s 4))
   first-given = turn-line 0 (gate-count s net reads .0)
 

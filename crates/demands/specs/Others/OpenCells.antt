@@ -1,5 +1,5 @@
--- Document 02, K13: "Everything that counts classes, marks groups or fills gates needs a full table". Each such call refuses with 27 exactly when
--- some cell is open, at the lowest such index, where what is judged before it is passed; and it then leaves every buffer as it was.
+-- Document 02, K13: "Everything that counts classes, marks groups or fills gates needs a full table". Each such call refuses with 27 exactly if
+-- some cell is open, at the lowest such index, provided everything judged before it passes; and it then leaves every buffer unchanged.
 -- Assumes nothing.
 use Prim.Native.Nat.{ℕ, _^_, _≤_, _<_}
 use mathlib.Core.Path.{_≡_, refl, sym, ap, _∙_, subst}
@@ -47,13 +47,13 @@ use Rattle.laws.specs.Calls.Checking.{same-header, header-same}
 
 -- ---- the lowest open index
 
--- of cells of m levels: "a cell holds m for it"
+-- for cells of m levels: "a cell holds m for it"
 pub record LowestOpen (m : ℕ) (cells : List ℕ) (k : ℕ) : Type 0 where
   pub inside : k < length cells
   pub gap : getD cells k 0 ≡ m
   pub before : (p : ℕ) → p < k → getD cells p 0 ≡ m → ⊥
 
--- 27 is told exactly there
+-- 27 is given exactly there
 pub full-exactly : (m : ℕ) (cells : List ℕ) (k : ℕ) → (full m cells ≡ refused 27 k) ↔ LowestOpen m cells k
 full-exactly m cells k = (
   λ e. let (_, inside, gap, before) = some-open m cells 27 k e in record { inside = inside; gap = gap; before = before },
@@ -69,7 +69,7 @@ full-exactly m cells k = (
     told low (all-shut _ none) = absurd (none k (low .inside) (low .gap))
     told low (lowest-open j back _ gap before) = back ∙ ap (λ (i : ℕ). refused 27 i) (only j low gap before (decLt j k) (decLt k j))
 
--- an accepted table sheet with an open cell, the lowest of which has this index
+-- an accepted table sheet with an open cell; this is the lowest index of one
 pub record OpenSheet (s : List ℕ) (k : ℕ) : Type 0 where
   pub table : Table
   pub reads : readTable s ≡ accepted table
@@ -90,7 +90,7 @@ sheet-exactly s k = (λ e. told e (full-read s), λ o. read-27 s (o .table) (o .
 
 -- ---- the calls on a table sheet
 
--- a call that turns back what needs a full table, and refuses the rest with other numbers
+-- a call that refuses what needs a full table, and refuses the rest with other numbers
 exactly : {A : Type 0} (s : List ℕ) (k : ℕ) (answer : Answer A) → ((number place : ℕ) → readFull s ≡ refused number place → answer ≡ refused number place)
     → ((t : Table) → readFull s ≡ accepted t → answer ≡ refused 27 k → ⊥) → (answer ≡ refused 27 k) ↔ OpenSheet s k
 exactly s k answer back others = (λ e. told e (readFull s) refl, λ o. back 27 k (sheet-exactly s k .1 o))
@@ -114,7 +114,7 @@ module _ (s : List ℕ) (k : ℕ) where
         (into-numbers settledNet (13 ∷ 14 ∷ 16 ∷ 15 ∷ []) refl refl refl t (λ _. refl) cells marks output) 27 k refl
         (sym (ap (λ (made : Made). made .answer) (make-accepted s cells marks output t e)) ∙ answer))
 
-    -- .. which leaves its buffers, ..
+    -- .. which leaves its buffers unchanged, ..
     pub make-27-leaves : OpenSheet s k → makeCall s cells marks output ≡ record { answer = refused 27 k; cells = cells; marks = marks; output = output }
     make-27-leaves o = make-refused s cells marks output 27 k (sheet-exactly s k .1 o)
 
@@ -167,7 +167,7 @@ module _ (s : List ℕ) (k : ℕ) where
   pub open-27-empty : OpenSheet s k → openJob s ≡ record { job = emptyJob; answer = refused 27 k }
   open-27-empty o = open-refused s 27 k (sheet-exactly s k .1 o)
 
--- ---- keeping, of two sheets
+-- ---- keeping, with two sheets
 
 -- both sheets are accepted, with the same levels, inputs and names, and the table has an open cell
 pub record OpenWiring (s r : List ℕ) (k : ℕ) : Type 0 where
@@ -179,7 +179,7 @@ pub record OpenWiring (s r : List ℕ) (k : ℕ) : Type 0 where
   pub lowest : LowestOpen (table .header .levels) (table .inks) k
 
 module _ (s r : List ℕ) (k : ℕ) (cells output : List ℕ) where
-  -- it names the table sheet, and leaves both buffers, ..
+  -- it names the table sheet, and leaves both buffers unchanged, ..
   pub keep-27-leaves : OpenWiring s r k → keepCall s r cells output ≡ record { answer = turnedAway tableNamed 27 k; cells = cells; output = output }
   unfolding fullTable
   keep-27-leaves o =
@@ -253,7 +253,7 @@ module _ (s r : List ℕ) (k : ℕ) (cells output : List ℕ) where
 
 -- ---- bare cells
 
--- bare cells that are accepted, of which some are open
+-- accepted bare cells with some open ones
 abbrev pub OpenCells : ℕ → ℕ → List ℕ → ℕ → Type 0
 OpenCells m n cells k = (bareCells m n cells ≡ accepted tt) × LowestOpen m cells k
 
@@ -290,7 +290,7 @@ module _ (m n : ℕ) (cells : List ℕ) (k : ℕ) where
       group-numbers : (g : ℕ) → Gives (11 ∷ []) (groupAnswer m n cells g)
       group-numbers g = unfold groupAnswer in by-test (Gives (11 ∷ [])) (eqb g 0 || leb (2 ^ n) g) _ _ (refuses (11 ∷ []) 11 0 refl) (accepts (11 ∷ []) _)
 
-  -- .. and marking, which leaves its buffer
+  -- .. and marking, which leaves its buffer unchanged
   module _ (marks : List ℕ) where
     by-refusal : (number place : ℕ) → fullCells m n cells ≡ refused number place
         → markingCall m n cells marks ≡ record { answer = refused number place; marks = marks }

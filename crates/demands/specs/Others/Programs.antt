@@ -24,7 +24,7 @@ use Rattle.demands.specs.Settling.Makes.{HasTree, Making, no-tree, some-
 use Rattle.demands.specs.Sheets.Lengths.{mostMarks, Ample, tableOrTree, settle-ample, make-ample, settle-ample-numbers, make-ample-numbers}
 use native.Mathlib.Nat.{le-of-eq}
 
--- ---- what is printed of a call
+-- ---- what is printed for a call
 
 abbrev printed : Made → List ℕ
 printed made = programOutput (made .answer) (made .output)
@@ -52,7 +52,7 @@ makeRun input = makeCall (take mostRead input) (zeros mostCells) (zeros (marksLe
 zeros-most : (k : ℕ) → k ≤ length (zeros k)
 zeros-most k = le-of-eq (sym (length-replicate {A = ℕ} k 0))
 
--- a program's buffers always suffice
+-- a program's buffers are always long enough
 zeros-ample : Ample (zeros mostCells) (zeros (marksLength mostInputs)) (zeros mostSettled)
 unfolding marksLength
 zeros-ample = record { cells-most = zeros-most mostCells; marks-most = zeros-most mostMarks; output-most = zeros-most mostSettled }
@@ -79,7 +79,7 @@ module _ (input : List ℕ) where
       go (no-tree none answer) = absurd (none tree)
       go (some-tree has sheet) = prints-sheet (makeRun input) _ sheet
 
-  -- .. 16 and its place where there is no tree, ..
+  -- .. 16 and its place if there is no tree, ..
   pub program-no-tree : (t : Table) → readFull (take mostRead input) ≡ accepted t → (HasTree t → ⊥)
       → makeProgram input ≡ refusalLines 16 (noTreePlace (t .header .inputs) (marksOfTable t))
   unfolding makeProgram
@@ -95,7 +95,7 @@ module _ (input : List ℕ) where
   program-make-refused number place e =
       prints-refusal (makeRun input) number place (ap (λ (made : Made). made .answer) (make-refused (take mostRead input) _ _ _ number place e))
 
-  -- So a program never prints 13, 14 or 15: its call gives the numbers of its sheet alone, and making 16.
+  -- So a program never prints 13, 14 or 15: its call gives only the numbers of its sheet, and making also 16.
   pub program-settle-numbers : Gives netNumbers (settleRun input .answer)
   program-settle-numbers = settle-ample-numbers (take mostRead input) _ _ _ zeros-ample
 

@@ -1,5 +1,5 @@
--- Document 02, K8, on tidying: "A strict sheet comes back unchanged, and a tidied sheet has, at each assignment, the ink of the row that named it. Two
--- accepted loose sheets with the same first three lines, spaces aside, tidy to equal bytes exactly when they give every assignment the same ink."
+-- Document 02, K8, on tidying: "A strict sheet comes back unchanged, and a tidied sheet has, at each assignment, the ink of the row that named it.
+-- Two accepted loose sheets with the same first three lines, spaces aside, tidy to equal bytes exactly when they give every assignment the same ink."
 -- Assumes nothing.
 use Prim.Native.Nat.{ℕ, _^_, _≤_, _<_}
 use mathlib.Core.Path.{_≡_, refl, sym, ap, _∙_, subst, subst⁻¹}
@@ -119,7 +119,7 @@ module _ (s : List ℕ) (t : LooseTable) (reads : readLoose s ≡ accepted t) wh
       let (k, h, e) = row-of (t .rows) (indexOf m ls) (all-named t kept-loose (indexOf m ls) (index-of-below m n ls given)) d in
       (k, h, ap (levelsAt m n) e ∙ levels-index m n ls given)
 
-  -- .. and whatever row names it, the table has that row's ink there
+  -- .. and for any row that names it, the table has that row's ink there
   pub ink-named : (k : ℕ) (d : Row) → k < length (t .rows) → getD (tableOfLoose t .inks) (getD (t .rows) k d .index) 0 ≡ getD (t .rows) k d .ink
   ink-named k d h =
       ink-at t kept-loose (getD (t .rows) k d .index) (index-named (t .header .levels) (t .header .inputs) (t .rows) (kept-loose .each) k d h)
@@ -127,13 +127,13 @@ module _ (s : List ℕ) (t : LooseTable) (reads : readLoose s ≡ accepted t) wh
 
 -- ---- two loose sheets
 
--- a list's elements but the last
+-- a list without its last element
 but-last : {A : Type 0} (xs ys : List A) (v : A) → xs ++ (v ∷ []) ≡ ys ++ (v ∷ []) → xs ≡ ys
 but-last xs ys v e =
     let counts : length xs ≡ length ys = omega (arith, ap length e, length-append xs (v ∷ []), length-append ys (v ∷ [])) in
     sym (take-at xs (v ∷ []) (length xs) refl) ∙ ap (take (length xs)) e ∙ take-at ys (v ∷ []) (length xs) (sym counts)
 
--- "the same first three lines, spaces aside": the fields of the three lines are the same, and that is when the headers are
+-- "the same first three lines, spaces aside": the fields of the three lines are the same, which holds exactly if the headers are
 pub same-fields : (t u : LooseTable) → (take 3 (looseFields t) ≡ take 3 (looseFields u)) ↔ (t .header ≡ u .header)
 unfolding looseFields
 same-fields t u = (
@@ -171,7 +171,7 @@ module _ (s r : List ℕ) (t u : LooseTable) (reads : readLoose s ≡ accepted t
       ∙ ap (λ (x : Header). map (inkNamed (u .rows)) (range 0 (x .levels ^ x .inputs))) headers in
       (λ q. record { header = headers q; inks = inks q })
 
-  -- equal sheets are of equal tables
+  -- equal sheets have equal tables
   tables-same : printedTable (tableOfLoose t) ≡ printedTable (tableOfLoose u) → tableOfLoose t ≡ tableOfLoose u
   tables-same e =
       accepted-inj (tableOfLoose t) (tableOfLoose u)

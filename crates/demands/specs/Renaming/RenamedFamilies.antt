@@ -1,5 +1,5 @@
--- Document 02, K14, of the family of a table's trees: two full table sheets of which one is a renaming of the other's inks have as many trees, and under every
--- number sheets that differ by the renaming in the last table alone.
+-- Document 02, K14, for the family of a table's trees: two full table sheets, one a renaming of the other's inks, have equally many trees, and under
+-- every number sheets that differ only by the renaming in the last table.
 -- Assumes nothing.
 use Prim.Native.Nat.{ℕ, _^_, _≤_, _<_}
 use mathlib.Core.Path.{_≡_, ap, _∙_, subst}
@@ -26,7 +26,7 @@ use Rattle.demands.specs.Renaming.RenamedSheets.{Letters, lettersOf, Ren
 use Rattle.demands.specs.Renaming.RenamedSheets.{renamed-inks-below, inks-renamed, same-inks, same-marks, RenamedNets, nets-renamed}
 use Rattle.demands.specs.Renaming.Renaming.{Enough, AlikeMade, left-marks, alike-refused, alike-written, stored-count}
 
--- what the two count calls come to: the same answer and the same marks
+-- the results of the two count calls: the same answer and the same marks
 pub record AlikeCounted (n : ℕ) (counted other : Counted) : Type 0 where
   pub answers : counted .answer ≡ other .answer
   pub marks : take (marksLength n) (counted .marks) ≡ take (marksLength n) (other .marks)
@@ -40,7 +40,7 @@ number-fits t kept number less cells marks output enough =
 module _ (r : ℕ → ℕ) (s other : List ℕ) (both : RenamedTables r s other) where
   open Letters (lettersOf r s other both) using (t, u, m, n)
 
-  -- as many trees
+  -- equally many trees
   same-count : countOfTable t ≡ countOfTable u
   unfolding countOfTable
   same-count = count-renamed m n (positive r s other both) (inkIn (t .inks)) (inkIn (u .inks)) (same-inks r s other both)

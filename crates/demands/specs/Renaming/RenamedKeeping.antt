@@ -1,6 +1,6 @@
--- Document 02, K14, of a wiring that is kept: for two full table sheets of which one is a renaming of the other's inks a net sheet is refused with
--- the same number and place, or kept for both. Then the two sheets differ by the renaming in the last table alone, and the sets of the gates that
--- changed agree but for the last gate.
+-- Document 02, K14, for a kept wiring: for two full table sheets, one a renaming of the other's inks, a net sheet is refused with
+-- the same number and place, or kept for both. Then the two sheets differ only by the renaming in the last table, and the sets of the gates that
+-- changed agree except for the last gate.
 -- Assumes nothing.
 use Prim.Native.Nat.{ℕ, suc, _^_, _≤_, _<_}
 use mathlib.Core.Path.{_≡_, refl, sym, ap, _∙_, subst, subst⁻¹}
@@ -37,12 +37,12 @@ use Rattle.demands.specs.Keeping.Keeping.{Past, kept-accepted, kept-as-l
 use Rattle.demands.specs.Renaming.RenamedSheets.{RenamedTables, renamedTable, kept-one, kept-other, reads-renamed, renamed-inks-below}
 use Rattle.demands.specs.Renaming.RenamedSheets.{inks-renamed, RenamedNets, renamed-long, nets-renamed}
 
--- What the two calls come to on the net sheet q.
+-- The results of the two calls on the net sheet q.
 pub data AlikeKept (r : ℕ → ℕ) (q : List ℕ) (made other : KeptWiring) : Type 0 where
-  -- both refused, with one number and place, of one sheet or of neither
+  -- both refused, with the same number and place, for the same sheet or for neither
   both-refused : (named : Named) (number place : ℕ) → made .answer ≡ turnedAway named number place → other .answer ≡ turnedAway named number place
       → AlikeKept r q made other
-  -- both kept: sheets that differ by the renaming alone, and sets that agree at every gate of the net but the last
+  -- both kept: sheets that differ only by the renaming, and sets that agree at every gate of the net but the last
   both-kept : (count changed changed' : ℕ) (net : Net) → made .answer ≡ rewritten count changed → other .answer ≡ rewritten count changed'
       → RenamedNets r (take count (made .output)) (take count (other .output))
       → readNet q ≡ accepted net → ((k : ℕ) → k ≢ length (net .gates) → member k changed ≡ member k changed') → AlikeKept r q made other
@@ -79,7 +79,7 @@ module _ (r : ℕ → ℕ) (s other : List ℕ) (both : RenamedTables r s other)
     pos : 0 < m
     pos = levels-pos m (kept-net .header .levels)
 
-    -- what holds of the tables' levels and inputs holds of the net's
+    -- what holds for the tables' levels and inputs holds for the net's
     below : (p : ℕ) → p < m ^ n → inkIn (t .inks) p < m
     below = subst⁻¹ (λ (h : Header). (p : ℕ) → p < h .levels ^ h .inputs → inkIn (t .inks) p < h .levels) header (renamed-inks-below r s other both)
 
@@ -104,7 +104,7 @@ module _ (r : ℕ → ℕ) (s other : List ℕ) (both : RenamedTables r s other)
       past' : Past q other cells'
       past' = record { net = net; table = u; reads-net = reads; reads-table = reads-renamed r s other both; header = header; long = cells-fit' }
 
-      -- where the wiring has room for the tables, both are kept
+      -- if the wiring has room for the tables, both are kept
       module _ (takes : leavesOut net t ≡ false) (roomy : length (net .gates) ≤ roomyBefore net t) where
         room : Roomy net t
         room = (takes, roomy)

@@ -1,6 +1,6 @@
--- Document 02, K14, what it speaks of: "two full table sheets with the same first three lines, one got from the other by a one-to-one renaming of the ink
--- levels", and two net sheets of which "their gate lines agree in left and right throughout and in every table but the last. The last tables differ by that
--- renaming at each digit that some assignment reaches." Said of the sheets' bytes.
+-- Document 02, K14, the notions: "two full table sheets with the same first three lines, one got from the other by a one-to-one renaming of the ink
+-- levels", and two net sheets where "their gate lines agree in left and right throughout and in every table but the last. The last tables differ by
+-- that renaming at each digit that some assignment reaches." Stated for the sheets' bytes.
 -- Assumes nothing.
 use Prim.Native.Nat.{ℕ, _^_, _<_}
 use mathlib.Core.Path.{_≡_, refl, sym, ap, _∙_, subst⁻¹}
@@ -97,8 +97,8 @@ module _ (r : ℕ → ℕ) (s other : List ℕ) (both : RenamedTables r s other)
 
 -- ---- two net sheets
 
--- Both are accepted. They are the same bytes but for the last line's table field. The two last tables are each other's by the renaming at each digit that some
--- assignment reaches, and 0 elsewhere.
+-- Both are accepted. They are the same bytes except for the last line's table field. The two last tables differ by the renaming at each digit that
+-- some assignment reaches, and are 0 elsewhere.
 pub record RenamedNets (r : ℕ → ℕ) (sheet other : List ℕ) : Type 0 where
   pub net : Net
   pub renamed : Net
@@ -108,16 +108,16 @@ pub record RenamedNets (r : ℕ → ℕ) (sheet other : List ℕ) : Type 0 where
   pub gates : RenamedGates (net .header .levels) (net .header .inputs) r (net .gates) (renamed .gates)
   pub bytes : ButLastField sheet other (map digitByte (gates .lines .last .digits)) (map digitByte (gates .lines .digits))
 
--- sheets that differ in a field are equally long where its two forms are
+-- sheets that differ in one field have the same length if its two forms do
 field-long : (sheet other field theirs : List ℕ) → ButLastField sheet other field theirs → length field ≡ length theirs → length sheet ≡ length other
 field-long sheet other field theirs bytes same = rw (bytes .ours, bytes .theirs) (simp (length-append, same))
 
--- so the two net sheets are equally long
+-- so the two net sheets have the same length
 pub renamed-long : (r : ℕ → ℕ) (sheet other : List ℕ) → RenamedNets r sheet other → length sheet ≡ length other
 renamed-long r sheet other nets =
     field-long sheet other _ _ (nets .bytes) (simp length-map (nets .gates .count ∙ sym (nets .gates .count-renamed)))
 
--- of two nets under one header
+-- for two nets under one header
 pub nets-renamed : (r : ℕ → ℕ) (header : Header) (gates others : List Gate)
     → readNet (printedNet (record { header = header; gates = gates })) ≡ accepted (record { header = header; gates = gates })
     → readNet (printedNet (record { header = header; gates = others })) ≡ accepted (record { header = header; gates = others })

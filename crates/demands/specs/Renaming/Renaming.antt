@@ -1,7 +1,7 @@
--- Document 02, K14, said of the calls that make a net of a table sheet: "Show that, given long enough buffers, two full table sheets with the same first three
--- lines, one got from the other by a one-to-one renaming of the ink levels, are both refused or both made. When made, their gate lines agree in left and
--- right throughout and in every table but the last. The last tables differ by that renaming at each digit that some assignment reaches. Shallow nets keep
--- it too." They are refused with the same number and place, and leave the same marks.
+-- Document 02, K14, stated for the calls that make a net of a table sheet: "Show that, given long enough buffers, two full table sheets with the same
+-- first three lines, one got from the other by a one-to-one renaming of the ink levels, are both refused or both made. When made, their gate lines
+-- agree in left and right throughout and in every table but the last. The last tables differ by that renaming at each digit that some assignment
+-- reaches. Shallow nets keep it too." They are refused with the same number and place, and leave the same marks.
 -- Assumes nothing.
 use Prim.Native.Nat.{ℕ, _^_, _≤_, _<_}
 use mathlib.Core.Path.{_≡_, refl, sym, ap, _∙_, subst, subst⁻¹}
@@ -32,14 +32,14 @@ use Rattle.demands.specs.Renaming.RenamedSheets.{Letters, lettersOf, Ren
 use Rattle.demands.specs.Renaming.RenamedSheets.{renamed-inks-below, inks-renamed, same-inks, same-marks, RenamedNets, renamed-long}
 use Rattle.demands.specs.Renaming.RenamedSheets.{nets-renamed}
 
--- "given long enough buffers": for the cells, for the marks, and, where there is a tree, for the sheet of the net that is made
+-- "given long enough buffers": for the cells, for the marks, and, if there is a tree, for the sheet of the net that is made
 pub record Enough (netFor : Table → Net) (t : Table) (cells marks output : List ℕ) : Type 0 where
   pub cells-fit : t .header .levels ^ t .header .inputs ≤ length cells
   pub marks-fit : marksLength (t .header .inputs) ≤ length marks
   pub output-fits : HasTree t → length (printedNet (netFor t)) ≤ length output
 
--- What the two calls come to: the same answer, which is a refusal's number and place or a sheet's length; the same marks, of n inputs; and where sheets are
--- made, sheets that differ by the renaming alone.
+-- The results of the two calls: the same answer, which is a refusal's number and place or a sheet's length; the same marks, for n inputs; and if
+-- sheets are made, sheets that differ only by the renaming.
 pub record AlikeMade (r : ℕ → ℕ) (n : ℕ) (made other : Made) : Type 0 where
   pub answers : made .answer ≡ other .answer
   pub marks : take (marksLength n) (made .marks) ≡ take (marksLength n) (other .marks)
@@ -76,7 +76,7 @@ module _ (r : ℕ → ℕ) (n : ℕ) (stored : List ℕ) (count : length stored 
             (subst⁻¹ (RenamedNets r sheet) (ap (λ (k : ℕ). take k (written output' other)) (sym its) ∙ written-front output' other) nets);
       })
 
--- the same of the calls that answer the layers too
+-- the same for the calls that also return the layers
 pub record AlikeLayered (r : ℕ → ℕ) (n : ℕ) (made other : LayeredMade) : Type 0 where
   pub answers : made .answer ≡ other .answer
   pub marks : take (marksLength n) (made .marks) ≡ take (marksLength n) (other .marks)
@@ -104,14 +104,14 @@ module _ (r : ℕ → ℕ) (s other : List ℕ) (both : RenamedTables r s other)
   stored-count =
       omega (arith, stored-length (marksOfTable t), marks-length m n (positive r s other both) (inkIn (t .inks)), four-groups n several)
 
-  -- mark 2 at the whole group of the one is mark 2 at that of the other
+  -- if the whole group has mark 2 in one table, it has mark 2 in the other
   two-renamed : WholeTwo t → WholeTwo u
   two-renamed two = subst (λ (marks : List ℕ). markIn marks (wholeGroup n) ≡ 2) (same-marks r s other both) two
 
   renamed-two : WholeTwo u → WholeTwo t
   renamed-two two = subst⁻¹ (λ (marks : List ℕ). markIn marks (wholeGroup n) ≡ 2) (same-marks r s other both) two
 
-  -- a call that makes any net, where the two nets' sheets differ by the renaming alone
+  -- a call that makes any net, if the two nets' sheets differ only by the renaming
   into-alike : (netFor : Table → Net) → (WholeTwo t → RenamedNets r (printedNet (netFor t)) (printedNet (netFor u)))
       → (cells marks output cells' marks' output' : List ℕ) → Enough netFor t cells marks output → Enough netFor u cells' marks' output'
       → AlikeMade r n (madeInto netFor t cells marks output) (madeInto netFor u cells' marks' output')
@@ -161,7 +161,7 @@ module _ (r : ℕ → ℕ) (s other : List ℕ) (both : RenamedTables r s other)
       (inks-renamed r s other both) several two)
 
   module _ (cells marks output cells' marks' output' : List ℕ) where
-    -- of the calls' own sheets
+    -- for the calls' own sheets
     enough-renamed : (netFor : Table → Net) → Enough netFor (both .renamed) cells' marks' output' → Enough netFor u cells' marks' output'
     enough-renamed netFor enough' = subst (λ (v : Table). Enough netFor v cells' marks' output') (is-renamed r s other both) enough'
 
@@ -172,7 +172,7 @@ module _ (r : ℕ → ℕ) (s other : List ℕ) (both : RenamedTables r s other)
         rw (make-accepted s cells marks output t (both .reads), make-accepted other cells' marks' output' u (reads-renamed r s other both))
         (into-alike settledNet settled-sheets cells marks output cells' marks' output' enough (enough-renamed settledNet enough'))
 
-    -- "Shallow nets keep it too.", with as many layers
+    -- "Shallow nets keep it too.", with equally many layers
     pub shallow-makes-renamed : Enough shallowNet t cells marks output → Enough shallowNet (both .renamed) cells' marks' output'
         → AlikeLayered r n (makeShallowCall s cells marks output) (makeShallowCall other cells' marks' output')
     unfolding layeredInto netLayers shallowNet

@@ -1,7 +1,7 @@
--- How marks are stored has no say in anything else that a call answers or writes. Document 02, K7: "Settled nets, refusal 16 and its place must come out the
--- same bytes as before." Each call that writes marks is told over any way to store them, of which the call of `rules` is one and document 01's was another; by
--- two ways, with a marks buffer that is long enough for each, the answer, the cells and the output are the same. Where the buffer is short each refuses with
--- 14, at the length that its own way needs.
+-- How marks are stored affects nothing else that a call returns or writes. Document 02, K7: "Settled nets, refusal 16 and its place must come out the
+-- same bytes as before." Each call that writes marks is stated for any way to store them; the calls of `rules` use one way and document 01 used
+-- another. For two ways, with a marks buffer that is long enough for each, the answer, the cells and the output are the same. If the buffer is short,
+-- each refuses with 14, at the length that its own way needs.
 -- Assumes nothing.
 use Prim.Native.Nat.{ℕ, _^_, _≤_, _<_}
 use mathlib.Core.Path.{_≡_, refl, sym, ap, _∙_, subst⁻¹, subst₂}
@@ -41,9 +41,9 @@ fourToByte = record { need = marksLength; bytes = storedMarks }
 abbrev pub byteEach : Store
 byteEach = record { need = λ n. 2 ^ n; bytes = λ marks. marks }
 
--- ---- a call by any of them
+-- ---- a call with any of them
 
--- what a call does with a table once there is room: from the cells and the marks that are written
+-- what a call does with a table once there is room: from the cells and the marks written
 abbrev pub Rest : Type 0
 Rest = Table → List ℕ → List ℕ → List ℕ → Made
 
@@ -82,7 +82,7 @@ module _ (s : Store) (rest : Rest) where
         ]
       ]
 
-  -- from what reading a sheet gives
+  -- from the result of reading a sheet
   unfoldable pub callBy : Answer Table → List ℕ → List ℕ → List ℕ → Made
   callBy (refused number place) cells marks output = record { answer = refused number place; cells = cells; marks = marks; output = output }
   callBy (accepted t) cells marks output = intoBy t cells marks output
@@ -93,7 +93,7 @@ module _ (s : Store) (rest : Rest) where
     unfolding intoBy
     by-13 h = rw (lt-ltb _ _ h, intoBy)
 
-    -- 14 is at the length that this way needs
+    -- 14 has as its place the length that this way needs
     pub by-14 : t .header .levels ^ t .header .inputs ≤ length cells → length marks < s .need (t .header .inputs)
         → intoBy t cells marks output ≡ record { answer = refused 14 (s .need (t .header .inputs)); cells = cells; marks = marks; output = output }
     unfolding intoBy
@@ -108,7 +108,7 @@ module _ (s : Store) (rest : Rest) where
 abbrev pub readAsTable : List ℕ → Answer Table
 readAsTable sheet = onward (readNet sheet) (λ net. accepted (tableOfNet net))
 
--- with the layers of the shallow net of the table that was read
+-- adds the layers of the shallow net of the table that was read
 unfoldable pub withShallow : Answer Table → Made → LayeredMade
 withShallow (refused number place) made = withLayers 0 made
 withShallow (accepted t) made = withLayers (netLayers (shallowNet t)) made
@@ -119,7 +119,7 @@ withoutOutput made = record { answer = made .answer; cells = made .cells; marks 
 
 -- ---- two ways
 
--- alike in all but the marks buffer
+-- the same in all but the marks buffer
 pub record SameOutcome (a b : Made) : Type 0 where
   pub answer : a .answer ≡ b .answer
   pub cells : a .cells ≡ b .cells
@@ -156,7 +156,7 @@ pub count-any-store : MarksUnread counts
 unfolding counts
 count-any-store t cells marks other output = record { answer = refl; cells = refl; output = refl }
 
--- both marks buffers are long enough, each for its own way, where reading gives a table
+-- both marks buffers are long enough, each for its own way, if reading gives a table
 pub record BothLong (s s' : Store) (read : Answer Table) (marks other : List ℕ) : Type 0 where
   pub first : (t : Table) → read ≡ accepted t → s .need (t .header .inputs) ≤ length marks
   pub second : (t : Table) → read ≡ accepted t → s' .need (t .header .inputs) ≤ length other
@@ -219,7 +219,7 @@ module _ (sheet cells marks output : List ℕ) where
       go (refused number place) = refl
       go (accepted net) = into-is (tableOfNet net) cells marks output settledNet
 
-  -- the shallow ones carry the layers of the net besides, which do not depend on marks in a buffer at all
+  -- the shallow calls also return the layers of the net, which do not depend on the marks buffer
   pub make-shallow-is : makeShallowCall sheet cells marks output
       ≡ withShallow (readFull sheet) (callBy fourToByte (makes-any-store shallowNet) (readFull sheet) cells marks output)
   unfolding makeShallowCall callBy withShallow withLayers layered onward layeredInto
@@ -245,7 +245,7 @@ module _ (sheet cells marks output : List ℕ) where
       go (refused number place) = refl
       go (accepted net) = ap (withLayers (netLayers (shallowNet (tableOfNet net)))) (into-is (tableOfNet net) cells marks output shallowNet)
 
-  -- the family's
+  -- the calls of the family
   pub family-tree-is : (number : ℕ) → familyTreeCall sheet number cells marks output ≡ callBy fourToByte (numbers number) (readFull sheet) cells marks output
   unfolding familyTreeCall callBy afterCount numbers
   family-tree-is number = go (readFull sheet)
@@ -295,9 +295,9 @@ module _ (sheet cells marks other output : List ℕ) where
       (settle-is sheet cells marks output)
       (stores-alike fourToByte byteEach (makes-any-store settledNet) (make-any-store settledNet) (readAsTable sheet) cells marks other output long)
 
--- ---- marking, which has bare cells
+-- ---- marking, which takes bare cells
 
--- "writes the marks buffer and answers the whole group's mark", by any way to store
+-- "writes the marks buffer and answers the whole group's mark", for any way to store
 unfoldable pub markingBy : Store → ℕ → ℕ → List ℕ → List ℕ → Marked
 markingBy s m n cells buffer =
     elim (fullCells m n cells) [
@@ -315,7 +315,7 @@ module _ (m n : ℕ) (cells buffer : List ℕ) where
   unfolding markingCall markingBy
   marking-is = refl
 
--- what it comes to
+-- its result
 module _ (s : Store) (m n : ℕ) (cells buffer : List ℕ) where
   by-bare : (number place : ℕ) → fullCells m n cells ≡ refused number place
       → markingBy s m n cells buffer ≡ record { answer = refused number place; marks = buffer }
@@ -328,7 +328,7 @@ module _ (s : Store) (m n : ℕ) (cells buffer : List ℕ) where
   unfolding markingBy
   by-marks e h = rw (e, le-ltb _ _ h, markingBy)
 
--- its answer is the same by any two ways
+-- its answer is the same for any two ways
 pub marking-alike : (s s' : Store) (m n : ℕ) (cells buffer other : List ℕ) → s .need n ≤ length buffer → s' .need n ≤ length other
     → markingBy s m n cells buffer .answer ≡ markingBy s' m n cells other .answer
 marking-alike s s' m n cells buffer other h k = go (fullCells m n cells) refl

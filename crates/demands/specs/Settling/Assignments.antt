@@ -1,5 +1,5 @@
--- The demands at assignments: "An assignment gives each input a level." A table has one row for each, so the statements over indices
--- (`table-at`, `check-agrees`, `make-refuses`) are statements over assignments.
+-- The demands, for assignments: "An assignment gives each input a level." A table has one row for each, so the statements about indices
+-- (`table-at`, `check-agrees`, `make-refuses`) are statements about assignments.
 -- Assumes nothing.
 use Prim.Native.Nat.{ℕ, _+_, _-_, _^_, _≤_, _<_}
 use mathlib.Core.Path.{_≡_, sym, subst}
@@ -28,7 +28,7 @@ use Rattle.demands.specs.Settling.Makes.{make-refuses}
 unfoldable pub valueAt : ℕ → ℕ → List Gate → List ℕ → ℕ
 valueAt m n gates ls = getD (withGates m ls gates) (n + length gates - 1) 0
 
--- a table's ink at an assignment: that of the one row which has its levels
+-- a table's ink at an assignment: that of the one row with its levels
 unfoldable pub inkAt : Table → List ℕ → ℕ
 inkAt t ls = inkIn (t .inks) (indexOf (t .header .levels) ls)
 
@@ -40,7 +40,7 @@ LevelsGiven h ls = Assignment (h .levels) (h .inputs) ls
 abbrev pub AgreesOnAll : List Gate → Table → Type 0
 AgreesOnAll gates t = (ls : List ℕ) → LevelsGiven (t .header) ls → valueAt (t .header .levels) (t .header .inputs) gates ls ≡ inkAt t ls
 
--- it is so at every index exactly when it is so at every assignment
+-- this holds at every index exactly if it holds at every assignment
 computes-all : (t : Table) → HeaderRules (t .header) → (gates : List Gate)
     → Computes (t .header .levels) (t .header .inputs) gates (inkIn (t .inks)) ↔ AgreesOnAll gates t
 unfolding valueAt inkAt value valueWith
@@ -48,7 +48,7 @@ computes-all t kept gates =
     each-assignment (t .header .levels) (t .header .inputs) (levels-pos (t .header .levels) (kept .levels))
     (λ ls p. valueAt (t .header .levels) (t .header .inputs) gates ls ≡ inkIn (t .inks) p)
 
--- Demand 2, "The table of a net is Section I's value on every assignment": of an accepted net sheet, the table's ink at any assignment is
+-- Demand 2, "The table of a net is Section I's value on every assignment": for an accepted net sheet, the table's ink at any assignment is
 -- the net's value there.
 pub table-at-assignment : (s : List ℕ) (net : Net) → readNet s ≡ accepted net → AgreesOnAll (net .gates) (tableOfNet net)
 unfolding tableOfNet
@@ -61,7 +61,7 @@ abbrev pub AgreesWhereShut : List Gate → Table → Type 0
 AgreesWhereShut gates t =
     (ls : List ℕ) → LevelsGiven (t .header) ls → (inkAt t ls ≡ t .header .levels → ⊥) → valueAt (t .header .levels) (t .header .inputs) gates ls ≡ inkAt t ls
 
--- Demand 2, "the check of a net against a table says yes exactly when they agree on every assignment", now of "the assignments that aren't open"
+-- Demand 2, "the check of a net against a table says yes exactly when they agree on every assignment", now for "the assignments that aren't open"
 -- (document 02, K13)
 pub check-agrees-assignments : (s r : List ℕ) (net : Net) (t : Table) → readNet s ≡ accepted net → readTable r ≡ accepted t
     → net .header ≡ t .header → (cells : List ℕ) → t .header .levels ^ t .header .inputs ≤ length cells
@@ -76,7 +76,7 @@ check-agrees-assignments s r net t reads-net reads-table header cells long =
     (each-assignment (t .header .levels) (t .header .inputs) (levels-pos (t .header .levels) (table-accepted r t reads-table .1 .header .levels))
     (λ ls p. (inkIn (t .inks) p ≡ t .header .levels → ⊥) → valueAt (t .header .levels) (t .header .inputs) (net .gates) ls ≡ inkIn (t .inks) p))
 
--- some net of the table's levels and inputs has, at every assignment, the ink of that assignment's row
+-- some net with the table's levels and inputs has, at every assignment, the ink of that assignment's row
 abbrev pub HasTreeOnAll : Table → Type 0
 HasTreeOnAll t = (gates : List Gate) × IsNet (t .header .levels) (t .header .inputs) gates × AgreesOnAll gates t
 

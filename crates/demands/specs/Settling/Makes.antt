@@ -1,6 +1,6 @@
 -- Demand 3, making: "For every accepted table sheet, making refuses the table as having no tree exactly when no fanout-free tree of
--- two-input gates .. computes it, whatever the tree's wiring and gate tables", and whatever its leaves: "inputs may stay unused" (document 02, K12). On
--- which leaves one stands is in `LeafTrees`. "Otherwise making writes the very sheet that settling writes from every accepted net sheet with that
+-- two-input gates .. computes it, whatever the tree's wiring and gate tables", and whatever its leaves: "inputs may stay unused" (document 02, K12).
+-- `LeafTrees` says which leaves are possible. "Otherwise making writes the very sheet that settling writes from every accepted net sheet with that
 -- table, the same levels and the same input names in the same order." "Demand 3 now speaks of full tables" (document 02, K13).
 -- Assumes nothing.
 use Prim.Native.Nat.{ℕ, _^_, _≤_, _<_}
@@ -70,11 +70,11 @@ module _ (t : Table) (kept : FullTableRules t) where
   inks-below : (p : ℕ) → p < t .header .levels ^ t .header .inputs → inkIn (t .inks) p < t .header .levels
   inks-below p h = kept .below p (subst⁻¹ (λ (k : ℕ). p < k) (kept .count) h)
 
-  -- mark 2 at the whole group, a tree, and an accepted net sheet with the table are one
+  -- mark 2 at the whole group, a tree, and an accepted net sheet with the table are equivalent
   pub two-tree : HasTree t ↔ WholeTwo t
   two-tree = tree-exists (t .header .levels) (t .header .inputs) pos several (inkIn (t .inks)) inks-below
 
-  -- gates that are a net with the table are printed as such a sheet
+  -- gates that are a net with the table print as such a sheet
   pub gates-sheet : (gates : List Gate) → IsNet (t .header .levels) (t .header .inputs) gates
       → Computes (t .header .levels) (t .header .inputs) gates (inkIn (t .inks))
       → (readNet (printedNet (netWith t gates)) ≡ accepted (netWith t gates)) × (tableOfNet (netWith t gates) ≡ t)
@@ -94,7 +94,7 @@ module _ (t : Table) (kept : FullTableRules t) where
       let net = settled-net (t .header .levels) (t .header .inputs) pos several (inkIn (t .inks)) inks-below two in
       λ i. record { header = t .header; inks = table-is (t .header .levels) (t .header .inputs) (settledNet t .gates) (t .inks) (kept .count) (net .1) i }
 
-  -- and keeps every rule of a net
+  -- and follows every rule of a net
   pub made-kept : WholeTwo t → NetRules (settledNet t)
   unfolding settledNet
   made-kept two = record {
@@ -116,7 +116,7 @@ sheet-tree t has = let (net, computes) = sheet-gates t (has .0) (has .1) (has .2
 
 -- ---- what was written
 
--- whatever the buffers, a sheet that is written is that of the net made of the table, and the whole group has mark 2
+-- whatever the buffers, a written sheet is that of the net made of the table, and the whole group has mark 2
 pub into-accepted : (netFor : Table → Net) (t : Table) (cells marks output sheet : List ℕ) → sheetOf (madeInto netFor t cells marks output) ≡ accepted sheet
     → WholeTwo t × (printedNet (netFor t) ≡ sheet)
 unfolding inRoom sheetIn writtenSheet
@@ -143,7 +143,7 @@ module _ (s : List ℕ) (t : Table) (reads : readFull s ≡ accepted t) where
   kept : FullTableRules t
   kept = full-accepted s t reads .1
 
-  -- Making refuses the table with 16 exactly when no gate list, whatever its wiring and its tables, is a net that computes it, ..
+  -- Making refuses the table with 16 exactly if no gate list, whatever its wiring and its tables, is a net that computes it, ..
   pub make-refuses : (cells marks output : List ℕ) → t .header .levels ^ t .header .inputs ≤ length cells → marksLength (t .header .inputs) ≤ length marks
       → ((place : ℕ) × (makeCall s cells marks output .answer ≡ refused 16 place)) ↔ (HasTree t → ⊥)
   unfolding any
@@ -159,7 +159,7 @@ module _ (s : List ℕ) (t : Table) (reads : readFull s ≡ accepted t) where
         ),
       )
 
-  -- .. and so exactly when no accepted net sheet of those levels and names has that table.
+  -- .. and so exactly if no accepted net sheet with those levels and names has that table.
   pub make-refuses-sheets : (cells marks output : List ℕ) → t .header .levels ^ t .header .inputs ≤ length cells
       → marksLength (t .header .inputs) ≤ length marks
       → ((place : ℕ) × (makeCall s cells marks output .answer ≡ refused 16 place)) ↔ (HasSheet t → ⊥)
@@ -180,7 +180,7 @@ module _ (s : List ℕ) (t : Table) (reads : readFull s ≡ accepted t) where
   pub made-short : HasTree t → length (printedNet (settledNet t)) ≤ mostSettled
   made-short tree = net-length (settledNet t) (made-kept t kept (two-tree t kept .0 tree))
 
-  -- .. the very sheet that settling writes from every accepted net sheet with that table and that header.
+  -- .. the same sheet that settling writes from every accepted net sheet with that table and that header.
   pub make-as-settle : (r : List ℕ) (net : Net) → readNet r ≡ accepted net → net .header ≡ t .header → tableOfNet net .inks ≡ t .inks
       → (cells marks output cells' marks' output' : List ℕ) → Long t cells marks output → Long (tableOfNet net) cells' marks' output'
       → sheetOf (makeCall s cells marks output) ≡ sheetOf (settleCall r cells' marks' output')
@@ -191,7 +191,7 @@ module _ (s : List ℕ) (t : Table) (reads : readFull s ≡ accepted t) where
       ∙ ap (λ (u : Table). accepted (printedNet (settledNet u))) (sym same)
       ∙ sym (settles r net reads-net cells' marks' output' long')
 
-  -- So making comes to one of the two, where the output has room for the settled sheet if there is one.
+  -- So making ends in one of the two ways, if the output has room for the settled sheet when there is one.
   pub make-either : (cells marks output : List ℕ) → t .header .levels ^ t .header .inputs ≤ length cells → marksLength (t .header .inputs) ≤ length marks
       → (HasTree t → length (printedNet (settledNet t)) ≤ length output) → Making t (makeCall s cells marks output)
   make-either cells marks output cells-fit marks-fit output-fits = go (ℕ-discrete _ 2)

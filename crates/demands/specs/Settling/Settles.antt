@@ -35,8 +35,8 @@ sheetIn (refused number place) output = refused number place
 abbrev pub sheetOf : Made → Answer (List ℕ)
 sheetOf made = sheetIn (made .answer) (made .output)
 
--- "Needed: m to the n bytes, .. and the settled sheet's length", of marks "2 to the n, divided by 4" (document 02, K7): for any net that may be made
--- of a table, ..
+-- "Needed: m to the n bytes, .. and the settled sheet's length", for the marks "2 to the n, divided by 4" (document 02, K7): for any net that may be
+-- made of a table, ..
 pub record LongFor (netFor : Table → Net) (t : Table) (cells marks output : List ℕ) : Type 0 where
   pub cells-fit : t .header .levels ^ t .header .inputs ≤ length cells
   pub marks-fit : marksLength (t .header .inputs) ≤ length marks
@@ -88,11 +88,11 @@ module _ (s : List ℕ) (net : Net) (reads : readNet s ≡ accepted net) where
   pub settled-short : length (printedNet (settledNet (tableOfNet net))) ≤ mostSettled
   settled-short = net-length (settledNet (tableOfNet net)) (settled-kept net kept-net)
 
--- tables under one header are equal when their inks are
+-- tables under one header are equal if their inks are
 pub table-path : (t u : Table) → t .header ≡ u .header → t .inks ≡ u .inks → t ≡ u
 table-path t u h e = λ i. record { header = h i; inks = e i }
 
--- Two accepted net sheets with the same first three lines settle to the same bytes exactly when they compute the same table.
+-- Two accepted net sheets with the same first three lines settle to the same bytes exactly if they compute the same table.
 module _ (s r : List ℕ) (net other : Net) (reads : readNet s ≡ accepted net) (reads-other : readNet r ≡ accepted other)
     (lines : threeLines s ≡ threeLines r) where
   pub settled-alike : (cells marks output cells' marks' output' : List ℕ) → Long (tableOfNet net) cells marks output
@@ -116,7 +116,7 @@ module _ (s r : List ℕ) (net other : Net) (reads : readNet s ≡ accepted net)
 
 -- ---- whatever the buffers
 
--- where settling writes a sheet, the net sheet is accepted and that is the sheet of its settled net
+-- if settling writes a sheet, the net sheet is accepted and the sheet is that of its settled net
 pub settled-is : (s cells marks output sheet : List ℕ) → sheetOf (settleCall s cells marks output) ≡ accepted sheet
     → (net : Net) × (readNet s ≡ accepted net) × (sheet ≡ printedNet (settledNet (tableOfNet net)))
 unfolding sheetIn

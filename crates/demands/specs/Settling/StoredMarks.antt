@@ -1,4 +1,4 @@
--- The marks buffer that a call wrote: every group's mark is read out of it, whatever it held before.
+-- The marks buffer that a call wrote: every group's mark can be read from it, whatever it held before.
 -- Assumes nothing.
 use Prim.Native.Nat.{ℕ, _*_, _^_, _<_}
 use mathlib.Core.Path.{_≡_, sym, ap, _∙_}
@@ -23,11 +23,11 @@ module _ (m n : ℕ) (fit : sizeFits m n ≡ true) (f : ℕ → ℕ) (before : L
       let pos : 0 < m = omega (arith, sized m n fit .levels-least) in
       λ g h. mark-small m n pos f g (omega (arith, h, marks-length m n pos f))
 
-  -- one group's
+  -- one group's mark
   pub stored-read : (g : ℕ) → g < 2 ^ n → markStored (written before (storedMarks (marksOf m n f))) g ≡ markIn (marksOf m n f) g
   stored-read g g< = mark-written before (marksOf m n f) (marksLength n) count small g (omega (arith, g<, count, four-groups n (sized m n fit .inputs-least)))
 
-  -- all of them, from as many bytes as are needed
+  -- all marks, from the bytes needed
   pub stored-back : unpacked (take (marksLength n) (written before (storedMarks (marksOf m n f)))) ≡ marksOf m n f
   stored-back =
       let need : length (storedMarks (marksOf m n f)) ≡ marksLength n = omega (arith, stored-length (marksOf m n f), count) in

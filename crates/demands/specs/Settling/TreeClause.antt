@@ -1,6 +1,6 @@
--- The demands over Section I's trees themselves, at assignments. Demand 2: "The table of a net is Section I's value on every assignment".
+-- The demands for Section I's trees themselves, at assignments. Demand 2: "The table of a net is Section I's value on every assignment".
 -- Demand 3: "making refuses the table as having no tree exactly when no fanout-free tree of two-input gates .. computes it, whatever the
--- tree's wiring and gate tables", and whatever its leaves: "inputs may stay unused" (document 02, K12). On which leaves one stands is in `LeafTrees`.
+-- tree's wiring and gate tables", and whatever its leaves: "inputs may stay unused" (document 02, K12). `LeafTrees` says which leaves are possible.
 -- Assumes nothing.
 use Prim.Native.Nat.{ℕ, _^_, _≤_, _<_}
 use mathlib.Core.Path.{_≡_, sym, _∙_}
@@ -24,7 +24,7 @@ use Rattle.demands.specs.Settling.Assignments.{LevelsGiven, inkAt}
 use Rattle.rules.specs.Calls.OpenCells.{readFull}
 use Rattle.demands.specs.Sheets.FullSheets.{full-accepted}
 
--- a tree with a gate, of the table's levels, over some of its inputs, none of them at two leaves
+-- a tree with a gate, with the table's levels, over some of its inputs, none of them at two leaves
 abbrev pub TreeFor : Table → Tree → Type 0
 TreeFor t tree = GateTree (t .header .levels) (t .header .inputs) tree
 
@@ -32,7 +32,7 @@ TreeFor t tree = GateTree (t .header .levels) (t .header .inputs) tree
 abbrev pub TreeAgrees : Tree → Table → Type 0
 TreeAgrees tree t = (ls : List ℕ) → LevelsGiven (t .header) ls → treeValueAt (t .header .levels) tree ls ≡ inkAt t ls
 
--- it is so at every index exactly when it is so at every assignment
+-- this holds at every index exactly if it holds at every assignment
 pub agrees-all : (t : Table) → HeaderRules (t .header) → (tree : Tree) → TreeFor t tree
     → ((p : ℕ) → p < t .header .levels ^ t .header .inputs → treeValue (t .header .levels) (t .header .inputs) tree p ≡ inkIn (t .inks) p) ↔ TreeAgrees tree t
 unfolding inkAt
@@ -61,7 +61,7 @@ table-is-tree-value s net reads =
           (λ p h. sym (tree .2 p) ∙ sym (table-at (net .header .levels) (net .header .inputs) (net .gates) p h)),
     )
 
--- Demand 3, of a full table: making refuses with 16 exactly when no such tree computes it.
+-- Demand 3, for a full table: making refuses with 16 exactly if no such tree computes it.
 pub make-refuses-trees : (s : List ℕ) (t : Table) → readFull s ≡ accepted t
     → (cells marks output : List ℕ) → t .header .levels ^ t .header .inputs ≤ length cells → marksLength (t .header .inputs) ≤ length marks
     → ((place : ℕ) × (makeCall s cells marks output .answer ≡ refused 16 place)) ↔ (ComputedByTree t → ⊥)

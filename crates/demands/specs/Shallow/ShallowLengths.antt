@@ -16,7 +16,7 @@ use Rattle.demands.specs.Shallow.ShallowRefusals.{settle-shallow-refuses
 use Rattle.rules.specs.Calls.OpenCells.{readFull}
 use Rattle.demands.specs.Sheets.FullSheets.{full-accepted, full-keeps}
 
--- buffers that are long enough for the settled sheet of a table are for its shallow sheet
+-- buffers that are long enough for the settled sheet of a table are long enough for its shallow sheet
 pub same-room : (s : List ℕ) (t : Table) → readFull s ≡ accepted t → HasTree t
     → (cells marks output : List ℕ) → Long t cells marks output → LongFor shallowNet t cells marks output
 same-room s t reads tree cells marks output long =
@@ -27,7 +27,7 @@ same-room s t reads tree cells marks output long =
       output-fits = rw (shallow-as-long t (full-keeps t kept) (kept .below) (two-tree t kept .0 tree)) (long .output-fits);
     }
 
--- with buffers that always suffice neither refuses with 13, 14 or 15
+-- with buffers that always suffice, neither refuses with 13, 14 or 15
 module _ (s cells marks output : List ℕ) (ample : Ample cells marks output) where
   pub settle-shallow-ample-numbers : Gives netNumbers (settleShallowCall s cells marks output .answer)
   settle-shallow-ample-numbers number place e =

@@ -1,5 +1,5 @@
 -- Document 02, shallow making: "Every other tree computing that table has at least as many layers, and the answer carries the count." What shallow
--- making writes is an accepted net sheet with exactly the table and as many layers as it answers, and no net with that table has fewer.
+-- making writes is an accepted net sheet with exactly the table and as many layers as it returns, and no net with that table has fewer.
 -- Assumes nothing.
 use Prim.Native.Nat.{ℕ, _^_, _≤_, _<_}
 use mathlib.Core.Path.{_≡_, refl, sym, ap, _∙_}
@@ -31,7 +31,7 @@ use Rattle.demands.specs.Settling.TreeClause.{TreeFor, TreeAgrees, agree
 use Rattle.rules.specs.Calls.OpenCells.{readFull}
 use Rattle.demands.specs.Sheets.FullSheets.{FullTableRules, full-accepted, full-keeps}
 
--- ---- what is answered and written, whatever net is made of a table
+-- ---- what is returned and written, whatever net is made of a table
 
 -- the answer, and the front of the output
 pub record ShallowWrote (net : Net) (made : LayeredMade) : Type 0 where
@@ -39,7 +39,7 @@ pub record ShallowWrote (net : Net) (made : LayeredMade) : Type 0 where
   pub sheet : take (length (printedNet net)) (made .output) ≡ printedNet net
 
 module _ (netFor : Table → Net) (t : Table) (cells marks output : List ℕ) where
-  -- a tree, and long buffers: the net's sheet is written, and its layers are answered
+  -- if there is a tree and the buffers are long, the net's sheet is written, and its layers are returned
   layered-written : WholeTwo t → LongFor netFor t cells marks output → ShallowWrote (netFor t) (layeredInto netFor t cells marks output)
   unfolding layeredInto withLayers layered onward
   layered-written two long =
@@ -50,7 +50,7 @@ module _ (netFor : Table → Net) (t : Table) (cells marks output : List ℕ) wh
       )
       (record { answer = refl; sheet = written-front output (printedNet (netFor t)) })
 
-  -- an accepted answer: there are a tree and long buffers
+  -- if the answer is accepted, there is a tree and the buffers are long
   accepted-long : (a : Layered) → layeredInto netFor t cells marks output .answer ≡ accepted a → WholeTwo t × LongFor netFor t cells marks output
   unfolding layeredInto withLayers layered onward
   accepted-long a e =
@@ -76,7 +76,7 @@ module _ (netFor : Table → Net) (t : Table) (cells marks output : List ℕ) wh
 
 -- ---- the shallow net
 
--- what is written is the shallow net's sheet, which is accepted as that net, with exactly the table and as many layers as are answered
+-- what is written is the shallow net's sheet, which is accepted as that net, with exactly the table and as many layers as are returned
 pub record ShallowOf (t : Table) (made : LayeredMade) : Type 0 where
   pub wrote : ShallowWrote (shallowNet t) made
   pub reads : readNet (printedNet (shallowNet t)) ≡ accepted (shallowNet t)
@@ -90,14 +90,14 @@ module _ (t : Table) (kept : FullTableRules t) (cells marks output : List ℕ) w
     table = shallow-has-table t (full-keeps t kept) (kept .below) two;
   }
 
-  -- whatever the buffers, of an accepted answer
+  -- whatever the buffers, for an accepted answer
   pub shallow-accepted : (a : Layered) → layeredInto shallowNet t cells marks output .answer ≡ accepted a
       → WholeTwo t × ShallowOf t (layeredInto shallowNet t cells marks output)
   shallow-accepted a e =
       let (two, long) = accepted-long shallowNet t cells marks output a e in
       (two, shallow-into two long)
 
--- the layers that are answered are the shallow net's
+-- the layers returned are the shallow net's
 pub answered-layers : (t : Table) (made : LayeredMade) → ShallowOf t made → (a : Layered) → made .answer ≡ accepted a → a .layers ≡ netLayers (shallowNet t)
 answered-layers t made of a e = sym (ap (λ (a : Layered). a .layers) (accepted-inj _ a (sym (of .wrote .answer) ∙ e)))
 
@@ -116,7 +116,7 @@ module _ (s : List ℕ) (t : Table) (reads : readFull s ≡ accepted t) where
   pub shallow-made-short : HasTree t → length (printedNet (shallowNet t)) ≤ mostSettled
   shallow-made-short tree = net-length (shallowNet t) (shallow-kept t (full-keeps t kept) (kept .below) (two-tree t kept .0 tree))
 
-  -- .. and, whatever the buffers, wherever it is accepted
+  -- .. and, whatever the buffers, whenever it is accepted
   module _ (cells marks output : List ℕ) (a : Layered) (answers : makeShallowCall s cells marks output .answer ≡ accepted a) where
     done : WholeTwo t × ShallowOf t (makeShallowCall s cells marks output)
     done =

@@ -1,6 +1,6 @@
--- Document 02: a making and a settling that "are otherwise as document 01 has them". They answer what making and settling answer, but for the
+-- Document 02: a making and a settling that "are otherwise as document 01 has them". They return what making and settling return, except for the
 -- count of layers, and leave the same cells and marks; so they refuse exactly when those do, with the same number and place, and change no other
--- buffer. For 15 too: net sheets of one header and the same leaves are equally long.
+-- buffer. This holds for 15 too: net sheets with one header and the same leaves have the same length.
 -- Assumes nothing.
 use Prim.Native.Nat.{ℕ}
 use mathlib.Core.Path.{_≡_, refl, ap}
@@ -23,7 +23,7 @@ use Rattle.demands.specs.Numbers.SettlingNumbers.{settleNumbers, makeNum
 use Rattle.rules.specs.Calls.OpenCells.{readFull}
 use Rattle.demands.specs.Sheets.FullSheets.{FullTableRules, full-accepted, net-kept, full-keeps}
 
--- an answer without its count of layers refuses exactly when it did
+-- an answer without its count of layers refuses exactly if it did with it
 plain-refuses : (answer : Answer Layered) (number place : ℕ) → (answer ≡ refused number place) ↔ (plainAnswer answer ≡ refused number place)
 unfolding plainAnswer onward
 plain-refuses (accepted a) number place = (λ e. absurd (not-refused a number place e), λ e. absurd (not-refused (a .length) number place e))
@@ -36,7 +36,7 @@ from-table t kept cells marks output =
     rw plain-into (into-but shallowNet settledNet t cells marks output (shallow-as-long t (full-keeps t kept) (kept .below)))
 
 module _ (s cells marks output : List ℕ) where
-  -- shallow making comes to what making does, but for the sheet, ..
+  -- shallow making has the same result as making, except for the sheet, ..
   pub make-but-sheet : ButSheet (plainMade (makeShallowCall s cells marks output)) (makeCall s cells marks output)
   unfolding plainMade plainAnswer onward
   make-but-sheet = go (readFull s) refl
@@ -47,7 +47,7 @@ module _ (s cells marks output : List ℕ) where
       go (accepted t) e =
           rw (make-shallow-accepted s cells marks output t e, make-accepted s cells marks output t e) (from-table t (full-accepted s t e .1) cells marks output)
 
-  -- .. and shallow settling to what settling does
+  -- .. and shallow settling the same as settling
   pub settle-but-sheet : ButSheet (plainMade (settleShallowCall s cells marks output)) (settleCall s cells marks output)
   unfolding plainMade plainAnswer onward
   settle-but-sheet = go (readNet s) refl

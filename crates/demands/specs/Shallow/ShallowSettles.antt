@@ -1,5 +1,5 @@
 -- Document 02: what shallow settling writes is an accepted net sheet with its net's own first three lines, its own table and as
--- many layers as it answers, and no net with that table has fewer. It depends on the table and the first three lines alone; shallow making
+-- many layers as it returns, and no net with that table has fewer. It depends only on the table and the first three lines; shallow making
 -- writes the same.
 -- Assumes nothing.
 use Prim.Native.Nat.{ℕ, _≤_}
@@ -32,7 +32,7 @@ use Rattle.demands.specs.Settling.TreeClause.{TreeFor, TreeAgrees, agree
 use Rattle.laws.specs.Calls.ShallowSettling.{plainMade, plain-into}
 use Rattle.demands.specs.Shallow.ShallowMakes.{ShallowOf, shallow-into, shallow-accepted, answered-layers}
 
--- the sheet that shallow settling or making wrote, as many bytes from the front of the output as it answers
+-- the sheet that shallow settling or making wrote: as many bytes from the front of the output as it returns
 abbrev pub shallowSheetOf : LayeredMade → Answer (List ℕ)
 shallowSheetOf made = sheetOf (plainMade made)
 
@@ -61,7 +61,7 @@ module _ (s : List ℕ) (net : Net) (reads : readNet s ≡ accepted net) where
   shallow-short = net-length (shallowNet (tableOfNet net))
       (shallow-kept (tableOfNet net) (kept-table net kept-net) (net-full net kept-net) (net-whole-two net kept-net))
 
-  -- .. and, whatever the buffers, wherever it is accepted
+  -- .. and, whatever the buffers, whenever it is accepted
   module _ (cells marks output : List ℕ) (a : Layered) (answers : settleShallowCall s cells marks output .answer ≡ accepted a) where
     pub settled-shallow : ShallowOf (tableOfNet net) (settleShallowCall s cells marks output)
     settled-shallow =
@@ -105,7 +105,7 @@ module _ (s : List ℕ) (net : Net) (reads : readNet s ≡ accepted net) where
 
 -- ---- two sheets
 
--- a net's sheet says its table: that of its shallow net
+-- nets with equal shallow sheets have equal tables
 says-table : (net : Net) → NetRules net → (other : Net) → NetRules other
     → printedNet (shallowNet (tableOfNet net)) ≡ printedNet (shallowNet (tableOfNet other)) → tableOfNet net ≡ tableOfNet other
 says-table net kept other kept' e =
@@ -118,7 +118,7 @@ says-table net kept other kept' e =
     (shallow-kept (tableOfNet other) (kept-table other kept') (net-full other kept') (net-whole-two other kept'))))
     ∙ shallow-has-table (tableOfNet other) (kept-table other kept') (net-full other kept') (net-whole-two other kept')
 
--- Two accepted net sheets have the same shallow sheet exactly when their first three lines and their tables are the same.
+-- Two accepted net sheets have the same shallow sheet exactly if their first three lines and their tables are the same.
 pub shallow-alike : (s r : List ℕ) (net other : Net) → readNet s ≡ accepted net → readNet r ≡ accepted other
     → (cells marks output cells' marks' output' : List ℕ) → LongFor shallowNet (tableOfNet net) cells marks output
     → LongFor shallowNet (tableOfNet other) cells' marks' output'
@@ -140,7 +140,7 @@ shallow-alike s r net other reads reads-other cells marks output cells' marks' o
           ∙ sym second,
     )
 
--- Shallow making writes the very sheet that shallow settling writes from every accepted net sheet with that table and header.
+-- Shallow making writes the same sheet that shallow settling writes from every accepted net sheet with that table and header.
 pub make-as-settle-shallow : (s : List ℕ) (t : Table) → readFull s ≡ accepted t
     → (r : List ℕ) (net : Net) → readNet r ≡ accepted net → net .header ≡ t .header → tableOfNet net .inks ≡ t .inks
     → (cells marks output cells' marks' output' : List ℕ) → LongFor shallowNet t cells marks output → LongFor shallowNet (tableOfNet net) cells' marks' output'

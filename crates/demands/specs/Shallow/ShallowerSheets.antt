@@ -13,7 +13,7 @@ use Rattle.rules.specs.Sheets.Reading.{readNet}
 use Rattle.rules.specs.Calls.ShallowSettling.{netLayers}
 use Rattle.rules.specs.Calls.Shallower.{layersIn, Which, firstSheet, secondSheet, noSheet, whichBy, whichOf, shallowerCall}
 
--- the layers of a sheet, read or not
+-- the layers of a sheet, readable or not
 module _ (s : List ℕ) where
   layers-read : (net : Net) → readNet s ≡ accepted net → layersIn s ≡ accepted (netLayers net)
   unfolding layersIn onward
@@ -24,7 +24,7 @@ module _ (s : List ℕ) where
   layers-unread number place e = rw (e, layersIn)
 
 module _ (first second : List ℕ) where
-  -- what is handed back is the one sheet or the other, or nothing
+  -- what is returned is one sheet or the other, or nothing
   pub handed-back : (which : Which) → whichOf first second ≡ which
       → shallowerCall first second ≡ elim which [ firstSheet ↦ first | secondSheet ↦ second | noSheet ↦ [] ]
   unfolding shallowerCall
@@ -47,7 +47,7 @@ module _ (first second : List ℕ) where
     unfolding whichBy
     second-shallower h = both ∙ rw (lt-ltb (netLayers other) (netLayers net) h, whichBy)
 
-    -- what is handed back is a sheet with no more layers than either
+    -- what is returned is a sheet with no more layers than either
     pub handed-shallower : (chosen : Net) × (readNet (shallowerCall first second) ≡ accepted chosen) × (netLayers chosen ≤ netLayers net)
         × (netLayers chosen ≤ netLayers other)
     handed-shallower = go (decLt (netLayers other) (netLayers net))

@@ -1,4 +1,4 @@
--- A sheet's first three lines, as bytes. They say its header: two accepted net sheets have the same first three lines exactly when
+-- A sheet's first three lines, as bytes. They determine its header: two accepted net sheets have the same first three lines exactly if
 -- they have the same levels, inputs and names.
 -- Assumes nothing.
 use Prim.Native.Nat.{ℕ}
@@ -38,7 +38,7 @@ unfolding threeLines printedNet headLines
 three-lines net kept =
     rw (append-assoc, head-fed (net .header)) (lines-first (headLines (net .header)) _ (head-unbroken (net .header) (kept .header)))
 
--- the header that those lines say
+-- equal lines have equal headers
 header-said : (h k : Header) → HeaderRules h → HeaderRules k → firstLines h (h .names) ≡ firstLines k (k .names) → h ≡ k
 header-said h k kept kept' e =
     let (place, d) = spells-header newline parts-newline .back (h, kept) [] 0 tt in
@@ -46,7 +46,7 @@ header-said h k kept kept' e =
     let same : headText newline h ≡ headText newline k = sym (head-line h kept) ∙ e ∙ head-line k kept' in
     same-read h k place place' (sym d ∙ ap (λ (t : List ℕ). headerLines newline (t ++ []) 0) same ∙ d')
 
--- Two accepted net sheets have the same first three lines exactly when they have the same header.
+-- Two accepted net sheets have the same first three lines exactly if they have the same header.
 pub same-lines : (s r : List ℕ) (net other : Net) → readNet s ≡ accepted net → readNet r ≡ accepted other
     → (threeLines s ≡ threeLines r) ↔ (net .header ≡ other .header)
 same-lines s r net other e d =

@@ -1,4 +1,4 @@
--- An accepted sheet of a full table (document 02, K13): which sheets these are, what their tables keep, and the numbers with which others are refused.
+-- An accepted sheet of a full table (document 02, K13): which sheets these are, which rules their tables follow, and the numbers that refuse others.
 -- Assumes nothing.
 use Prim.Native.Nat.{ℕ, _^_}
 use mathlib.Core.Path.{_≡_, refl, sym, ap, _∙_, subst}
@@ -20,7 +20,7 @@ use Rattle.readback.specs.Readers.Numbers.{tableNumbers, table-refusal}
 use Rattle.readback.specs.Sheets.ReadBack.{table-accepted, table-read-back}
 use Rattle.trees.specs.Trees.NetTables.{kept-table, net-full}
 
--- a full table full-keeps every rule: one ink below m for each cell
+-- a full table follows every rule: one ink below m for each cell
 pub record FullTableRules (t : Table) : Type 0 where
   pub header : HeaderRules (t .header)
   pub count : length (t .inks) ≡ t .header .levels ^ t .header .inputs
@@ -30,7 +30,7 @@ module _ (t : Table) where
   pub full-kept : TableRules t → FullTable t → FullTableRules t
   full-kept kept below = record { header = kept .header; count = kept .count; below = below }
 
-  -- it full-keeps the rules of a table sheet
+  -- it follows the rules of a table sheet
   pub full-keeps : FullTableRules t → TableRules t
   full-keeps kept = record { header = kept .header; count = kept .count; within = λ k h. omega (arith, kept .below k h) }
 
@@ -46,7 +46,7 @@ module _ (s : List ℕ) (t : Table) where
     λ (reads, below). read-full s t reads (full-table t below),
   )
 
-  -- .. and so the print of a full table that full-keeps the rules
+  -- .. and so the print of a full table that follows the rules
   pub full-accepted : readFull s ≡ accepted t → (s ≡ printedTable t) × FullTableRules t
   full-accepted e =
       let (reads, below) = full-sheet .0 e in
@@ -56,7 +56,7 @@ module _ (s : List ℕ) (t : Table) where
 pub full-read-back : (t : Table) → FullTableRules t → readFull (printedTable t) ≡ accepted t
 full-read-back t kept = full-sheet (printedTable t) t .1 (table-read-back t (full-keeps t kept), kept .below)
 
--- "A sheet that full-keeps every rule of this section .. is accepted.", of full tables
+-- "A sheet that keeps every rule of this section .. is accepted.", for full tables
 pub full-sheets : (s : List ℕ) → ((t : Table) × (readFull s ≡ accepted t)) ↔ ((t : Table) × FullTableRules t × (s ≡ printedTable t))
 full-sheets s = (
   λ (t, e). let (is, kept) = full-accepted s t e in (t, kept, is),

@@ -1,4 +1,4 @@
--- The lengths of which include/sitgurp.h says "Buffers that always suffice: cells, marks, a net sheet, a table sheet." Each is at least what
+-- The lengths that include/sitgurp.h calls "Buffers that always suffice: cells, marks, a net sheet, a table sheet." Each is at least what
 -- any accepted sheet needs, so with buffers of these lengths no call refuses with 13, 14 or 15.
 -- Assumes nothing.
 use Prim.Native.Nat.{ℕ, _^_, _≤_}
@@ -52,7 +52,7 @@ pub size-marks : (m n : ℕ) → Size m n → marksLength n ≤ mostMarks
 unfolding everySize all range cellsFit marksLength
 size-marks = bounded-at (λ _ n. marksLength n) mostMarks refl
 
--- "Needed: m to the n bytes", and of marks "2 to the n, divided by 4" (document 02, K7): enough cells and marks for each accepted sheet
+-- "Needed: m to the n bytes", and for the marks "2 to the n, divided by 4" (document 02, K7): enough cells and marks for each accepted sheet
 module _ (h : Header) (kept : HeaderRules h) where
   pub kept-cells : h .levels ^ h .inputs ≤ mostCells
   kept-cells = kept-size h kept .cells-most
@@ -60,7 +60,7 @@ module _ (h : Header) (kept : HeaderRules h) where
   pub kept-marks : marksLength (h .inputs) ≤ mostMarks
   kept-marks = size-marks (h .levels) (h .inputs) (kept-size h kept)
 
--- An accepted net sheet, and the table sheet that is written from it. (Its settled sheet: `settled-short`.)
+-- An accepted net sheet, and the table sheet written from it. (Its settled sheet: `settled-short`.)
 module _ (s : List ℕ) (net : Net) (reads : readNet s ≡ accepted net) where
   pub net-sheet-short : length s ≤ mostSettled
   net-sheet-short =
@@ -70,7 +70,7 @@ module _ (s : List ℕ) (net : Net) (reads : readNet s ≡ accepted net) where
   pub written-table-short : length (printedTable (tableOfNet net)) ≤ mostTableSheet
   written-table-short = table-length (tableOfNet net) (kept-table net (net-accepted s net reads .1))
 
--- An accepted table sheet. (The sheet that is made of it: `made-short`.)
+-- An accepted table sheet. (The sheet made of it: `made-short`.)
 pub table-sheet-short : (s : List ℕ) (t : Table) → readTable s ≡ accepted t → length s ≤ mostTableSheet
 table-sheet-short s t reads =
     let (e, kept) = table-accepted s t reads in
@@ -78,7 +78,7 @@ table-sheet-short s t reads =
 
 -- ---- buffers that always suffice
 
--- settling's and making's
+-- for settling and making
 pub record Ample (cells marks output : List ℕ) : Type 0 where
   pub cells-most : mostCells ≤ length cells
   pub marks-most : mostMarks ≤ length marks
@@ -113,7 +113,7 @@ module _ (s cells marks output : List ℕ) (ample : Ample cells marks output) wh
       (le-trans (kept-marks (t .header) kept) (ample .marks-most))
       (λ tree. le-trans (made-short s t reads tree) (ample .output-most))
 
-  -- settling refuses with the numbers of its sheet alone, ..
+  -- settling refuses only with the numbers of its sheet, ..
   pub settle-ample-numbers : Gives netNumbers (settleCall s cells marks output .answer)
   settle-ample-numbers number place e = go (readNet s) refl
     where
@@ -138,7 +138,7 @@ module _ (s cells marks output : List ℕ) (ample : Ample cells marks output) wh
           refuses tableOrTree k at (wider fullNumbers tableOrTree refl k (full-refusal s k at d)) number place
           (sym (ap (λ (made : Made). made .answer) (make-refused s cells marks output k at d)) ∙ e)
 
--- table writing refuses with the numbers of its sheet alone
+-- table writing refuses only with the numbers of its sheet
 pub write-table-ample-numbers : (s output : List ℕ) → mostTableSheet ≤ length output → Gives netNumbers (writeTableCall s output .answer)
 write-table-ample-numbers s output ample number place e = go (readNet s) refl
   where
@@ -211,7 +211,7 @@ module _ (m n : ℕ) (cells marks : List ℕ) (ample : mostMarks ≤ length mark
   unfolding markingCall
   marks-written d = rw (d, le-ltb (length marks) (marksLength n) (le-trans (size-marks m n (sized m n (cells-sized m n cells (sym d) .0))) ample), markingCall)
 
-  -- marking refuses with the numbers of its cells alone
+  -- marking refuses only with the numbers of its cells
   pub marking-ample-numbers : Gives bareNumbers (markingCall m n cells marks .answer)
   unfolding markingCall any
   marking-ample-numbers number place e = go (fullCells m n cells) refl

@@ -1,5 +1,5 @@
--- Sheets that are longer than what a program reads: "A table sheet of 2 with 12 is longer than the making program's 65,536 bytes: the library takes it, and
--- the program refuses with 1 at 65,536 a sheet without an earlier fault that hasn't ended by then." (document 02, K6)
+-- Sheets that are longer than what a program reads: "A table sheet of 2 with 12 is longer than the making program's 65,536 bytes: the library takes
+-- it, and the program refuses with 1 at 65,536 a sheet without an earlier fault that hasn't ended by then." (document 02, K6)
 -- Assumes nothing.
 use Prim.Native.Nat.{ℕ, _≤_, _<_}
 use mathlib.Core.Path.{_≡_, ap}
@@ -25,19 +25,19 @@ use Rattle.demands.specs.Sheets.Lengths.{Ample, make-ample}
 use Rattle.demands.specs.Others.Programs.{program-settle-refused, program-make-refused}
 
 module _ (input : List ℕ) where
-  -- "a sheet without an earlier fault that hasn't ended by then": of a table sheet, ..
+  -- "a sheet without an earlier fault that hasn't ended by then": for a table sheet, ..
   pub make-unended : mostRead ≤ length input → ((number place : ℕ) → readTable input ≡ refused number place → mostRead ≤ place)
       → ((t : Table) → readTable (take mostRead input) ≡ accepted t → ⊥) → makeProgram input ≡ refusalLines 1 mostRead
   make-unended within faultless going =
       program-make-refused input 1 mostRead (read-refused _ 1 mostRead (not-ended table-cut input mostRead (omega arith) within faultless going))
 
-  -- .. and of a net sheet
+  -- .. and for a net sheet
   pub settle-unended : mostRead ≤ length input → ((number place : ℕ) → readNet input ≡ refused number place → mostRead ≤ place)
       → ((net : Net) → readNet (take mostRead input) ≡ accepted net → ⊥) → settleProgram input ≡ refusalLines 1 mostRead
   settle-unended within faultless going = program-settle-refused input 1 mostRead (not-ended net-cut input mostRead (omega arith) within faultless going)
 
   module _ (t : Table) (reads : readTable input ≡ accepted t) where
-    -- an accepted sheet that is longer is refused so, ..
+    -- a longer accepted sheet is refused in this way, ..
     pub make-longer : mostRead < length input → makeProgram input ≡ refusalLines 1 mostRead
     make-longer longer = program-make-refused input 1 mostRead
         (read-refused _ 1 mostRead (accepted-longer table-cut input mostRead (omega arith) longer t reads))

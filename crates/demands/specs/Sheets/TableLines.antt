@@ -1,5 +1,5 @@
--- A table sheet's first three lines, as bytes. They say its header: two accepted table sheets have the same first three lines exactly when they have the same
--- levels, inputs and names.
+-- A table sheet's first three lines, as bytes. They determine its header: two accepted table sheets have the same first three lines exactly if they
+-- have the same levels, inputs and names.
 -- Assumes nothing.
 use Prim.Native.Nat.{ℕ, _<_}
 use mathlib.Core.Path.{_≡_, refl, sym, ap, _∙_}
@@ -25,13 +25,13 @@ use Rattle.readback.specs.Sheets.Lines.{fed, inLine, Unbroken, lines-first, bod
 use Rattle.readback.specs.Sheets.ReadBack.{table-accepted}
 use Rattle.demands.specs.Sheets.FirstLines.{threeLines}
 
--- what stands on a line after the last name
+-- the word after the last name on the line
 abbrev inkWord : List ℕ
 inkWord = text "ink"
 
 -- ---- the lines
 
--- a line with one word more
+-- a line with one more word
 body-snoc : (w : List ℕ) (ws : List (List ℕ)) (v : List ℕ) → body (w ∷ (ws ++ (v ∷ []))) ≡ body (w ∷ ws) ++ (space ∷ v)
 unfolding body
 body-snoc w [] v = refl
@@ -41,7 +41,7 @@ body-snoc w (x ∷ ws) v = ap (λ (rest : List ℕ). w ++ (space ∷ rest)) (bod
 abbrev tableHead : Header → List (List ℕ)
 tableHead h = body (text "levels" ∷ text "inputs" ∷ []) ∷ body (decimal (h .levels) ∷ decimal (h .inputs) ∷ []) ∷ body (h .names ++ (inkWord ∷ [])) ∷ []
 
--- none holds a line feed
+-- none contains a line feed
 ink-unbroken : (names : List (List ℕ)) → 0 < length names → all inLine (body names) ≡ true → all inLine (body (names ++ (inkWord ∷ []))) ≡ true
 unfolding all inLine text space newline
 ink-unbroken [] some good = absurd (omega arith)
@@ -62,7 +62,7 @@ three-table-lines : (t : Table) → TableRules t → threeLines (printedTable t)
 unfolding threeLines printedTable
 three-table-lines t kept = rw (table-fed (t .header)) (lines-first (tableHead (t .header)) _ (table-unbroken (t .header) (kept .header)))
 
--- ---- the header that they say
+-- ---- the header that they determine
 
 -- .. and the header's text, with the word after it
 head-line : (h : Header) → firstLines h (h .names ++ (inkWord ∷ [])) ≡ headText space h ++ (inkWord ++ (newline ∷ []))
@@ -79,7 +79,7 @@ header-said h k kept kept' e =
     let (place', d') = spells-header space parts-space .back (k, kept') rest 0 tt in
     same-read h k rest place place' (sym d ∙ ap (λ (s : List ℕ). headerLines space s 0) (sym (head-line h) ∙ e ∙ head-line k) ∙ d')
 
--- Two accepted table sheets have the same first three lines exactly when they have the same header.
+-- Two accepted table sheets have the same first three lines exactly if they have the same header.
 pub same-table-lines : (s r : List ℕ) (t u : Table) → readTable s ≡ accepted t → readTable r ≡ accepted u
     → (threeLines s ≡ threeLines r) ↔ (t .header ≡ u .header)
 same-table-lines s r t u e d =

@@ -1,4 +1,4 @@
--- The columns of the inputs, laid for a block of cells: column k has the level of the input with k inputs after it, and begins at k times
+-- The columns of the inputs for a block of cells: column k has the level of the input with k inputs after it, and begins at k times
 -- `mostBlock`.
 -- Assumes nothing.
 use Prim.Native.Nat.{ℕ, _+_, _-_, _*_, _^_, _≤_, _<_}
@@ -23,7 +23,7 @@ pub record ColumnsRoom (count width to : ℕ) (wires : List ℕ) : Type 0 where
   pub within : to + width ≤ mostBlock
   pub room : count * mostBlock ≤ length wires
 
--- of each of the first `count` columns the first `width` cells stand at `to` too; what stands before `to`, and in the other columns, is kept
+-- the first `width` cells of each of the first `count` columns are also at `to`; everything before `to`, and in the other columns, is unchanged
 pub record Repeated (count width to : ℕ) (before after : List ℕ) : Type 0 where
   pub same : length after ≡ length before
   pub kept : (k p : ℕ) → k < count → p < to → getD after (k * mostBlock + p) 0 ≡ getD before (k * mostBlock + p) 0
@@ -106,7 +106,7 @@ module _ (m t width : ℕ) (before : List ℕ) (ready : WidenReady m t width bef
     pub to-more : to + width ≡ (l + 1) * width
     to-more = rw (add-one, suc-mul) (omega arith)
 
-    -- one level more of the new input
+    -- one more level of the new input
     pub widen-more : (middle after : List ℕ) → Repeated t width to wires middle → Run (t * mostBlock + to) width (λ _. l) middle after → Laid m (t + 1) (to + width) before after
     widen-more middle after repeated run =
         record { same = run .same ∙ repeated .same ∙ laid .same; levels = λ k p h low. go k p h low (ℕ-discrete k t) (decLt p to) }
@@ -183,7 +183,7 @@ pub record HighReady (levels : List ℕ) (n high count : ℕ) (wires : List ℕ)
   pub within : count ≤ mostBlock
   pub room : n * mostBlock ≤ length wires
 
--- each has its level at every cell, and the columns of the last inputs are kept
+-- each has its level at every cell, and the columns of the last inputs are unchanged
 pub record HighLaid (levels : List ℕ) (n high count : ℕ) (before after : List ℕ) : Type 0 where
   pub same : length after ≡ length before
   pub kept : (q : ℕ) → q < (n - high) * mostBlock → getD after q 0 ≡ getD before q 0

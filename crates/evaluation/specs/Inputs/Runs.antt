@@ -1,4 +1,4 @@
--- A run of cells written anew, and all others kept.
+-- A run of cells is overwritten, and all others are unchanged.
 -- Assumes nothing.
 use Prim.Native.Nat.{ℕ, _+_, _-_, _≤_, _<_}
 use mathlib.Core.Path.{_≡_, refl, sym, ap, _∙_}
@@ -9,7 +9,7 @@ use lib.ListN.{length, getD, set, length-set}
 use lib.Seq.{getD-set-same, getD-set-other, sets, length-sets}
 use Rattle.laws.specs.Lists.Pastes.{sets-before, sets-behind, sets-there}
 
--- the `count` cells from `at` on are what f says of their places, and the others stay
+-- the `count` cells from `at` on are the values of f, and the others are unchanged
 pub record Run (at count : ℕ) (f : ℕ → ℕ) (before after : List ℕ) : Type 0 where
   pub same : length after ≡ length before
   pub front : (q : ℕ) → q < at → getD after q 0 ≡ getD before q 0
@@ -19,7 +19,7 @@ pub record Run (at count : ℕ) (f : ℕ → ℕ) (before after : List ℕ) : Ty
 pub run-none : (at : ℕ) (f : ℕ → ℕ) (before : List ℕ) → Run at 0 f before before
 run-none at f before = record { same = refl; front = λ q h. refl; back = λ q h. refl; there = λ p h. absurd (omega arith) }
 
--- one cell more
+-- one more cell
 pub column-run-more : (at p : ℕ) (f : ℕ → ℕ) (before after : List ℕ) (v : ℕ) → Run at p f before after → at + p < length before → v ≡ f p
     → Run at (p + 1) f before (set after (at + p) v)
 column-run-more at p f before after v run room is =
@@ -34,7 +34,7 @@ column-run-more at p f before after v run room is =
     go q h (yes e) = rw e (getD-set-same after (at + p) v 0 (omega (arith, run .same)) ∙ is)
     go q h (no other) = getD-set-other after (at + p) (at + q) v 0 (λ e. other (omega arith)) ∙ run .there q (omega arith)
 
--- a run behind another
+-- a run after another
 pub run-join : (at count : ℕ) (f : ℕ → ℕ) (before middle after : List ℕ) → Run 0 at f before middle → Run at count (λ p. f (at + p)) middle after
     → Run 0 (at + count) f before after
 run-join at count f before middle after one two =
@@ -51,7 +51,7 @@ run-join at count f before middle after one two =
         let e′ : at + (p - at) ≡ p = omega arith in
         ap (λ (q : ℕ). getD after q 0) e ∙ two .there (p - at) (omega arith) ∙ ap f e′
 
--- a text that is written to `at`
+-- a text written at `at`
 pub run-sets : (at count : ℕ) (f : ℕ → ℕ) (t before after : List ℕ) → after ≡ sets before at t → length t ≡ count → at + count ≤ length before
     → ((p : ℕ) → p < count → getD t p 0 ≡ f p) → Run at count f before after
 run-sets at count f t before after text long room each =

@@ -14,7 +14,7 @@ use Rattle.evaluation.specs.Inputs.Laying.{mostBlock}
 abbrev pub StartsOf : ℕ → List ℕ → Type 0
 StartsOf n starts = (i : ℕ) → i < n → getD starts i 0 ≡ (n - 1 - i) * mostBlock
 
--- of the first i inputs
+-- where the columns of the first i inputs begin
 pub record StartsSoFar (n i : ℕ) (starts : List ℕ) : Type 0 where
   pub long : length starts ≡ mostWires
   pub each : (j : ℕ) → j < i → getD starts j 0 ≡ (n - 1 - j) * mostBlock

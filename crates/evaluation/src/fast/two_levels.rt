@@ -5,7 +5,7 @@ ghost use Prim.Native.Nat.{_+_, _*_, _<_};
 ghost use lib.ListN.{getD};
 ghost use Rattle.evaluation.specs.Gates.{GateReady, GateDone};
 
-// Returns the digit for the levels l and r, of two levels. It is chosen without a look-up, so that the compiler can vectorise the loop over it.
+// Returns the digit for the levels l and r, of two levels. Chooses it without a look-up, so the compiler can vectorise the loop around it.
 fn two_level_digit(l: u8, r: u8, a: u8, b: u8, c: u8, d: u8) -> u8
     requires { ⌜ (l < 2) × (r < 2) ⌝ }
     ensures { λ digit. ⌜ digit ≡ getD (a ∷ b ∷ c ∷ d ∷ []) (l * 2 + r) 0 ⌝ }

@@ -1,4 +1,4 @@
-// The blocks of a table: how many of the last inputs run through all their assignments in one, and where the columns of the inputs begin.
+// The blocks of a table: how many of the last inputs take all their assignments within one, and where the columns of the inputs begin.
 ghost use Prim.Native.Nat.{_^_, _≤_, _<_};
 ghost use Rattle.rules.specs.Limits.{mostLevels, mostInputs};
 ghost use Rattle.evaluation.specs.Inputs.Laying.{mostBlock};
@@ -23,7 +23,7 @@ pub fn block_inputs(m: usize, n: usize) -> usize
     low
 }
 
-// The last input's column is the first.
+// Returns where each input's column starts. The last input's column is first.
 pub fn starts_of(n: usize) -> [usize; MOST_WIRES]
     requires { ⌜ n ≤ mostInputs ⌝ }
     ensures { λ r. ⌜ StartsOf n r ⌝ }

@@ -1,11 +1,11 @@
-// The levels of the inputs for a block of cells, a column for each input: the last input's first, and from one column to the next `MOST_BLOCK` cells.
+// The levels of the inputs for a block of cells. Each input has a column, the last input's first; one column starts `MOST_BLOCK` cells after another.
 ghost use Prim.Native.Nat.{_+_, _*_, _≤_};
 ghost use lib.ListN.{length, getD};
 ghost use Rattle.evaluation.specs.Inputs.Runs.{Run};
 ghost use Rattle.evaluation.specs.Inputs.Laying.{ColumnsRoom, Repeated, WidenReady, LowReady, LowLaid, Laid, HighReady, HighLaid};
 use crate::inputs::limits::MOST_BLOCK;
 
-// Puts the level at `count` cells from `at` on.
+// Fills `count` cells from `at` on with the level.
 fn fill(level: u8, at: usize, count: usize, wires: &mut [u8])
     requires { ⌜ at + count ≤ length (now wires) ⌝ }
     ensures { λ _. ⌜ Run at count (λ _. level) (now (wires .entry)) (now (wires .exit)) ⌝ }
@@ -17,7 +17,7 @@ fn fill(level: u8, at: usize, count: usize, wires: &mut [u8])
     }
 }
 
-// Puts the `count` cells from `from` on once more, at `to`.
+// Copies the `count` cells from `from` on to `to`.
 fn repeat(from: usize, to: usize, count: usize, wires: &mut [u8])
     requires { ⌜ (from + count ≤ to) × (to + count ≤ length (now wires)) ⌝ }
     ensures { λ _. ⌜ Run to count (λ p. getD (now (wires .entry)) (from + p) 0) (now (wires .entry)) (now (wires .exit)) ⌝ }
@@ -29,7 +29,7 @@ fn repeat(from: usize, to: usize, count: usize, wires: &mut [u8])
     }
 }
 
-// Puts the first `width` cells of each of the first `count` columns once more at `to` of that column.
+// Copies the first `width` cells of each of the first `count` columns to `to` in that column.
 fn repeat_columns(count: usize, width: usize, to: usize, wires: &mut [u8])
     requires { ⌜ ColumnsRoom count width to (now wires) ⌝ }
     ensures { λ _. ⌜ Repeated count width to (now (wires .entry)) (now (wires .exit)) ⌝ }
@@ -43,8 +43,8 @@ fn repeat_columns(count: usize, width: usize, to: usize, wires: &mut [u8])
     }
 }
 
-// One input more: the columns of the last t inputs are laid for `width` cells, all their assignments, and are now laid for m times as many with that of
-// the input before them.
+// Adds one input. The columns of the last t inputs have `width` cells, one per assignment. They grow to m times as many, and the column of the input
+// before them is added.
 fn widen(m: usize, t: usize, width: usize, wires: &mut [u8])
     requires { ⌜ WidenReady m t width (now wires) ⌝ }
     ensures { λ _. ⌜ Laid m (t + 1) (width * m) (now (wires .entry)) (now (wires .exit)) ⌝ }
@@ -61,7 +61,7 @@ fn widen(m: usize, t: usize, width: usize, wires: &mut [u8])
     }
 }
 
-// Writes the columns of the last `low` inputs, for all their assignments, and returns how many these are.
+// Writes the columns of the last `low` inputs, for all their assignments, and returns the number of assignments.
 pub fn lay_low(m: usize, low: usize, wires: &mut [u8]) -> usize
     requires { ⌜ LowReady m low (now wires) ⌝ }
     ensures { λ r. ⌜ LowLaid m low (now (wires .entry)) (now (wires .exit)) r ⌝ }
@@ -76,7 +76,7 @@ pub fn lay_low(m: usize, low: usize, wires: &mut [u8]) -> usize
     width
 }
 
-// Writes the columns of the first `high` of n inputs, each of one level for the whole block.
+// Writes the columns of the first `high` of n inputs. Each holds one level for the whole block.
 pub fn lay_high(levels: &[u8], n: usize, high: usize, count: usize, wires: &mut [u8])
     requires { ⌜ HighReady (now levels) n high count (now wires) ⌝ }
     ensures { λ _. ⌜ HighLaid (now (levels .entry)) n high count (now (wires .entry)) (now (wires .exit)) ⌝ }

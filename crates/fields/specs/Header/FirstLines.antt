@@ -21,12 +21,12 @@ use Rattle.fields.specs.declared.steps.Step.the-variants.{On, Back}
 use Rattle.fields.specs.Header.NameLine.{NamesRead}
 use Rattle.fields.specs.declared.header.name_line.HeaderRead.{HeaderRead}
 
--- what a header that was read keeps
+-- the properties of a header that was read
 pub record HeaderHeld (s : List ℕ) (h : Header) : Type 0 where
   pub fits : sizeFits (h .levels) (h .inputs) ≡ true
   pub names : NamesHeld s h (h .inputs)
 
--- what is left of the first three lines is read by `reader`
+-- `reader` reads the rest of the first three lines
 pub record HeaderRest (s : List ℕ) (at : ℕ) (reader : Reader sheets.Header) (r : HeaderRead) : Type 0 where
   pub reads : stepAs (λ _. headerOf s (r .header)) s (r .step) ≡ reader (drop at s) at
   pub held : (value next : ℕ) → r .step ≡ On value next → HeaderHeld s (r .header)

@@ -36,7 +36,7 @@ pub record NameRead (layout : Layout) (s : List ℕ) (at due : ℕ) (earlier : L
   pub reads : stepAs (λ len. take len (drop at s)) s r ≡ fieldIn layout (nameField earlier) due (drop at s) at
   pub held : (len next : ℕ) → r ≡ On len next → (len ≤ mostNameBytes) × (at + len ≤ length s)
 
--- the separator that is due after a name, by the names that are left
+-- the separator required after a name, by the number of names left
 unfoldable pub dueBefore : ℕ → ℕ → ℕ
 dueBefore zero last = last
 dueBefore (suc left) last = space
@@ -84,7 +84,7 @@ name-read layout s at due earlier w test v r is new e after =
         (omega (arith, new-short earlier w (sym is-new)), omega (arith, told .beyond, told .within, ap length is))
     go false is-old len next good-len told = let z : _≡_ {A = ℕ} 0 1 = cc in absurd (omega arith)
 
--- ---- one name more
+-- ---- one more name
 
 names-more : (layout : Layout) (last left : ℕ) (earlier : List (List ℕ)) (t : List ℕ) (p : ℕ)
     → nameFieldsIn layout last (suc left) earlier t p
@@ -123,12 +123,12 @@ names-start layout s at m n last =
       reads = rw (sub-zero n) refl;
     }
 
--- the header with one name more
+-- the header with one more name
 abbrev pub named : Header → ℕ → ℕ → ℕ → Header
 named h i start len =
     record { levels = h .levels; inputs = h .inputs; starts = set (h .starts) i start; lens = set (h .lens) i len }
 
--- the names before a stored one stay, and it stands after them
+-- the names before a stored one stay the same, and it comes after them
 names-stay : (s : List ℕ) (h : Header) (i start len : ℕ) → i < length (h .starts) → i < length (h .lens)
     → namesTo s (named h i start len) (i + 1) ≡ namesTo s h i ++ (take len (drop start s) ∷ [])
 unfolding nameIn

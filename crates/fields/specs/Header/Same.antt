@@ -11,7 +11,7 @@ use Rattle.laws.specs.Lists.Ranges.{range-next, range-none}
 use Rattle.nets.specs.declared.forms.Header.{Header}
 use Rattle.nets.specs.Forms.{nameIn, headerOf}
 
--- the names that f and g give from input i on, up to `end`
+-- whether f and g give the same names from input i on, up to `end`
 abbrev pub sameFrom : (ℕ → List ℕ) → (ℕ → List ℕ) → ℕ → ℕ → Bool
 sameFrom f g i end = sameNames (map f (range i (end - i))) (map g (range i (end - i)))
 

@@ -1,4 +1,4 @@
--- The levels field, by its byte; the inputs field, by the number that it is the decimal value of.
+-- The levels field, by its byte; the inputs field, by the number whose decimal value it is.
 -- Assumes nothing.
 use Prim.Native.Nat.{ℕ, _+_, _-_, _^_, _≤_, _<_}
 use mathlib.Core.Path.{_≡_, refl, sym, ap, _∙_}

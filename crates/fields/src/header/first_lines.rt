@@ -1,4 +1,4 @@
-// The first three lines, field by field. Each function reads what is left of them.
+// The first three lines, field by field. Each function reads the rest of them.
 ghost use mathlib.Core.Path.{_≡_};
 ghost use mathlib.Core.Bool.{true};
 ghost use Rattle.rules.specs.Limits.{levelsFit};

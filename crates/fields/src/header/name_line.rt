@@ -17,7 +17,7 @@ use crate::steps::Step;
 use nets::forms::Header;
 use nets::forms::no_names;
 
-// What reading line 3 comes to: on a step onward the header is whole.
+// The result of reading line 3. The header is complete if the step is `On`.
 pub struct HeaderRead {
     pub step: Step,
     pub header: Header,
@@ -51,7 +51,7 @@ pub fn due_after(i: usize, n: usize, last: u8) -> u8
     SPACE
 }
 
-// Reads the `inputs` names from `at` on.
+// Reads the `inputs` names, starting at `at`.
 pub fn name_fields(
     s: &[u8],
     at: usize,

@@ -1,4 +1,4 @@
-// The names of line 3. They stay in the sheet: a header by value has where each begins and how long it is.
+// The names of line 3. They stay in the sheet: a header stores where each name begins and how long it is.
 ghost use mathlib.Core.Path.{_≡_};
 ghost use mathlib.Core.List.{map};
 ghost use Prim.Native.Nat.{_≤_, _<_};

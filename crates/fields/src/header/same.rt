@@ -1,4 +1,4 @@
-// Two sheets' headers compared. Their names stay in the sheets.
+// Compares the headers of two sheets. Their names stay in the sheets.
 ghost use mathlib.Core.Path.{_≡_};
 ghost use mathlib.Core.List.{map};
 ghost use Prim.Native.Nat.{_≤_};
@@ -11,7 +11,7 @@ use crate::same::same_bytes;
 use nets::forms::Header;
 use nets::names::name_of;
 
-// Have both the same first n names?
+// Tests whether the first n names of both headers are equal.
 fn same_names(s: &[u8], h: Header, t: &[u8], k: Header, n: usize) -> bool
     requires { ⌜ (n ≤ mostInputs) × NamesHeld (now s) h n × NamesHeld (now t) k n ⌝ }
     ensures { λ r. ⌜ r ≡ sameNames (map (nameIn (now (s .entry)) h) (range 0 n)) (map (nameIn (now (t .entry)) k) (range 0 n)) ⌝ }

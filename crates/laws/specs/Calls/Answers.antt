@@ -1,4 +1,4 @@
--- Laws of answers, and of a buffer that was written to.
+-- Laws of answers, and of a buffer after it is written.
 -- Assumes nothing.
 use Prim.Native.Nat.{ℕ}
 use mathlib.Core.Path.{_≡_, refl}
@@ -14,7 +14,7 @@ accepted-inj a b e = cc
 pub not-refused : {A : Type 0} (a : A) (number place : ℕ) → accepted a ≡ refused number place → ⊥
 not-refused a number place e = let z : _≡_ {A = ℕ} 0 1 = cc in omega arith
 
--- what is written stands at the front
+-- the bytes written are at the front
 pub written-front : (buffer bytes : List ℕ) → take (length bytes) (written buffer bytes) ≡ bytes
 unfolding written
 written-front buffer bytes = take-at bytes (drop (length bytes) buffer) (length bytes) refl

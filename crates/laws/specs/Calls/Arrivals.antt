@@ -1,4 +1,4 @@
--- What the call of arrival times comes to, one law for each outcome.
+-- The result of the call for arrival times, one law for each outcome.
 -- Assumes nothing.
 use Prim.Native.Nat.{ℕ}
 use mathlib.Core.Path.{_≡_}

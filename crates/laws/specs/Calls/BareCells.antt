@@ -1,4 +1,4 @@
--- What bare cells come to, one law for each outcome, and what follows of those that are accepted.
+-- The verdict on bare cells, one law for each outcome, and what follows if they are accepted.
 -- Assumes nothing.
 use Prim.Native.Nat.{ℕ, _^_, _≤_, _<_}
 use mathlib.Core.Path.{_≡_, refl, sym, ap, _∙_}
@@ -71,6 +71,6 @@ module _ (m n : ℕ) (cells : List ℕ) where
           rw (fits, eq-eqb (length cells) (m ^ n) count, h, bareCells) in
           absurd (not-refused tt 10 _ (e ∙ back))
 
--- the inks of a table that keeps the rules are bare cells that are accepted
+-- the inks of a table that follows the rules are accepted as bare cells
 pub bare-kept : (t : Table) → TableRules t → bareCells (t .header .levels) (t .header .inputs) (t .inks) ≡ answers.accepted tt
 bare-kept t kept = sym (bare-within (t .header .levels) (t .header .inputs) (t .inks) (kept-fits (t .header) (kept .header)) (kept .count) (kept .within))

@@ -1,4 +1,4 @@
--- Two nets made of one table, with sheets that are equally long: the calls that make them come to the same but for the sheet in the output.
+-- Two nets made of one table, whose sheets have the same length: the calls that make them have the same result except for the sheet in the output.
 -- Assumes nothing.
 use Prim.Native.Nat.{ℕ, _<_}
 use mathlib.Core.Path.{_≡_, refl, ap}
@@ -14,18 +14,18 @@ use Rattle.rules.specs.Calls.Settling.{Made, writtenSheet, roomFor, madeInto}
 use Rattle.laws.specs.Calls.Answers.{not-refused}
 use Rattle.laws.specs.Calls.Settling.{WholeTwo, marksOfTable, into-refused, into-room, marked-16, marked-tree, sheet-15, sheet-written}
 
--- the same answer, cells and marks; and the same output where they refuse
+-- the same answer, cells and marks; and the same output if they refuse
 pub record ButSheet (first second : Made) : Type 0 where
   pub answer : first .answer ≡ second .answer
   pub cells : first .cells ≡ second .cells
   pub marks : first .marks ≡ second .marks
   pub output : (number place : ℕ) → second .answer ≡ refused number place → first .output ≡ second .output
 
--- two that come to the same
+-- two equal results
 pub but-none : (made : Made) → ButSheet made made
 but-none made = record { answer = refl; cells = refl; marks = refl; output = λ _ _ _. refl }
 
--- two sheets of one length
+-- two sheets of the same length
 pub sheets-but : (sheet other cells marks output : List ℕ) → length sheet ≡ length other
     → ButSheet (writtenSheet sheet cells marks output) (writtenSheet other cells marks output)
 sheets-but sheet other cells marks output long = go (decLt (length output) (length sheet))
@@ -37,7 +37,7 @@ sheets-but sheet other cells marks output long = go (decLt (length output) (leng
         (record { answer = ap accepted long; cells = refl; marks = refl; output = λ number place e. absurd (not-refused _ number place e) })
 
 module _ (netFor other : Table → Net) (t : Table) (cells marks output : List ℕ) where
-  -- where there is a tree the two sheets have one length
+  -- if there is a tree, the two sheets have the same length
   pub into-but : (WholeTwo t → length (printedNet (netFor t)) ≡ length (printedNet (other t)))
       → ButSheet (madeInto netFor t cells marks output) (madeInto other t cells marks output)
   into-but long = go (roomFor t cells marks) refl (ℕ-discrete _ 2)

@@ -1,4 +1,4 @@
--- What checking comes to, one law for each outcome, and how a comparison of two lists of inks ends.
+-- The result of checking, one law for each outcome, and how a comparison of two lists of inks ends.
 -- Assumes nothing.
 use Prim.Native.Nat.{ℕ, _≤_, _<_}
 use mathlib.Core.Path.{_≡_, refl, ap₂, _∙_, subst, subst⁻¹}

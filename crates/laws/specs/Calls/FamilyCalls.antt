@@ -1,4 +1,4 @@
--- What the two calls over a table's family of trees come to, one law for each outcome.
+-- The results of the two calls over a table's family of trees, one law for each outcome.
 -- Assumes nothing.
 use Prim.Native.Nat.{ℕ, _^_, _≤_, _<_}
 use mathlib.Core.Path.{_≡_}
@@ -17,7 +17,7 @@ use Rattle.laws.specs.Calls.Settling.{marksOfTable, room-13, room-14, ro
 -- ---- the count
 
 module _ (t : Table) (cells marks : List ℕ) where
-  -- by the room alone
+  -- refused for lack of room
   pub counted-refused : (number place : ℕ) → roomFor t cells marks ≡ refused number place
       → countedInto t cells marks ≡ record { answer = refused number place; cells = cells; marks = marks }
   unfolding countedInto
@@ -42,7 +42,7 @@ module _ (t : Table) (cells marks : List ℕ) where
       ≡ record { answer = accepted (countOfTable t); cells = written cells (t .inks); marks = written marks (storedMarks (marksOfTable t)) }
   counted-marked h k = counted-room (room-both t cells marks h k)
 
--- ---- the tree of a number, where there is room
+-- ---- the tree of a number, if there is room
 
 module _ (number : ℕ) (t : Table) (cells marks output : List ℕ) where
   pub count-17 : countOfTable t ≤ number
@@ -62,7 +62,7 @@ module _ (number : ℕ) (t : Table) (cells marks output : List ℕ) where
   unfolding afterCount
   count-tree h = rw (lt-ltb _ _ h, afterCount)
 
--- ---- a sheet that is turned back, and one that is accepted
+-- ---- a sheet that is refused, and one that is accepted
 
 module _ (s cells marks : List ℕ) where
   pub family-count-refused : (number place : ℕ) → readFull s ≡ refused number place

@@ -1,4 +1,4 @@
--- What the glyph call comes to, one law for each outcome; a picture and offsets that pass, as orders of numbers.
+-- The result of the glyph call, one law for each outcome; and what it means, in inequalities, that a picture and offsets pass.
 -- Assumes nothing.
 use Prim.Native.Nat.{ℕ, _*_, _≤_, _<_}
 use mathlib.Core.Path.{_≡_}

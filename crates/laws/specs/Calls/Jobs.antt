@@ -1,4 +1,4 @@
--- What opening a job, a step, an asking and finishing come to, one law for each outcome.
+-- The results of opening a job, stepping, asking and finishing, one law for each outcome.
 -- Assumes nothing.
 use Prim.Native.Nat.{ℕ, _-_, _^_, _≤_, _<_}
 use mathlib.Core.Path.{_≡_, _∙_}
@@ -35,7 +35,7 @@ module _ (job : Job) where
   unfolding stepJob
   step-on h = rw (lt-leb _ _ h, stepJob)
 
-  -- ---- an asking
+  -- ---- asking
 
   module _ (g : ℕ) where
     -- group 0, and one that is not below 2 to the n
@@ -47,7 +47,7 @@ module _ (job : Job) where
     unfolding askJob
     ask-over h = rw (le-leb _ g h, or-true (eqb g 0), askJob)
 
-    -- what the job holds of a group
+    -- what the job reports for a group
     reached-passed : g ≤ job .passed → reachedIn job g ≡ final (markIn (job .marks) g)
     unfolding reachedIn
     reached-passed h = rw (le-leb g _ h, reachedIn)

@@ -1,4 +1,4 @@
--- What keeping a wiring comes to, one law for each outcome.
+-- The result of keeping a wiring, one law for each outcome.
 -- Assumes nothing.
 use Prim.Native.Nat.{ℕ, suc, _≤_, _<_}
 use mathlib.Core.Path.{_≡_}

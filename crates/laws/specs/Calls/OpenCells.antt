@@ -1,5 +1,5 @@
--- What a table without open cells comes to, wherever it is asked for: 27 at the lowest open index, or no cell is open. One law for each outcome of a
--- list of cells, of bare cells and of a table sheet.
+-- The result of requiring a table without open cells: 27 at the lowest open index, or no cell is open. One law for each outcome, for a
+-- list of cells, for bare cells and for a table sheet.
 -- Assumes nothing.
 use Prim.Native.Nat.{ℕ, _^_, _≤_, _<_}
 use mathlib.Core.Path.{_≡_, refl, sym, _∙_}
@@ -26,7 +26,7 @@ use Rattle.laws.specs.Lists.Tests.{all-mem}
 
 -- ---- a list of cells
 
--- an open cell has ink m, and no other
+-- a cell is open exactly if its ink is m
 pub open-ink : (m c : ℕ) → isOpen m c ≡ true → c ≡ m
 unfolding isOpen
 open-ink m c e = eqb-true c m e
@@ -53,7 +53,7 @@ module _ (m : ℕ) (cells : List ℕ) where
   unfolding full
   full-on h = rw (any-place (isOpen m) cells, le-ltb _ _ h, full)
 
--- either no cell is open, or some cell is and the lowest of them is told
+-- either no cell is open, or some cell is and the lowest one is reported
 pub data Fullness (m : ℕ) (cells : List ℕ) : Type 0 where
   all-shut : full m cells ≡ accepted tt → ((k : ℕ) → k < length cells → getD cells k 0 ≡ m → ⊥) → Fullness m cells
   lowest-open : (k : ℕ) → full m cells ≡ refused 27 k → k < length cells → getD cells k 0 ≡ m → ((p : ℕ) → p < k → getD cells p 0 ≡ m → ⊥)
@@ -69,7 +69,7 @@ module _ (m : ℕ) (cells : List ℕ) where
           (λ p l. shut-ink m _ (before-first (isOpen m) 0 cells p l))
       go (no h) = all-shut (full-on m cells (omega arith)) (λ k l. shut-ink m _ (before-first (isOpen m) 0 cells k (omega arith)))
 
-  -- cells that are full: none is open
+  -- if cells are full, none is open
   pub none-open : full m cells ≡ accepted tt → (k : ℕ) → k < length cells → getD cells k 0 ≡ m → ⊥
   none-open e = go fullness
     where
@@ -77,7 +77,7 @@ module _ (m : ℕ) (cells : List ℕ) where
       go (all-shut _ none) = none
       go (lowest-open k back _ _ _) = absurd (not-refused tt 27 k (sym e ∙ back))
 
-  -- .. and the other way round
+  -- .. and conversely
   pub open-none : ((k : ℕ) → k < length cells → getD cells k 0 ≡ m → ⊥) → full m cells ≡ accepted tt
   open-none none = go fullness
     where
@@ -85,7 +85,7 @@ module _ (m : ℕ) (cells : List ℕ) where
       go (all-shut e _) = e
       go (lowest-open k _ inside gap _) = absurd (none k inside gap)
 
-  -- an open cell is told, and nothing else is
+  -- a refusal is 27 at the lowest open cell
   pub some-open : (number place : ℕ) → full m cells ≡ refused number place
       → (number ≡ 27) × (place < length cells) × (getD cells place 0 ≡ m) × ((p : ℕ) → p < place → getD cells p 0 ≡ m → ⊥)
   some-open number place e = go fullness
@@ -104,7 +104,7 @@ module _ (t : Table) where
   unfolding fullTable
   table-full kept e k h = omega (arith, kept .within k h, none-open (t .header .levels) (t .inks) e k h)
 
-  -- .. and where they are levels it is full
+  -- .. and if they are levels, it is full
   pub full-table : FullTable t → fullTable t ≡ accepted tt
   unfolding fullTable
   full-table below = open-none (t .header .levels) (t .inks) (λ k h e. omega (arith, below k h))
@@ -133,7 +133,7 @@ module _ (m n : ℕ) (cells : List ℕ) where
       go (accepted tt) b = (sym b, cells-judged (sym b) ∙ sym e)
       go (refused number place) b = absurd (not-refused tt number place (e ∙ sym (cells-refused number place (sym b))))
 
-  -- of a size that fits, as many as the size says
+  -- the size fits, and the number of cells is right
   pub cells-sized : accepted tt ≡ fullCells m n cells → (sizeFits m n ≡ true) × (length cells ≡ m ^ n)
   cells-sized e = bare-accepted m n cells (cells-accepted e .0)
 
@@ -144,7 +144,7 @@ module _ (m n : ℕ) (cells : List ℕ) where
       let most = leb-true (getD cells k 0) m (all-mem _ (mem-getD cells k 0 h) (bare-inks m n cells bare)) in
       omega (arith, most, none-open m cells shut k h)
 
--- the inks of a full table that keeps the rules are full cells
+-- the inks of a full table that follows the rules are full cells
 pub cells-kept : (t : Table) → TableRules t → FullTable t → fullCells (t .header .levels) (t .header .inputs) (t .inks) ≡ accepted tt
 unfolding fullTable
 cells-kept t kept below = sym (cells-judged (t .header .levels) (t .header .inputs) (t .inks) (sym (bare-kept t kept))) ∙ full-table t below
@@ -164,7 +164,7 @@ module _ (s : List ℕ) where
   unfolding readFull onward
   read-full t e on = rw (e, on, readFull)
 
--- a table sheet that needs a full table is turned back as any table sheet is, or has an open cell, or is read
+-- a table sheet that needs a full table is refused like any table sheet, or has an open cell, or is read
 pub data FullRead (s : List ℕ) : Type 0 where
   turned-back : (number place : ℕ) → readTable s ≡ refused number place → readFull s ≡ refused number place → FullRead s
   left-open : (t : Table) → readTable s ≡ accepted t → (k : ℕ) → fullTable t ≡ refused 27 k → readFull s ≡ refused 27 k → FullRead s
@@ -183,7 +183,7 @@ module _ (s : List ℕ) where
       go (refused number place) e = turned-back number place e (read-refused s number place e)
       go (accepted t) e = judged t e (fullness (t .header .levels) (t .inks))
 
-  -- accepted exactly where the sheet is read and its table is full
+  -- accepted exactly if the sheet is read and its table is full
   pub read-accepted : (t : Table) → readFull s ≡ accepted t → (readTable s ≡ accepted t) × (fullTable t ≡ accepted tt)
   read-accepted t e = go full-read
     where

@@ -1,4 +1,4 @@
--- What settling and making come to, one law for each outcome, whatever net is made of a table.
+-- The results of settling and making, one law for each outcome, whatever net is made of a table.
 -- Assumes nothing.
 use Prim.Native.Nat.{ℕ, _^_, _≤_, _<_}
 use mathlib.Core.Path.{_≡_, sym, _∙_}
@@ -41,7 +41,7 @@ module _ (t : Table) (cells marks : List ℕ) where
   unfolding roomFor
   room-both h k = rw (le-ltb _ _ h, le-ltb _ _ k, roomFor)
 
-  -- where there is room, both lengths suffice
+  -- if there is room, both buffers are long enough
   pub room-fits : roomFor t cells marks ≡ accepted tt → (t .header .levels ^ t .header .inputs ≤ length cells)
       × (marksLength (t .header .inputs) ≤ length marks)
   room-fits e = go (decLe (t .header .levels ^ t .header .inputs) (length cells)) (decLe (marksLength (t .header .inputs)) (length marks))
@@ -52,9 +52,9 @@ module _ (t : Table) (cells marks : List ℕ) where
       go (yes h) (no k) = absurd (not-refused tt 14 _ (sym e ∙ room-14 h (lt-of-not-le k)))
       go (no h) _ = absurd (not-refused tt 13 _ (sym e ∙ room-13 (lt-of-not-le h)))
 
--- a call that first asks for this room, whatever the rest of it
+-- a call that first asks for this room, whatever follows
 module _ (t : Table) (cells marks output : List ℕ) (rest : Made) where
-  -- by the room alone
+  -- refused for lack of room
   pub into-refused : (number place : ℕ) → roomFor t cells marks ≡ refused number place
       → inRoom t cells marks output rest ≡ record { answer = refused number place; cells = cells; marks = marks; output = output }
   unfolding inRoom
@@ -108,7 +108,7 @@ module _ (sheet cells marks output : List ℕ) where
   unfolding writtenSheet
   sheet-written h = rw (le-ltb _ _ h, writtenSheet)
 
--- a sheet that is turned back, and one that is accepted
+-- a sheet that is refused, and one that is accepted
 module _ (s cells marks output : List ℕ) where
   pub settle-refused : (number place : ℕ) → readNet s ≡ refused number place
       → settleCall s cells marks output ≡ record { answer = refused number place; cells = cells; marks = marks; output = output }

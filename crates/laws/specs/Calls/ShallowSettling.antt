@@ -1,4 +1,4 @@
--- What the two calls that write a shallow net come to, one law for each outcome; with the count of layers and without it.
+-- The results of the two calls that write a shallow net, one law for each outcome; with the count of layers and without it.
 -- Assumes nothing.
 use Prim.Native.Nat.{ℕ}
 use mathlib.Core.Path.{_≡_, refl}
@@ -14,13 +14,13 @@ use Rattle.rules.specs.Calls.ShallowSettling.{Layered, LayeredMade, layered, wi
 unfoldable pub plainAnswer : Answer Layered → Answer ℕ
 plainAnswer answer = onward answer (λ a. accepted (a .length))
 
--- is what it was before it had one
+-- removing the count that was added gives the answer back
 pub plain-layered : (count : ℕ) (answer : Answer ℕ) → plainAnswer (layered count answer) ≡ answer
 unfolding plainAnswer layered onward
 plain-layered count (accepted length) = refl
 plain-layered count (refused number place) = refl
 
--- the same with the buffers
+-- the same for the whole result, with its buffers
 unfoldable pub plainMade : LayeredMade → Made
 plainMade made = record { answer = plainAnswer (made .answer); cells = made .cells; marks = made .marks; output = made .output }
 
@@ -33,7 +33,7 @@ pub plain-into : (netFor : Table → Net) (t : Table) (cells marks output : List
 unfolding layeredInto
 plain-into netFor t cells marks output = plain-made _ _
 
--- a sheet that is turned back, and one that is accepted
+-- a sheet that is refused, and one that is accepted
 module _ (s cells marks output : List ℕ) where
   pub settle-shallow-refused : (number place : ℕ) → readNet s ≡ refused number place
       → settleShallowCall s cells marks output ≡ record { answer = refused number place; cells = cells; marks = marks; output = output }

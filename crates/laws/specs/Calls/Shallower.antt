@@ -1,4 +1,4 @@
--- What the shallower of two sheets comes to, one law for each outcome.
+-- The shallower of two sheets, one law for each outcome.
 -- Assumes nothing.
 use Prim.Native.Nat.{ℕ, _≤_, _<_}
 use mathlib.Core.Path.{_≡_, refl}
@@ -21,7 +21,7 @@ module _ (s : List ℕ) where
   unfolding layersIn onward
   layers-accepted net e = rw e
 
--- ---- two that can be read
+-- ---- two readable sheets
 
 module _ (a b : ℕ) where
   pub hands-second-shallower : b < a → whichBy (accepted a) (accepted b) ≡ secondSheet

@@ -1,4 +1,4 @@
--- What tidying comes to, one law for each outcome.
+-- The result of tidying, one law for each outcome.
 -- Assumes nothing.
 use Prim.Native.Nat.{ℕ, _^_, _≤_, _<_}
 use mathlib.Core.Path.{_≡_}

@@ -45,13 +45,13 @@ map-same f h e [] = refl
 map-same f h e (x ∷ xs) = λ i. e x i ∷ map-same f h e xs i
 
 module _ {A B : Type 0} (f : A → List B) where
-  -- elements that give k each
+  -- if each element gives k
   pub concat-length : (k : ℕ) → ((x : A) → length (f x) ≡ k) → (xs : List A) → length (concatMap f xs) ≡ length xs * k
   unfolding concatMap
   concat-length k e [] = sym (zero-mul k)
   concat-length k e (x ∷ xs) = rw (length-append, e x, concat-length k e xs, suc-mul, add-comm k (length xs * k))
 
-  -- .. by place: x of what the element at y gives
+  -- .. by place: entry x of the list that element y gives
   pub concat-at : (k : ℕ) → ((x : A) → length (f x) ≡ k) → (xs : List A) (d : A) (e : B) (y x : ℕ) → y < length xs → x < k
       → getD (concatMap f xs) (y * k + x) e ≡ getD (f (getD xs y d)) x e
   unfolding concatMap

@@ -1,4 +1,4 @@
--- How many elements of a list pass a test, and how often a number stands in a list.
+-- How many elements of a list pass a test, and how often a number occurs in a list.
 -- Assumes nothing.
 use Prim.Native.Nat.{ℕ, zero, suc, _+_, _≤_, _<_}
 use mathlib.Core.Path.{_≡_, refl}
@@ -48,11 +48,11 @@ count-map f test (x ∷ xs) = omega (arith, count-cons test (f x) (map f xs), co
 
 -- ---- a number
 
--- how often r stands in the list
+-- how often r occurs in the list
 abbrev pub times : ℕ → List ℕ → ℕ
 times r xs = count (eqb r) xs
 
--- a number that differs is none
+-- a different number does not count
 pub not-one : (r x : ℕ) → (r ≡ x → ⊥) → oneWhere (eqb r x) ≡ 0
 not-one r x ne = rw (ne-eqb r x ne)
 

@@ -1,4 +1,4 @@
--- Lists of which no element stands twice.
+-- Lists in which no element occurs twice.
 -- Assumes nothing.
 use Prim.Native.Nat.{ℕ, zero, suc, _≤_, _<_}
 use mathlib.Core.Path.{_≡_, refl, sym, _∙_, ap, subst⁻¹}
@@ -22,7 +22,7 @@ abbrev pub Unlike : {A : Type 0} → (A → A → Bool) → List A → Type 0
 Unlike alike [] = Unit {0}
 Unlike alike (x ∷ xs) = (any (alike x) xs ≡ false) × Unlike alike xs
 
--- such elements at different places are different
+-- in such a list, elements at different places are different
 module _ {A : Type 0} (alike : A → A → Bool) (own : (x : A) → alike x x ≡ true) (d : A) where
   not-later : (x : A) (xs : List A) → any (alike x) xs ≡ false → (k : ℕ) → k < length xs → x ≡ getD xs k d → ⊥
   not-later x xs e k h q = true≢false (sym (own x) ∙ ap (alike x) q ∙ none-mem (alike x) (mem-getD xs k d h) e)
@@ -36,15 +36,15 @@ module _ {A : Type 0} (alike : A → A → Bool) (own : (x : A) → alike x x �
 
 -- ---- numbers
 
--- x stands in the list
+-- x is in the list
 abbrev pub In : ℕ → List ℕ → Type 0
 In x xs = any (eqb x) xs ≡ true
 
--- x does not stand in the list
+-- x is not in the list
 abbrev pub NotIn : ℕ → List ℕ → Type 0
 NotIn x xs = any (eqb x) xs ≡ false
 
--- what does not stand in a list is not its first element, and does not stand in the rest
+-- x is not in a list exactly if it is not the first element and not in the rest
 pub not-in-cons : (x y : ℕ) (ys : List ℕ) → NotIn x (y ∷ ys) ↔ ((x ≡ y → ⊥) × NotIn x ys)
 not-in-cons x y ys = (
   λ h.
@@ -53,7 +53,7 @@ not-in-cons x y ys = (
   λ (first, rest). none-iff (eqb x) y ys .1 (ne-eqb x y first, rest),
 )
 
--- the same of a list with two numbers more at its end
+-- the same for a list with two more numbers at its end
 pub not-in-two : (x : ℕ) (xs : List ℕ) (a b : ℕ) → NotIn x (xs ++ (a ∷ b ∷ [])) ↔ (NotIn x xs × (x ≡ a → ⊥) × (x ≡ b → ⊥))
 unfolding any
 not-in-two x xs a b = (
@@ -64,7 +64,7 @@ not-in-two x xs a b = (
   λ (i, k, l). none-append (eqb x) xs (a ∷ b ∷ []) .1 (i, not-in-cons x a (b ∷ []) .1 (k, not-in-cons x b [] .1 (l, refl))),
 )
 
--- in a list without repetition an element does not stand before itself
+-- in a list without repetition, no element occurs before itself
 pub distinct-before : (xs : List ℕ) (y : ℕ) (ys : List ℕ) → Distinct (xs ++ (y ∷ ys)) → NotIn y xs
 unfolding any
 distinct-before [] y ys d = refl
@@ -72,7 +72,7 @@ distinct-before (x ∷ xs) y ys d =
     let apart = not-in-cons x y ys .0 (none-append (eqb x) xs (y ∷ ys) .0 (d .0) .1) in
     not-in-cons y x xs .1 (λ e. apart .0 (sym e), distinct-before xs y ys (d .1))
 
--- a list where each number stands at most once is without repetition
+-- a list in which each number occurs at most once is without repetition
 pub times-distinct : (xs : List ℕ) → ((r : ℕ) → times r xs ≤ 1) → Distinct xs
 times-distinct [] h = tt
 times-distinct (x ∷ xs) h = (count-none (eqb x) xs (once x (h x)), times-distinct xs (λ r. omega (arith, h r, count-cons (eqb r) x xs)))
@@ -88,7 +88,7 @@ distinct-differ xs d = unlike-differ eqb (λ x. eq-eqb x x refl) 0 xs (unlike xs
     unlike [] d = tt
     unlike (x ∷ xs) d = (d .0, unlike xs (d .1))
 
--- k numbers below k of which none stands twice are all the numbers below k
+-- k numbers below k without repetition are all the numbers below k
 pub all-stand : (k : ℕ) (xs : List ℕ) → Distinct xs → ((z : ℕ) → k ≤ z → NotIn z xs) → k ≤ length xs → (x : ℕ) → x < k → In x xs
 all-stand k xs d small enough x x< =
     not-false-true (any (eqb x) xs) λ e.
@@ -101,7 +101,7 @@ all-stand k xs d small enough x x< =
         let not-there = small (getD xs i 0) (omega arith) in
         absurd (eqb-false (getD xs i 0) (getD xs i 0) (none-mem (eqb (getD xs i 0)) (mem-getD xs i 0 (omega arith)) not-there) refl)
 
--- a number of a list is one of every list that has all of it
+-- if every number of one list is in another, a number of the first is in the second
 pub wider : (fewer more : List ℕ) → all (λ k. any (eqb k) more) fewer ≡ true → (number : ℕ) → In number fewer → In number more
 unfolding any
 wider [] more h number i = absurd (true≢false (sym i))

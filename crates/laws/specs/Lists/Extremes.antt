@@ -28,32 +28,32 @@ most-listed (x ∷ y ∷ xs) some =
     (λ _ later. List·Memᴰ·tail (Memᴰ·cast later (most-listed (y ∷ xs) (omega arith))))
     (λ _ first. List·Memᴰ·head first)
 
--- of two lists
+-- for two lists joined
 pub most-append : (xs ys : List ℕ) → most (xs ++ ys) ≡ max (most xs) (most ys)
 unfolding most
 most-append [] ys = omega arith
 most-append (x ∷ xs) ys = omega (arith, most-append xs ys)
 
--- of numbers each one more
+-- for numbers each increased by one
 pub most-suc : (xs : List ℕ) → 0 < length xs → most (map suc xs) ≡ suc (most xs)
 unfolding most
 most-suc [] some = absurd (omega arith)
 most-suc (x ∷ []) some = omega arith
 most-suc (x ∷ y ∷ xs) some = omega (arith, most-suc (y ∷ xs) (omega arith))
 
--- of larger numbers
+-- for larger numbers
 pub most-more : {A : Type 0} (f h : A → ℕ) (xs : List A) → ((x : A) → List·Memᴰ x xs → f x ≤ h x) → most (map f xs) ≤ most (map h xs)
 unfolding most
 most-more f h [] less = omega arith
 most-more f h (x ∷ xs) less =
     omega (arith, less x (List·Memᴰ·head refl), most-more f h xs (λ y is. less y (List·Memᴰ·tail is)))
 
--- of the same numbers
+-- for the same numbers
 pub most-same : {A : Type 0} (f h : A → ℕ) (xs : List A) → ((x : A) → List·Memᴰ x xs → f x ≡ h x) → most (map f xs) ≡ most (map h xs)
 most-same f h xs same =
     omega (arith, most-more f h xs (λ x is. omega (arith, same x is)), most-more h f xs (λ x is. omega (arith, same x is)))
 
--- of numbers each times k
+-- for numbers each multiplied by k
 pub most-times : {A : Type 0} (f : A → ℕ) (k : ℕ) (xs : List A) → most (map (λ x. f x * k) xs) ≡ most (map f xs) * k
 unfolding most
 most-times f k [] = omega arith

@@ -9,13 +9,13 @@ use mathlib.Core.List.{List, [], _∷_, _++_, List·Memᴰ, List·Memᴰ·head, 
 use native.Mathlib.Omega.{arith}
 use Rattle.rules.specs.Lists.{range, those, find}
 
--- What a search found is, by R, the first of the numbers that are P; where it found nothing there is none.
+-- The number that a search found is P, and first by R among all that are P; if it found nothing, no number is P.
 pub data First (P : ℕ → Type 0) (R : ℕ → ℕ → Type 0) : Option ℕ → Type 0 where
   found : (g : ℕ) → P g → ((h : ℕ) → P h → R g h) → First P R (some g)
   missing : ((h : ℕ) → P h → ⊥) → First P R none
 
 module _ {P : ℕ → Type 0} {R : ℕ → ℕ → Type 0} where
-  -- where some number is P, one was found
+  -- if some number is P, one was found
   pub the-first : {o : Option ℕ} → First P R o → (w : ℕ) → P w →
       let g = elim o as (λ _. ℕ) [ none ↦ 0 | some g ↦ g ] in
       P g × ((h : ℕ) → P h → R g h)
@@ -32,14 +32,14 @@ module _ {P : ℕ → Type 0} {R : ℕ → ℕ → Type 0} where
   found-only (found g p least) x q only = ap some (only g p)
   found-only (missing empty) x q only = absurd (empty x q)
 
--- the same first, said otherwise
+-- the same, with equivalent P and R
 pub first-same : {P S : ℕ → Type 0} {R R′ : ℕ → ℕ → Type 0} {o : Option ℕ} → First P R o
     → ((h : ℕ) → P h ↔ S h) → ((g h : ℕ) → S g → S h → R g h → R′ g h) → First S R′ o
 first-same (found g p least) same before =
     found g (same g .0 p) (λ h s. before g h (same g .0 p) s (least h (same h .1 s)))
 first-same (missing empty) same before = missing (λ h s. empty h (same h .1 s))
 
--- the first of two searches, where all that the one finds comes before all that the other finds
+-- the first of two searches, if everything the one finds comes before everything the other finds
 abbrev pub or-else : Option ℕ → Option ℕ → Option ℕ
 or-else none o = o
 or-else (some g) o = some g
@@ -64,7 +64,7 @@ find-append t (x ∷ xs) ys = go (t x) (find-append t xs ys)
     go true later = refl
     go false later = later
 
--- a search among those that pass another test
+-- a search among the elements that pass another test
 pub find-those : (s t : ℕ → Bool) (xs : List ℕ) → find t (those s xs) ≡ find (λ x. s x && t x) xs
 unfolding find those
 find-those s t [] = refl

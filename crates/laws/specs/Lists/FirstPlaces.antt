@@ -56,7 +56,7 @@ module _ {A : Type 0} (test : A → Bool) (d : A) where
       go true e h rest = e
       go false e h rest = rest (omega arith)
 
-  -- where one passes, the place is before the end
+  -- if one passes, the place is before the end
   first-below : (xs : List A) → any test xs ≡ true → firstPlace test xs < length xs
   unfolding any
   first-below [] h = absurd (false≢true h)
@@ -79,7 +79,7 @@ first-passes test from count h =
     let below : firstPlace test (range from count) < count = rw range-length at l in
     (below, rw (range-at from count (firstPlace test (range from count)) 0 below) at passes)
 
--- every element passes exactly when none is the first that does not
+-- every element passes exactly if there is no first one that fails
 pub all-place : (test : ℕ → Bool) (xs : List ℕ) → all test xs ≡ not (ltb (firstPlace (λ x. not (test x)) xs) (length xs))
 unfolding all firstPlace
 all-place test [] = refl
@@ -94,7 +94,7 @@ all-place test (x ∷ xs) = go (test x) (all-place test xs)
     go true later = later ∙ ap not (sym (leb·suc-suc (suc rest) (length xs)))
     go false later = ap not (sym (lt-ltb zero (suc (length xs)) (omega arith)))
 
--- some element passes exactly when the first that does has a place before the end
+-- some element passes exactly if the first that does has a place before the end
 pub any-place : (test : ℕ → Bool) (xs : List ℕ) → any test xs ≡ ltb (firstPlace test xs) (length xs)
 unfolding any firstPlace
 any-place test [] = refl
@@ -127,7 +127,7 @@ skip test a (suc count) more none =
     let end : a + suc count ≡ suc a + count = omega arith in
     rw (end, suc-add, here, firstPlace) (omega (arith, later))
 
--- and ends at b where b passes
+-- the search stops at b if b passes
 pub stop-at : (test : ℕ → Bool) (b c : ℕ) → b < c → test b ≡ true → b + firstPlace test (range b (c - b)) ≡ b
 unfolding firstPlace range
 stop-at test b c h e =

@@ -1,4 +1,4 @@
--- Things that come one after another, each unlike those before it.
+-- Things in sequence, each unlike those before it.
 -- Assumes nothing.
 use mathlib.Core.Path.{_≡_, refl, _∙_}
 use mathlib.Core.Bool.{Bool, false}
@@ -8,19 +8,19 @@ use Rattle.rules.specs.Lists.{any}
 use Rattle.laws.specs.Lists.Tests.{none-iff, none-snoc}
 
 module _ {A : Type 0} (alike : A → A → Bool) where
-  -- none of the later is like one of the earlier
+  -- no later one is like an earlier one
   abbrev pub Fresh : List A → List A → Type 0
   Fresh earlier [] = Unit {0}
   Fresh earlier (x ∷ xs) = (any (alike x) earlier ≡ false) × Fresh earlier xs
 
-  -- the first are fresh
+  -- with nothing before, they are fresh
   pub fresh-first : (xs : List A) → Fresh [] xs
   unfolding any
   fresh-first [] = tt
   fresh-first (x ∷ xs) = (refl, fresh-first xs)
 
   module _ (turned : (x y : A) → alike x y ≡ alike y x) where
-    -- fresh after one more: none of the later is like that one either
+    -- fresh after one more: no later one is like that one either
     pub fresh-last : (earlier : List A) (x : A) (xs : List A) → Fresh (earlier ++ (x ∷ [])) xs ↔ ((any (alike x) xs ≡ false) × Fresh earlier xs)
     unfolding any
     fresh-last earlier x [] = (λ h. (refl, tt), λ h. tt)

@@ -7,7 +7,7 @@ use mathlib.Core.List.{List, [], _∷_, map, List·Memᴰ, List·Memᴰ·head, L
 use Rattle.rules.specs.Lists.{those}
 
 module _ {A : Type 0} (test : A → Bool) where
-  -- an element that passes is among those that do, ..
+  -- an element that passes is in `those`, ..
   pub mem-those : (x : A) (xs : List A) → List·Memᴰ x xs → test x ≡ true → List·Memᴰ x (those test xs)
   unfolding those
   mem-those x [] is passes = is
@@ -18,7 +18,7 @@ module _ {A : Type 0} (test : A → Bool) where
       go true e here later = ⊎-elim (λ same. List·Memᴰ·head same) (λ i. List·Memᴰ·tail (later i passes)) here
       go false e here later = ⊎-elim (λ same. absurd (false≢true (sym e ∙ ap test (sym same) ∙ passes))) (λ i. later i passes) here
 
-  -- .. and each of those passes
+  -- .. and each element of `those` passes
   pub those-pass : (x : A) (xs : List A) → List·Memᴰ x (those test xs) → test x ≡ true
   unfolding those
   those-pass x [] is = absurd (List·Memᴰ·not-nil is)

@@ -14,7 +14,7 @@ use borrow.Author.Tests.{eqb-true, eqb-false}
 abbrev pub AllDiffer : ℕ → (ℕ → ℕ) → Type 0
 AllDiffer c w = (i j : ℕ) → i < c → j < c → w i ≡ w j → i ≡ j
 
--- it is enough that no value is equal to a later one
+-- it is enough that no value equals a later one
 pub later-differ : (c : ℕ) (w : ℕ → ℕ) → ((i j : ℕ) → i < j → j < c → w i ≡ w j → ⊥) → AllDiffer c w
 later-differ c w later i j i< j< e = go (decLt i j) (decLt j i)
   where
@@ -23,11 +23,11 @@ later-differ c w later i j i< j< e = go (decLt i j) (decLt j i)
     go (no h) (yes k) = absurd (later j i k i< (sym e))
     go (no h) (no k) = omega arith
 
--- where the value is k, the last value in its place
+-- replaces the value k by the last value
 spare : ℕ → ℕ → (ℕ → ℕ) → ℕ → ℕ
 spare k c w i = cond (eqb (w i) k) (w c) (w i)
 
--- so put, the values are below k, ..
+-- after that, the values are below k, ..
 spare-below : (k c : ℕ) (w : ℕ → ℕ) → ((i : ℕ) → i < suc c → w i < suc k) → AllDiffer (suc c) w → (i : ℕ) → i < c → spare k c w i < k
 unfolding spare
 spare-below k c w small differ i h = go (eqb (w i) k) refl
@@ -50,7 +50,7 @@ spare-differ k c w differ i j i< j< = go (eqb (w i) k) (eqb (w j) k) refl refl
     go false true p q e = let d = differ i c (le-step i<) (le-refl (suc c)) e in omega arith
     go false false p q e = differ i j (le-step i<) (le-step j<) e
 
--- c different values below k are at most k
+-- if c different values are below k, then c is at most k
 pub pigeonhole : (k c : ℕ) (w : ℕ → ℕ) → ((i : ℕ) → i < c → w i < k) → AllDiffer c w → c ≤ k
 pigeonhole k zero w small differ = zero-le
 pigeonhole zero (suc c) w small differ = absurd (not-suc-le-zero (small c (le-refl (suc c))))

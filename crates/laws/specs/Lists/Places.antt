@@ -20,12 +20,12 @@ map-at f [] i d e h = absurd (not-suc-le-zero h)
 map-at f (x ∷ xs) zero d e h = refl
 map-at f (x ∷ xs) (suc i) d e h = map-at f xs i d e (le-of-suc-le-suc h)
 
--- one element more at the end
+-- one more element at the end
 module _ {A : Type 0} where
   pub length-snoc : (xs : List A) (x : A) → length (xs ++ (x ∷ [])) ≡ suc (length xs)
   length-snoc xs x = omega (arith, length-append xs (x ∷ []))
 
-  -- what holds at each place of a list, and of the element
+  -- a property of each place of a list and of one more element
   pub each-snoc : (P : A → Type 0) (d : A) (xs : List A) (x : A) → ((i : ℕ) → i < length xs → P (getD xs i d)) → P x
       → (i : ℕ) → i < length (xs ++ (x ∷ [])) → P (getD (xs ++ (x ∷ [])) i d)
   each-snoc P d [] x each new zero h = new
@@ -40,7 +40,7 @@ one-byte [] e = absurd (omega arith)
 one-byte (b ∷ []) e = refl
 one-byte (b ∷ d ∷ w) e = absurd (omega arith)
 
--- an element that is listed stands at a place
+-- an element that is listed has a place
 pub mem-place : (x : ℕ) (xs : List ℕ) → List·Memᴰ x xs → (k : ℕ) × (k < length xs) × (getD xs k 0 ≡ x)
 mem-place x [] is = absurd (List·Memᴰ·not-nil is)
 mem-place x (y ∷ xs) is = go (List·Memᴰ·cases-cons is) (mem-place x xs)

@@ -81,7 +81,7 @@ range-at from (suc count) (suc k) d h = range-at (suc from) count k d (omega ari
 pub map-range-at : {A : Type 0} (f : ℕ → A) (from count k : ℕ) (d : A) → k < count → getD (map f (range from count)) k d ≡ f (from + k)
 map-range-at f from count k d h = map-at f (range from count) k 0 d (rw range-length h) ∙ ap f (range-at from count k 0 h)
 
--- a list read off place by place
+-- a list is its elements place by place
 pub by-places : {A : Type 0} (d : A) (xs : List A) → map (λ i. getD xs i d) (range 0 (length xs)) ≡ xs
 by-places d xs =
     ext-getD d (map (λ i. getD xs i d) (range 0 (length xs))) xs (map-range-length (λ i. getD xs i d) 0 (length xs))

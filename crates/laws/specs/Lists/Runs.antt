@@ -11,7 +11,7 @@ use lib.Dec.{eqb}
 use Rattle.rules.specs.Text.{space}
 use Rattle.rules.specs.Sheets.Fields.{isSeparator, run, past, pastSpaces, spacesIn}
 
--- where the field at a place ends: the place of the byte after it
+-- the end of the field at a place: the place of the byte after it
 unfoldable pub fieldEnd : List ℕ → ℕ → ℕ
 fieldEnd s at = at + length (run (drop at s))
 
@@ -25,7 +25,7 @@ pub at-plain : (b : ℕ) (s : List ℕ) → isSeparator b ≡ false → (run (b 
 unfolding run past
 at-plain b s e = rw (e, run, past) (refl, refl)
 
--- a text is its first run and what stands past it
+-- a text is its first run followed by what is past it
 pub run-past : (s : List ℕ) → s ≡ run s ++ past s
 unfolding run past
 run-past [] = refl
@@ -46,7 +46,7 @@ module _ (s : List ℕ) where
   pub run-most : length (run s) ≤ length s
   run-most = omega (arith, simp length-append at (ap length (run-past s)))
 
--- with more bytes behind a separator past the run, the run is the same, ..
+-- if a separator follows the run, more bytes after it do not change the run, ..
 pub run-more : (s t : List ℕ) (b : ℕ) (rest : List ℕ) → past s ≡ b ∷ rest → (run (s ++ t) ≡ run s) × (past (s ++ t) ≡ b ∷ (rest ++ t))
 unfolding run past
 run-more [] t b rest e = absurd (let z : _≡_ {A = ℕ} 0 1 = cc in omega arith)
@@ -65,7 +65,7 @@ run-more (c ∷ s) t b rest e = go (isSeparator c) refl e (run-more s t b rest)
         let (x, y) = r (sym l ∙ e) in
         (i ∙ ap (λ w. c ∷ w) x ∙ sym k, j ∙ y)
 
--- .. and where no separator stands there, the run goes on into them
+-- .. and if no separator follows, the run continues into them
 pub run-through : (s t : List ℕ) → past s ≡ [] → run (s ++ t) ≡ s ++ run t
 unfolding run past
 run-through [] t e = refl
@@ -77,7 +77,7 @@ run-through (c ∷ s) t e = go (isSeparator c) refl e (run-through s t)
 
 -- ---- spaces at the front
 
--- a space in front is passed
+-- a space in front is skipped
 pub at-space : (b : ℕ) (s : List ℕ) → eqb b space ≡ true → (spacesIn (b ∷ s) ≡ suc (spacesIn s)) × (pastSpaces (b ∷ s) ≡ pastSpaces s)
 unfolding spacesIn pastSpaces
 at-space b s e = rw (e, spacesIn, pastSpaces) (refl, refl)

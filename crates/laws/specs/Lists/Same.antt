@@ -33,14 +33,14 @@ same-true (x ∷ xs) (y ∷ ys) e =
     let (h, t) = and-eq-true-iff (eqb x y) (same xs ys) .0 (sym (same-cons x y xs ys) ∙ e) in
     ap₂ _∷_ (eqb-true x y h) (same-true xs ys t)
 
--- and it does not matter which is put first
+-- the order of the two lists does not matter
 pub same-comm : (xs ys : List ℕ) → same xs ys ≡ same ys xs
 same-comm xs ys = two-ways (same xs ys) (same ys xs) (turn xs ys) (turn ys xs)
   where
     turn : (xs ys : List ℕ) → same xs ys ≡ true → same ys xs ≡ true
     turn xs ys e = rw (same-true xs ys e) (same-refl ys)
 
--- nor for two numbers
+-- nor does it for two numbers
 pub eqb-comm : (x y : ℕ) → eqb x y ≡ eqb y x
 eqb-comm x y = two-ways (eqb x y) (eqb y x) (turn x y) (turn y x)
   where

@@ -10,7 +10,7 @@ use Rattle.rules.specs.Lists.{range, those, total}
 use Rattle.laws.specs.Lists.Ranges.{range-suc}
 use Rattle.laws.specs.Lists.Totals.{total-parts, those-cons, those-append}
 
--- over the numbers below k
+-- the sum over the numbers below k
 unfoldable pub sumTo : (ℕ → ℕ) → ℕ → ℕ
 sumTo f zero = 0
 sumTo f (suc k) = sumTo f k + f k
@@ -27,7 +27,7 @@ unfolding sumTo
 sum-both f h zero = refl
 sum-both f h (suc k) = omega (arith, sum-both f h k)
 
--- by twos
+-- in pairs
 pub sum-pairs : (f : ℕ → ℕ) (k : ℕ) → sumTo f (k + k) ≡ sumTo (λ b. f (b + b) + f (suc (b + b))) k
 unfolding sumTo
 sum-pairs f zero = refl
@@ -45,7 +45,7 @@ sum-more f j (suc k) h = go (ℕ-discrete j (suc k)) (sum-more f j k)
     go (yes e) below = rw e (omega arith)
     go (no other) below = omega (arith, below (omega arith))
 
--- a sum over those of a range that pass, each at most what another function has there
+-- a sum over the numbers of a range that pass, if each is at most another function's value there
 pub total-sum : (f h : ℕ → ℕ) (test : ℕ → Bool) (k : ℕ) → ((a : ℕ) → List·Memᴰ a (those test (range 1 k)) → f a ≤ h a)
     → total (map f (those test (range 1 k))) ≤ sumTo h (suc k)
 unfolding range those total sumTo
@@ -65,7 +65,7 @@ total-sum f h test (suc k) most =
         let next : 1 + k ≡ suc k = omega arith in
         ap (those test) (range-suc 1 k) ∙ those-append test (range 1 k) ((1 + k) ∷ []) ∙ rw next
 
-    -- the last of the range, where it passes
+    -- the last of the range, if it passes
     last : (List·Memᴰ (suc k) (those test (suc k ∷ [])) → f (suc k) ≤ h (suc k)) → total (map f (those test (suc k ∷ []))) ≤ h (suc k)
     last most = rw (those-cons test (suc k) []) (go (test (suc k)) (rw (those-cons test (suc k) []) at most))
       where

@@ -23,12 +23,12 @@ pub not-true-false : (b : Bool) → (b ≡ true → ⊥) → b ≡ false
 not-true-false true h = absurd (h refl)
 not-true-false false h = refl
 
--- two tests of which neither passes
+-- neither of two tests passes
 pub or-false-iff : (a b : Bool) → ((a || b) ≡ false) ↔ ((a ≡ false) × (b ≡ false))
 or-false-iff true b = (λ e. absurd (true≢false e), λ k. absurd (true≢false (k .0)))
 or-false-iff false b = (λ e. (refl, e), λ k. k .1)
 
--- two tests of which each passes where the other does are one test
+-- if each of two tests passes whenever the other does, they are equal
 pub two-ways : (a b : Bool) → (a ≡ true → b ≡ true) → (b ≡ true → a ≡ true) → a ≡ b
 two-ways true b h k = sym (h refl)
 two-ways false true h k = k refl
@@ -68,7 +68,7 @@ pub one-if-le : (t : Bool) → oneWhere t ≤ 1
 one-if-le true = omega arith
 one-if-le false = omega arith
 
--- two tests of which at most one passes
+-- at most one of two tests passes
 pub one-if-or : (s t : Bool) → (s && t) ≡ false → oneWhere (s || t) ≡ oneWhere s + oneWhere t
 one-if-or true true e = cc
 one-if-or true false e = refl
@@ -105,7 +105,7 @@ module _ {A : Type 0} (test : A → Bool) where
   pub none-append : (xs ys : List A) → (any test (xs ++ ys) ≡ false) ↔ ((any test xs ≡ false) × (any test ys ≡ false))
   none-append xs ys = rw any-append (or-false-iff (any test xs) (any test ys))
 
-  -- none of a list and one element more
+  -- none of a list and one more element
   pub none-snoc : (xs : List A) (x : A) → (any test (xs ++ (x ∷ [])) ≡ false) ↔ ((any test xs ≡ false) × (test x ≡ false))
   unfolding any
   none-snoc xs x = rw (any-append xs (x ∷ []), any-cons x [], or-false) (or-false-iff (any test xs) (test x))
@@ -115,12 +115,12 @@ module _ {A : Type 0} (test : A → Bool) where
   all-append [] ys d e = e
   all-append (x ∷ xs) ys d e = all-iff x (xs ++ ys) .1 (all-iff x xs .0 d .0, all-append xs ys (all-iff x xs .0 d .1) e)
 
-  -- where all pass, each does, ..
+  -- if all pass, each does, ..
   pub all-mem : {x : A} {xs : List A} → List·Memᴰ x xs → all test xs ≡ true → test x ≡ true
   all-mem (List·Memᴰ·head {x = z} {xs} e) h = ap test e ∙ all-iff z xs .0 h .0
   all-mem (List·Memᴰ·tail {x = z} {xs} i) h = all-mem i (all-iff z xs .0 h .1)
 
-  -- .. and the other way round
+  -- .. and conversely
   pub mem-all : (xs : List A) → ((x : A) → List·Memᴰ x xs → test x ≡ true) → all test xs ≡ true
   unfolding all
   mem-all [] h = refl
@@ -132,12 +132,12 @@ module _ {A : Type 0} (test : A → Bool) where
   all-each d [] h = refl
   all-each d (x ∷ xs) h = all-iff x xs .1 (h 0 (omega arith), all-each d xs (λ k l. h (suc k) (omega arith)))
 
-  -- where none passes, each fails, ..
+  -- if none passes, each fails, ..
   pub none-mem : {x : A} {xs : List A} → List·Memᴰ x xs → any test xs ≡ false → test x ≡ false
   none-mem (List·Memᴰ·head {x = z} {xs} e) h = ap test e ∙ none-iff z xs .0 h .0
   none-mem (List·Memᴰ·tail {x = z} {xs} i) h = none-mem i (none-iff z xs .0 h .1)
 
-  -- .. and the other way round; ..
+  -- .. and conversely; ..
   pub mem-none : (xs : List A) → ((x : A) → List·Memᴰ x xs → test x ≡ false) → any test xs ≡ false
   unfolding any
   mem-none [] h = refl

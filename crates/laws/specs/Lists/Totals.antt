@@ -1,4 +1,4 @@
--- Sums over lists, and the way from a number to a part and back: parts stand in a row, each with a count of its own, and a number is that of a
+-- Sums over lists, and how to go from a number to a part and back: parts are in sequence, each with its own count, and a number stands for a
 -- part and a number below that part's count.
 -- Assumes nothing.
 use Prim.Native.Nat.{ℕ, zero, suc, _+_, _-_, _≤_, _<_}
@@ -63,7 +63,7 @@ those-append test (x ∷ xs) ys = rw (those-cons test x (xs ++ ys), those-cons t
     go true = refl
     go false = refl
 
--- numbers that do not pass are passed over
+-- numbers that fail are skipped
 those-skip : (test : ℕ → Bool) (a count more : ℕ) → ((u : ℕ) → a ≤ u → u < a + count → test u ≡ false)
     → those test (range a (count + more)) ≡ those test (range (a + count) more)
 unfolding range
@@ -74,7 +74,7 @@ those-skip test a (suc count) more none =
     rw (end, suc-add, those-cons test a (range (suc a) (count + more)), here)
     (those-skip test (suc a) count more (λ u low high. none u (omega arith) (omega arith)))
 
--- so those below c may be taken from b on
+-- so those below c can be collected from b on
 pub those-past : (test : ℕ → Bool) (a b c : ℕ) → a ≤ b → b ≤ c → ((u : ℕ) → a ≤ u → u < b → test u ≡ false)
     → those test (range a (c - a)) ≡ those test (range b (c - b))
 those-past test a b c ab bc none =
@@ -95,7 +95,7 @@ any-mem x (y ∷ xs) e = go (eqb x y) refl e (any-mem x xs)
     go true same e later = List·Memᴰ·head (eqb-true x y same)
     go false other e later = List·Memᴰ·tail (later e)
 
--- those of a range: none stands twice
+-- in `those` of a range no number occurs twice
 pub those-range-distinct : (test : ℕ → Bool) (from count : ℕ) → Distinct (those test (range from count))
 unfolding range those
 those-range-distinct test from zero = tt
@@ -116,10 +116,10 @@ those-range-distinct test from (suc count) =
     go true rest = (later, rest)
     go false rest = rest
 
--- ---- parts in a row
+-- ---- parts in sequence
 
 module _ (count : ℕ → ℕ) where
-  -- all that the parts before a have
+  -- the sum of the counts of the parts before a
   unfoldable pub before : List ℕ → ℕ → ℕ
   before [] a = 0
   before (x ∷ xs) a = elim (eqb x a) [ true ↦ 0 | false ↦ count x + before xs a ]
@@ -151,7 +151,7 @@ module _ (count : ℕ → ℕ) where
       go true e = absurd (omega (arith, ltb-true r (count x) e))
       go false e = refl
 
-  -- a number below a part's count is one below all parts' sum, ..
+  -- a number below a part's count gives a number below the sum of all counts, ..
   pub before-below : (xs : List ℕ) (a s : ℕ) → List·Memᴰ a xs → s < count a → before xs a + s < total (map count xs)
   unfolding total
   before-below [] a s is h = absurd (List·Memᴰ·not-nil is)
@@ -163,7 +163,7 @@ module _ (count : ℕ → ℕ) where
       go false e (inl same) later = absurd (eqb-false x a e (sym same))
       go false e (inr is) later = omega (arith, later is)
 
-  -- .. from which the part and the number come back
+  -- .. which determines the part and the number
   pub numbered-before : (xs : List ℕ) (a s : ℕ) → List·Memᴰ a xs → s < count a → numberedAt count xs (before xs a + s) ≡ record { part = a; number = s }
   numbered-before [] a s is h = absurd (List·Memᴰ·not-nil is)
   numbered-before (x ∷ xs) a s is h =
@@ -180,7 +180,7 @@ module _ (count : ℕ → ℕ) where
           let less : count x + before xs a + s - count x ≡ before xs a + s = omega arith in
           numbered-later x xs (count x + before xs a + s) (omega arith) ∙ ap (numberedAt count xs) less ∙ later is
 
-  -- what a number below the sum is the number of
+  -- the part and the number that a number below the sum stands for
   pub record Placed (xs : List ℕ) (r : ℕ) : Type 0 where
     pub listed : List·Memᴰ (numberedAt count xs r .part) xs
     pub below : numberedAt count xs r .number < count (numberedAt count xs r .part)
@@ -211,7 +211,7 @@ module _ (count : ℕ → ℕ) where
             again = rw (there, before-cons, other) (omega (arith, rest .again));
           }
 
-  -- number 0 is the first part's, of those in a range that pass a test
+  -- number 0 belongs to the first part, for the numbers in a range that pass a test
   pub numbered-first : (test : ℕ → Bool) (from k : ℕ) → any test (range from k) ≡ true → ((a : ℕ) → List·Memᴰ a (those test (range from k)) → 0 < count a)
       → numberedAt count (those test (range from k)) 0 ≡ record { part = from + firstPlace test (range from k); number = 0 }
   unfolding range any

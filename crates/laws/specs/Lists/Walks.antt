@@ -1,4 +1,4 @@
--- A list or a range walked from the front: what is known of the rest from a place on, a step further, and where the walk stops.
+-- Walking a list or a range from the front: what is known about the rest from a place on, one step further, and where the walk stops.
 -- Assumes nothing.
 use Prim.Native.Nat.{ℕ, _+_, _-_, _≤_, _<_}
 use mathlib.Core.Path.{_≡_, sym, ap, _∙_}

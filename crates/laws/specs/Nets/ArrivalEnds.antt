@@ -31,13 +31,13 @@ module _ (from to : ℕ) where
   pub latest-of : latestOf (arrivalOf from to) ≡ to
   latest-of = arrives .1
 
-  -- in order and within the bound they keep the rules
+  -- in order and within the bound, they follow the rules
   pub kept-of : from ≤ to → to ≤ mostTime → ArrivalRules (arrivalOf from to)
   kept-of = arrives .2
 
--- ---- of an arrival that keeps the rules
+-- ---- of an arrival that follows the rules
 
--- its two times make it again
+-- its two times give it back
 pub arrival-again : (a : Arrival) → ArrivalRules a → arrivalOf (earliestOf a) (latestOf a) ≡ a
 unfolding arrivalOf
 arrival-again (fixed time) kept = rw (eq-eqb time time refl, arrivalOf) refl
@@ -49,7 +49,7 @@ kept-order (between from to) kept = (omega arith, kept .1)
 
 -- ---- of a list
 
--- input i's; 0 past the last
+-- the arrival of input i; fixed at 0 past the last
 abbrev pub arrivalAt : List Arrival → ℕ → Arrival
 arrivalAt arrivals i = getD arrivals i (fixed 0)
 

@@ -30,7 +30,7 @@ pub field-digit : (m b : ℕ) → (b ≡ openByte → ⊥) → inkField m (b ∷
 unfolding inkField
 field-digit m b ne = rw (ne-eqb b openByte ne, inkField)
 
--- one that is bad is refused by 6
+-- a bad field is refused with 6
 pub field-bad : (m b k : ℕ) → inkField m (b ∷ []) ≡ bad k → k ≡ 6
 unfolding inkField
 field-bad m b k = go (eqb b openByte) (isDigit m b)

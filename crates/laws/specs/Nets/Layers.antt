@@ -1,4 +1,4 @@
--- The layers of a gate list are its settling time where every input arrives at 0 and each gate takes 1.
+-- The layers of a gate list are its settling time if every input arrives at 0 and each gate takes 1.
 -- Assumes nothing.
 use Prim.Native.Nat.{ℕ, zero, suc, _+_, _-_, _<_, max}
 use mathlib.Core.Path.{_≡_, refl, sym, ap, ap₂, _∙_}
@@ -23,7 +23,7 @@ abbrev Reached : List (List ℕ) → Type 0
 Reached ways = (i : ℕ) → i < length ways → 0 < length (getD ways i [])
 
 module _ (ways : List (List ℕ)) (reached : Reached ways) (g : Gate) (left : g .left < length ways) (right : g .right < length ways) where
-  -- also to the next gate
+  -- and also to the next gate
   gate-reached : 0 < length (gateWays ways g)
   unfolding gateWays
   gate-reached = rw (length-map, length-append) (omega (arith, reached (g .left) left))
@@ -61,7 +61,7 @@ module _ (n : ℕ) (gates : List Gate) (some : 0 < length gates) (back : RefersB
   inputs-reached : Reached inputWays
   inputs-reached i h = rw (map-range-at {A = List ℕ} (λ _. 0 ∷ []) 0 n i [] (rw inputs-many at h)) (omega arith)
 
-  -- at every input there are none
+  -- every input has depth 0
   inputs-depth : map most inputWays ≡ replicate n 0
   unfolding most
   inputs-depth = ap (map most) (map-range-all {A = List ℕ} (0 ∷ []) 0 n) ∙ zeros n
@@ -70,7 +70,7 @@ module _ (n : ℕ) (gates : List Gate) (some : 0 < length gates) (back : RefersB
       zeros zero = refl
       zeros (suc k) = ap {B = List ℕ} (λ ds. 0 ∷ ds) (zeros k)
 
-  -- those down to the last gate
+  -- they are the depth of the last gate
   pub layers-depth : layers n gates ≡ getD (withTimes 1 (replicate n 0) gates) (n + length gates - 1) 0
   unfolding layers waysOf
   layers-depth =

@@ -61,7 +61,7 @@ module _ (width height : ℕ) (picture : List ℕ) where
 
 -- ---- values
 
--- what a net gives at levels is the value at their index
+-- a net's value at some levels is its value at their index
 pub value-levels : (m n p : ℕ) (gates : List Gate) → value m n gates p ≡ valueWith m n gates (levelsAt m n p)
 unfolding value valueWith
 value-levels m n p gates = refl
@@ -92,7 +92,7 @@ module _ (m width height : ℕ) (picture : List ℕ) (is : IsPicture m width hei
   picture-level-below (pos x) (negsuc y) = pos-m
   picture-level-below (negsuc x) y = pos-m
 
-  -- so those of all inputs are an assignment
+  -- so the levels of all inputs are an assignment
   pub picture-levels-given : (n : ℕ) (offsets : List ℤ) (x y : ℕ) → Assignment m n (levelsRead n width height picture offsets x y)
   unfolding levelsRead
   picture-levels-given n offsets x y =

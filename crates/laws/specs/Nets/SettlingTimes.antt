@@ -1,5 +1,5 @@
--- The settling time of a gate list, whatever its wiring: later arrivals at the used inputs settle no earlier, and in a finer unit it is the same time. "Arrival
--- times count used inputs only." (document 02, K12)
+-- The settling time of a gate list, whatever its wiring: with later arrivals at the used inputs it is no earlier, and in a finer unit it is the same
+-- time. "Arrival times count used inputs only." (document 02, K12)
 -- Assumes nothing.
 use Prim.Native.Nat.{ℕ, _+_, _*_, _≤_}
 use mathlib.Core.Path.{_≡_, sym, ap, _∙_}
@@ -23,7 +23,7 @@ module _ (n : ℕ) (gates : List Gate) where
   unfolding settlingTime
   settles-same delay xs ys same = most-same _ _ (usedInputs n gates) (λ i listed. ap (λ (x : ℕ). x + delay * gatesOnWay n gates i) (same i listed))
 
-  -- every arrival and the delay times k
+  -- scales every arrival and the delay by k
   pub settles-scaled : (delay k : ℕ) (xs ys : List ℕ) → ((i : ℕ) → List·Memᴰ i (usedInputs n gates) → getD ys i 0 ≡ getD xs i 0 * k)
       → settlingTime n gates (delay * k) ys ≡ settlingTime n gates delay xs * k
   unfolding settlingTime

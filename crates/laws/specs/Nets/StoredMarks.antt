@@ -1,4 +1,4 @@
--- Marks stored four to a byte (document 02, K7): one byte more, how many there are, and that unpacking what was packed gives the marks back.
+-- Marks stored four to a byte (document 02, K7): one more byte, how many bytes there are, and that unpacking what was packed gives the marks back.
 -- Assumes nothing.
 use Prim.Native.Nat.{ℕ, zero, suc, _+_, _*_, _/_, _%_, _^_, _≤_, _<_}
 use mathlib.Core.Path.{_≡_, refl, sym, ap, ap₂, _∙_}
@@ -37,7 +37,7 @@ four-past a b c d marks k =
     let at3 : 4 * suc k + 3 ≡ suc (suc (suc (suc (4 * k + 3)))) = omega arith in
     rw (at1, at2, at3, at0) refl
 
--- one byte more
+-- one more byte
 pub stored-next : (marks : List ℕ) (k : ℕ) → 4 * k + 3 < length marks
     → storedMarks (take (4 * (k + 1)) marks) ≡ storedMarks (take (4 * k) marks) ++ (fourAt marks (4 * k) ∷ [])
 unfolding storedMarks
@@ -53,7 +53,7 @@ stored-next (a ∷ b ∷ c ∷ d ∷ marks) (suc k) h =
     ∙ ap (λ (l : List ℕ). (a + 4 * b + 16 * c + 64 * d) ∷ l) (stored-next marks k (omega arith))
     ∙ ap₂ (λ (i v : ℕ). storedMarks (take i (a ∷ b ∷ c ∷ d ∷ marks)) ++ (v ∷ [])) (sym same) (sym (four-past a b c d marks k))
 
--- written behind those before it
+-- the byte written after those before it
 pub stored-set : (before marks : List ℕ) (k : ℕ) → 4 * k + 3 < length marks → k < length before
     → set (written before (storedMarks (take (4 * k) marks))) k (fourAt marks (4 * k)) ≡ written before (storedMarks (take (4 * (k + 1)) marks))
 unfolding written
@@ -68,7 +68,7 @@ stored-set before marks k h room =
     ∙ sym (append-snoc (storedMarks (take (4 * k) marks)) (fourAt marks (4 * k)) (drop (suc k) before))
     ∙ ap₂ (λ (l : List ℕ) (i : ℕ). l ++ drop i before) (sym next) (sym count′)
 
--- the groups of two inputs and more are a multiple of four
+-- for two or more inputs the number of groups is a multiple of four
 pub four-groups : (n : ℕ) → 2 ≤ n → 4 * marksLength n ≡ 2 ^ n
 unfolding marksLength
 four-groups zero h = absurd (omega arith)
@@ -97,7 +97,7 @@ unpacked-stored (a ∷ b ∷ c ∷ d ∷ marks) (suc k) e small =
     let rest = unpacked-stored marks k (omega arith) (λ g h. small (suc (suc (suc (suc g)))) (omega arith)) in
     λ i. four .0 i ∷ four .1 i ∷ four .2 i ∷ four .3 i ∷ rest i
 
--- one group's mark, read out of the bytes, is that of all of them unpacked
+-- one group's mark read from the bytes equals its mark in all of them unpacked
 pub mark-unpacked : (bytes : List ℕ) (g : ℕ) → markStored bytes g ≡ markIn (unpacked bytes) g
 unfolding markStored unpacked
 mark-unpacked [] g = ap (λ (v : ℕ). v % 4) (zero-div (4 ^ (g % 4)))

@@ -1,4 +1,4 @@
--- When each reference of a gate list settles, by one number for each: an input when it arrives, a gate one delay after the later of the two that it joins.
+-- When each reference of a gate list settles, one number for each: an input when it arrives, a gate one delay after the later of the two it joins.
 -- Assumes nothing.
 use Prim.Native.Nat.{ℕ, zero, suc, _+_, _*_, _≤_, max}
 use mathlib.Core.List.{List, [], _∷_, _++_}
@@ -8,11 +8,11 @@ use lib.ListN.{length, getD}
 use Rattle.rules.specs.Lists.{withEach}
 use Rattle.rules.specs.Sheets.Sheets.{Gate}
 
--- a gate's, from those of every reference so far
+-- a gate's time, from the times of every reference so far
 unfoldable pub gateTime : ℕ → List ℕ → Gate → ℕ
 gateTime delay times g = max (getD times (g .left) 0) (getD times (g .right) 0) + delay
 
--- those of all references: the ones that are given, then the gates', in order
+-- the times of all references: the given ones, then the gates', in order
 abbrev pub withTimes : ℕ → List ℕ → List Gate → List ℕ
 withTimes delay times gates = withEach (gateTime delay) times gates
 

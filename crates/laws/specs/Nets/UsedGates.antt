@@ -1,4 +1,4 @@
--- That every earlier gate is used, as the test that reading makes (`earlierUsed`) and as the rule that a net keeps (`EarlierUsed`).
+-- Every earlier gate is used: the test that reading makes (`earlierUsed`) agrees with the rule for a net (`EarlierUsed`).
 -- Assumes nothing.
 use Prim.Native.Nat.{ℕ, _-_}
 use mathlib.Core.Path.{_≡_}

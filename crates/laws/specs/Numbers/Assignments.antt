@@ -1,5 +1,5 @@
--- Assignments: "An assignment gives each input a level." Each assignment is the levels of just one index, so what is said of every
--- index below m to the n is said of every assignment.
+-- Assignments: "An assignment gives each input a level." Each assignment is the levels of exactly one index, so a statement about every
+-- index below m to the n is a statement about every assignment.
 -- Assumes nothing.
 use Prim.Native.Nat.{ℕ, zero, suc, _+_, _*_, _/_, _^_, _<_}
 use mathlib.Core.Path.{_≡_, refl, sym, ap, _∙_, subst}
@@ -18,7 +18,7 @@ pub record Assignment (m n : ℕ) (ls : List ℕ) : Type 0 where
   pub count : length ls ≡ n
   pub below : (i : ℕ) → i < n → getD ls i 0 < m
 
--- the index that begins with the digits of p and goes on with the levels
+-- the index whose digits are those of p followed by the levels
 unfoldable pub indexFrom : ℕ → ℕ → List ℕ → ℕ
 indexFrom m p [] = p
 indexFrom m p (l ∷ ls) = indexFrom m (p * m + l) ls
@@ -33,7 +33,7 @@ Below m ls = (i : ℕ) → i < length ls → getD ls i 0 < m
 
 -- ---- from levels to an index and back
 
--- digits below m make an index with so many digits more, ..
+-- digits below m give an index with that many more digits, ..
 from-below : (m k p : ℕ) (ls : List ℕ) → p < m ^ k → Below m ls → indexFrom m p ls < m ^ (length ls + k)
 unfolding indexFrom
 from-below m k p [] h below = rw zero-add h
@@ -51,7 +51,7 @@ levels-from m k p (l ∷ ls) below =
     (levels-from m (suc k) (p * m + l) ls (λ i j. below (suc i) (omega arith))
     ∙ rw (levels-suc, digits-div p l<, digits-mod p l<, append-assoc))
 
--- one level more is one digit more
+-- one more level is one more digit
 from-last : (m p : ℕ) (ls : List ℕ) (l : ℕ) → indexFrom m p (ls ++ (l ∷ [])) ≡ indexFrom m p ls * m + l
 unfolding indexFrom
 from-last m p [] l = refl
@@ -83,7 +83,7 @@ module _ (m n : ℕ) (ls : List ℕ) (given : Assignment m n ls) where
 pub levels-given : (m n p : ℕ) → 0 < m → Assignment m n (levelsAt m n p)
 levels-given m n p pos = record { count = levels-length m n p; below = λ i h. levels-below m n p i pos h }
 
--- Every list of n levels below m is the levels of just one index below m to the n: there is one, and any other is the same.
+-- Every list of n levels below m is the levels of exactly one index below m to the n: there is one, and any other is equal to it.
 pub one-index : (m n : ℕ) → 0 < m → (ls : List ℕ) → Assignment m n ls
     → (p : ℕ) × (p < m ^ n) × (levelsAt m n p ≡ ls) × ((q : ℕ) → q < m ^ n → levelsAt m n q ≡ ls → q ≡ p)
 one-index m n pos ls given = (
@@ -93,7 +93,7 @@ one-index m n pos ls given = (
   λ q h e. sym (index-levels m n q pos h) ∙ ap (indexOf m) e,
 )
 
--- So something holds at every index exactly when it holds at every assignment.
+-- So something holds at every index exactly if it holds at every assignment.
 pub each-assignment : (m n : ℕ) → 0 < m → (P : List ℕ → ℕ → Type 0)
     → ((p : ℕ) → p < m ^ n → P (levelsAt m n p) p) ↔ ((ls : List ℕ) → Assignment m n ls → P ls (indexOf m ls))
 each-assignment m n pos P = (

@@ -21,7 +21,7 @@ more-digits : (fuel k : ℕ) → 10 ≤ k → decimalF (suc fuel) k ≡ decimalF
 unfolding decimalF
 more-digits fuel k h = rw (le-ltb k 10 h, decimalF)
 
--- any fuel that is large enough gives the same
+-- any large enough fuel gives the same result
 enough : (f g k : ℕ) → k ≤ f → k ≤ g → decimalF f k ≡ decimalF g k
 enough zero g k hf hg = one-digit zero k (omega arith) ∙ sym (one-digit g k (omega arith))
 enough (suc f) zero k hf hg = one-digit (suc f) k (omega arith) ∙ sym (one-digit zero k (omega arith))

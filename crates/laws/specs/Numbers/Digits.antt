@@ -27,7 +27,7 @@ pub digit-byte : (m d : ℕ) → d < m → isDigit m (digitByte d) ≡ true
 unfolding digitByte
 digit-byte m d h = digit-iff m (48 + d) .1 (omega arith)
 
--- every byte of a decimal value is a digit's, and there is one
+-- every byte of a decimal value is a digit's byte, and there is at least one
 pub decimal-digits : (n : ℕ) → (all (isDigit 10) (decimal n) ≡ true) × (0 < length (decimal n))
 unfolding all
 decimal-digits n = by-digits (λ n w. (all (isDigit 10) w ≡ true) × (0 < length w)) (λ n h. (last n h, omega arith))
@@ -36,7 +36,7 @@ decimal-digits n = by-digits (λ n w. (all (isDigit 10) w ≡ true) × (0 < leng
     last : (d : ℕ) → d < 10 → all (isDigit 10) (digitByte d ∷ []) ≡ true
     last d h = all-iff (isDigit 10) (digitByte d) [] .1 (digit-byte 10 d h, refl)
 
--- .. and the first is no zero, unless the number is 0
+-- .. and the first is not zero, unless the number is 0
 pub decimal-first : (n : ℕ) → 0 < n → 48 < getD (decimal n) 0 0
 unfolding digitByte
 decimal-first n = by-digits (λ n w. (0 < length w) × (0 < n → 48 < getD w 0 0)) (λ n h. (omega arith, λ some. omega arith))
@@ -55,7 +55,7 @@ pub decimal-value : (n : ℕ) → valueOf 0 (decimal n) ≡ n
 unfolding valueOf digitByte
 decimal-value n = by-digits (λ n w. valueOf 0 w ≡ n) (λ n h. omega arith) (λ n w l e. value-snoc 0 w (48 + n % 10) ∙ (omega arith)) n
 
--- digits behind a number that is not 0 go on with its decimal value
+-- digits after a nonzero number continue its decimal value
 digits-behind : (before : ℕ) → 0 < before → (w : List ℕ) → all (isDigit 10) w ≡ true → decimal (valueOf before w) ≡ decimal before ++ w
 unfolding valueOf digitByte
 digits-behind before some [] digits = simp append-nil
@@ -71,12 +71,12 @@ digits-behind before some (b ∷ w) digits =
 
 -- ---- which bytes are a decimal value
 
--- those of a number are
+-- the decimal value of a number is one
 pub decimal-is : (n : ℕ) → isDecimal (decimal n) ≡ true
 unfolding isDecimal
 decimal-is n = rw (decimal-value n) (same-refl (decimal n))
 
--- and no others
+-- and there are no others
 pub is-decimal : (w : List ℕ) → isDecimal w ≡ true → w ≡ decimal (valueOf 0 w)
 unfolding isDecimal
 is-decimal w e = same-true w (decimal (valueOf 0 w)) e
@@ -97,7 +97,7 @@ digits-decimal (b ∷ c ∷ w) some digits first =
     (same-refl (b ∷ c ∷ w))
 
 module _ (w : List ℕ) where
-  -- what no decimal value has
+  -- a text that equals no decimal value is not one
   not-one : ((n : ℕ) → w ≡ decimal n → ⊥) → isDecimal w ≡ false
   not-one h = not-true-false (isDecimal w) (λ e. h (valueOf 0 w) (is-decimal w e))
 
@@ -112,7 +112,7 @@ module _ (w : List ℕ) where
       never n (yes some) e = omega (arith, decimal-first n some, ap (λ (v : List ℕ). getD v 0 0) e)
       never n (no none) e = omega (arith, ap length e, decimal-length 0 n (omega arith))
 
-  -- nor has one of a number below 10 to the power d + 1 more than d + 1 bytes
+  -- a decimal value of a number below 10 to the power d + 1 has at most d + 1 bytes
   pub long-decimal : (d : ℕ) → suc d < length w → valueOf 0 w < 10 ^ suc d → isDecimal w ≡ false
   long-decimal d long small =
       not-true-false (isDecimal w) (λ e. omega (arith, ap length (is-decimal w e), decimal-length d (valueOf 0 w) small))

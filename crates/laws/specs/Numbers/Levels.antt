@@ -25,7 +25,7 @@ unfoldable pub allTop : ℕ → List ℕ → Bool
 allTop m [] = true
 allTop m (l ∷ ls) = leb m (l + 1) && allTop m ls
 
--- A level moves when every later one is the highest: one up, and from the highest to 0.
+-- A level changes when every later one is the highest: one up, and from the highest to 0.
 unfoldable pub nextLevels : ℕ → List ℕ → List ℕ
 nextLevels m [] = []
 nextLevels m (l ∷ ls) = cond (allTop m ls) (cond (leb m (l + 1)) 0 (l + 1)) l ∷ nextLevels m ls
@@ -40,7 +40,7 @@ unfolding allTop
 top-up m [] l h = simp (lt-leb m (l + 1) h)
 top-up m (x ∷ ls) l h = ap (λ (b : Bool). leb m (x + 1) && b) (top-up m ls l h) ∙ and-false (leb m (x + 1))
 
--- at the highest level the earlier ones move too, ..
+-- at the highest level the earlier ones change too, ..
 pub next-turn : (m : ℕ) (ls : List ℕ) (l : ℕ) → m ≤ l + 1 → nextLevels m (ls ++ (l ∷ [])) ≡ nextLevels m ls ++ (0 ∷ [])
 unfolding nextLevels allTop
 next-turn m [] l h = simp (le-leb m (l + 1) h)
@@ -96,7 +96,7 @@ take-replicate a zero count h = refl
 take-replicate a (suc n) zero h = absurd (omega arith)
 take-replicate a (suc n) (suc count) h = ap {B = List _} (λ r. a ∷ r) (take-replicate a n count (omega arith))
 
--- so zeros have the first levels in front
+-- so a list of zeros starts with the first levels
 pub zeros-front : (m n count : ℕ) → n ≤ count → take n (replicate {A = ℕ} count 0) ≡ levelsAt m n 0
 zeros-front m n count h = take-replicate 0 n count h ∙ sym (levels-first m n)
 
@@ -122,7 +122,7 @@ levels-next m (suc n) p pos = rw (levels-suc m n p, levels-suc m n (suc p)) (go 
     go (yes t) ih = rw (next-turn m (levelsAt m n (p / m)) (p % m) t, ← ih, step-turn m p pos t .0, step-turn m p pos t .1)
     go (no t) ih = let u : p % m + 1 < m = omega arith in rw (next-up m (levelsAt m n (p / m)) (p % m) u, step-up m p u .0, step-up m p u .1)
 
--- levels at the front of a list, taken to those of the next index
+-- levels at the front of a list, changed to those of the next index
 module _ (m n p : ℕ) (pos : 0 < m) (before after : List ℕ) (front : take n before ≡ levelsAt m n p)
     (step : after ≡ nextLevels m (take n before) ++ drop n before) where
   pub front-next : take n after ≡ levelsAt m n (p + 1)

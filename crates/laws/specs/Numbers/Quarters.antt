@@ -1,4 +1,4 @@
--- Whole numbers of quarters as doubles. Below 2 to the power 53 each is exact, so the sum of two is that of the whole numbers, and so is their order.
+-- Whole numbers of quarters as doubles. Below 2 to the power 53 each is exact, so sums and order of doubles are those of the whole numbers.
 -- Assumes nothing.
 use Prim.Native.Nat.{ℕ, _+_, _*_, _^_, _≤_, _<_, max}
 use mathlib.Core.Path.{_≡_, refl, sym, ap, ap₂, _∙_, subst}
@@ -19,7 +19,7 @@ use lib.Ieee.Scale.{round-same}
 use lib.Ieee.Back.{round-whole}
 use Rattle.rules.specs.Nets.Arrivals.{quarter}
 
--- what is exact
+-- numbers below this are exact
 abbrev pub exactBelow : ℕ
 exactBelow = 2 ^ 53
 
@@ -111,7 +111,7 @@ quarter-later p q hp hq = rw (quarter-order p q hp hq) (go (decLt p q))
     go (yes h) = rw (lt-ltb p q h, max-eq-right (le-of-lt h)) refl
     go (no h) = let most : q ≤ p = omega arith in rw (le-ltb p q most, max-eq-left most) refl
 
--- .. and one delay more
+-- .. plus one delay
 pub quarter-joined : (p q d : ℕ) → max p q < exactBelow → d < exactBelow → add binary64 (laterOf (quarter p) (quarter q)) (quarter d) ≡ quarter (max p q + d)
 quarter-joined p q d h k =
     ap (λ (x : Float). add binary64 x (quarter d)) (quarter-later p q (lt-of-le-of-lt (le-max-left p q) h) (lt-of-le-of-lt (le-max-right p q) h))

@@ -1,4 +1,4 @@
--- The bounds of levels, inputs and cells as orders of numbers.
+-- The bounds of levels, inputs and cells as inequalities.
 -- Assumes nothing.
 use Prim.Native.Nat.{ℕ, _+_, _-_, _^_, _≤_}
 use mathlib.Core.Path.{_≡_}
@@ -44,7 +44,7 @@ sized m n e =
       cells-most = leb-true _ _ cells;
     }
 
--- a header that keeps the rules is within the bounds
+-- a header that follows the rules is within the bounds
 pub kept-fits : (h : Header) → HeaderRules h → sizeFits (h .levels) (h .inputs) ≡ true
 unfolding sizeFits
 kept-fits h kept =
@@ -61,7 +61,7 @@ everySize test =
     all (λ m. all (λ n. not (cellsFit m n) || test m n) (range fewestInputs (mostInputs + 1 - fewestInputs)))
     (range fewestLevels (mostLevels + 1 - fewestLevels))
 
--- what it finds holds at each
+-- what it tests holds at each
 pub at-size : (test : ℕ → ℕ → Bool) → everySize test ≡ true → (m n : ℕ) → Size m n → test m n ≡ true
 unfolding everySize cellsFit
 at-size test every m n size =
@@ -71,6 +71,6 @@ at-size test every m n size =
     (all-mem (λ n. not (cellsFit m n) || test m n)
     (mem-range fewestInputs (mostInputs + 1 - fewestInputs) n (size .inputs-least) (omega (arith, size .inputs-most))) row)
 
--- a bound on what depends on the size alone
+-- a bound on what depends only on the size
 pub bounded-at : (bound : ℕ → ℕ → ℕ) (most : ℕ) → everySize (λ m n. leb (bound m n) most) ≡ true → (m n : ℕ) → Size m n → bound m n ≤ most
 bounded-at bound most every m n size = leb-true (bound m n) most (at-size (λ m n. leb (bound m n) most) every m n size)

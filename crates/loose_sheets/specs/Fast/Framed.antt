@@ -1,4 +1,4 @@
--- A row that stands in a frame is read at once: its levels' weights come to its index.
+-- A row that matches its frame is read in one step: the weights of its levels sum to its index.
 -- Assumes nothing.
 use Prim.Native.Nat.{ℕ, suc, _+_, _-_, _*_, _%_, _^_, _≤_, _<_}
 use mathlib.Core.Path.{_≡_, refl, sym, ap, _∙_}
@@ -24,7 +24,7 @@ one-level : (index m d p : ℕ) → index * (m * p) + d * p ≡ (index * m + d) 
 one-level index m d p = rw (add-mul, mul-assoc) refl
 
 module _ (s : List ℕ) (at m n : ℕ) (few : m ≤ mostLevels) (least more weights : List ℕ) where
-  -- i levels are read, and the spaces after them are passed; they count what the index so far comes to
+  -- i levels are read, and the spaces after them are skipped; their weighted sum agrees with the index so far
   record InLaid (j i : ℕ) : Type 0 where
     most : i ≤ n
     place : ℕ
@@ -41,7 +41,7 @@ module _ (s : List ℕ) (at m n : ℕ) (few : m ≤ mostLevels) (least more weig
       → (here .above < m) × (getD s (at + j) 0 ≡ zeroByte + here .above)
   level-byte j after level here = (omega (arith, level .below, here .most), omega (arith, level .byte, level .below, here .most, here .is, few))
 
-  -- a space more
+  -- one more space
   module _ (j i : ℕ) (before : InLaid j i) (some : 0 < i) (room : at + (j + 1) < length s) (space : getD s (at + j) 0 ≡ spaceByte) (none : getD weights j 0 ≡ 0) where
     passed : before .place ≡ spacesEnd s (at + (j + 1))
     passed =
@@ -61,7 +61,7 @@ module _ (s : List ℕ) (at m n : ℕ) (few : m ≤ mostLevels) (least more weig
           counts = omega (arith, counted-next s at weights j, nothing, before .counts);
         }
 
-  -- a level more, and the space after it
+  -- one more level, and the space after it
   module _ (j i d : ℕ) (before : InLaid j i) (fewer : i < n) (below : d < m) (room : at + (j + 2) < length s)
       (byte : getD s (at + j) 0 ≡ zeroByte + d) (space : getD s (at + (j + 1)) 0 ≡ spaceByte)
       (weight : getD weights j 0 ≡ m ^ (n - (i + 1))) (none : getD weights (j + 1) 0 ≡ 0) where
@@ -102,7 +102,7 @@ module _ (s : List ℕ) (at m n : ℕ) (few : m ≤ mostLevels) (least more weig
           counts = counts-more;
         }
 
-  -- what the places before come to, where they stand
+  -- the state after the first j places, if they match
   abbrev Before : ℕ → ℕ → Type 0
   Before j i = Stand s at least more 0 j → at + j < length s → InLaid j i
 

@@ -1,4 +1,4 @@
--- A row is laid place by place, over places that do not count yet.
+-- A row is laid out place by place, over places that have no weight yet.
 -- Assumes nothing.
 use Prim.Native.Nat.{ℕ, zero, suc, _+_, _-_, _^_, _≤_, _<_}
 use mathlib.Core.Path.{_≡_, refl, subst, _∙_}
@@ -15,7 +15,7 @@ pub record LooseRoom (least more weights : List ℕ) : Type 0 where
   pub long-more : length more ≡ mostLaid
   pub long-weights : length weights ≡ mostLaid
 
--- .. and none of them counts
+-- .. and none of them has a weight
 pub record Unlaid (least more weights : List ℕ) : Type 0 where
   pub room : LooseRoom least more weights
   pub rest : (k : ℕ) → getD weights k 0 ≡ 0
@@ -25,14 +25,14 @@ zeros zero k = refl
 zeros (suc count) zero = refl
 zeros (suc count) (suc k) = zeros count k
 
--- the first j places are laid, with i levels, and those from there on do not count
+-- the first j places are laid out, with i levels, and those after them have no weight
 pub record Laying (m n : ℕ) (least more weights : List ℕ) (i j : ℕ) : Type 0 where
   pub room : LooseRoom least more weights
   pub most : i ≤ n
   pub laid : LooseLaid least more weights m n j i
   pub rest : (k : ℕ) → j ≤ k → getD weights k 0 ≡ 0
 
--- ---- what is laid stays so where later places change
+-- ---- what is laid out stays so when later places change
 
 -- the same below place j
 abbrev pub Same : ℕ → List ℕ → List ℕ → Type 0

@@ -1,4 +1,4 @@
--- A row stands in its frame.
+-- A row matches its frame.
 -- Assumes nothing.
 use Prim.Native.Nat.{ℕ, _+_, _-_, _*_, _/_, _%_, _^_, _≤_, _<_}
 use mathlib.Core.Path.{_≡_, refl}
@@ -11,17 +11,17 @@ use borrow.Author.Tests.{le-leb, lt-leb, leb-true, leb-false, ltb-true, ltb-fals
 use Rattle.rules.specs.Text.{spaceByte}
 use Rattle.loose_sheets.specs.Fast.Frame.{mostLaid}
 
--- the byte at place k lies within its bounds: it is no less than the least, counted around from 256 to 0
+-- the byte at place k is within its bounds: it is at least `least` and at most `more` above it, modulo 256
 pub record InBounds (s : List ℕ) (at : ℕ) (least more : List ℕ) (k : ℕ) : Type 0 where
   pub above : ℕ
   pub most : above ≤ getD more k 0
   pub is : (above + getD least k 0) % 2 ^ 8 ≡ getD s (at + k) 0
 
--- those from place `from` to place `to`
+-- all bytes from place `from` to place `to` are within their bounds
 abbrev pub Stand : List ℕ → ℕ → List ℕ → List ℕ → ℕ → ℕ → Type 0
 Stand s at least more from to = (k : ℕ) → from ≤ k → k < to → InBounds s at least more k
 
--- one byte more
+-- one more byte
 pub stand-next : (s : List ℕ) (at : ℕ) (least more : List ℕ) (from k : ℕ) → Stand s at least more from (from + k) → InBounds s at least more (from + k)
     → Stand s at least more from (from + (k + 1))
 stand-next s at least more from k stand here q a b = go (ltb q (from + k)) refl
@@ -30,15 +30,15 @@ stand-next s at least more from k stand here q a b = go (ltb q (from + k)) refl
     go true e = stand q a (ltb-true q (from + k) e)
     go false e = let same : q ≡ from + k = omega (arith, b, ltb-false q (from + k) e) in rw same here
 
--- so many places in whole steps of sixteen
+-- this many places, rounded up to whole steps of sixteen
 unfoldable pub inSteps : ℕ → ℕ
 inSteps width = (width + 16 - 1) / 16 * 16
 
--- the places of a row of this width that are looked at: of a narrow row in steps; of another the first 64, and more of them in steps
+-- the number of places compared in a row of this width: whole steps for a narrow row; for any other at least 64, and whole steps beyond
 unfoldable pub lookedAt : ℕ → ℕ
 lookedAt width = elim (leb width 32) [ true ↦ inSteps width | false ↦ elim (leb width 64) [ true ↦ 64 | false ↦ inSteps width ] ]
 
--- the row at `at` stands in its frame, with room for all that is looked at, and its ink is at `width`
+-- the row at `at` matches its frame, with room for all places that are compared, and its ink is at `width`
 pub record InFrame (s : List ℕ) (at : ℕ) (least more : List ℕ) (width : ℕ) : Type 0 where
   pub some : 0 < width
   pub room : at + lookedAt width < length s
@@ -61,7 +61,7 @@ steps-bounds : (width : ℕ) → width ≤ mostLaid → (width ≤ inSteps width
 unfolding inSteps
 steps-bounds width most = (omega arith, omega (arith, most))
 
--- they hold the width, and the first 64 of a row that is not narrow, and stay within the frame
+-- they cover the width, and the first 64 places of a row that is not narrow, and stay within the frame
 pub looked-bounds : (width : ℕ) → width ≤ mostLaid → (32 < width → 64 ≤ lookedAt width) × (width ≤ lookedAt width) × (lookedAt width ≤ mostLaid)
 looked-bounds width most = go (leb width 32) refl (leb width 64) refl
   where
@@ -78,7 +78,7 @@ looked-bounds width most = go (leb width 32) refl (leb width 64) refl
         let (low, high) = steps-bounds width most in
         rw (looked-more width more) (λ _. omega (arith, low, more), low, high)
 
--- two stretches, one after the other
+-- two parts, one after the other
 pub stand-both : (s : List ℕ) (at : ℕ) (least more : List ℕ) (from mid to : ℕ) → Stand s at least more from mid → Stand s at least more mid to → Stand s at least more from to
 stand-both s at least more from mid to first second q a b = go (ltb q mid) refl
   where

@@ -1,4 +1,4 @@
--- A digit with its separator straight after it, as a field of a loose sheet.
+-- A digit with its separator right after it, as a field of a loose sheet.
 -- Assumes nothing.
 use Prim.Native.Nat.{ℕ, _+_, _<_}
 use mathlib.Core.Path.{_≡_, refl, sym, ap, _∙_}

@@ -1,4 +1,4 @@
--- What the places of a row count in its index.
+-- What the places of a row add to its index.
 -- Assumes nothing.
 use Prim.Native.Nat.{ℕ, zero, suc, _+_, _-_, _*_, _%_, _≤_, _<_}
 use mathlib.Core.Path.{_≡_, refl, ap, _∙_}
@@ -8,7 +8,7 @@ use native.Mathlib.Numerals.{add-one}
 use native.Mathlib.Omega.{arith}
 use lib.ListN.{getD}
 
--- what the first k places count: the low half of a digit's byte is the level
+-- what the first k places add: the low half of a digit's byte is the level
 unfoldable pub counted : List ℕ → ℕ → List ℕ → ℕ → ℕ
 counted s at weights zero = 0
 counted s at weights (suc k) = counted s at weights k + (getD s (at + k) 0 % 16) * getD weights k 0
@@ -33,7 +33,7 @@ module _ (s : List ℕ) (at : ℕ) (weights : List ℕ) where
       let rest : j + (k - j) ≡ k = omega (arith, h) in
       omega (arith, bound, rw rest at (counted-most j (k - j)))
 
-  -- one place more, of those that count less than some number
+  -- one more place, if all places together add less than some number
   pub counted-below : (from k count most sum : ℕ) → counted s at weights from + sum ≡ counted s at weights (from + k) → k < count
       → counted s at weights (from + count) < most
       → (counted s at weights from + (sum + (getD s (at + from + k) 0 % 16) * getD weights (from + k) 0) ≡ counted s at weights (from + (k + 1)))
@@ -50,7 +50,7 @@ module _ (s : List ℕ) (at : ℕ) (weights : List ℕ) where
           let rest : from + (k + 1) + (count - (k + 1)) ≡ from + count = omega (arith, fewer) in
           rw rest at (counted-most (from + (k + 1)) (count - (k + 1)))
 
-  -- places without weight count nothing
+  -- places without weight add nothing
   pub counted-on : (j : ℕ) → ((k : ℕ) → j ≤ k → getD weights k 0 ≡ 0) → (k : ℕ) → counted s at weights (j + k) ≡ counted s at weights j
   counted-on j none zero = ap (counted s at weights) (omega arith)
   counted-on j none (suc k) =

@@ -1,4 +1,4 @@
--- What reading a loose table sheet answers, in the definitions.
+-- The result of reading a loose table sheet, in the definitions.
 -- Assumes nothing.
 use Prim.Native.Nat.{ℕ, _^_}
 use mathlib.Core.Path.{_≡_}
@@ -24,7 +24,7 @@ use Rattle.loose_sheets.specs.Reader.Rows.{InksOf, LooseRowsRead}
 abbrev pub looseIn : List ℕ → Header → List Row → LooseTable
 looseIn s h rows = record { header = headerOf s h; rows = rows }
 
--- what an accepted sheet's header and inks keep
+-- the properties of an accepted sheet's header and inks
 pub record LooseHeld (s cells : List ℕ) (h : Header) (rows : List Row) : Type 0 where
   pub header : HeaderHeld s h
   pub inks : InksOf (h .levels) (h .inputs) rows cells

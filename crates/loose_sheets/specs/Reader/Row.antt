@@ -20,7 +20,7 @@ use Rattle.loose_sheets.specs.Reader.Index.{IndexRead}
 use Rattle.loose_sheets.specs.declared.reader.row.RowRead.{RowRead}
 use Rattle.loose_sheets.specs.declared.reader.row.RowRead.the-variants.{Taken, Turned}
 
--- what reading a row in the sheet s comes to
+-- the result of reading a row in the sheet s
 abbrev pub rowAs : List ℕ → RowRead → Read Row
 rowAs s (Taken p ink next) = read (record { index = p; ink = ink }) (drop next s) next
 rowAs s (Turned number place) = turnedBack number place
@@ -34,7 +34,7 @@ pub record LooseGiven (k : ℕ) (rows : List Row) (given : List ℕ) : Type 0 wh
 unfoldable pub inkOfRow : ℕ → ℕ → Reader Row
 inkOfRow m p = fieldIn loose (inkField m) newline >>= λ ink. give (record { index = p; ink = ink })
 
--- reading a row at `at`, behind any rows that `given` stands for
+-- reading a row at `at`, after any rows that `given` represents
 pub record RowReads (s : List ℕ) (at m n : ℕ) (given : List ℕ) (r : RowRead) : Type 0 where
   pub reads : (earlier : List Row) → LooseGiven (m ^ n) earlier given → rowAs s r ≡ rowFrom m n earlier at (drop at s) at
   pub held : (p ink next : ℕ) → r ≡ Taken p ink next → (p < m ^ n) × (ink ≤ m) × (getD given p 0 ≡ 0)
@@ -51,7 +51,7 @@ module _ (s : List ℕ) (at m p : ℕ) (step : Step) (ink : stepAs itself s step
   unfolding inkOfRow then newline
   loose-row-ink-on value next e = rw (← ink, e) refl
 
--- an ink that was read is a level, or m for an open cell, and the index is the one that was told
+-- an ink that was read is a level, or m for an open cell, and the index is the given one
 pub ink-told-within : (s : List ℕ) (at m p : ℕ) (r : RowRead) → rowAs s r ≡ inkOfRow m p (drop at s) at
     → (q ink next : ℕ) → r ≡ Taken q ink next → (q ≡ p) × (ink ≤ m)
 unfolding inkOfRow then

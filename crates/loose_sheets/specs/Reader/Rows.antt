@@ -23,7 +23,7 @@ use Rattle.loose_sheets.specs.Reader.Row.{LooseGiven, RowReads, rowAs}
 use Rattle.loose_sheets.specs.declared.reader.row.RowRead.{RowRead}
 use Rattle.loose_sheets.specs.declared.reader.row.RowRead.the-variants.{Taken, Turned}
 
--- a buffer that holds zeros alone
+-- a buffer that holds only zeros
 abbrev pub Blank : List ℕ → Type 0
 Blank cells = (p : ℕ) → getD cells p 0 ≡ 0
 
@@ -32,7 +32,7 @@ zeros-blank zero p = refl
 zeros-blank (suc count) zero = refl
 zeros-blank (suc count) (suc p) = zeros-blank count p
 
--- the inks of some rows stand at the front of `cells`, in index order
+-- the inks of some rows are at the front of `cells`, in index order
 pub record InksOf (m n : ℕ) (rows : List Row) (cells : List ℕ) : Type 0 where
   pub inks : take (m ^ n) cells ≡ map (inkNamed rows) (range 0 (m ^ n))
   pub below : Below (suc m) (take (m ^ n) cells)
@@ -43,7 +43,7 @@ pub record LooseRowsRead (s : List ℕ) (at m n : ℕ) (cells : List ℕ) (r : S
   pub reads : stepAs (λ _. rows) s r ≡ looseRows m n (m ^ n) [] (drop at s) at
   pub held : (value next : ℕ) → r ≡ On value next → InksOf m n rows cells
 
--- ---- one row more
+-- ---- one more row
 
 -- the row's own index is named by it, ..
 any-last : (p : ℕ) (rows : List Row) (row : Row) → isOf p row ≡ true → any (isOf p) (rows ++ (row ∷ [])) ≡ true
@@ -90,7 +90,7 @@ ink-other p (r ∷ rows) row e = go (isOf p r) (ink-other p rows row e)
 
 -- ---- the rows so far
 
--- k rows are read: those that stand for `given`, their inks in `cells`; the rows from here are the rows from the start
+-- k rows are read: those that `given` represents, their inks in `cells`; the rows from here are the rows from the start
 pub record LooseInRows (s : List ℕ) (at m n : ℕ) (cells given : List ℕ) (place k : ℕ) : Type 0 where
   pub rows : List Row
   pub most : k ≤ m ^ n

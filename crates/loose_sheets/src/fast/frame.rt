@@ -1,5 +1,5 @@
-// How the rows of a sheet are laid: which bytes may stand at each place of a row, and what a level there counts in the index. Most sheets have all
-// rows laid as the first is.
+// The layout of a sheet's rows: which bytes are allowed at each place of a row, and the weight of a level there in the index. In most sheets all
+// rows have the layout of the first.
 ghost use mathlib.Core.Path.{_≡_};
 ghost use mathlib.Core.Bool.{true};
 ghost use Rattle.rules.specs.Limits.{sizeFits};
@@ -9,10 +9,10 @@ use fields::runs::SPACE;
 use fields::runs::ZERO;
 use radix::powers::power;
 
-// The places of a row that are looked at: twelve inputs below names of eight bytes take 108.
+// The most places of a row that are compared. Twelve inputs below names of eight bytes take 108.
 pub const MOST_LAID: usize = 128;
 
-// At each place stands no less than `least` and at most `more` above it; the ink is at `width`. Where that is 0 there is no frame.
+// The byte at each place is from `least` to `least + more`; the ink is at `width`. A `width` of 0 means that there is no frame.
 pub struct Frame {
     pub least: [u8; MOST_LAID],
     pub more: [u8; MOST_LAID],
@@ -20,7 +20,7 @@ pub struct Frame {
     pub width: usize,
 }
 
-// Is the byte at place j of the row at `at` this one?
+// Tests whether the byte at place j of the row at `at` is `byte`.
 fn is_byte(s: &[u8], at: usize, j: usize, byte: u8) -> bool {
     if s.len() < at {
         return false;
@@ -31,7 +31,7 @@ fn is_byte(s: &[u8], at: usize, j: usize, byte: u8) -> bool {
     s[at + j] == byte
 }
 
-// Lays the row at `at`, where no place counts yet, and gives its width.
+// Fills in the frame of the row at `at`, where no place has a weight yet, and returns its width.
 fn lay(
     s: &[u8],
     at: usize,

@@ -1,4 +1,4 @@
-// Does a row stand in its frame? Its bytes lie within their bounds, and its ink is no space.
+// Tests whether a row matches its frame: its bytes are within their bounds, and its ink is not a space.
 ghost use mathlib.Core.Path.{_≡_};
 ghost use mathlib.Core.Bool.{true};
 ghost use Prim.Native.Nat.{_+_, _≤_};
@@ -8,14 +8,14 @@ ghost use Rattle.loose_sheets.specs.Fast.Matching.{Stand, InFrame, inSte
 use fields::runs::SPACE;
 use std::num::wrapping_sub_u8;
 
-// A row of few places has them looked at sixteen by sixteen; of another the first come all at once, and more of them sixteen by sixteen.
+// A row of at most FEW places is compared in steps of sixteen. A wider one has its first FIRST places compared at once, the rest in steps of sixteen.
 pub const FEW: usize = 32;
 
 pub const FIRST: usize = 64;
 
 const STEP: usize = 16;
 
-// Do `count` bytes lie within their bounds, from place `from` of the row on? None ends the search, so that many can be looked at together.
+// Tests whether `count` bytes of the row, from place `from` on, are within their bounds. No early exit from the loop, so the compiler can vectorise.
 fn bytes_fit(s: &[u8], at: usize, least: &[u8], more: &[u8], from: usize, count: usize) -> bool
     requires { ⌜ (at + from + count ≤ length (now s)) × (from + count ≤ length (now least)) × (from + count ≤ length (now more)) ⌝ }
     ensures { λ r. ⌜ (r ≡ true → Stand (now (s .entry)) at (now (least .entry)) (now (more .entry)) from (from + count)) ⌝ }
@@ -32,7 +32,7 @@ fn bytes_fit(s: &[u8], at: usize, least: &[u8], more: &[u8], from: usize, count:
     over == 0
 }
 
-// So many places come to whole steps.
+// Rounds a number of places up to whole steps.
 fn in_steps(width: usize) -> usize
     requires { ⌜ width ≤ mostLaid ⌝ }
     ensures { λ r. ⌜ r ≡ inSteps width ⌝ }
@@ -54,7 +54,7 @@ pub fn looked_at(width: usize) -> usize
     in_steps(width)
 }
 
-// Do all of them lie within their bounds?
+// Tests whether all bytes that are compared are within their bounds.
 fn row_fits(s: &[u8], at: usize, least: &[u8], more: &[u8], width: usize) -> bool
     requires { ⌜ (at + lookedAt width ≤ length (now s)) × (mostLaid ≤ length (now least)) × (mostLaid ≤ length (now more)) × (width ≤ mostLaid) ⌝ }
     ensures { λ r. ⌜ (r ≡ true → Stand (now (s .entry)) at (now (least .entry)) (now (more .entry)) 0 (lookedAt width)) ⌝ }

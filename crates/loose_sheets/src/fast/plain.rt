@@ -1,5 +1,5 @@
-// A field of one digit with its separator straight after it: two bytes, which are looked at as one number. Most fields stand so, and any other is
-// judged.
+// A field of one digit with its separator right after it: two bytes, compared as one number. Most fields have this form; any other is judged by
+// its run of bytes.
 ghost use Prim.Native.Nat.{ℕ, _<_, _≤_};
 ghost use mathlib.Core.Path.{_≡_};
 ghost use Rattle.rules.specs.Limits.{mostLevels};

@@ -1,4 +1,4 @@
-// What the levels of a row that stands in its frame come to.
+// The index of a row that matches its frame.
 ghost use mathlib.Core.Path.{_≡_};
 ghost use Prim.Native.Nat.{_+_, _≤_, _<_};
 ghost use lib.ListN.{length};
@@ -9,7 +9,7 @@ use crate::fast::matching::FEW;
 use crate::fast::matching::FIRST;
 use crate::fast::matching::looked_at;
 
-// What `count` places count in the index, from place `from` on.
+// Returns what `count` places, from place `from` on, add to the index.
 fn weighed(s: &[u8], at: usize, weights: &[u16], from: usize, count: usize) -> usize
     requires { ⌜ (at + from + count ≤ length (now s)) × (from + count ≤ length (now weights)) × (counted (now s) at (now weights) (from + count) < 65536) ⌝ }
     ensures { λ r. ⌜ counted (now (s .entry)) at (now (weights .entry)) from + r ≡ counted (now (s .entry)) at (now (weights .entry)) (from + count) ⌝ }

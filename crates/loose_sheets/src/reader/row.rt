@@ -1,4 +1,4 @@
-// A row: the input fields, which come to the index of an assignment, and the ink.
+// A row: the input fields, which give the index of an assignment, and the ink.
 ghost use mathlib.Core.Path.{_≡_};
 ghost use mathlib.Core.Bool.{true};
 ghost use Prim.Native.Nat.{_^_, _≤_};
@@ -13,7 +13,7 @@ use crate::reader::inks::ink_field;
 use crate::reader::levels::level_field;
 use fields::steps::Step;
 
-// What reading a row comes to.
+// The result of reading a row.
 pub enum RowRead {
     Taken {
         index: usize,
@@ -26,7 +26,7 @@ pub enum RowRead {
     },
 }
 
-// The n input fields, one after the other; a step onward has the index.
+// Reads the n input fields one after the other. If the step is `On`, its value is the index.
 fn judged_index(s: &[u8], at: usize, m: usize, n: usize) -> Step
     requires { ⌜ sizeFits m n ≡ true ⌝ }
     ensures { λ r. ⌜ IndexRead (now (s .entry)) at m n r ⌝ }

@@ -12,7 +12,7 @@ use fields::steps::Step;
 use radix::limits::MOST_CELLS;
 use radix::powers::power;
 
-// Reads as many rows as there are cells, from `at` on. Each ink goes to its index in `cells`, which hold zeros.
+// Reads as many rows as there are cells, starting at `at`. Each ink goes to its index in `cells`, which must hold zeros.
 pub fn rows(s: &[u8], at: usize, m: usize, n: usize, cells: &mut [u8]) -> Step
     requires { ⌜ (sizeFits m n ≡ true) × (m ^ n ≤ length (now cells)) × Blank (now cells) ⌝ }
     ensures { λ r. ⌜ LooseRowsRead (now (s .entry)) at m n (now (cells .exit)) r ⌝ }

@@ -12,7 +12,7 @@ use fields::steps::Step;
 use table_reader::sheet::TableRead;
 use table_reader::sheet::table_head;
 
-// Reads a loose table sheet from any bytes; its inks go to the front of `cells`, which hold zeros, in index order.
+// Reads a loose table sheet from any bytes. Its inks go to the front of `cells`, in index order; `cells` must hold zeros.
 pub fn read_loose(s: &[u8], cells: &mut [u8]) -> TableRead
     requires { ⌜ (mostCells ≤ length (now cells)) × Blank (now cells) ⌝ }
     ensures { λ r. ⌜ LooseReads (now (s .entry)) (now (cells .exit)) r ⌝ }

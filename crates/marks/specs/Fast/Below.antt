@@ -1,4 +1,4 @@
--- The mark of a group from what is kept of it, and what is known afterwards.
+-- The mark of a group from what is recorded for it, and what is known afterwards.
 -- Assumes nothing.
 use Prim.Native.Nat.{ℕ, _+_, _-_, _*_, _^_, _≤_, _<_}
 use mathlib.Core.Path.{_≡_, sym, ap, _∙_, subst, subst⁻¹}
@@ -28,13 +28,13 @@ use Rattle.representatives.specs.Working.{without-idle}
 use Rattle.marks.specs.GroupRule.{fewMark, mark-empty, many-mark, few-mark}
 use Rattle.marks.specs.Marking.{Below, below-marked}
 
--- the mark of a group of which `count` assignments are kept
+-- the mark of a group with `count` recorded assignments
 pub record MarkBy (marks : List ℕ) (g count mark : ℕ) : Type 0 where
   pub empty : g ≡ 0 → mark ≡ 0
   pub many : count ≡ 0 → mark ≡ 0
   pub few : 0 < g → 0 < count → (n : ℕ) → g < 2 ^ n → mark ≡ fewMark n marks g
 
--- g is the next group, those below it are marked, and those of them that have no member in `idle` are known
+-- g is the next group, those below it are marked, and those of them with no member in `idle` are known
 pub record NextMark (m n : ℕ) (f : ℕ → ℕ) (counts kept marks : List ℕ) (idle g past : ℕ) : Type 0 where
   pub all-idle : AllIdle m n f idle
   pub group : g < 2 ^ n
@@ -42,12 +42,12 @@ pub record NextMark (m n : ℕ) (f : ℕ → ℕ) (counts kept marks : List ℕ)
   pub near : (Near n g past) × (g < past)
   pub written : Below m n f marks g marks
 
--- the mark of group g, and the groups to g known
+-- the mark of group g; the groups up to g are known
 pub record GroupMarked (m n : ℕ) (f : ℕ → ℕ) (marks : List ℕ) (idle g mark : ℕ) (counts kept : List ℕ) : Type 0 where
   pub is : mark ≡ markOf m n f marks g
   pub known : (h : ℕ) → h < g + 1 → Apart n h idle → Known m n f counts kept h
 
--- the idle inputs that are known: as before, or with the members of a group that has one class
+-- the known idle inputs: the same as before, or with the members of a group that has one class
 pub data MoreIdle (counts : List ℕ) (g idle more : ℕ) : Type 0 where
   as-before : more ≡ idle → MoreIdle counts g idle more
   with-group : getD counts g 0 ≡ 1 → bitAnd g idle ≡ 0 → more ≡ idle + g → MoreIdle counts g idle more
@@ -66,7 +66,7 @@ module _ {m n : ℕ} {f : ℕ → ℕ} {counts kept marks : List ℕ} {idle g pa
       stored : (a : ℕ) → a < g → markIn marks a ≡ marked m n pos f a
       stored = below-marked m n pos f marks g marks (next .written)
 
-  -- .. and need not be known
+  -- .. and nothing needs to be recorded for it
   pub skipped-known : rest < g → (h : ℕ) → h < g + 1 → Apart n h idle → Known m n f counts kept h
   skipped-known less h h< free = go (decLt h g)
     where
@@ -91,7 +91,7 @@ module _ {m n : ℕ} {f : ℕ → ℕ} {counts kept marks : List ℕ} {idle g pa
         above = next .near .1;
       }
 
--- what is found of a group gives its mark
+-- what is found about a group gives its mark
 pub found-mark : {m n : ℕ} {f : ℕ → ℕ} {counts kept marks : List ℕ} {g count mark : ℕ} → 0 < m → g < 2 ^ n → Found m n f counts kept g count → MarkBy marks g count mark
     → mark ≡ markOf m n f marks g
 found-mark {m} {n} {f} {marks} {g} {count} {mark} pos g< found by = go (decLt 0 g) (decLt 0 count)
@@ -101,7 +101,7 @@ found-mark {m} {n} {f} {marks} {g} {count} {mark} pos g< found by = go (decLt 0 
     go (yes some) (no none) = by .many (omega arith) ∙ many-mark m n f marks g (found-many found pos g< (omega arith))
     go (yes some) (yes h) = by .few some h n g< ∙ few-mark m n f marks g (λ e. omega arith) (found-few found pos g< h)
 
--- the inputs and the cells of a table for which small work arrays will do
+-- the most inputs and cells of a table for which small work arrays are enough
 abbrev pub fewInputs : ℕ
 fewInputs = 6
 
@@ -130,11 +130,11 @@ module _ {m n : ℕ} (fit : Size m n) where
 
 -- ---- the whole group
 
--- its number, from the number past it
+-- its number is one less than the number of groups
 pub whole-number : (n past : ℕ) → 0 < n → past ≡ 2 ^ n → (past - 1 ≡ wholeGroup n) × (0 < past - 1) × (past - 1 < 2 ^ n)
 unfolding wholeGroup
 whole-number n past some e = (ap (λ (k : ℕ). k - 1) e, omega (arith, pow-mono some), omega (arith, pow-pos n))
 
--- with every ink below m it has few classes
+-- if every ink is below m, it has few classes
 pub stored-whole-mark : (m n : ℕ) (f : ℕ → ℕ) (marks : List ℕ) (g : ℕ) → 0 < m → 0 < g → g ≡ wholeGroup n → ((p : ℕ) → p < m ^ n → f p < m) → fewMark n marks g ≡ markOf m n f marks g
 stored-whole-mark m n f marks g pos some e small = few-mark m n f marks g (λ none. omega arith) (subst⁻¹ (λ (k : ℕ). multiplicity m n f k ≤ m) e (whole-few m n pos f m small))

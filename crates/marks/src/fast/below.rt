@@ -1,5 +1,5 @@
-// Every group's mark but the whole group's, by rising number. Whether a group has few classes comes from what is kept of the groups below it. A group with an
-// idle member takes the mark of the rest, and nothing is kept of it.
+// Marks every group except the whole one, by rising number. What is recorded for the groups below a group shows whether it has few classes. A group
+// with an idle member takes the mark of the rest, and nothing is recorded for it.
 ghost use mathlib.Core.Path.{_≡_};
 ghost use mathlib.Core.Bool.{cond};
 ghost use Prim.Native.Nat.{_-_, _^_, _≤_, _<_};
@@ -18,7 +18,7 @@ use radix::members;
 use radix::powers;
 use representatives::group;
 
-// The mark of group g, of which `count` assignments are kept, or none where it has too many classes.
+// Returns the mark of group g. `count` assignments are kept for it, 0 if it has too many classes.
 fn mark_by(marks: &[u8], g: usize, count: usize) -> u8
     requires { ⌜ (g < groupsEnd) × (g ≤ length (now marks)) ⌝ }
     ensures { λ r. ⌜ MarkBy (now (marks .entry)) g count r ⌝ }
@@ -43,7 +43,7 @@ fn idle_mark(marks: &[u8], rest: usize) -> u8
     own::mark_at(marks, rest)
 }
 
-// Returns `idle` with the members of group g, if g has one class. Nothing is known of a group that has a member in `idle`.
+// Returns `idle` with the members of group g added, if g has one class. Nothing is known about a group that has a member in `idle`.
 fn more_idle(counts: &[u8], g: usize, idle: usize) -> usize
     requires { ⌜ (g < length (now counts)) × (g < groupsEnd) × (idle < groupsEnd) ⌝ }
     ensures { λ r. ⌜ MoreIdle (now (counts .entry)) g idle r ⌝ }
@@ -57,7 +57,7 @@ fn more_idle(counts: &[u8], g: usize, idle: usize) -> usize
     idle + g
 }
 
-// The mark of group g, with what is kept of it.
+// Returns the mark of group g, and records its classes.
 fn mark_next(
     m: usize,
     n: usize,
@@ -99,7 +99,7 @@ fn mark_next(
     mark_by(marks, g, count)
 }
 
-// Writes the mark of every group but the whole one.
+// Writes the mark of every group except the whole one.
 pub fn mark_below(
     m: usize,
     n: usize,

@@ -1,4 +1,4 @@
--- What the answers of `open` and `line` stand for in the definitions.
+-- The meaning of the answers of `open` and `line` in the definitions.
 -- Assumes nothing.
 use Prim.Native.Nat.{ℕ}
 use mathlib.Core.List.{List}

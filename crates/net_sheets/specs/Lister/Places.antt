@@ -1,5 +1,5 @@
--- Where a lister stands. "it starts only on an accepted sheet": after k turns on one it stands where line 4 + k begins, from 0, and once
--- there is no such line, at the sheet's end. On any other sheet it stands at the end from its start, where none is left.
+-- A lister's place. "it starts only on an accepted sheet": after k turns on one, its place is where line 4 + k begins, counted from 0, or the
+-- sheet's end if there is no such line. On any other sheet its place is the end from the start, where no line is left.
 -- Assumes nothing.
 use Prim.Native.Nat.{ℕ, _+_, min}
 use mathlib.Core.Path.{_≡_}
@@ -13,7 +13,7 @@ use Rattle.rules.specs.Calls.Lister.{lineLength, afterLines}
 unfoldable pub lineStart : List ℕ → ℕ → ℕ
 lineStart s j = min (afterLines s j) (length s)
 
--- where a lister stands after k turns
+-- a lister's place after k turns
 unfoldable pub standsAt : List ℕ → ℕ → ℕ
 standsAt s k = elim (readNet s) [ accepted net ↦ lineStart s (4 + k) | refused number place ↦ length s ]
 
@@ -21,7 +21,7 @@ standsAt s k = elim (readNet s) [ accepted net ↦ lineStart s (4 + k) | refused
 unfoldable pub lineAfter : List ℕ → ℕ → ℕ
 lineAfter s at = min (at + lineLength (drop at s) + 1) (length s)
 
--- A lister is a turn on: from `at` to the place after the line there, and from where k turns bring it to where k + 1 do.
+-- One turn of a lister: from `at` to the place after the line there, and from the place after k turns to that after k + 1.
 pub record Onward (s : List ℕ) (at next : ℕ) : Type 0 where
   pub here : next ≡ lineAfter s at
   pub turn : (k : ℕ) → at ≡ standsAt s k → next ≡ standsAt s (k + 1)

@@ -1,6 +1,6 @@
--- A lister that `start` gave and `next` brought on, by what their contracts say alone: after k turns it stands, on any sheet, where it gives
--- turn k of `listing`, and what `done` and `line` then say is said of that turn. The fields of a lister are private to its module, so code
--- elsewhere has no other.
+-- A lister returned by `start` and advanced by `next`, using only their contracts: after k turns its place, on any sheet, is one where it gives
+-- turn k of `listing`, and `done` and `line` then answer for that turn. The fields of a lister are private to its module, so code elsewhere
+-- has no other lister.
 -- Assumes nothing.
 use Prim.Native.Nat.{ℕ, zero, suc}
 use mathlib.Core.Path.{_≡_, ap, ap₂, _∙_}
@@ -16,11 +16,11 @@ use Rattle.net_sheets.specs.Lister.Places.{standsAt, Onward}
 use Rattle.net_sheets.specs.Lister.Turns.{turnAt, turnIn, Says}
 use Rattle.net_sheets.specs.Lister.Standing.{turn-stands}
 
--- what `start` gives
+-- what `start` returns
 abbrev pub Started : RefT (List ℕ) → Lister → Type 0
 Started sheet r = (r .sheet ≡ sheet) × (r .at ≡ standsAt (now sheet) 0)
 
--- what `next` gives
+-- what `next` returns
 abbrev pub TurnedOn : Lister → Lister → Type 0
 TurnedOn d r = (r .sheet ≡ d .sheet) × Onward (now (d .sheet)) (d .at) (r .at)
 
@@ -30,7 +30,7 @@ pub data NetReached (sheet : RefT (List ℕ)) : ℕ → Lister → Type 0 where
   turned : {k : ℕ} {d r : Lister} → NetReached sheet k d → TurnedOn d r → NetReached sheet (suc k) r
 
 module _ (sheet : RefT (List ℕ)) where
-  -- it keeps its sheet, and stands where k turns bring it
+  -- it keeps its sheet, and its place is the one after k turns
   pub reached-place : {k : ℕ} {r : Lister} → NetReached sheet k r → (r .sheet ≡ sheet) × (r .at ≡ standsAt (now sheet) k)
   reached-place (started h) = h
   reached-place (turned {k = k} {d = d} {r = r} reached h) =
@@ -40,17 +40,17 @@ module _ (sheet : RefT (List ℕ)) where
         on .turn k place ∙ ap (standsAt (now sheet)) (add-one k),
       )
 
-  -- it stands where turn k says
+  -- at its place it gives turn k
   pub reached-turn : {k : ℕ} {r : Lister} → NetReached sheet k r → turnAt (now (r .sheet)) (r .at) ≡ turnIn (listing (now sheet) k)
   reached-turn {k} reached =
       let (same, place) = reached-place reached in
       ap₂ (λ (t : RefT (List ℕ)) (at : ℕ). turnAt (now t) at) same place ∙ turn-stands (now sheet) k
 
-  -- what it is asked is answered of turn k
+  -- its answers are those for turn k
   pub reached-says : {A : Type 0} {k : ℕ} {d : Lister} (f : Turn → A) (r : A) → NetReached sheet k d → Says (now (d .sheet)) (d .at) f r → r ≡ f (turnIn (listing (now sheet) k))
   reached-says f r reached says = says .here ∙ ap f (reached-turn reached)
 
-  -- "it starts only on an accepted sheet": on any other none is left, at every turn
+  -- "it starts only on an accepted sheet": on any other no line is left, at any turn
   pub reached-refused : {k : ℕ} {r : Lister} (number place : ℕ) → NetReached sheet k r → readNet (now sheet) ≡ refused number place
       → turnAt (now (r .sheet)) (r .at) ≡ noneLeft
   unfolding turnIn

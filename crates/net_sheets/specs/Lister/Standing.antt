@@ -1,4 +1,4 @@
--- The place where k turns bring a lister is one turn's step from the last, stays at the sheet's end, and has turn k of `listing`.
+-- The place of a lister after k turns is one turn after the previous place, stays at the sheet's end, and has turn k of `listing`.
 -- Assumes nothing.
 use Prim.Native.Nat.{ℕ, zero, suc, _+_, _-_, _≤_, _<_, min}
 use mathlib.Core.Path.{_≡_, refl, sym, ap, _∙_, subst}
@@ -38,7 +38,7 @@ module _ (s : List ℕ) where
   unfolding lineAfter
   end-next = omega arith
 
-  -- a turn goes from where k turns bring a lister to where k + 1 do
+  -- a turn leads from the place after k turns to the place after k + 1
   pub stands-next : (k : ℕ) → lineAfter s (standsAt s k) ≡ standsAt s (k + 1)
   stands-next k = go (readNet s) refl
     where
@@ -60,7 +60,7 @@ module _ (s : List ℕ) where
       let m : afterLines s (4 + j) ≤ afterLines s (4 + k) = subst (λ (i : ℕ). afterLines s (4 + j) ≤ afterLines s i) (omega arith) (after-more (4 + j) (k - j)) in
       omega arith
 
-  -- a lister at the sheet's end stays
+  -- a lister at the sheet's end stays there
   pub stays : (j k : ℕ) → j ≤ k → length s ≤ standsAt s j → standsAt s j ≡ standsAt s k
   stays j k h end = go (readNet s) refl
     where
@@ -87,7 +87,7 @@ module _ (s : List ℕ) where
   unfolding turnAt
   turn-end = rw (le-ltb (length s) (length s) (omega arith), turnAt)
 
-  -- where k turns bring a lister, on any sheet, it gives turn k
+  -- at the place after k turns, on any sheet, a lister gives turn k
   pub turn-stands : (k : ℕ) → turnAt s (standsAt s k) ≡ turnIn (listing s k)
   unfolding turnIn listing onward
   turn-stands k = go (readNet s) refl

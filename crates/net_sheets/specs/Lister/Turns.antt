@@ -14,22 +14,22 @@ use Rattle.net_sheets.specs.declared.lister.turns.Turn as code
 use Rattle.net_sheets.specs.declared.lister.turns.Turn.the-variants.{Line, NoneLeft}
 use Rattle.net_sheets.specs.Lister.Places.{standsAt}
 
--- the turn of a lister that stands at `at`
+-- the turn of a lister at the place `at`
 unfoldable pub turnAt : List ℕ → ℕ → Turn
 turnAt s at = elim (ltb at (length s)) [ true ↦ gateAt (record { start = at; count = lineLength (drop at s) }) | false ↦ noneLeft ]
 
--- What a lister gives of an answer of `listing`: the turn. On a sheet that is not accepted it gives nothing but that none is left; the
--- refusal is `open`'s to give.
+-- The turn that a lister gives for an answer of `listing`. On a sheet that is not accepted it only says that no line is left;
+-- `open` returns the refusal.
 unfoldable pub turnIn : Answer Turn → Turn
 turnIn (accepted t) = t
 turnIn (refused number place) = noneLeft
 
--- is none left?
+-- whether no line is left
 unfoldable pub isNone : Turn → Bool
 isNone (gateAt p) = false
 isNone noneLeft = true
 
--- the part of the sheet given, as a reference has it: where it points, and its bytes. Where none is left it has no bytes.
+-- the returned part of the sheet as a reference: where it points, and its bytes. It has no bytes if no line is left.
 unfoldable pub partIn : RefT (List ℕ) → Turn → (ℕ × ℕ) × List ℕ
 partIn s (gateAt p) = ((s .ptr .0, p .start + s .ptr .1), partOf (now s) p)
 partIn s noneLeft = (s .ptr, [])
@@ -39,7 +39,7 @@ unfoldable pub turnNumbers : Turn → code.Turn
 turnNumbers (gateAt p) = Line (p .start) (p .count)
 turnNumbers noneLeft = NoneLeft
 
--- `r` is `f` of the turn of a lister at `at`; where k turns from its start brought it there, on any sheet, of turn k of `listing`.
+-- `r` is `f` of the turn of a lister at `at`. If `at` is the place after k turns from its start, on any sheet, it is `f` of turn k of `listing`.
 pub record Says {A : Type 0} (s : List ℕ) (at : ℕ) (f : Turn → A) (r : A) : Type 0 where
   pub here : r ≡ f (turnAt s at)
   pub turn : (k : ℕ) → at ≡ standsAt s k → r ≡ f (turnIn (listing s k))

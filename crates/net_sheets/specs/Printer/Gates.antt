@@ -1,4 +1,4 @@
--- A net's gates: what printing them asks, and the lines that they make.
+-- A net's gates: what printing them requires, and the lines printed.
 -- Assumes nothing.
 use Prim.Native.Nat.{ℕ, _+_, _-_, _*_, _≤_, _<_}
 use mathlib.Core.Path.{_≡_, ap, _∙_}
@@ -19,7 +19,7 @@ use Rattle.nets.specs.Room.{mostDigits}
 use Rattle.nets.specs.Forms.{nameIn, headerOf, gateOf, gatesOf, namesIn, netIn, names-count}
 use Rattle.laws.specs.Lists.Ranges.{range-next, range-none, map-range-at}
 
--- what a reference is printed as
+-- the text of a reference
 abbrev pub referenceIn : List ℕ → Header → ℕ → List ℕ
 referenceIn s h r = referenceText (namesIn s h) r
 
@@ -36,7 +36,7 @@ pub record GatesInside (net : Net) : Type 0 where
   pub room : net .gates * (net .levels * net .levels) ≤ mostDigits
   pub digits : (k : ℕ) → k < net .gates * (net .levels * net .levels) → getD (net .digits) k 0 < 10
 
--- the lines of the gates from the one with k gates before it on
+-- the gate lines from the gate with k gates before it on
 unfoldable pub linesFrom : List ℕ → Header → Net → ℕ → List ℕ
 linesFrom s h net k = concatMap (printedGate (namesIn s h)) (map (gateOf net) (range k (net .gates - k)))
 

@@ -1,4 +1,4 @@
--- A net that keeps the rules of a net sheet has what printing asks.
+-- A net that keeps the rules of a net sheet meets the requirements of printing.
 -- Assumes nothing.
 use Prim.Native.Nat.{ℕ, zero, suc, _-_, _*_, _/_, _%_, _≤_, _<_}
 use mathlib.Core.Path.{_≡_, sym, ap, subst, _∙_}
@@ -18,7 +18,7 @@ use Rattle.laws.specs.Numbers.Sizes.{levels-fit, inputs-fit, kept-fits}
 use Rattle.laws.specs.Lists.Ranges.{map-range-at}
 use Rattle.net_sheets.specs.Printer.Gates.{GatesInside}
 
--- the digit at any place is a gate's
+-- each digit belongs to a gate
 
 tables-at : (m : ℕ) (gates : List sheets.Gate) (k : ℕ) (d : sheets.Gate) → Tables m gates → k < length gates → GateTable m (getD gates k d .digits)
 tables-at m [] k d t h = absurd (omega arith)

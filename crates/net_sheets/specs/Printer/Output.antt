@@ -1,4 +1,4 @@
--- What the calls' answers and buffers stand for, and the outcomes as the code comes to them.
+-- The meaning of the calls' answers and buffers, and the outcomes as the code computes them.
 -- Assumes nothing.
 use Prim.Native.Nat.{ℕ, _-_, _≤_, _<_}
 use mathlib.Core.Path.{_≡_, sym, ap, _∙_, subst}
@@ -12,10 +12,10 @@ use Rattle.radix.specs.Fronts.{front-from-0}
 use Rattle.net_sheets.specs.Text.Put.{Put, NetWrote, put-wrote}
 use Rattle.laws.specs.Calls.Answers.{written-front}
 
--- ---- a sheet that was printed into a buffer of its own, and the output
+-- ---- a sheet printed into a buffer of its own, and the output
 
 module _ (sheet own buffer output : List ℕ) (count : ℕ) (did : NetWrote own sheet buffer count) where
-  -- the sheet stands at its front
+  -- the sheet is at the buffer's front
   printed-front : take (count - 0) buffer ≡ sheet
   printed-front = front-from-0 count buffer sheet ((λ i. take (did .length i) (did .text i)) ∙ written-front own sheet)
 

@@ -24,7 +24,7 @@ use Rattle.fields.specs.declared.steps.Step.{Step}
 use Rattle.fields.specs.declared.steps.Step.the-variants.{On}
 use Rattle.fields.specs.declared.steps.Verdict.{Verdict}
 
--- the `count` digits that stand in the sheet from `at` on, as numbers
+-- the `count` digits at `at` in the sheet, as numbers
 abbrev pub digitsAt : List ℕ → ℕ → ℕ → List ℕ
 digitsAt s at count = map (λ b. b - zeroByte) (take count (drop at s))
 
@@ -105,7 +105,7 @@ digits-read s at m w test v r is table e after =
         let taken = field-on s r at count next q itself (λ _. judgedAs itself v) newlineByte after in
         go test table count next (ap (judgedAs itself) (sym e) ∙ taken .judged) taken
 
--- ---- the digits copied
+-- ---- copying the digits
 
 pub net-digits-count : (s : List ℕ) (at count : ℕ) → at + count ≤ length s → length (digitsAt s at count) ≡ count
 net-digits-count s at count h = length-map (take count (drop at s)) (λ b. b - zeroByte) ∙ length-take-le count (drop at s) (rw length-drop (omega arith))

@@ -20,7 +20,7 @@ use Rattle.nets.specs.declared.forms.Net.{Net}
 use Rattle.net_sheets.specs.Reader.Gates.{NetForm, GateRest, GateRoom, oneGate}
 use Rattle.net_sheets.specs.declared.reader.gates.GatesRead.{GatesRead}
 
--- a net that has as many gates as a sheet of this header may
+-- a net whose number of gates is allowed under this header
 pub record NetWhole (h : Header) (net : Net) : Type 0 where
   pub form : NetForm net
   pub levels : net .levels ≡ h .levels
@@ -70,7 +70,7 @@ build-start s at h two =
     }
 
 module _ (s : List ℕ) (at : ℕ) (h : Header) (net : Net) (place k : ℕ) (building : Building s at h net place k) where
-  -- all lines that there may be are read
+  -- all possible lines are read
   pub build-done : 2 ≤ h .inputs → h .inputs ≤ k → GatesAll s at h (record { step = On 0 place; net = net })
   unfolding gateLines
   build-done two done =
@@ -131,7 +131,7 @@ module _ (s : List ℕ) (at : ℕ) (h : Header) (net : Net) (place k : ℕ) (bui
                   };
             }
 
-        -- it goes on
+        -- the sheet continues
         pub build-next : next < length s → Building s at h (r .net) next (k + 1)
         unfolding then orEnd
         build-next goes =

@@ -33,7 +33,7 @@ pub record NetForm (net : Net) : Type 0 where
   pub rights : length (net .right) ≡ mostGates
   pub digits : length (net .digits) ≡ mostDigits
 
--- the net with one gate more
+-- the net with one more gate
 pub record NetGrown (net : Net) (gate : sheets.Gate) (r : Net) : Type 0 where
   pub form : NetForm r
   pub levels : r .levels ≡ net .levels
@@ -41,7 +41,7 @@ pub record NetGrown (net : Net) (gate : sheets.Gate) (r : Net) : Type 0 where
   pub count : r .gates ≡ net .gates + 1
   pub gates : gatesOf r ≡ gatesOf net ++ (gate ∷ [])
 
--- one gate more
+-- one more gate
 pub form-grown : (net : Net) (left right : ℕ) (v digits : List ℕ) → NetForm net → net .gates < mostGates
     → (net .gates + 1) * (net .levels * net .levels) ≤ mostDigits → length v ≡ net .levels * net .levels
     → digits ≡ paste (net .digits) (net .gates * (net .levels * net .levels)) v (net .levels * net .levels)
@@ -65,14 +65,14 @@ form-grown net left right v digits form few room long pasted =
 
 -- ---- a gate line, field by field
 
--- the net has one gate more
+-- the net has one more gate
 pub record More (net r : Net) : Type 0 where
   pub form : NetForm r
   pub levels : r .levels ≡ net .levels
   pub inputs : r .inputs ≡ net .inputs
   pub count : r .gates ≡ net .gates + 1
 
--- what is left of a gate line is read by `reader`, which gives the gates with one more
+-- `reader` reads the rest of a gate line, and gives the gates with one more
 pub record GateRest (s : List ℕ) (at : ℕ) (reader : Reader (List sheets.Gate)) (net : Net) (r : GatesRead) : Type 0 where
   pub reads : stepAs (λ _. gatesOf (r .net)) s (r .step) ≡ reader (drop at s) at
   pub more : (value next : ℕ) → r .step ≡ On value next → More net (r .net)
@@ -87,11 +87,11 @@ unfoldable pub fromRight : ℕ → List (List ℕ) → List sheets.Gate → ℕ 
 fromRight m names earlier left =
     field (referenceField names (length earlier) (left ∷ usedBy earlier)) space >>= λ right. fromDigits m earlier left right
 
--- document 01's gate line, put after the gates before it
+-- document 01's gate line, added to the gates before it
 unfoldable pub oneGate : ℕ → List (List ℕ) → List sheets.Gate → Reader (List sheets.Gate)
 oneGate m names earlier = gateLine m names earlier >>= λ g. give (earlier ++ (g ∷ []))
 
--- a net with room for one gate more, under a sheet's header
+-- a net with room for one more gate, under a sheet's header
 pub record GateRoom (s : List ℕ) (h : Header) (net : Net) : Type 0 where
   pub held : HeaderHeld s h
   pub form : NetForm net
@@ -99,7 +99,7 @@ pub record GateRoom (s : List ℕ) (h : Header) (net : Net) : Type 0 where
   pub inputs : net .inputs ≡ h .inputs
   pub room : net .gates + 1 < h .inputs
 
--- the sheet is turned back in the line
+-- the sheet is refused in the line
 module _ (s : List ℕ) (at : ℕ) (net : Net) {A : Type 0} (f : ℕ → A) (one : Reader A) (rest : A → Reader (List sheets.Gate)) (step : Step)
     (reads : stepAs f s step ≡ one (drop at s) at) where
   gate-back : (number place : ℕ) (r : Step) → step ≡ Back number place → r ≡ Back number place
@@ -224,7 +224,7 @@ module _ (s : List ℕ) (at : ℕ) (h : Header) (net : Net) (nowhere : ℕ) (bey
   left-on value next r e onward =
       whole-line r (gate-on s at net itself left-field (fromRight (net .levels) (namesIn s h) (gatesOf net)) step left-reads value next r e onward)
 
--- ---- room for one gate more
+-- ---- room for one more gate
 
 pub record Room (net : Net) : Type 0 where
   pub few : net .gates < mostGates

@@ -1,4 +1,4 @@
--- What reading a net sheet answers, in the definitions.
+-- The result of reading a net sheet, in the definitions.
 -- Assumes nothing.
 use Prim.Native.Nat.{ℕ, _-_, _≤_, _<_}
 use mathlib.Core.Path.{_≡_, refl, sym, ap, _∙_}
@@ -31,7 +31,7 @@ use Rattle.net_sheets.specs.Reader.GateLines.{NetWhole, GatesAll}
 use Rattle.net_sheets.specs.declared.reader.gates.GatesRead.{GatesRead}
 use Rattle.net_sheets.specs.declared.reader.net.NetRead.{NetRead}
 
--- what an accepted sheet's header and net keep
+-- the properties of an accepted sheet's header and net
 pub record NetHeld (s : List ℕ) (r : NetRead) : Type 0 where
   pub header : HeaderHeld s (r .header)
   pub whole : NetWhole (r .header) (r .net)
@@ -41,7 +41,7 @@ pub record NetReads (s : List ℕ) (r : NetRead) : Type 0 where
   pub answer : outcomeAs (netIn s (r .header) (r .net)) (r .outcome) ≡ readNet s
   pub held : r .outcome ≡ Accepted → NetHeld s r
 
--- what is left of a net sheet is read by `reader`
+-- `reader` reads the rest of a net sheet
 abbrev pub NetRest : List ℕ → ℕ → Reader sheets.Net → NetRead → Type 0
 NetRest s at reader r = Answers s at reader (netIn s (r .header) (r .net)) (NetHeld s r) (r .outcome)
 
@@ -49,7 +49,7 @@ NetRest s at reader r = Answers s at reader (netIn s (r .header) (r .net)) (NetH
 abbrev pub headingLine : Reader (Unit {0})
 headingLine = threeWords (text "left") (text "right") (text "table")
 
--- what is judged last
+-- the last checks
 unfoldable pub lastJudged : sheets.Header → List sheets.Gate → Reader sheets.Net
 lastJudged h gates = allUsed (h .inputs) gates >>= λ _. give (record { header = h; gates = gates })
 
@@ -83,7 +83,7 @@ module _ (s : List ℕ) (at : ℕ) (h : Header) (held : HeaderHeld s h) (r : Gat
   gates-back number place e = answers-back (λ _. gatesOf (r .net)) lines _ s at (r .step) (gates .reads) _ _ number place e
 
   module _ (value next : ℕ) (e : r .step ≡ On value next) where
-    -- what is judged after the gate lines, with this outcome
+    -- the checks after the gate lines, with this outcome
     after-lines : (o : Outcome)
         → Answers s next (closed >>= λ _. lastJudged (headerOf s h) (gatesOf (r .net))) (netIn s h (r .net)) (NetHeld s (record { outcome = o; header = h; net = r .net })) o
         → NetRest s at (fromGates (headerOf s h)) (record { outcome = o; header = h; net = r .net })
@@ -93,7 +93,7 @@ module _ (s : List ℕ) (at : ℕ) (h : Header) (held : HeaderHeld s h) (r : Gat
     pub gates-over : next < length s → NetRest s at (fromGates (headerOf s h)) (record { outcome = Refused 1 next; header = h; net = r .net })
     gates-over more = after-lines (Refused 1 next) (answers-more _ s next _ _ more)
 
-    -- the net's gates can be looked through
+    -- the net's gates can be searched
     pub gates-room : (r .net .gates ≤ mostGates) × (r .net .inputs ≤ mostInputs)
     gates-room =
         let size = sized (h .levels) (h .inputs) (held .fits) in

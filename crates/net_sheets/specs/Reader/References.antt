@@ -27,7 +27,7 @@ use Rattle.nets.specs.Sound.{gates-length}
 use Rattle.nets.specs.declared.forms.Header.{Header}
 use Rattle.nets.specs.declared.forms.Net.{Net}
 
--- ---- what is referred to
+-- ---- what a field refers to
 
 module _ (s : List ℕ) (h : Header) (w : List ℕ) (r : ℕ) where
   pub refers-input : r < h .inputs → same w (nameIn s h r) ≡ same w (referenceText (namesIn s h) r)
@@ -76,11 +76,11 @@ module _ (net : Net) (r k : ℕ) where
 
 -- ---- earlier gates
 
--- are the gates from k on used, the last set aside?
+-- whether the gates from k on are used, except the last
 unfoldable pub usedOn : Net → ℕ → Bool
 usedOn net k = all (λ j. any (eqb (net .inputs + j)) (usedBy (gatesOf net))) (range k (net .gates - 1 - k))
 
--- all of them are asked
+-- the check from gate 0 on covers all of them
 pub used-from-first : (net : Net) → earlierUsed (net .inputs) (gatesOf net) ≡ usedOn net 0
 unfolding earlierUsed usedOn
 used-from-first net = rw (gates-length net, sub-zero)
@@ -153,7 +153,7 @@ module _ (names : List (List ℕ)) (earlier : ℕ) (used w : List ℕ) where
     unfolding referenceField
     spare-at = not-there (referenceOf names earlier w) refl
 
--- what no field refers to counts as used or not, all the same
+-- a number that no field refers to may count as used or not, with the same result
 pub spare : (names : List (List ℕ)) (earlier : ℕ) (used : List ℕ) (nowhere : ℕ) → length names + earlier ≤ nowhere
     → referenceField names earlier (nowhere ∷ used) ≡ referenceField names earlier used
 spare names earlier used nowhere beyond = λ i w. spare-at names earlier used w nowhere beyond i

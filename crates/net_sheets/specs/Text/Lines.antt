@@ -1,4 +1,4 @@
--- Lines field by field: every field but the last is followed by a space.
+-- Lines field by field: every field except the last is followed by a space.
 -- Assumes nothing.
 use Prim.Native.Nat.{ℕ, suc, _+_, _-_, _≤_, _<_}
 use mathlib.Core.Path.{_≡_, refl, sym, ap, _∙_}
@@ -10,7 +10,7 @@ use Rattle.rules.specs.Sheets.Printed.{line}
 use Rattle.laws.specs.Lists.Concat.{map-append}
 use Rattle.laws.specs.Lists.Ranges.{range-suc, range-next, range-none}
 
--- fields, each with the space behind it
+-- fields, each followed by a space
 unfoldable pub spaced : List (List ℕ) → List ℕ
 spaced [] = []
 spaced (w ∷ ws) = w ++ (space ∷ spaced ws)
@@ -29,7 +29,7 @@ spaced-append [] ws = refl
 spaced-append (v ∷ vs) ws =
     ap {B = List ℕ} (λ (r : List ℕ). v ++ (space ∷ r)) (spaced-append vs ws) ∙ sym (append-assoc v (space ∷ spaced vs) (spaced ws))
 
--- the fields f i, f (i + 1), .. up to f (n - 1), each with the space behind it
+-- the fields f i, f (i + 1), .. up to f (n - 1), each followed by a space
 unfoldable pub spacedFrom : (ℕ → List ℕ) → ℕ → ℕ → List ℕ
 spacedFrom f i n = spaced (map f (range i (n - i)))
 
@@ -37,7 +37,7 @@ pub spaced-all : (f : ℕ → List ℕ) (n : ℕ) → spaced (map f (range 0 n))
 unfolding spacedFrom
 spaced-all f n = rw sub-zero
 
--- one field more at the end
+-- one more field at the end
 pub spaced-more : (f : ℕ → List ℕ) (n : ℕ) → spacedFrom f 0 (suc n) ≡ spacedFrom f 0 n ++ (f n ++ (space ∷ []))
 unfolding spaced
 spaced-more f n =
@@ -59,7 +59,7 @@ spaced-none f i n h = rw (range-none i n h)
 pub line-from : (f : ℕ → List ℕ) (n : ℕ) → line (map f (range 0 (suc n))) ≡ spacedFrom f 0 n ++ (f n ++ (newline ∷ []))
 line-from f n = simp (range-suc, map-append, line-last, zero-add, spaced-all)
 
--- a line of three fields, each with what stands behind it
+-- a line of three fields, each with its separator
 pub line-three : (u v w : List ℕ) → line (u ∷ v ∷ w ∷ []) ≡ (u ++ (space ∷ [])) ++ ((v ++ (space ∷ [])) ++ (w ++ (newline ∷ [])))
 unfolding line
 line-three u v w = simp append-assoc

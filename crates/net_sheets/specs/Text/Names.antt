@@ -1,4 +1,4 @@
--- A header's names: what printing them asks, and the line that they make.
+-- A header's names: what printing them requires, and the line printed.
 -- Assumes nothing.
 use Prim.Native.Nat.{ℕ, suc, _-_, _≤_, _<_}
 use mathlib.Core.Path.{_≡_, ap, _∙_}

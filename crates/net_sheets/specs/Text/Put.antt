@@ -1,4 +1,4 @@
--- Text written into a buffer at a place, and what is left of a text while its parts are written one after the other.
+-- Text written into a buffer at a place, and the rest of a text while its parts are written one after the other.
 -- Assumes nothing.
 use Prim.Native.Nat.{ℕ, _+_, _≤_, _<_}
 use mathlib.Core.Path.{_≡_, refl, sym, ap, subst, _∙_}
@@ -21,7 +21,7 @@ pub record Put (before : List ℕ) (at : ℕ) (t : List ℕ) (after : List ℕ) 
   pub text : after ≡ sets before at t
   pub end : next ≡ at + length t
 
--- Of a text t₀ that was to be written at at₀ of the buffer out₀, `t` is left to write at `at`, where the buffer is `out`.
+-- Of the text t₀, to be written at at₀ of the buffer out₀, `t` is left to write at `at`, and the buffer is `out`.
 pub record NetLeft (out : List ℕ) (at : ℕ) (t : List ℕ) (out₀ : List ℕ) (at₀ : ℕ) (t₀ : List ℕ) : Type 0 where
   pub text : sets out at t ≡ sets out₀ at₀ t₀
   pub end : at + length t ≡ at₀ + length t₀
@@ -34,7 +34,7 @@ put-length {before} {t} {after} {at} p = ap length (p .text) ∙ length-sets bef
 pub all-left : {out : List ℕ} {at : ℕ} {t : List ℕ} → PutRoom out at t → NetLeft out at t out at t
 all-left h = record { text = refl; end = refl; room = h; kept = refl }
 
--- the same text, put together another way
+-- the same text, composed another way
 pub parts-left : {out : List ℕ} {at : ℕ} {t u : List ℕ} → t ≡ u → PutRoom out at t → NetLeft out at u out at t
 parts-left {out} {at} {t} e h = subst (λ (w : List ℕ). NetLeft out at w out at t) e (all-left h)
 

@@ -1,4 +1,4 @@
-// The calls that take a plain slice: opening a sheet, and the line of any turn.
+// The calls that take a plain slice: opening a sheet, and returning the line of any turn.
 ghost use mathlib.Core.Path.{_≡_};
 ghost use Rattle.rules.specs.Calls.Lister.{listing};
 ghost use Rattle.net_sheets.specs.Lister.Places.{standsAt};
@@ -10,13 +10,13 @@ use crate::lister::turns::turn_at;
 use crate::reader::net::read_net;
 use answers::outcome::Outcome;
 
-// Where a lister starts, on an accepted sheet; or the sheet's refusal.
+// Where a lister starts on an accepted sheet, or the sheet's refusal.
 pub enum Opened {
     At(usize),
     Refused { number: usize, place: usize },
 }
 
-// What a turn gives, on an accepted sheet; or the sheet's refusal.
+// The result of a turn on an accepted sheet, or the sheet's refusal.
 pub enum Listed {
     Given(Turn),
     Refused { number: usize, place: usize },
@@ -47,7 +47,7 @@ pub fn first_place(s: &[u8]) -> usize
     }
 }
 
-// Where a lister stands after `count` turns from its start. At the sheet's end it stays.
+// Returns the lister's place after `count` turns from its start. At the sheet's end it stays there.
 fn turns_on(s: &[u8], first: usize, count: usize) -> usize
     requires { ⌜ first ≡ standsAt (now s) 0 ⌝ }
     ensures { λ r. ⌜ r ≡ standsAt (now (s .entry)) count ⌝ }

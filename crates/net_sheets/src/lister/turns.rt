@@ -1,9 +1,9 @@
-// What a lister that stands at a place of a sheet gives at its turn, by the sheet and the place alone.
+// The result of a lister's turn, as a function of the sheet and the lister's place alone.
 ghost use denote.Ref.{ptr};
 ghost use Rattle.net_sheets.specs.Lister.Turns.{Says, isNone, partIn, turnNumbers};
 use crate::lister::places::line_end;
 
-// A gate line, as the part of the sheet that holds it without its line feed; or none is left.
+// A gate line, given as the part of the sheet that holds it without its line feed, or no line is left.
 pub enum Turn {
     Line { start: usize, count: usize },
     NoneLeft,

@@ -1,4 +1,4 @@
-// The lister as a struct, and thin functions over it: each takes it apart and calls a function of the sheet and the place. Their
+// The lister as a struct, with thin functions over it: each takes it apart and calls a function of the sheet and the place. Their
 // proofs are walks by hand (proofs/walk/Lister).
 ghost use denote.Ref.{ptr};
 ghost use Rattle.net_sheets.specs.Lister.Reached.{Started, TurnedOn};
@@ -8,14 +8,14 @@ use crate::lister::places::line_after;
 use crate::lister::turns::line_at;
 use crate::lister::turns::none_left;
 
-// The sheet that it has borrowed, and where it stands in it.
+// The sheet that the lister borrows, and the lister's place in it.
 pub struct Lister<'a> {
     sheet: &'a [u8],
     at: usize,
 }
 
 impl<'a> Lister<'a> {
-    // Reads the sheet. On one that is not accepted none is left from the start, and `open` has its refusal.
+    // Reads the sheet. If it is not accepted, no line is left from the start, and `open` returns the refusal.
     pub fn start(sheet: &'a [u8]) -> Lister<'a>
         ensures { λ r. ⌜ Started (sheet .entry) r ⌝ }
     {
@@ -37,7 +37,7 @@ impl<'a> Lister<'a> {
         line_at(self.sheet, self.at)
     }
 
-    // Returns the lister one turn on.
+    // Returns the lister after one more turn.
     pub fn next(self) -> Lister<'a>
         ensures { λ r. ⌜ TurnedOn (self .entry) r ⌝ }
     {

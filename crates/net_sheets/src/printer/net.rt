@@ -1,4 +1,4 @@
-// A net sheet.
+// The printer of a net sheet.
 ghost use Prim.Native.Nat.{ℕ, _+_, _≤_, _<_};
 ghost use mathlib.Core.List.{[], _∷_, _++_, map};
 ghost use lib.ListN.{length, getD};
@@ -18,7 +18,7 @@ use crate::text::wide::wide;
 use nets::forms::Header;
 use nets::forms::Net;
 
-// An input by its name, a gate by its number.
+// Writes a reference: an input's name or a gate's number.
 fn print_reference(s: &[u8], h: Header, r: usize, out: &mut [u8], at: usize) -> usize
     requires { ⌜ NamesInside (now s) h × PutRoom (now out) at (referenceIn (now s) h r) ⌝ }
     ensures { λ n. ⌜ Put (now (out .entry)) at (referenceIn (now (s .entry)) h r) (now (out .exit)) n ⌝ }
@@ -30,7 +30,7 @@ fn print_reference(s: &[u8], h: Header, r: usize, out: &mut [u8], at: usize) -> 
     print_decimal(r - inputs + 1, out, at)
 }
 
-// A gate's digits.
+// Writes a gate's digits.
 fn print_digits(digits: &[u8], out: &mut [u8], at: usize) -> usize
     requires { ⌜ PutRoom (now out) at (map digitByte (now digits)) × ((k : ℕ) → k < length (now digits) → getD (now digits) k 0 < 10) ⌝ }
     ensures { λ r. ⌜ Put (now (out .entry)) at (map digitByte (now (digits .entry))) (now (out .exit)) r ⌝ }
@@ -45,7 +45,7 @@ fn print_digits(digits: &[u8], out: &mut [u8], at: usize) -> usize
     p
 }
 
-// A reference with a space behind it.
+// Writes a reference and a space.
 fn print_wire(s: &[u8], h: Header, r: usize, out: &mut [u8], at: usize) -> usize
     requires { ⌜ NamesInside (now s) h × PutRoom (now out) at (referenceIn (now s) h r ++ (space ∷ [])) ⌝ }
     ensures { λ n. ⌜ Put (now (out .entry)) at (referenceIn (now (s .entry)) h r ++ (space ∷ [])) (now (out .exit)) n ⌝ }
@@ -54,7 +54,7 @@ fn print_wire(s: &[u8], h: Header, r: usize, out: &mut [u8], at: usize) -> usize
     put(b' ', out, p)
 }
 
-// The digits of the gate with k gates before it.
+// Writes the digits of the gate with k gates before it.
 fn print_gate_table(net: Net, k: usize, out: &mut [u8], at: usize) -> usize
     requires { ⌜ GatesInside net × (k < net .gates) × PutRoom (now out) at (map digitByte (gateOf net k .digits)) ⌝ }
     ensures { λ r. ⌜ Put (now (out .entry)) at (map digitByte (gateOf net k .digits)) (now (out .exit)) r ⌝ }
@@ -66,7 +66,7 @@ fn print_gate_table(net: Net, k: usize, out: &mut [u8], at: usize) -> usize
     print_digits(&digits[from..end], out, at)
 }
 
-// The line of the gate with k gates before it.
+// Writes the line of the gate with k gates before it.
 fn print_gate(s: &[u8], h: Header, net: Net, k: usize, out: &mut [u8], at: usize) -> usize
     requires { ⌜ NamesInside (now s) h × GatesInside net × (k < net .gates) × PutRoom (now out) at (printedGateAt (now s) h net k) ⌝ }
     ensures { λ r. ⌜ Put (now (out .entry)) at (printedGateAt (now (s .entry)) h net k) (now (out .exit)) r ⌝ }
@@ -79,7 +79,7 @@ fn print_gate(s: &[u8], h: Header, net: Net, k: usize, out: &mut [u8], at: usize
     put(b'\n', out, p)
 }
 
-// The lines of all gates.
+// Writes the lines of all gates.
 fn print_gates(s: &[u8], h: Header, net: Net, out: &mut [u8], at: usize) -> usize
     requires { ⌜ NamesInside (now s) h × GatesInside net × PutRoom (now out) at (printedGates (now s) h net) ⌝ }
     ensures { λ r. ⌜ Put (now (out .entry)) at (printedGates (now (s .entry)) h net) (now (out .exit)) r ⌝ }
@@ -94,7 +94,7 @@ fn print_gates(s: &[u8], h: Header, net: Net, out: &mut [u8], at: usize) -> usiz
     p
 }
 
-// Writes the net sheet of the header's names and the net to the front of `out`, and answers its length.
+// Writes the net sheet of the header's names and the net to the front of `out`, and returns its length.
 pub fn print_net(s: &[u8], h: Header, net: Net, out: &mut [u8]) -> usize
     requires { ⌜ NamesInside (now s) h × GatesInside net × (length (printedNet (netIn (now s) h net)) ≤ length (now out)) ⌝ }
     ensures { λ r. ⌜ NetWrote (now (out .entry)) (printedNet (netIn (now (s .entry)) h net)) (now (out .exit)) r ⌝ }

@@ -1,4 +1,4 @@
-// A net's sheet in the output. It is printed elsewhere first, so that a short output is left as it was.
+// Writes a net's sheet to the output. The sheet is printed elsewhere first, so a too short output stays unchanged.
 ghost use mathlib.Core.Path.{_≡_};
 ghost use mathlib.Core.List.{List};
 ghost use Prim.Native.Nat.{ℕ, _≤_};

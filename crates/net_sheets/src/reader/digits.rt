@@ -46,7 +46,7 @@ pub fn digits_field(s: &[u8], at: usize, m: usize) -> Step
     after_field(s, at, w, verdict, NEWLINE)
 }
 
-// Copies `count` digits from the sheet, from `at` on.
+// Copies `count` digits from the sheet, starting at `at`.
 pub fn copy_digits(s: &[u8], at: usize, count: usize, digits: &mut [u8; MOST_DIGITS], from: usize)
     requires { ⌜ (at + count ≤ length (now s)) × (from + count ≤ mostDigits) × (length (now digits) ≡ mostDigits) × areDigits (now s) at count ⌝ }
     ensures { λ _. ⌜ now (digits .exit) ≡ paste (now (digits .entry)) from (digitsAt (now (s .entry)) at count) count ⌝ }

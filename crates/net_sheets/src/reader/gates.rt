@@ -16,16 +16,16 @@ use nets::forms::Header;
 use nets::forms::Net;
 use nets::forms::no_gates;
 
-// No reference: every reference is below it.
+// Stands for no reference: every reference is below it.
 const NO_REFERENCE: usize = 255;
 
-// What reading gate lines comes to: on a step onward the net has the gates that were read.
+// The result of reading gate lines. If the step is `On`, the net has the gates that were read.
 pub struct GatesRead {
     pub step: Step,
     pub net: Net,
 }
 
-// Returns the net with one more gate, whose digits are in the sheet from `at` on.
+// Returns the net with one more gate, whose digits start at `at` in the sheet.
 pub fn with_gate(s: &[u8], at: usize, net: Net, left: usize, right: usize) -> Net
     requires { ⌜ NetForm net × (net .gates < mostGates) × ((net .gates + 1) * (net .levels * net .levels) ≤ mostDigits) × (net .levels ≤ mostLevels) × (left < 256) × (right < 256) × (at + net .levels * net .levels ≤ length (now s)) × areDigits (now s) at (net .levels * net .levels) ⌝ }
     ensures { λ r. ⌜ NetGrown net (record { left = left; right = right; digits = digitsAt (now (s .entry)) at (net .levels * net .levels) }) r ⌝ }

@@ -13,7 +13,7 @@ use nets::forms::Header;
 use nets::forms::Net;
 use nets::forms::no_gates;
 
-// What reading a net sheet comes to: the header and the net are the sheet's where it is accepted.
+// The result of reading a net sheet. The header and the net are set if it is accepted.
 pub struct NetRead {
     pub outcome: Outcome,
     pub header: Header,
@@ -79,7 +79,7 @@ pub fn from_heading(s: &[u8], at: usize, header: Header) -> NetRead
     }
 }
 
-// Reads a net sheet: any bytes, of any length.
+// Reads a net sheet. It may be any bytes of any length.
 pub fn read_net(s: &[u8]) -> NetRead
     ensures { λ r. ⌜ NetReads (now (s .entry)) r ⌝ }
 {

@@ -72,7 +72,7 @@ pub fn is_used(net: Net, r: usize) -> bool
     false
 }
 
-// Tests whether every gate but the last is used.
+// Tests whether every gate except the last is used.
 pub fn earlier_used(net: Net) -> bool
     requires { ⌜ (net .gates ≤ mostGates) × (net .inputs ≤ mostInputs) ⌝ }
     ensures { λ yes. ⌜ yes ≡ earlierUsed (net .inputs) (gatesOf net) ⌝ }

@@ -33,7 +33,7 @@ pub fn print_name(s: &[u8], h: Header, i: usize, out: &mut [u8], at: usize) -> u
     copy(name_of(s, h, i), out, at)
 }
 
-// Writes the first `count` names, each with a space behind it.
+// Writes the first `count` names, each followed by a space.
 pub fn print_names(s: &[u8], h: Header, count: usize, out: &mut [u8], at: usize) -> usize
     requires { ⌜ NamesInside (now s) h × (count ≤ h .inputs) × PutRoom (now out) at (spacedFrom (nameIn (now s) h) 0 count) ⌝ }
     ensures { λ r. ⌜ Put (now (out .entry)) at (spacedFrom (nameIn (now (s .entry)) h) 0 count) (now (out .exit)) r ⌝ }

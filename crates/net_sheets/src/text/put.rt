@@ -1,4 +1,4 @@
-// Text written into a buffer at a place. Each function answers the place after its text.
+// Writes text into a buffer at a place. Each function returns the place after its text.
 ghost use Prim.Native.Nat.{_<_};
 ghost use mathlib.Core.List.{[], _∷_};
 ghost use lib.ListN.{length};

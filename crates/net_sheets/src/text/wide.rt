@@ -1,4 +1,4 @@
-// A small number as a size.
+// A byte as a usize.
 ghost use mathlib.Core.Path.{_≡_};
 ghost use Prim.Native.Nat.{_<_};
 

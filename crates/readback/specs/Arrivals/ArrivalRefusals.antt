@@ -1,4 +1,4 @@
--- With which numbers, where and by which bytes an arrival sheet is refused.
+-- The numbers and places with which an arrival sheet is refused, and the bytes that decide it.
 -- Assumes nothing.
 use Prim.Native.Nat.{ℕ}
 use mathlib.Core.Path.{refl}

@@ -1,4 +1,4 @@
--- Arrival sheets: what was printed is read back, and what was accepted is exactly what would be printed and keeps every rule.
+-- Arrival sheets: what was printed is read back, and what was accepted is exactly what would be printed and follows every rule.
 -- Assumes nothing.
 use Prim.Native.Nat.{ℕ, _≤_}
 use mathlib.Core.Path.{_≡_, refl, sym}
@@ -98,7 +98,7 @@ unfolding printedArrivalSheet line
 sheet-text names arrivals = simp (append-assoc, append-nil)
 
 module _ (names : List (List ℕ)) (names-good : GoodNames names) where
-  -- the reader of arrival sheets spells the arrivals that keep the rules
+  -- the reader of arrival sheets spells the arrivals that follow the rules
   spells-arrivals : SpellsTo Ended (arrivalSheet names) ((arrivals : List Arrival) × ArrivalSheetRules names arrivals) (λ x. x .0)
       (λ x. printedArrivalSheet names (x .0))
   unfolding arrivalSheet plain isWord all text isSeparator space newline
@@ -116,13 +116,13 @@ module _ (names : List (List ℕ)) (names-good : GoodNames names) where
   unfolding readArrivals
   arrivals-read-back arrivals kept = whole-back spells-arrivals (arrivals, kept)
 
-  -- an accepted arrival sheet is the print of its arrivals, which keep the rules
+  -- an accepted arrival sheet is the print of its arrivals, which follow the rules
   pub arrivals-accepted : (s : List ℕ) (arrivals : List Arrival) → readArrivals names s ≡ accepted arrivals
       → (s ≡ printedArrivalSheet names arrivals) × ArrivalSheetRules names arrivals
   unfolding readArrivals
   arrivals-accepted = whole-kept (printedArrivalSheet names) spells-arrivals
 
-  -- an arrival sheet is accepted exactly when it is the print of arrivals that keep the rules, one for each input
+  -- an arrival sheet is accepted exactly if it is the print of arrivals that follow the rules, one for each input
   pub arrival-sheets : (s : List ℕ)
       → ((arrivals : List Arrival) × (readArrivals names s ≡ accepted arrivals))
       ↔ ((arrivals : List Arrival) × ArrivalSheetRules names arrivals × (s ≡ printedArrivalSheet names arrivals))

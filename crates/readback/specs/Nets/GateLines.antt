@@ -1,5 +1,5 @@
--- The lines of a sheet as document 01's lister counts them: where line k begins and how long it is. In an accepted net sheet the gate lines
--- are the lines after the first four, each within the sheet with its line feed, and after the last the sheet ends.
+-- The lines of a sheet as document 01's lister counts them: where line k starts and how long it is. In an accepted net sheet the gate lines
+-- are the lines after the first four, each within the sheet with its line feed, and the sheet ends after the last.
 -- Assumes nothing.
 use Prim.Native.Nat.{ℕ, zero, suc, _+_, _-_, _≤_, _<_}
 use mathlib.Core.Path.{_≡_, refl, sym, ap, ap₂, _∙_, subst⁻¹}
@@ -49,7 +49,7 @@ first-of : (w : List ℕ) (ws : List (List ℕ)) (rest : List ℕ) → concatMap
 unfolding concatMap fed
 first-of w ws rest = append-assoc (w ++ (newline ∷ [])) (concatMap fed ws) rest ∙ append-snoc w newline (concatMap fed ws ++ rest)
 
--- after the first lines, whatever follows, is their length
+-- the place after the first lines, whatever follows, is their length
 after-first : (ws : List (List ℕ)) (rest : List ℕ) → Unbroken ws → afterLines (concatMap fed ws ++ rest) (length ws) ≡ length (concatMap fed ws)
 unfolding afterLines concatMap fed
 after-first [] rest h = refl
@@ -72,7 +72,7 @@ unbroken-at (suc k) (w ∷ ws) h l = unbroken-at k ws (h .1) (omega arith)
 unfoldable pub partOf : List ℕ → Part → List ℕ
 partOf s p = take (p .count) (drop (p .start) s)
 
--- the line of number k, from 0
+-- line number k, from 0
 unfoldable pub lineAt : List ℕ → ℕ → Part
 lineAt s k = let at = afterLines s k in record { start = at; count = lineLength (drop at s) }
 
@@ -82,11 +82,11 @@ module _ (s : List ℕ) (ws : List (List ℕ)) (lines : s ≡ concatMap fed ws) 
   after-last = rw lines (ap (λ (t : List ℕ). afterLines t (length ws)) (sym (append-nil (concatMap fed ws))) ∙ after-first ws [] unbroken)
 
   module _ (k : ℕ) (inside : k < length ws) where
-    -- what stands before the line
+    -- everything before the line
     before : List ℕ
     before = concatMap fed (take k ws)
 
-    -- what stands after it
+    -- everything after it
     after : List ℕ
     after = concatMap fed (drop (suc k) ws)
 
@@ -148,11 +148,11 @@ module _ (s : List ℕ) (net : Net) (reads : readNet s ≡ accepted net) where
   pub gate-count : (0 < length (net .gates)) × (length (net .gates) ≤ net .header .inputs - 1)
   gate-count = (kept .gates .some, omega (arith, kept .gates .count))
 
-  -- the part that a turn gives lies within the sheet, with its line feed, ..
+  -- the part that a turn gives is within the sheet, with its line feed, ..
   pub gate-inside : (k : ℕ) → k < length (net .gates) → lineAt s (4 + k) .start + lineAt s (4 + k) .count < length s
   gate-inside k h = line-inside s (netLines net) sheet-lines (net-unbroken net kept) (4 + k) (omega (arith, net-length))
 
-  -- .. and after the last the sheet ends
+  -- .. and the sheet ends after the last
   pub gates-end : afterLines s (4 + length (net .gates)) ≡ length s
   gates-end = ap (afterLines s) (sym net-length) ∙ after-last s (netLines net) sheet-lines (net-unbroken net kept)
 

@@ -1,4 +1,4 @@
--- Gate lines: each refers back, to what no earlier line refers to.
+-- Gate lines: each refers back, to references that no earlier line uses.
 -- Assumes nothing.
 use Prim.Native.Nat.{ℕ, zero, suc, _+_, _≤_, _<_}
 use mathlib.Core.Path.{_≡_, refl, sym, _∙_, ap}
@@ -24,9 +24,9 @@ use Rattle.readback.specs.Readers.Judges.{judges-digits}
 use Rattle.laws.specs.Lists.Fresh.{Fresh, fresh-last}
 use Rattle.readback.specs.Nets.References.{judges-reference}
 
--- ---- the rules of a gate line and of all that follow it
+-- ---- the rules for a gate line and for all that follow it
 
--- a gate's line after `k` references of which those in `used` are used
+-- a gate's line after `k` references, where those in `used` are already used
 record GateAfter (m k : ℕ) (used : List ℕ) (g : Gate) : Type 0 where
   left : g .left < k
   right : g .right < k
@@ -55,7 +55,7 @@ module _ (m k : ℕ) (used : List ℕ) (g : Gate) (gates : List Gate) where
         (r, fresh-last eqb eqb-comm used (g .left) (usedBy gates) .1 (l, j)),
   )
 
-  -- one gate, then the others, keep the rules together
+  -- one gate and then the others follow the rules together
   gates-to : GateAfter m k used g → GatesAfter m (suc k) (used ++ (g .left ∷ []) ++ (g .right ∷ [])) gates → GatesAfter m k used (g ∷ gates)
   unfolding usedBy
   gates-to a b =
@@ -68,7 +68,7 @@ module _ (m k : ℕ) (used : List ℕ) (g : Gate) (gates : List Gate) where
         tables = (a .table, b .tables);
       }
 
-  -- and the other way
+  -- and conversely
   gates-from : GatesAfter m k used (g ∷ gates) → GateAfter m k used g × GatesAfter m (suc k) (used ++ (g .left ∷ []) ++ (g .right ∷ [])) gates
   unfolding usedBy
   gates-from b =
@@ -142,7 +142,7 @@ module _ (m : ℕ) (positive : 0 < m) (names : List (List ℕ)) (good-names : Go
   unfolding concatMap printedGate line
   gate-some g gates = simp length-append (omega arith)
 
-  -- Gate lines from here on, before the sheet's end: what `r` reads is printed as those of `X`
+  -- Gate lines from here to the sheet's end: what `r` reads is printed as the gates of `X`
   abbrev ReadsGates : Reader (List Gate) → List Gate → (List Gate → Type 0) → Type 0
   ReadsGates r earlier Rule = SpellsBetween Ended Any r ((gates : List Gate) × Rule gates) (λ x. earlier ++ x .0) (λ x. concatMap (printedGate names) (x .0))
 
@@ -150,7 +150,7 @@ module _ (m : ℕ) (positive : 0 < m) (names : List (List ℕ)) (good-names : Go
   abbrev Rest : ℕ → List Gate → List Gate → Type 0
   Rest count earlier gates = (length gates ≤ count) × Gates earlier gates
 
-  -- the same, one at least
+  -- the same, but at least one
   abbrev More : ℕ → List Gate → List Gate → Type 0
   More count earlier gates = (0 < length gates) × Rest count earlier gates
 
@@ -171,7 +171,7 @@ module _ (m : ℕ) (positive : 0 < m) (names : List (List ℕ)) (good-names : Go
           let (a, c) = one-gate earlier g gates .1 b in
           (((g, a), (gates, (omega arith, c))), sym (append-snoc earlier g gates), refl)
 
-  -- no gate keeps the rules
+  -- no gates follow the rules
   no-gates : (earlier : List Gate) → Gates earlier []
   unfolding usedBy
   no-gates earlier = record { back = tt; once = tt; fresh = tt; tables = tt }

@@ -1,4 +1,4 @@
--- Net sheets: what the reader of a net sheet spells. It reads to the sheet's end, then judges whether earlier gates are used.
+-- Net sheets: what the reader of a net sheet spells. It reads to the sheet's end, then checks that earlier gates are used.
 -- Assumes nothing.
 use Prim.Native.Nat.{ℕ, _+_, _-_, _<_}
 use mathlib.Core.Path.{_≡_, refl, sym, _∙_, ap, fun-ext}
@@ -40,7 +40,7 @@ net-text h gs k =
     let z = kept-size h k in
     rw (line-ended (h .names) (omega (arith, k .count))) (simp (append-assoc, append-nil))
 
--- what a net sheet is before it is judged at its end: all but that earlier gates are used
+-- what a net sheet satisfies before the check at its end: every rule except that earlier gates are used
 pub record RuledNet (net : Net) : Type 0 where
   pub header : HeaderRules (net .header)
   pub some : 0 < length (net .gates)
@@ -56,11 +56,11 @@ ruled-kept net ruled used = record {
   gates = record { some = ruled .some; count = ruled .count; rules = ruled .rules; used = used };
 }
 
--- gate lines after none, by the names or by the inputs
+-- gate lines after none, counted by the names or by the inputs
 gates-to : (h : Header) (gs : List Gate) → HeaderRules h → GatesAfter (h .levels) (length (h .names) + 0) (usedBy []) gs → GateRules (h .levels) (h .inputs) gs
 gates-to h gs k b = record { back = rw (add-zero (length (h .names)), k .count) at (b .back); once = b .once; tables = b .tables }
 
--- and the other way
+-- and conversely
 gates-from : (h : Header) (gs : List Gate) → HeaderRules h → GateRules (h .levels) (h .inputs) gs
     → GatesAfter (h .levels) (length (h .names) + 0) (usedBy []) gs
 unfolding usedBy
@@ -71,7 +71,7 @@ gates-from h gs k rules = record {
   tables = rules .tables;
 }
 
--- ---- to the sheet's end, and what is judged there
+-- ---- to the sheet's end, and the check there
 
 -- a net sheet read to its end
 unfoldable pub netToEnd : Reader Net
@@ -84,11 +84,11 @@ netToEnd = do
   _ ← closed
   give (record { header = h; gates = gates })
 
--- what is judged there
+-- the check there
 unfoldable pub judgedLast : Net → Reader Net
 judgedLast net = allUsed (net .header .inputs) (net .gates) >>= λ _. give net
 
--- one reader after another, and what is judged last
+-- one reader after another, and then the last check
 then-last : {A B C : Type 0} (r : Reader A) (k : A → Reader B) (l : B → Reader C) (whole : A → Reader C)
     → ((a : A) (s : List ℕ) (at : ℕ) → whole a s at ≡ then (k a s at) l) → (s : List ℕ) (at : ℕ) → (r >>= whole) s at ≡ then ((r >>= k) s at) l
 unfolding then
@@ -98,12 +98,12 @@ then-last {A} r k l whole each s at = go (r s at)
     go (read a rest place) = each a rest place
     go (turnedBack number place) = refl
 
--- of a net that is given
+-- for a given net
 last-given : (net : Net) (s : List ℕ) (at : ℕ) → judgedLast net s at ≡ then (give net s at) judgedLast
 unfolding then
 last-given net s at = refl
 
--- a net sheet is the one, then the other
+-- a net sheet is read to its end, then checked
 pub net-last : (s : List ℕ) (at : ℕ) → netSheet s at ≡ (netToEnd >>= judgedLast) s at
 unfolding netSheet netToEnd judgedLast
 net-last =
@@ -117,7 +117,7 @@ net-last =
 pub net-whole : netSheet ≡ (netToEnd >>= judgedLast)
 net-whole = fun-ext (λ s. fun-ext (λ at. net-last s at))
 
--- the reader of the lines spells the nets that keep their rules
+-- the reader of the lines spells the nets that follow their rules
 pub spells-to-end : SpellsTo Ended netToEnd ((net : Net) × RuledNet net) (λ x. x .0) (λ x. printedNet (x .0))
 unfolding netToEnd plain isWord all text isSeparator space newline
 spells-to-end = spells-as
@@ -139,7 +139,7 @@ spells-to-end = spells-as
       sym (net-text h (net .gates) (k .header)),
     ))
 
--- what is judged last reads nothing, and passes a net whose earlier gates are used, ..
+-- the last check reads nothing, and passes a net whose earlier gates are used, ..
 last-back : (net : Net) → EarlierUsed (net .header .inputs) (net .gates) → (rest : List ℕ) (at : ℕ) → judgedLast net rest at ≡ read net rest at
 unfolding judgedLast allUsed then
 last-back net used rest at = rw (used-earlier (net .header .inputs) (net .gates) used, allUsed)
@@ -157,7 +157,7 @@ last-only net s at a rest place e = go (allUsed (net .header .inputs) (net .gate
         ((cc), (cc), earlier-used (net .header .inputs) (net .gates) used)
     go (turnedBack number p) d e = absurd (not-read number p a rest place e)
 
--- the reader of net sheets spells the nets that keep the rules
+-- the reader of net sheets spells the nets that follow the rules
 pub spells-net : SpellsTo Ended netSheet ((net : Net) × NetRules net) (λ x. x .0) (λ x. printedNet (x .0))
 unfolding then
 spells-net = record { back = back; only = only }

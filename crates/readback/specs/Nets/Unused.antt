@@ -1,5 +1,5 @@
--- "26, an earlier gate is never used, place the sheet's length, judged last in the net sheet" (document 02, K12): a net sheet is refused with 26 exactly
--- when it keeps every other rule and some earlier gate is never used, and then at its length.
+-- "26, an earlier gate is never used, place the sheet's length, judged last in the net sheet" (document 02, K12): a net sheet is refused with 26
+-- exactly if it follows every other rule and some earlier gate is never used; the place is its length.
 -- Assumes nothing.
 use Prim.Native.Nat.{ℕ}
 use mathlib.Core.Path.{_≡_, refl, sym, _∙_, ap, subst}
@@ -25,7 +25,7 @@ use Rattle.readback.specs.Readers.Refused.{front-to-end, front-net, refu
 abbrev pub Unused : Net → Type 0
 Unused net = earlierUsed (net .header .inputs) (net .gates) ≡ false
 
--- what is judged last turns back with 26 where the sheet ends, ..
+-- the last check refuses with 26 where the sheet ends, ..
 last-unused : (net : Net) → Unused net → (s : List ℕ) (at : ℕ) → judgedLast net s at ≡ turnedBack 26 at
 unfolding judgedLast allUsed then
 last-unused net unused s at = rw (unused, allUsed)
@@ -42,7 +42,7 @@ last-turned net s at number place e = go (allUsed (net .header .inputs) (net .ga
         let (unused, _, here) = used-turned (net .header .inputs) (net .gates) s at k p d in
         (unused, let z : place ≡ p = cc in z ∙ here)
 
--- no other rule is broken with 26
+-- no other rule gives 26
 not-before : (s : List ℕ) (place : ℕ) → netToEnd s 0 ≡ turnedBack 26 place → ⊥
 unfolding any
 not-before s place e =
@@ -50,7 +50,7 @@ not-before s place e =
     let y : _≡_ {A = ℕ} 0 1 = cc in
     omega arith
 
--- such a sheet is refused so, ..
+-- such a sheet is refused with 26, ..
 pub unused-refused : (net : Net) → RuledNet net → Unused net → readNet (printedNet net) ≡ refused 26 (length (printedNet net))
 unfolding readNet answered then
 unused-refused net ruled unused =

@@ -1,4 +1,4 @@
--- The numbers with which a reader turns back, for any list of numbers that has 1: they are those of its fields' judges.
+-- The numbers with which a reader refuses, for any list of numbers that contains 1: they are those of its fields' judges.
 -- Assumes nothing.
 use Prim.Native.Nat.{ℕ, suc, _+_}
 use Prim.Native.String.{String}
@@ -18,7 +18,7 @@ use Rattle.laws.specs.Lists.Distinct.{In}
 use Rattle.readback.specs.Readers.Spells.{not-read}
 use Rattle.readback.specs.Readers.Fields.{not-good}
 
--- every number with which a judge, or a reader, turns back is one of `numbers`
+-- every number with which a judge, or a reader, refuses is one of `numbers`
 abbrev pub AmongJudge : {A : Type 0} → List ℕ → Judge A → Type 0
 AmongJudge numbers judge = (w : List ℕ) (k : ℕ) → judge w ≡ bad k → In k numbers
 
@@ -27,7 +27,7 @@ Among numbers r = (s : List ℕ) (at k place : ℕ) → r s at ≡ turnedBack k 
 
 -- 1 is among them
 module _ (numbers : List ℕ) (one : In 1 numbers) where
-  -- a number that is named
+  -- a number in the list
   pub named-bad : {A : Type 0} (number k : ℕ) → In number numbers → _≡_ {A = Judged A} (bad number) (bad k) → In k numbers
   named-bad number k h e = subst (λ (k : ℕ). In k numbers) (let z : number ≡ k = cc in z) h
 
@@ -38,7 +38,7 @@ module _ (numbers : List ℕ) (one : In 1 numbers) where
   test-bad true a number k h e = absurd (not-good k a (sym e))
   test-bad false a number k h e = named-bad number k h e
 
-  -- ---- readers put together
+  -- ---- combined readers
 
   pub among-give : {A : Type 0} (a : A) → Among numbers (give a)
   among-give a s at k place e = absurd (not-read k place a s at (sym e))
@@ -104,7 +104,7 @@ module _ (numbers : List ℕ) (one : In 1 numbers) where
   among-closed [] at k place e = absurd (not-read k place tt [] at (sym e))
   among-closed (b ∷ s) at k place e = named-turned 1 at k place one e
 
--- ---- what an answer's refusal is
+-- ---- the refusals of an answer
 
 -- every number with which a call refuses is one of `numbers`
 abbrev pub Refuses : List ℕ → {A : Type 0} → (List ℕ → Answer A) → Type 0

@@ -1,4 +1,4 @@
--- Readers that read several things of a kind, one after another, and put them behind those read before.
+-- Readers that read several things of a kind, one after another, and append them to those read before.
 -- Assumes nothing.
 use Prim.Native.Nat.{ℕ, suc}
 use mathlib.Core.Path.{_≡_, refl, sym, ap, fun-ext}
@@ -11,11 +11,11 @@ use Rattle.rules.specs.Sheets.Fields.{Read, read, turnedBack, Reader, then, _>>
 use Rattle.readback.specs.Readers.Spells.{Spells, spells-give, spells-then, spells-as}
 
 module _ {A : Type 0} where
-  -- `count` things that keep `Rule`
+  -- `count` things that satisfy `Rule`
   abbrev pub Several : ℕ → (List A → Type 0) → Type 0
   Several count Rule = (xs : List A) × (length xs ≡ count) × Rule xs
 
-  -- `r` reads `count` things that keep `Rule`, printed by `print`, and puts them behind the earlier ones
+  -- `r` reads `count` things that satisfy `Rule`, printed by `print`, and appends them to the earlier ones
   abbrev pub Collects : Reader (List A) → List A → ℕ → (List A → Type 0) → (List A → List ℕ) → Type 0
   Collects r earlier count Rule print = Spells r (Several count Rule) (λ x. earlier ++ x .0) (λ x. print (x .0))
 
@@ -48,7 +48,7 @@ module _ {A : Type 0} where
           let (h, i) = rules a xs .1 g in
           (((a, h), (xs, e, i)), sym (append-snoc earlier a xs), sym (text a xs e))
 
--- two readers and then a third, taken together either way
+-- two readers and then a third, grouped either way
 pub then-then : {A B C : Type 0} (r : Reader A) (k : A → Reader B) (l : B → Reader C) → (r >>= k >>= l) ≡ (r >>= λ a. k a >>= l)
 unfolding then
 then-then {A = A} r k l = fun-ext (λ s. fun-ext (λ at. go (r s at)))

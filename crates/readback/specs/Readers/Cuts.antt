@@ -1,6 +1,6 @@
--- A text that is cut, and one that goes on. What a reader has read stays read when bytes are added behind it. What turns it back at the text's end is
--- 1, or, of a short text, the number that is judged last. What turns it back before the end stays, however the text goes on, once the text is so long
--- that no field which might yet become good reaches its end. Said once for readers; the laws here put such readers together.
+-- A text that is cut, and one that continues. What a reader has read stays read when bytes are added after it. A refusal at the text's end is
+-- 1 or, for a short text, the number that is judged last. A refusal before the end stays, however the text continues, once the text is so long
+-- that no field which might still become good reaches its end. Stated once for readers; the laws here combine such readers.
 -- Assumes nothing.
 use Prim.Native.Nat.{ℕ, suc, _+_, _≤_, _<_}
 use mathlib.Core.Path.{_≡_, refl, sym, _∙_, ap}
@@ -18,7 +18,7 @@ use Rattle.readback.specs.Readers.Fronts.{separator-turned, field-read}
 
 -- ---- readers
 
--- what was read: where it ends, and that bytes added behind what is left change nothing
+-- what was read: where it ends, and that bytes added after what is left change nothing
 pub record Went {A : Type 0} (r : Reader A) (s : List ℕ) (at : ℕ) (a : A) (rest : List ℕ) (place : ℕ) : Type 0 where
   pub ends : place + length rest ≡ at + length s
   pub more : (t : List ℕ) → r (s ++ t) at ≡ read a (rest ++ t) place
@@ -26,8 +26,8 @@ pub record Went {A : Type 0} (r : Reader A) (s : List ℕ) (at : ℕ) (a : A) (r
 abbrev pub Goes : {A : Type 0} → Reader A → Type 0
 Goes {A} r = (s : List ℕ) (at : ℕ) (a : A) (rest : List ℕ) (place : ℕ) → r s at ≡ read a rest place → Went r s at a rest place
 
--- what was turned back: with 1 at the end, or, of a text of fewer than `b` bytes, with `late` there; or before it, and then alike however a text of
--- `b` bytes or more goes on
+-- what was refused: with 1 at the end, or, for a text of fewer than `b` bytes, with `late` there; or before the end, and then in the same way however
+-- a text of `b` bytes or more continues
 pub data Stopped {A : Type 0} (late : ℕ) (r : Reader A) (b : ℕ) (s : List ℕ) (at number place : ℕ) : Type 0 where
   at-end : number ≡ 1 → place ≡ at + length s → Stopped late r b s at number place
   late-end : number ≡ late → length s < b → place ≡ at + length s → Stopped late r b s at number place
@@ -36,7 +36,7 @@ pub data Stopped {A : Type 0} (late : ℕ) (r : Reader A) (b : ℕ) (s : List �
 abbrev pub Firm : {A : Type 0} → ℕ → ℕ → Reader A → Type 0
 Firm late b r = (s : List ℕ) (at number place : ℕ) → r s at ≡ turnedBack number place → Stopped late r b s at number place
 
--- what was read was all, and any byte behind it is 1 there, where the value is one with which the text may not go on
+-- everything was read, and any further byte is refused with 1 there, if the value does not allow the text to continue
 pub record Shut {A : Type 0} (r : Reader A) (s : List ℕ) (at : ℕ) (rest : List ℕ) : Type 0 where
   pub none : rest ≡ []
   pub after : (b : ℕ) (t : List ℕ) → r (s ++ b ∷ t) at ≡ turnedBack 1 (at + length s)
@@ -48,7 +48,7 @@ Shuts {A} Whole r = (s : List ℕ) (at : ℕ) (a : A) (rest : List ℕ) (place :
 abbrev pub Takes : {A : Type 0} → ℕ → Reader A → Type 0
 Takes {A} w r = (s : List ℕ) (at : ℕ) (a : A) (rest : List ℕ) (place : ℕ) → r s at ≡ read a rest place → length s ≤ w + length rest
 
--- ---- a value that is given without reading
+-- ---- a value given without reading
 
 module _ {A : Type 0} (a : A) where
   pub goes-give : Goes (give a)
@@ -77,7 +77,7 @@ module _ {A B : Type 0} {r : Reader A} (next : A → Reader B) where
       go (read a middle p) d e = both a middle p (first s at a middle p d) (nexts a middle p b rest place e)
       go (turnedBack number p) d e = absurd (not-read number p b rest place e)
 
-  -- The second reader is firm from `c` bytes on, and the first leaves it so many of `b` or more.
+  -- The second reader is firm from `c` bytes on, and the first leaves it that many if the text has `b` or more.
   pub firm-then : {late : ℕ} (b c : ℕ) → Goes r → Firm late b r
       → ((s : List ℕ) (at : ℕ) (a : A) (rest : List ℕ) (place : ℕ) → r s at ≡ read a rest place → Firm late c (next a) × (b ≤ length s → c ≤ length rest))
       → Firm late b (r >>= next)
@@ -122,11 +122,11 @@ module _ {A B : Type 0} {r : Reader A} (next : A → Reader B) where
       go (read a middle p) d e = both a middle p (first s at a middle p d) (nexts a middle p b rest place e is)
       go (turnedBack number p) d e = absurd (not-read number p b rest place e)
 
--- at most so many bytes, and so at most more
+-- a larger bound on the bytes read also holds
 pub takes-more : {A : Type 0} {r : Reader A} (w v : ℕ) → w ≤ v → Takes w r → Takes v r
 takes-more w v h takes s at a rest place e = omega (arith, takes s at a rest place e)
 
--- firm from some bytes on, and so from more
+-- firm from a larger number of bytes on, too
 pub firm-more : {A : Type 0} {r : Reader A} {late : ℕ} (b c : ℕ) → b ≤ c → Firm late b r → Firm late c r
 firm-more {A} {r} {late} b c h firm s at number place e = go (firm s at number place e)
   where
@@ -137,11 +137,11 @@ firm-more {A} {r} {late} b c h firm s at number place e = go (firm s at number p
 
 -- ---- a field
 
--- a word of `b` bytes or more that a judge refuses is refused alike whatever is added to it
+-- a word of `b` bytes or more that a judge refuses is refused with the same number whatever is added to it
 abbrev pub Stays : {A : Type 0} → ℕ → Judge A → Type 0
 Stays b judge = (w v : List ℕ) (k : ℕ) → 0 < length w → b ≤ length w → judge w ≡ bad k → judge (w ++ v) ≡ bad k
 
--- no word of more than `l` bytes is passed, and all those are refused with one number
+-- no word of more than `l` bytes passes, and all those are refused with one number
 pub record Narrow {A : Type 0} (l : ℕ) (judge : Judge A) : Type 0 where
   pub short : (w : List ℕ) (a : A) → judge w ≡ good a → length w ≤ l
   pub number : ℕ
@@ -203,12 +203,12 @@ module _ {A : Type 0} (judge : Judge A) (due : ℕ) where
       parts : length s ≡ length (run s) + length (past s)
       parts = ap length (run-past s) ∙ length-append (run s) (past s)
 
-      -- refused for the field alone, which a separator ends: so it is with more behind
+      -- refused because of the field, which ends in a separator: so it stays with more bytes after it
       alone : (c : ℕ) (rest : List ℕ) → past s ≡ c ∷ rest → place < at + length s
           → ((q : List ℕ) → fieldOf judge due (run s) (c ∷ q) at ≡ turnedBack number place) → Stopped late (field judge due) b s at number place
       alone c rest d within same = before within (λ long t. let (i, j) = run-more s t c rest d in rw (i, j) (same (rest ++ t)))
 
-      -- the field is all of the text
+      -- the field is the whole text
       whole : past s ≡ [] → run s ≡ s
       whole d = sym (run-past s ∙ ap (λ p. run s ++ p) d ∙ append-nil (run s))
 
@@ -218,7 +218,7 @@ module _ {A : Type 0} (judge : Judge A) (due : ℕ) where
       none d (c ∷ rest) f e =
           alone c rest f (let here : place ≡ at = cc in omega (arith, ap length d, ap length f, parts)) (λ q. rw d e)
 
-      -- a field that is bad
+      -- a bad field
       refused : (c : ℕ) (w : List ℕ) → run s ≡ c ∷ w → (k : ℕ) → judge (c ∷ w) ≡ bad k → _≡_ {A = Read A} (turnedBack k at) (turnedBack number place)
           → (p : List ℕ) → past s ≡ p → Stopped late (field judge due) b s at number place
       refused c w d k j e [] f =
@@ -229,7 +229,7 @@ module _ {A : Type 0} (judge : Judge A) (due : ℕ) where
       refused c w d k j e (x ∷ rest) f =
           alone x rest f (let here : place ≡ at = cc in omega (arith, ap length d, parts)) (λ q. rw (d, j) (cc))
 
-      -- a field that is good, and the byte after it
+      -- a good field, and the byte after it
       after : (c : ℕ) (w : List ℕ) → run s ≡ c ∷ w → (a : A) → judge (c ∷ w) ≡ good a → (p : List ℕ) → past s ≡ p
           → separator a due p (at + suc (length w)) ≡ turnedBack number place → Stopped late (field judge due) b s at number place
       after c w d a j [] f e =
@@ -248,7 +248,7 @@ module _ {A : Type 0} (judge : Judge A) (due : ℕ) where
       go [] d p f e = none d p f e
       go (c ∷ w) d p f e = verdict c w d (judge (c ∷ w)) refl p f e
 
--- a narrow field, and a reader after it that is firm from `b` bytes on, or takes at most so many
+-- a narrow field, followed by a reader that is firm from `b` bytes on, or that takes at most that many
 module _ {A B : Type 0} (judge : Judge A) (due l : ℕ) (narrow : Narrow l judge) (b : ℕ) (next : A → Reader B) where
   pub firm-step : {late : ℕ} → ((s : List ℕ) (at : ℕ) (a : A) (rest : List ℕ) (place : ℕ) → field judge due s at ≡ read a rest place → Firm late b (next a))
       → Firm late (suc l + b) (field judge due >>= next)
@@ -261,7 +261,7 @@ module _ {A B : Type 0} (judge : Judge A) (due l : ℕ) (narrow : Narrow l judge
       → Takes (suc l + b) (field judge due >>= next)
   takes-step nexts = takes-then next (suc l) b (takes-field judge due l (narrow .short)) nexts
 
--- ---- the end of a sheet, and the value then given
+-- ---- the end of a sheet, and the value given there
 
 module _ {A : Type 0} (a : A) where
   pub firm-end : {late : ℕ} → Firm late 0 (closed >>= λ _. give a)

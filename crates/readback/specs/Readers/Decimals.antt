@@ -21,7 +21,7 @@ pub high-plain : (b : ℕ) → 48 ≤ b → plain b ≡ true
 unfolding plain isSeparator space newline
 high-plain b h = rw (ne-eqb b 32 (omega arith), ne-eqb b 10 (omega arith)) refl
 
--- bytes of which each is at least the byte of 0 are a word
+-- bytes that are each at least the byte of 0 form a word
 pub high-word : (p : ℕ → Bool) → ((b : ℕ) → p b ≡ true → 48 ≤ b) → (w : List ℕ) → all p w ≡ true → 0 < length w → isWord w ≡ true
 unfolding isWord
 high-word p h [] e l = absurd (omega arith)

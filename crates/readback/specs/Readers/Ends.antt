@@ -1,5 +1,5 @@
--- Where a net sheet may end: after any gate line (`orEnd`), and then every earlier gate has been used (`allUsed`). Of these two readers: what they spell, from
--- which bytes they judge, and with which numbers they turn back.
+-- Where a net sheet may end: after any gate line (`orEnd`), if every earlier gate has been used (`allUsed`). For these two readers: what they spell,
+-- which bytes decide, and the numbers with which they refuse.
 -- Assumes nothing.
 use Prim.Native.Nat.{ℕ, _<_}
 use mathlib.Core.Path.{_≡_, refl, sym, _∙_, ap}
@@ -20,13 +20,13 @@ use Rattle.readback.specs.Readers.Among.{Among}
 -- ---- the sheet's end, or more of it
 
 module _ {A : Type 0} (a : A) (more : Reader A) where
-  -- where bytes are left, more is read
+  -- if bytes are left, more is read
   pub or-end-more : (s : List ℕ) (at : ℕ) → 0 < length s → orEnd a more s at ≡ more s at
   unfolding orEnd
   or-end-more [] at some = absurd (omega arith)
   or-end-more (b ∷ s) at some = refl
 
-  -- no text, or one of the texts of the reader of more, none of which is empty
+  -- the empty text, or one of the texts that `more` reads, none of which is empty
   module _ {X : Type 0} {f : X → A} {p : X → List ℕ} (spells : SpellsBetween Ended Any more X f p) (some : (x : X) → 0 < length (p x)) where
     abbrev value : Unit {0} ⊎ X → A
     value y = ⊎-elim (λ _. a) f y
@@ -52,12 +52,12 @@ module _ {A : Type 0} (a : A) (more : Reader A) where
     pub spells-or-end : SpellsBetween Ended Any (orEnd a more) (Unit {0} ⊎ X) (λ y. value y) (λ y. print y)
     spells-or-end = record { back = or-end-back; only = or-end-only }
 
-  -- from the front: whether the sheet ends here is seen by the first byte
+  -- from the front: the first byte shows whether the sheet ends here
   pub front-or-end : FromFront more → FromFront (orEnd a more)
   unfolding orEnd
   front-or-end front = record { reads = reads; turns = turns }
     where
-      -- a text that begins as one with a byte does has a byte
+      -- a text that starts like one with a byte has a byte
       some-alike : (t : List ℕ) (b : ℕ) (s : List ℕ) → StartAlike t (b ∷ s) → 0 < length t
       some-alike [] b s e = absurd (let z : _≡_ {A = ℕ} 0 1 = cc in omega arith)
       some-alike (c ∷ t) b s e = omega arith
@@ -105,7 +105,7 @@ module _ {A : Type 0} (a : A) (more : Reader A) where
 -- ---- every earlier gate is used
 
 module _ (n : ℕ) (gates : List Gate) where
-  -- what is read: nothing, where they are, ..
+  -- nothing is read if they are, ..
   pub used-read : (s : List ℕ) (at : ℕ) (a : Unit {0}) (rest : List ℕ) (place : ℕ) → allUsed n gates s at ≡ read a rest place
       → (earlierUsed n gates ≡ true) × (rest ≡ s) × (place ≡ at)
   unfolding allUsed
@@ -117,7 +117,7 @@ module _ (n : ℕ) (gates : List Gate) where
       go true d e = (d, (cc), (cc))
       go false d e = absurd (not-read 26 at a rest place e)
 
-  -- .. and what is turned back, where not
+  -- .. and 26 is the refusal if not
   pub used-turned : (s : List ℕ) (at number place : ℕ) → allUsed n gates s at ≡ turnedBack number place
       → (earlierUsed n gates ≡ false) × (number ≡ 26) × (place ≡ at)
   unfolding allUsed

@@ -1,4 +1,4 @@
--- One field of a sheet: the words that a judge passes, each followed by the separator that is due, in either layout.
+-- One field of a sheet: the words that a judge accepts, each followed by the separator that is due, in either layout.
 -- Assumes nothing.
 use Prim.Native.Nat.{ℕ, suc, _+_}
 use Prim.Native.String.{String}
@@ -46,7 +46,7 @@ run-plain (b ∷ w) due rest h e =
     let (i, j) = all-iff plain b w .0 h in
     rw (not-true (isSeparator b) i, run) (ap (λ v. b ∷ v) (run-plain w due rest j e))
 
--- and the separator stands past them
+-- and the separator follows them
 past-plain : (w : List ℕ) (due : ℕ) (rest : List ℕ) → all plain w ≡ true → isSeparator due ≡ true → past (w ++ due ∷ rest) ≡ due ∷ rest
 unfolding plain past
 past-plain [] due rest h e = rw (e, past)
@@ -54,21 +54,21 @@ past-plain (b ∷ w) due rest h e =
     let (i, j) = all-iff plain b w .0 h in
     rw (not-true (isSeparator b) i, past) (past-plain w due rest j e)
 
--- ---- a judge and the words that it passes
+-- ---- a judge and the words that it accepts
 
--- `judge` passes the words `print x`, of value `value x`, and no others
+-- `judge` accepts the words `print x`, with value `value x`, and no others
 pub record Judges {A : Type 0} (judge : Judge A) (X : Type 0) (value : X → A) (print : X → List ℕ) : Type 0 where
   pub passes : (x : X) → judge (print x) ≡ good (value x)
   pub word : (x : X) → isWord (print x) ≡ true
   pub only : (w : List ℕ) (a : A) → judge w ≡ good a → (x : X) × (a ≡ value x) × (w ≡ print x)
 
--- a verdict that is bad is not good
+-- a bad verdict is not good
 pub not-good : {A : Type 0} (number : ℕ) (a : A) → _≡_ {A = Judged A} (bad number) (good a) → ⊥
 not-good number a e =
     let z : _≡_ {A = ℕ} 0 1 = cc in
     omega arith
 
--- a verdict that is good: the test passed
+-- if the verdict is good, the test passed
 pub judged-good : {A : Type 0} (test : Bool) (a : A) (number : ℕ) (b : A) → judged test a number ≡ good b → (test ≡ true) × (b ≡ a)
 judged-good true a number b e = (refl, (cc))
 judged-good false a number b e = ((cc), (cc))
@@ -93,11 +93,11 @@ unfolding isWord
 word-plain [] h = absurd (false≢true h)
 word-plain (b ∷ w) h = h
 
--- A field in either layout. The separator that is due spells the texts `gap c`, each of which begins with a space or a line feed.
+-- A field in either layout. The separator that is due spells the texts `gap c`, each of which starts with a space or a line feed.
 module _ (layout : Layout) (due : ℕ) {A : Type 0} {Before After : List ℕ → Type 0} {C : Type 0} {gap : C → List ℕ}
     (parts : (a : A) → SpellsBetween Before After (λ s at. separatorIn layout a due s at) C (λ _. a) gap)
     (begins : (c : C) → (b : ℕ) × (t : List ℕ) × (isSeparator b ≡ true) × (gap c ≡ b ∷ t)) where
-  -- a field that was read: its word was judged good, and the separator stands after it
+  -- if a field was read, its word was judged good, and the separator follows it
   field-read : (judge : Judge A) (w s : List ℕ) (at : ℕ) (a : A) (rest : List ℕ) (place : ℕ)
       → fieldOfIn layout judge due w s at ≡ read a rest place → (c : C) × (judge w ≡ good a) × (s ≡ gap c ++ rest) × After rest
   unfolding fieldOfIn afterFieldIn
@@ -111,14 +111,14 @@ module _ (layout : Layout) (due : ℕ) {A : Type 0} {Before After : List ℕ →
           (c, d ∙ ap good (sym i), j, h)
       go (bad number) d e = absurd (not-read number at a rest place e)
 
-  -- a word that is judged good, before its separator, is read
+  -- a word that is judged good is read if its separator follows
   field-of-word : (judge : Judge A) (w : List ℕ) (a : A) (c : C) (rest : List ℕ) (at : ℕ)
       → isWord w ≡ true → judge w ≡ good a → Before rest → (place : ℕ) × (fieldOfIn layout judge due w (gap c ++ rest) at ≡ read a rest place)
   unfolding fieldOfIn afterFieldIn isWord
   field-of-word judge [] a c rest at h e k = absurd (false≢true h)
   field-of-word judge (b ∷ w) a c rest at h e k = rw e (parts a .back c rest (at + suc (length w)) k)
 
-  -- the same in the reader of the field
+  -- the same for the reader of the field
   field-back : (judge : Judge A) (w : List ℕ) (a : A) (c : C) (rest : List ℕ) (at : ℕ)
       → isWord w ≡ true → judge w ≡ good a → Before rest → (place : ℕ) × (fieldIn layout judge due (w ++ gap c ++ rest) at ≡ read a rest place)
   unfolding fieldIn
@@ -128,7 +128,7 @@ module _ (layout : Layout) (due : ℕ) {A : Type 0} {Before After : List ℕ →
       rw (ap run laid ∙ run-plain w b (t ++ rest) (word-plain w h) parting, ap past laid ∙ past-plain w b (t ++ rest) (word-plain w h) parting)
       (rw is at (field-of-word judge w a c rest at h e k))
 
-  -- a field spells its judge's words, each with the separator after it
+  -- a field spells its judge's words, each followed by the separator
   pub spells-field-in : {judge : Judge A} {X : Type 0} {f : X → A} {p : X → List ℕ} → Judges judge X f p
       → SpellsBetween Before After (fieldIn layout judge due) (X × C) (λ z. f (z .0)) (λ z. p (z .0) ++ gap (z .1))
   unfolding fieldIn
@@ -140,7 +140,7 @@ module _ (layout : Layout) (due : ℕ) {A : Type 0} {Before After : List ℕ →
         ((x, c), q, run-past s ∙ ap₂ _++_ k j ∙ sym (append-assoc (p x) (gap c) rest), h);
   }
 
--- strictly, the separator is the one byte
+-- in the strict layout, the separator is that one byte
 spells-separator : {A : Type 0} (due : ℕ) (a : A) → Spells (λ s at. separator a due s at) (Unit {0}) (λ _. a) (λ _. due ∷ [])
 unfolding separator
 spells-separator due a = record {
@@ -166,18 +166,18 @@ judges-word word h = record {
 
 -- ---- the end of a sheet
 
--- nothing stands after the last line
+-- nothing follows the last line
 abbrev pub Ended : List ℕ → Type 0
 Ended rest = rest ≡ []
 
--- an end that was read: nothing was left
+-- if an end was read, nothing was left
 closed-read : {A : Type 0} (a : A) (s : List ℕ) (at : ℕ) (b : A) (rest : List ℕ) (place : ℕ) → (closed >>= λ _. give a) s at ≡ read b rest place
     → (x : Unit {0}) × (b ≡ a) × (s ≡ rest) × (rest ≡ [])
 unfolding closed then
 closed-read a [] at b rest place e = (tt, (cc), (cc), (cc))
 closed-read a (c ∷ s) at b rest place e = absurd (not-read 1 at b rest place e)
 
--- the end of a sheet, and the value then given
+-- the end of a sheet, and the value given there
 pub spells-end : {A : Type 0} (a : A) → SpellsTo Ended (closed >>= λ _. give a) (Unit {0}) (λ _. a) (λ _. [])
 unfolding closed then
 spells-end a = record { back = λ x rest at h. (at, rw h); only = closed-read a }

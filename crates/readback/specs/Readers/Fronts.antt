@@ -1,6 +1,6 @@
--- "Sheets are judged from the front, field by field. An empty field is 1. Otherwise the field is judged, then the byte after it." So what
--- turns a reader back is decided by the bytes before its place, the byte there and the field there. Said once for readers, with the
--- place at which each stops; the laws here put such readers together.
+-- "Sheets are judged from the front, field by field. An empty field is 1. Otherwise the field is judged, then the byte after it." So a
+-- refusal depends only on the bytes before its place, the byte there and the field there. Stated once for readers, with the
+-- place at which each stops; the laws here combine such readers.
 -- Assumes nothing.
 use Prim.Native.Nat.{ℕ, suc, _+_, _≤_}
 use mathlib.Core.Path.{_≡_, refl, sym, _∙_, ap, ap₂}
@@ -18,7 +18,7 @@ use Rattle.rules.specs.Sheets.Fields.{afterField, afterFieldIn, fieldOf, fieldO
 use Rattle.laws.specs.Lists.Runs.{fieldEnd, at-separator, at-plain, run-past}
 use Rattle.readback.specs.Readers.Spells.{not-read}
 
--- ---- texts that begin alike
+-- ---- texts that start alike
 
 -- the same first byte, or neither has one
 abbrev pub StartAlike : List ℕ → List ℕ → Type 0
@@ -29,17 +29,17 @@ pub record FieldAlike (t s : List ℕ) : Type 0 where
   pub same-field : run t ≡ run s
   pub same-start : StartAlike t s
 
--- what begins as nothing does is nothing
+-- a text that starts like the empty text is empty
 pub none-alike : (t : List ℕ) → StartAlike t [] → t ≡ []
 none-alike [] e = refl
 none-alike (b ∷ t) e = absurd (let z : _≡_ {A = ℕ} 0 1 = cc in omega arith)
 
--- what begins alike begins alike behind any bytes
+-- texts that start alike do so after any bytes
 pub behind-alike : (w t s : List ℕ) → StartAlike t s → StartAlike (w ++ t) (w ++ s)
 behind-alike [] t s h = h
 behind-alike (b ∷ w) t s h = refl
 
--- a field with other bytes behind it that begin as those did: it is the field still
+-- a field stays the same with other bytes after it that start like the old ones
 run-behind : (s t : List ℕ) → StartAlike t (past s) → (run (run s ++ t) ≡ run s) × (past (run s ++ t) ≡ t)
 unfolding run past
 run-behind [] t h = rw (none-alike t h) (refl, refl)
@@ -75,16 +75,16 @@ take-field (b ∷ s) (c ∷ t) h = record { same-field = go (isSeparator b) refl
 
 -- ---- readers
 
--- What was read: the bytes in front, and the place after them. Any text that has these bytes in front, and begins alike behind them, is
--- read alike.
+-- What was read: the bytes in front, and the place after them. Any text that has these bytes in front, and starts alike after them, is
+-- read in the same way.
 pub record ReadFront {A : Type 0} (r : Reader A) (s : List ℕ) (at : ℕ) (a : A) (rest : List ℕ) (place : ℕ) : Type 0 where
   pub bytes : List ℕ
   pub whole : s ≡ bytes ++ rest
   pub stands : place ≡ at + length bytes
   pub alike : (t : List ℕ) → StartAlike t rest → r (bytes ++ t) at ≡ read a t place
 
--- What was turned back: the bytes before the place, and those from it on. Any text that has these bytes in front, and behind them the
--- same field and the same first byte, is turned back alike.
+-- What was refused: the bytes before the place, and those from it on. Any text that has these bytes in front, and after them the
+-- same field and the same first byte, is refused in the same way.
 pub record TurnedFront {A : Type 0} (r : Reader A) (s : List ℕ) (at number place : ℕ) : Type 0 where
   pub before : List ℕ
   pub rest : List ℕ
@@ -97,7 +97,7 @@ pub record FromFront {A : Type 0} (r : Reader A) : Type 0 where
   pub reads : (s : List ℕ) (at : ℕ) (a : A) (rest : List ℕ) (place : ℕ) → r s at ≡ read a rest place → ReadFront r s at a rest place
   pub turns : (s : List ℕ) (at number place : ℕ) → r s at ≡ turnedBack number place → TurnedFront r s at number place
 
--- a value that is given without reading
+-- a value given without reading
 pub front-give : {A : Type 0} (a : A) → FromFront (give a)
 front-give a = record {
   reads = λ s at b rest place e. record {
@@ -171,7 +171,7 @@ separator-read {A} a due (c ∷ s) end b rest place e = go (eqb c due) refl e
     go true d e = (ap₂ _∷_ (eqb-true c due d) (cc), (cc), λ t. rw (eq-eqb due due refl, separator) (cc))
     go false d e = absurd (not-read 1 end b rest place e)
 
--- .. or was not: any text that begins alike lacks it too
+-- .. or was not: any text that starts alike lacks it too
 pub separator-turned : {A : Type 0} (a : A) (due : ℕ) (s : List ℕ) (end number place : ℕ) → separator a due s end ≡ turnedBack number place
     → (place ≡ end) × ((t : List ℕ) → StartAlike t s → separator a due t end ≡ turnedBack number place)
 unfolding separator
@@ -188,7 +188,7 @@ separator-turned {A} a due (c ∷ s) end number place e = (go (eqb c due) e .0, 
     alike (d ∷ t) h = rw (let z : d ≡ c = cc in z) (go (eqb c due) e .1 t)
 
 module _ {A : Type 0} (judge : Judge A) (due : ℕ) where
-  -- a field that was read: the separator stood after it, with whatever behind it
+  -- if a field was read, the separator followed it, whatever came after
   pub field-read : (w s : List ℕ) (at : ℕ) (a : A) (rest : List ℕ) (place : ℕ) → fieldOf judge due w s at ≡ read a rest place
       → (s ≡ due ∷ rest) × (place ≡ suc (at + length w)) × ((t : List ℕ) → fieldOf judge due w (due ∷ t) at ≡ read a t place)
   unfolding fieldOfIn afterFieldIn
@@ -214,7 +214,7 @@ module _ {A : Type 0} (judge : Judge A) (due : ℕ) where
             rw (append-snoc (run s) due t, l, m) (k t);
       }
 
-  -- A field that is empty or judged bad is turned back at its first byte, whatever stands behind it, ..
+  -- A field that is empty or judged bad is refused at its first byte, whatever follows it, ..
   turns-field : (s : List ℕ) (at number place : ℕ) → field judge due s at ≡ turnedBack number place → TurnedFront (field judge due) s at number place
   unfolding fieldIn fieldOfIn afterFieldIn
   turns-field s at number place e = go (run s) refl e
@@ -228,7 +228,7 @@ module _ {A : Type 0} (judge : Judge A) (due : ℕ) where
         alike = λ t h. rw (h .same-field) (f (past t));
       }
 
-      -- .. and one that is good at the byte after it
+      -- .. and a good one at the byte after it
       after : place ≡ at + length (run s) → ((q : List ℕ) → StartAlike q (past s) → fieldOf judge due (run s) q at ≡ turnedBack number place)
           → TurnedFront (field judge due) s at number place
       after d f = record {
@@ -291,7 +291,7 @@ front-closed = record { reads = reads; turns = turns }
 -- ---- where a reader stops
 
 module _ {A : Type 0} {r : Reader A} (front : FromFront r) where
-  -- what is left and its place end where the sheet ends
+  -- what is left ends where the sheet ends
   pub read-place : (s : List ℕ) (at : ℕ) (a : A) (rest : List ℕ) (place : ℕ) → r s at ≡ read a rest place → place + length rest ≡ at + length s
   read-place s at a rest place e =
       let f = front .reads s at a rest place e in
@@ -303,7 +303,7 @@ module _ {A : Type 0} {r : Reader A} (front : FromFront r) where
       let f = front .turns s at number place e in
       omega (arith, f .stands, ap length (f .whole) ∙ length-append (f .before) (f .rest))
 
--- a text whose first bytes are those, and then some of another text
+-- a text that starts with these bytes, and then with some of another text
 front-parts : (w t rest : List ℕ) (k : ℕ) → take (length w + k) t ≡ w ++ take k rest → (u : List ℕ) × (t ≡ w ++ u) × (take k u ≡ take k rest)
 front-parts [] t rest k h = (t, refl, rw (zero-add k) at h)
 front-parts (b ∷ w) [] rest k h = absurd (let e = rw (suc-add (length w) k) at h in let z : _≡_ {A = ℕ} 0 1 = cc in omega arith)
@@ -338,7 +338,7 @@ module _ {A : Type 0} {r : Reader A} (s t : List ℕ) (number place : ℕ) (f : 
       rw i (f .alike (drop place t) (take-field (f .rest) (drop place t) j))
 
 module _ {A : Type 0} {r : Reader A} (front : FromFront r) (s t : List ℕ) (number place : ℕ) (back : r s 0 ≡ turnedBack number place) where
-  -- Two texts that agree up to a refusal's place, in the byte and in the field that stand there, are turned back alike, ..
+  -- Two texts that agree up to a refusal's place, in the byte and in the field there, are refused in the same way, ..
   pub turned-alike : take (suc place) t ≡ take (suc place) s → run (drop place t) ≡ run (drop place s) → r t 0 ≡ turnedBack number place
   turned-alike = agree-alike s t number place (front .turns s 0 number place back)
 

@@ -1,4 +1,4 @@
--- The judges of single fields, each with the words that it passes: levels, inputs, names, a gate's digits, a row's levels and its ink.
+-- The judges of single fields, each with the words that it accepts: levels, inputs, names, a gate's digits, a row's levels and its ink.
 -- Assumes nothing.
 use Prim.Native.Nat.{ℕ, _+_, _-_, _*_, _≤_, _<_}
 use mathlib.Core.Path.{_≡_, refl, sym, _∙_, ap, ap₂}
@@ -34,7 +34,7 @@ byte-digit : (d : ℕ) → digitByte d - 48 ≡ d
 unfolding digitByte
 byte-digit d = omega arith
 
--- a byte that is a digit's: its digit is below m, and it is that digit's byte
+-- if a byte is a digit's, the digit is below m, and the byte is that digit's
 digit-back : (m b : ℕ) → isDigit m b ≡ true → (b - 48 < m) × (b ≡ digitByte (b - 48))
 unfolding digitByte
 digit-back m b e =
@@ -43,7 +43,7 @@ digit-back m b e =
 
 -- ---- levels and inputs
 
--- a levels field that is good
+-- a good levels field
 levels-only : (w : List ℕ) (a : ℕ) → levelsField w ≡ good a → (x : (m : ℕ) × (levelsFit m ≡ true)) × (a ≡ x .0) × (w ≡ decimal (x .0))
 unfolding levelsField
 levels-only [] a e = absurd (not-good 2 a e)
@@ -64,9 +64,9 @@ judges-levels = record { passes = λ x. passes (x .0) (x .1); word = λ x. decim
         let (_, k) = levels-fit m .0 h in
         rw (decimal-one m (omega arith), byte-digit m, digit-byte 10 m (omega arith), h) refl
 
--- A judge that looks for the number, of a range, whose print the field is, and then tests the number.
+-- A judge that looks for the number in a range whose print is the field, and then tests the number.
 module _ (print : ℕ → List ℕ) (from count : ℕ) (test : ℕ → Bool) (u v : ℕ) where
-  -- what is found, judged
+  -- the verdict on what is found
   unfoldable pub verdict : Option ℕ → Judged ℕ
   verdict none = bad u
   verdict (some n) = judged (test n) n v
@@ -74,7 +74,7 @@ module _ (print : ℕ → List ℕ) (from count : ℕ) (test : ℕ → Bool) (u 
   unfoldable pub looking : Judge ℕ
   looking w = verdict (find (λ n. same w (print n)) (range from count))
 
-  -- the print of a number that passes is good, where different numbers have different prints
+  -- the print of a number that passes is good, if different numbers have different prints
   pub looking-passes : ((m n : ℕ) → print m ≡ print n → m ≡ n)
       → (n : ℕ) → from ≤ n → n < from + count → test n ≡ true → looking (print n) ≡ good n
   unfolding looking verdict
@@ -83,7 +83,7 @@ module _ (print : ℕ → List ℕ) (from count : ℕ) (test : ℕ → Bool) (u 
       (λ m (_, _, e). different m n (sym (same-true (print n) (print m) e))) in
       rw (is, t) refl
 
-  -- a field that is good is the print of a number that passes
+  -- a good field is the print of a number that passes
   pub looking-only : (w : List ℕ) (n : ℕ) → looking w ≡ good n → (from ≤ n) × (n < from + count) × (test n ≡ true) × (w ≡ print n)
   unfolding looking verdict
   looking-only w n e = go (find (λ n. same w (print n)) (range from count)) refl e
@@ -96,7 +96,7 @@ module _ (print : ℕ → List ℕ) (from count : ℕ) (test : ℕ → Bool) (u 
           let (h, k, i) = found-is (first-in-range (λ n. same w (print n)) from count) m d in
           rw q (h, k, t, same-true w (print m) i)
 
--- the inputs field: the decimal values within the bounds that leave the cells within theirs
+-- the inputs field: the decimal values that keep inputs and cells within their bounds
 pub judges-inputs : (m : ℕ) → Judges (inputsField m) ((n : ℕ) × (inputsFit n ≡ true) × (cellsFit m n ≡ true)) (λ x. x .0) (λ x. decimal (x .0))
 unfolding inputsField inputsOf looking verdict
 judges-inputs m = record { passes = λ x. passes (x .0) (x .1) (x .2); word = λ x. decimal-word (x .0); only = only }
@@ -127,7 +127,7 @@ name-parts w e =
     let (a, b) = and-eq-true-iff (leb (length w) 8) (letterFirst w) .0 g in
     (leb-true (length w) 8 a, b, c)
 
--- a letter stands behind all digits
+-- letters come after all digits
 pub letter-high : (b : ℕ) → isLetter b ≡ true → 97 ≤ b
 unfolding isLetter
 letter-high b e = both-leb 97 b b 122 .0 e .0
@@ -140,7 +140,7 @@ name-byte-high b e = go (isLetter b) refl e
     go true d e = omega (arith, letter-high b d)
     go false d e = digit-iff 10 b .0 e .0
 
--- what starts with a letter is not empty
+-- a text that starts with a letter is not empty
 letter-there : (w : List ℕ) → letterFirst w ≡ true → 0 < length w
 unfolding letterFirst
 letter-there [] e = absurd (false≢true e)
@@ -152,7 +152,7 @@ name-word w e =
     let (_, h, k) = name-parts w e in
     high-word nameByte name-byte-high w k (letter-there w h)
 
--- a name field: a name that is not among the earlier
+-- a name field: a name that is not among the earlier ones
 pub judges-name : (earlier : List (List ℕ))
     → Judges (nameField earlier) ((w : List ℕ) × ((isName w ≡ true) × (any (same w) earlier ≡ false))) (λ x. x .0) (λ x. x .0)
 unfolding nameField
@@ -220,7 +220,7 @@ judges-level l = record {
   only = λ w a e. (tt, refl, same-true w (digitByte l ∷ []) (judged-good (same w (digitByte l ∷ [])) tt 5 a e .0));
 }
 
--- an ink field that is good: the sign, or a digit below m
+-- a good ink field: the sign, or a digit below m
 ink-only : (m : ℕ) (w : List ℕ) (a : ℕ) → inkField m w ≡ good a → (x : (d : ℕ) × (d ≤ m)) × (a ≡ x .0) × (w ≡ inkByte m (x .0) ∷ [])
 ink-only m [] a e = absurd (unfold inkField in not-good 6 a e)
 ink-only m (b ∷ c ∷ w) a e = absurd (unfold inkField in not-good 6 a e)
@@ -256,7 +256,7 @@ ink-word m d = go (ℕ-discrete d m)
 pub judges-ink : (m : ℕ) → Judges (inkField m) ((d : ℕ) × (d ≤ m)) (λ x. x .0) (λ x. inkByte m (x .0) ∷ [])
 judges-ink m = record { passes = λ x. ink-passes m (x .0) (x .1); word = λ x. ink-word m (x .0); only = ink-only m }
 
--- a level field of a loose row that is good
+-- a good level field of a loose row
 any-level-only : (m : ℕ) (w : List ℕ) (a : ℕ) → anyLevel m w ≡ good a → (x : (d : ℕ) × (d < m)) × (a ≡ x .0) × (w ≡ digitByte (x .0) ∷ [])
 unfolding anyLevel
 any-level-only m [] a e = absurd (not-good 5 a e)

@@ -1,4 +1,4 @@
--- Names: how a line of names is read, and that good names are different.
+-- Names: how a line of names is read, and that good names are distinct.
 -- Assumes nothing.
 use Prim.Native.Nat.{ℕ, zero, suc, _<_}
 use mathlib.Core.Path.{_≡_, refl}
@@ -21,7 +21,7 @@ use Rattle.laws.specs.Lists.Fresh.{Fresh, fresh-last}
 
 -- ---- good names
 
--- each of good names is a name
+-- each of the good names is a name
 pub good-name : (names : List (List ℕ)) → GoodNames names → (k : ℕ) → k < length names → isName (getD names k []) ≡ true
 good-name [] g k h = absurd (omega arith)
 good-name (w ∷ ws) g zero h = g .0
@@ -38,19 +38,19 @@ good-different names g = unlike-differ same same-refl [] names (unlike names g)
 
 -- ---- a line of names
 
--- words parted by spaces, with `last` after the last one
+-- words separated by spaces, with `last` after the last one
 unfoldable pub ended : ℕ → List (List ℕ) → List ℕ
 ended last [] = []
 ended last (w ∷ []) = w ++ last ∷ []
 ended last (w ∷ v ∷ ws) = w ++ space ∷ [] ++ ended last (v ∷ ws)
 
--- one word, before none
+-- one word, with none after it
 pub ended-one : (last : ℕ) (w : List ℕ) (ws : List (List ℕ)) → length ws ≡ 0 → w ++ last ∷ [] ++ ended last ws ≡ ended last (w ∷ ws)
 unfolding ended
 ended-one last w [] l = append-nil (w ++ last ∷ [])
 ended-one last w (v ∷ ws) l = absurd (omega arith)
 
--- one word, before others
+-- one word, with others after it
 pub ended-more : (last count : ℕ) (w : List ℕ) (ws : List (List ℕ)) → length ws ≡ suc count → w ++ space ∷ [] ++ ended last ws ≡ ended last (w ∷ ws)
 unfolding ended
 ended-more last count w [] l = absurd (omega arith)

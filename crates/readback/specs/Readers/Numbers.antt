@@ -1,4 +1,4 @@
--- The numbers with which a sheet is turned back: a net sheet with 1, 2, 3, 4, 6, 7, 8 or 26, a table sheet with 1 to 6, a loose one with these and 20.
+-- The numbers with which a sheet is refused: a net sheet with 1, 2, 3, 4, 6, 7, 8 or 26, a table sheet with 1 to 6, a loose one with these and 20.
 -- Assumes nothing.
 use Prim.Native.Nat.{ℕ, zero, suc, _+_, _-_, _*_, _^_}
 use mathlib.Core.Path.{_≡_, refl, sym}
@@ -33,7 +33,7 @@ tableNumbers = 1 ∷ 2 ∷ 3 ∷ 4 ∷ 5 ∷ 6 ∷ []
 abbrev pub looseNumbers : List ℕ
 looseNumbers = 1 ∷ 2 ∷ 3 ∷ 4 ∷ 5 ∷ 6 ∷ 20 ∷ []
 
--- The numbers that both kinds of sheet have are the section's; 7, 8 and 26 are a net sheet's, and 5 a table sheet's.
+-- The numbers that both kinds of sheet share are parameters of this section; 7, 8 and 26 belong to a net sheet, and 5 to a table sheet.
 module _ (numbers : List ℕ) (one : In 1 numbers) (two : In 2 numbers) (three : In 3 numbers) (four : In 4 numbers) (six : In 6 numbers) where
   -- ---- the judges
 
@@ -85,7 +85,7 @@ module _ (numbers : List ℕ) (one : In 1 numbers) (two : In 2 numbers) (three :
   first-judges : FirstJudges (λ A judge. AmongJudge numbers judge)
   first-judges = record { word = among-word numbers one; levels = among-levels; inputs = among-inputs; name = among-name }
 
-  -- a net sheet to its end, and with what is judged there
+  -- a net sheet read to its end, and with the check there
   module _ (seven : In 7 numbers) (eight : In 8 numbers) where
     pub among-to-end : Among numbers netToEnd
     among-to-end = to-end-walk (composes strict) (among-reference seven eight) among-digits first-judges (among-closed numbers one)

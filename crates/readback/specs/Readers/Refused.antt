@@ -1,5 +1,5 @@
--- Where a sheet is refused. The place is at most the sheet's length. "Sheets are judged from the front, field by field": what stands behind
--- the field refused and the byte after it has no say.
+-- Where a sheet is refused. The place is at most the sheet's length. "Sheets are judged from the front, field by field": the bytes after
+-- the refused field and the byte that follows it do not matter.
 -- Assumes nothing.
 use Prim.Native.Nat.{ℕ, suc, _≤_}
 use mathlib.Core.Path.{_≡_, refl, ap}
@@ -37,11 +37,11 @@ PlacesWithin call = (s : List ℕ) (number place : ℕ) → call s ≡ refused n
 -- How a call judges a sheet.
 pub record JudgedFromFront {A : Type 0} (call : List ℕ → Answer A) : Type 0 where
   pub places-within : PlacesWithin call
-  -- A sheet with the same bytes up to the end of the field refused, and the same byte after it, or its end there too, is refused alike.
+  -- A sheet with the same bytes up to the end of the refused field, and the same byte after it, or its end there too, is refused in the same way.
   pub front : (s t : List ℕ) (number place : ℕ) → call s ≡ refused number place → take (suc (fieldEnd s place)) t ≡ take (suc (fieldEnd s place)) s
       → call t ≡ refused number place
-  -- The byte after that field does not matter either, where there is such a field: a sheet with the same bytes before the place, and there the same
-  -- byte, or its end too, and the same field, is refused alike.
+  -- If there is such a field, the byte after it does not matter either: a sheet with the same bytes before the place, and there the same
+  -- byte, or its end too, and the same field, is refused in the same way.
   pub field : (s t : List ℕ) (number place : ℕ) → call s ≡ refused number place → take (suc place) t ≡ take (suc place) s
       → run (drop place t) ≡ run (drop place s) → call t ≡ refused number place
 

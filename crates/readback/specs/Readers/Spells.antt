@@ -1,5 +1,5 @@
--- A reader and the texts that it reads. Reading is inverted once, for every reader at a time: a reader spells some values in some
--- texts when it reads each of those texts back and accepts nothing else. The laws here put such readers together.
+-- A reader and the texts that it reads. Reading is inverted once, reader by reader: a reader spells some values in some
+-- texts if it reads each of those texts back and accepts nothing else. The laws here combine such readers.
 -- Assumes nothing.
 use Prim.Native.Nat.{ℕ}
 use mathlib.Core.Path.{_≡_, refl, sym, _∙_, ap}
@@ -7,41 +7,41 @@ use mathlib.Core.List.{List, [], _++_, append-assoc}
 use native.Mathlib.Omega.{arith}
 use Rattle.rules.specs.Sheets.Fields.{Read, read, turnedBack, Reader, then, _>>=_, give}
 
--- `r` reads the texts `print x`, of value `value x`, wherever what stands after such a text keeps `Before`; it reads no others, and what it leaves keeps
--- `After`
+-- `r` reads the texts `print x`, with value `value x`, if what follows such a text satisfies `Before`; it reads no others, and what it leaves
+-- satisfies `After`
 pub record SpellsBetween (Before After : List ℕ → Type 0) {A : Type 0} (r : Reader A) (X : Type 0) (value : X → A) (print : X → List ℕ) : Type 0 where
   pub back : (x : X) (rest : List ℕ) (at : ℕ) → Before rest → (place : ℕ) × (r (print x ++ rest) at ≡ read (value x) rest place)
   pub only : (s : List ℕ) (at : ℕ) (a : A) (rest : List ℕ) (place : ℕ) → r s at ≡ read a rest place
       → (x : X) × (a ≡ value x) × (s ≡ print x ++ rest) × After rest
 
--- the same of both
+-- the same condition for both
 abbrev pub SpellsTo : (List ℕ → Type 0) → {A : Type 0} → Reader A → (X : Type 0) → (X → A) → (X → List ℕ) → Type 0
 SpellsTo After r X value print = SpellsBetween After After r X value print
 
--- whatever stands after the text
+-- whatever follows the text
 abbrev pub Any : List ℕ → Type 0
 Any rest = Unit {0}
 
 abbrev pub Spells : {A : Type 0} → Reader A → (X : Type 0) → (X → A) → (X → List ℕ) → Type 0
 Spells r X value print = SpellsTo Any r X value print
 
--- what is turned back is not read
+-- what is refused is not read
 pub not-read : {A : Type 0} (number turned : ℕ) (a : A) (rest : List ℕ) (place : ℕ)
     → _≡_ {A = Read A} (turnedBack number turned) (read a rest place) → ⊥
 not-read number turned a rest place e =
     let z : _≡_ {A = ℕ} 0 1 = cc in
     omega arith
 
--- a value that is given without reading
+-- a value given without reading
 pub spells-give : {A : Type 0} (a : A) → Spells (give a) (Unit {0}) (λ _. a) (λ _. [])
 spells-give a = record { back = λ x rest at h. (at, refl); only = λ s at b rest place e. (tt, (cc), (cc), tt) }
 
--- what is read whatever stands after it is read where that keeps more
+-- what is read whatever follows is also read if a condition holds there
 pub spells-before : {A : Type 0} {Before After : List ℕ → Type 0} {r : Reader A} {X : Type 0} {f : X → A} {p : X → List ℕ}
     → SpellsBetween Any After r X f p → SpellsBetween Before After r X f p
 spells-before spells = record { back = λ x rest at h. spells .back x rest at tt; only = spells .only }
 
--- One reader after another. What stands after the first one's text keeps `Middle`, which the second one's texts do.
+-- One reader after another. What follows the first one's text satisfies `Middle`, as the second one's texts do.
 module _ {A B : Type 0} {Middle Before After : List ℕ → Type 0} {r : Reader A} (k : A → Reader B) {X : Type 0} {Y : X → Type 0}
     {f : X → A} {g : (x : X) → Y x → B} {p : X → List ℕ} {q : (x : X) → Y x → List ℕ}
     (first : SpellsBetween Middle Any r X f p) (next : (x : X) → SpellsBetween Before After (k (f x)) (Y x) (g x) (q x))
@@ -83,7 +83,7 @@ module _ {A B : Type 0} {Middle Before After : List ℕ → Type 0} {r : Reader 
   unfolding Split
   spells-onto = record { back = λ z. then-back (z .0) (z .1); only = then-only }
 
--- the same where anything may stand after the first one's text
+-- the same if anything may follow the first one's text
 pub spells-then : {A B : Type 0} {Before After : List ℕ → Type 0} {r : Reader A} (k : A → Reader B) {X : Type 0} {Y : X → Type 0}
     {f : X → A} {g : (x : X) → Y x → B} {p : X → List ℕ} {q : (x : X) → Y x → List ℕ}
     → Spells r X f p → ((x : X) → SpellsBetween Before After (k (f x)) (Y x) (g x) (q x))

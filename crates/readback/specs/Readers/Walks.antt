@@ -1,5 +1,5 @@
--- One walk over the readers of every sheet. A property of readers that giving a value, putting two readers together and reading a field keep holds of
--- the reader of a sheet, since that is put together from these. `Among`, `FromFront` and `Goes` are such properties.
+-- One walk over the readers of every sheet. If a property of readers is preserved by giving a value, by chaining two readers and by reading a field,
+-- it holds for the reader of a sheet, since that is built from these. `Among`, `FromFront` and `Goes` are such properties.
 -- Assumes nothing.
 use Prim.Native.Nat.{ℕ, zero, suc, _-_, _^_}
 use Prim.Native.String.{String}
@@ -16,7 +16,7 @@ use Rattle.readback.specs.Readers.Among.{AmongJudge, Among, among-give, 
 use Rattle.readback.specs.Readers.Fronts.{FromFront, front-give, front-then, front-field}
 use Rattle.readback.specs.Nets.NetSheets.{netToEnd, judgedLast, net-whole}
 
--- what a property of readers is of judges
+-- properties of judges and of readers
 abbrev pub OfJudges : Type 1
 OfJudges = (A : Type 0) → Judge A → Type 0
 
@@ -27,7 +27,7 @@ OfReaders = (A : Type 0) → Reader A → Type 0
 abbrev pub AnyJudge : (A : Type 0) → Judge A → Type 0
 AnyJudge A judge = Unit {0}
 
--- putting readers together keeps the property
+-- building readers preserves the property
 pub record Compositional (layout : Layout) (J : OfJudges) (P : OfReaders) : Type 1 where
   pub gives : {A : Type 0} (a : A) → P _ (give a)
   pub joins : {A B : Type 0} (r : Reader A) (next : A → Reader B) → P _ r → ((a : A) → P _ (next a)) → P _ (r >>= next)
@@ -42,7 +42,7 @@ pub record FirstJudges (J : OfJudges) : Type 0 where
 
 -- ---- two such properties
 
--- the numbers of refusals, where 1 is among them
+-- the numbers of refusals, if 1 is among them
 pub among-composes : (numbers : List ℕ) → In 1 numbers → (layout : Layout) → Compositional layout (λ A judge. AmongJudge numbers judge) (λ A r. Among numbers r)
 among-composes numbers one layout = record {
   gives = λ a. among-give numbers one a;
@@ -104,7 +104,7 @@ module _ {J : OfJudges} {P : OfReaders} (comp : Compositional strict J P)
         comp .joins _ _ (gates-walk (h .levels) (h .names) (h .inputs - 1) []) (λ gates.
         comp .joins _ _ at-end (λ _. comp .gives _))))))
 
-    -- .. and with what is judged there
+    -- .. and with the check there
     pub net-walk : ((n : ℕ) (gates : List Gate) → P _ (allUsed n gates)) → P _ netSheet
     unfolding judgedLast
     net-walk used =

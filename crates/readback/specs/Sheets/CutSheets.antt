@@ -1,7 +1,7 @@
--- A sheet that is cut at some byte. Its refusal at the cut is 1, or 26 where a net sheet is cut after one of its gate lines. Past the first lines every earlier
--- fault of the part is a fault of the sheet too, and a part that is accepted has ended there: a net sheet's, if it has all n − 1 gate lines. A part
--- with fewer says nothing of the sheet, which may be accepted too, and be another net. So "a sheet without an earlier fault that hasn't ended by
--- then" (document 02, K6), cut there, is refused with 1 at the cut: whatever the sheet, and wherever the cut past the first lines.
+-- A sheet that is cut at some byte. Its refusal at the cut is 1, or 26 if a net sheet is cut after one of its gate lines. After the first lines every
+-- earlier fault of the part is also a fault of the sheet, and an accepted part has ended there (for a net sheet, if it has all n − 1 gate lines). A
+-- part with fewer gate lines says nothing about the sheet, which may be accepted too, as another net. So "a sheet without an earlier fault that
+-- hasn't ended by then" (document 02, K6), cut there, is refused with 1 at the cut: for every sheet, and every cut after the first lines.
 -- Assumes nothing.
 use Prim.Native.Nat.{ℕ, zero, suc, _+_, _-_, _*_, _^_, _≤_, _<_}
 use Prim.Native.String.{String}
@@ -46,7 +46,7 @@ use Rattle.readback.specs.Readers.Cuts.{field-good, firm-field, firm-ste
 
 -- ---- the judges
 
--- a verdict that is bad: the test failed, with its number
+-- if a verdict is bad, the test failed, with its number
 judged-bad : {A : Type 0} (test : Bool) (a : A) (number k : ℕ) → judged test a number ≡ bad k → (test ≡ false) × (k ≡ number)
 judged-bad true a number k e = absurd (not-good k a (sym e))
 judged-bad false a number k e = (refl, (cc))
@@ -100,7 +100,7 @@ narrow-name earlier = record {
   one = λ w k e _. judged-bad (isName w && not (any (same w) earlier)) w 4 k e .1;
 }
 
--- a row's level and its ink: what is bad stays bad, since only single bytes are good
+-- a row's level and its ink: a bad field stays bad, since only single bytes are good
 stays-level : (l : ℕ) → Stays 0 (levelField l)
 unfolding levelField
 stays-level l [] v k there long e = absurd (omega arith)
@@ -151,14 +151,14 @@ narrow-digits m small = record {
 
 -- ---- the first lines
 
--- the bytes of the names at most, each with a separator; of all that stands before what a kind of sheet has of its own
+-- bounds on the bytes: of the names, each with a separator; of everything before the parts specific to a kind of sheet
 abbrev nameBytes : ℕ
 nameBytes = 9 * mostInputs
 
 abbrev headBytes : ℕ
 headBytes = 19 + nameBytes
 
--- reading on is kept where readers are put together
+-- building readers preserves `Goes`
 goes-composes : Compositional strict AnyJudge (λ A r. Goes r)
 goes-composes = record { gives = λ a. goes-give a; joins = λ r next h i. goes-then next h i; fields = λ judge due _. goes-field judge due }
 
@@ -249,7 +249,7 @@ firm-table =
       λ long. omega (arith, takes-header space s at h rest place e),
     ))
 
--- there is no table sheet that may go on
+-- no table sheet may continue
 abbrev Every : {A : Type 0} → A → Type 0
 Every a = Unit {0}
 
@@ -281,7 +281,7 @@ module _ (m : ℕ) (small : m ≤ mostLevels) (names : List (List ℕ)) (good-na
       takes-step (referenceField names (length earlier) (left ∷ usedBy earlier)) space 8 (narrow-reference names good-names _ _ few) 82 _ (λ _ _ right _ _ _.
       takes-step (digitsField m) newline 81 (narrow-digits m small) 0 _ (λ _ _ digits _ _ _. takes-give _ 0)))
 
--- what is judged after the gate lines: the sheet has ended, and earlier gates are used
+-- the checks after the gate lines: the sheet has ended, and earlier gates are used
 abbrev afterGates : Header → List Gate → Reader Net
 afterGates h gates = closed >>= λ _. allUsed (h .inputs) gates >>= λ _. give (record { header = h; gates = gates })
 
@@ -293,7 +293,7 @@ module _ (h : Header) where
   abbrev netOf : List Gate → Net
   netOf gates = record { header = h; gates = gates }
 
-  -- at the sheet's end a net of these gates, ..
+  -- at the sheet's end, a net of these gates, ..
   end-read : (gates : List Gate) (at : ℕ) (a : Net) (rest : List ℕ) (place : ℕ) → afterGates h gates [] at ≡ read a rest place
       → (a ≡ netOf gates) × (rest ≡ [])
   unfolding closed then
@@ -394,7 +394,7 @@ module _ (h : Header) where
       none-more zero gates many all c t at = refl
       none-more (suc count) gates many all c t at = absurd (omega arith)
 
--- all the bytes that a net sheet can have, and one more: with line 4, and 100 for each gate line
+-- one more than the most bytes of a net sheet: with line 4, and 100 for each gate line
 abbrev gateBytes : ℕ
 gateBytes = 1 + (mostInputs - 1) * 100
 
@@ -430,22 +430,22 @@ shuts-net =
 
 -- ---- the laws
 
--- What the part before a cut at `k` comes to: it is a whole sheet, or it has an earlier fault, or it has not ended by then, or, of fewer than `first`
--- bytes, it is refused there with what is judged last.
+-- The result for the part before a cut at `k`: it is a whole sheet, or it has an earlier fault, or it has not ended by then, or, if it has fewer than
+-- `first` bytes, it is refused there with the number judged last.
 pub data Cut {A : Type 0} (first late : ℕ) (answer : Answer A) (k : ℕ) : Type 0 where
   ended : (a : A) → answer ≡ accepted a → Cut first late answer k
   faulty : (number place : ℕ) → answer ≡ refused number place → place < k → Cut first late answer k
   unended : answer ≡ refused 1 k → Cut first late answer k
   lately : k < first → answer ≡ refused late k → Cut first late answer k
 
--- `call` judges sheets, and `first` bytes hold its first lines, of a net sheet all its lines; what it accepts may go on unless it is `Whole`
+-- `call` judges sheets, and `first` bytes hold its first lines, or all lines of a net sheet; what it accepts may continue unless it is `Whole`
 pub record Cutting {A : Type 0} (call : List ℕ → Answer A) (first late : ℕ) (Whole : A → Type 0) : Type 0 where
   -- one of the four
   pub cases : (s : List ℕ) (k : ℕ) → k ≤ length s → Cut first late (call (take k s)) k
-  -- a fault before the cut is the sheet's own
+  -- a fault before the cut is also a fault of the sheet
   pub fault : (s : List ℕ) (k : ℕ) → k ≤ length s → first ≤ k → (number place : ℕ) → call (take k s) ≡ refused number place → place < k
       → call s ≡ refused number place
-  -- where the part is accepted, the sheet has bytes after its last line
+  -- if the part is accepted, the sheet has bytes after its last line
   pub more : (s : List ℕ) (k : ℕ) → k < length s → (a : A) → call (take k s) ≡ accepted a → Whole a → call s ≡ refused 1 k
 
 module _ {A : Type 0} {r : Reader A} {first late : ℕ} {Whole : A → Type 0} (firm : Firm late first r) (shuts : Shuts Whole r) where
@@ -524,7 +524,7 @@ not-ended {A} {call} {first} {late} cut s k long within faultless going = go (cu
     go (unended e) = e
     go (lately short e) = absurd (omega arith)
 
--- .. and so is an accepted sheet that is longer, where none may go on
+-- .. and so is an accepted sheet that is longer, if none may continue
 pub accepted-longer : {A : Type 0} {call : List ℕ → Answer A} {first late : ℕ} → Cutting call first late Every → (s : List ℕ) (k : ℕ) → first ≤ k
     → k < length s → (a : A) → call s ≡ accepted a → call (take k s) ≡ refused 1 k
 accepted-longer cut s k long within a e =

@@ -28,7 +28,7 @@ head-text : (last m n : ℕ) (names : List (List ℕ))
 unfolding headText line
 head-text last m n names = simp (append-assoc, append-nil)
 
--- the first three lines spell the headers that keep the rules
+-- the first three lines spell the headers that follow the rules
 pub spells-header : (last : ℕ) → isSeparator last ≡ true
     → Spells (headerLines last) ((h : Header) × HeaderRules h) (λ x. x .0) (λ x. headText last (x .0))
 unfolding headerLinesIn plain isWord all text isSeparator space newline

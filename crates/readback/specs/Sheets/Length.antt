@@ -1,4 +1,4 @@
--- "the settled sheet's length, which is never over 512": nor is any accepted net sheet's.
+-- "the settled sheet's length, which is never over 512": this holds for every accepted net sheet.
 -- Assumes nothing.
 use Prim.Native.Nat.{ℕ, suc, _+_, _-_, _*_, _≤_, _<_}
 use mathlib.Core.Path.{refl}
@@ -49,7 +49,7 @@ gate-length names n m g h k t =
     let j = reference-length names n (g .right) k in
     simp (length-append, length-map) (omega (arith, t .count))
 
--- all gate lines; `k` references stand before them
+-- all gate lines; `k` references come before them
 gates-length : (names : List (List ℕ)) → GoodNames names → (m k : ℕ) (gates : List Gate) → RefersBack k gates → k + length gates ≤ length names + 99
     → Tables m gates → length (concatMap (printedGate names) gates) ≤ length gates * (19 + m * m)
 unfolding concatMap
@@ -61,7 +61,7 @@ gates-length names n m k (g ∷ gates) b h t =
 
 -- ---- the bound
 
--- no net sheet of m levels and n inputs is longer: two fixed lines (31), two values (6), the names, the gate lines
+-- an upper bound for a net sheet of m levels and n inputs: two fixed lines (31), two values (6), the names, the gate lines
 bound : ℕ → ℕ → ℕ
 bound m n = 37 + 9 * n + (n - 1) * (19 + m * m)
 

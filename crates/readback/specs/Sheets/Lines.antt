@@ -1,4 +1,4 @@
--- A sheet as lines: its text is each line's bytes, then a line feed, and no line holds a line feed. A printed net is so, since its
+-- A sheet as lines: its text is each line's bytes, then a line feed, and no line contains a line feed. This holds for a printed net, since its
 -- fields are words.
 -- Assumes nothing.
 use Prim.Native.Nat.{ℕ, zero, suc, _<_}
@@ -30,22 +30,22 @@ use Rattle.readback.specs.Nets.References.{reference-word}
 unfoldable pub fed : List ℕ → List ℕ
 fed w = w ++ (newline ∷ [])
 
--- a byte that can stand in a line
+-- a byte that may occur in a line
 unfoldable pub inLine : ℕ → Bool
 inLine b = not (eqb b newline)
 
--- no line feed stands in any of these
+-- none of these contains a line feed
 abbrev pub Unbroken : List (List ℕ) → Type 0
 Unbroken [] = Unit {0}
 Unbroken (w ∷ ws) = (all inLine w ≡ true) × Unbroken ws
 
--- the bytes up to and with the k-th line feed
+-- the bytes up to and including the k-th line feed
 unfoldable pub linesUpTo : ℕ → List ℕ → List ℕ
 linesUpTo zero s = []
 linesUpTo (suc k) [] = []
 linesUpTo (suc k) (b ∷ s) = elim (eqb b newline) [ true ↦ b ∷ linesUpTo k s | false ↦ b ∷ linesUpTo (suc k) s ]
 
--- one line is passed
+-- one line is skipped
 lines-one : (k : ℕ) (w rest : List ℕ) → all inLine w ≡ true → linesUpTo (suc k) (w ++ newline ∷ rest) ≡ w ++ newline ∷ linesUpTo k rest
 unfolding linesUpTo inLine newline
 lines-one k [] rest h = refl
@@ -85,7 +85,7 @@ abbrev pub Words : List (List ℕ) → Type 0
 Words [] = Unit {0}
 Words (w ∷ ws) = (isWord w ≡ true) × Words ws
 
--- a byte that parts nothing can stand in a line
+-- a byte that is no separator may occur in a line
 plain-byte : (b : ℕ) → plain b ≡ true → inLine b ≡ true
 unfolding plain isSeparator inLine
 plain-byte b h = go (eqb b space) (eqb b newline) h
@@ -154,7 +154,7 @@ net-fed net =
     let names = net .header .names in
     rw (concat-append, four-fed (net .header), concat-map (gateBody names) fed, concat-same (printedGate names) (λ g. fed (gateBody names g)) (gate-fed names))
 
--- ---- no line of a net sheet holds a line feed
+-- ---- no line of a net sheet contains a line feed
 
 good-words : (ws : List (List ℕ)) → GoodNames ws → Words ws
 good-words [] g = tt

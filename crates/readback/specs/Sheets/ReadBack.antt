@@ -1,5 +1,5 @@
 -- The two laws of sheets, for net sheets and for table sheets: reading what was printed gives it back, and what was accepted is
--- exactly what would be printed and keeps every rule.
+-- exactly what would be printed and follows every rule.
 -- Assumes nothing.
 use Prim.Native.Nat.{ℕ}
 use mathlib.Core.Path.{_≡_, refl, _∙_, ap}
@@ -41,15 +41,15 @@ module _ {A : Type 0} {r : Reader A} {X : Type 0} {f : X → A} {p : X → List 
           let (x, i, j, h) = spells .only s 0 b rest place d in
           (x, (cc), j ∙ ap (λ t. p x ++ t) h ∙ append-nil (p x))
 
--- .. and that has every value that keeps the rules
+-- .. and that has every value that follows the rules
 module _ {A : Type 0} {r : Reader A} {Rules : A → Type 0} (p : A → List ℕ) (spells : SpellsTo Ended r ((a : A) × Rules a) (λ x. x .0) (λ x. p (x .0))) where
-  -- what is accepted is the print of its value, which keeps the rules
+  -- what is accepted is the print of its value, which follows the rules
   pub whole-kept : (s : List ℕ) (a : A) → answered (r s 0) ≡ accepted a → (s ≡ p a) × Rules a
   whole-kept s a e =
       let ((b, k), q, d) = whole-only spells s a e in
       rw q (d, k)
 
-  -- "A sheet that keeps every rule of this section, with nothing after its last line, is accepted.", said without the reader
+  -- "A sheet that keeps every rule of this section, with nothing after its last line, is accepted.", stated without the reader
   pub whole-sheets : (s : List ℕ) → ((a : A) × (answered (r s 0) ≡ accepted a)) ↔ ((a : A) × Rules a × (s ≡ p a))
   whole-sheets s = (λ (a, e). let (d, k) = whole-kept s a e in (a, k, d), λ (a, k, d). (a, rw d (whole-back spells (a, k))))
 

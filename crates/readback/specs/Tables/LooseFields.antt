@@ -1,5 +1,5 @@
--- A field of a loose sheet: the words that a judge passes, each followed by one or more spaces where a space is due, and by any number of spaces and
--- the line feed where that is due.
+-- A field of a loose sheet: the words that a judge accepts, each followed by one or more spaces if a space is due, or by any number of spaces and
+-- the line feed if that is due.
 -- Assumes nothing.
 use Prim.Native.Nat.{ℕ, zero, suc, _+_}
 use mathlib.Core.Path.{_≡_, refl, sym, _∙_, ap}
@@ -16,11 +16,11 @@ use Rattle.laws.specs.Lists.Tests.{all-iff}
 use Rattle.readback.specs.Readers.Spells.{SpellsBetween, Any, Spells, not-read}
 use Rattle.readback.specs.Readers.Fields.{plain, isWord, parts-space, parts-newline, Judges, separator-read, spells-field-in}
 
--- no space stands first
+-- the text does not start with a space
 abbrev pub NoSpace : List ℕ → Type 0
 NoSpace rest = spacesIn rest ≡ 0
 
--- ---- spaces passed over
+-- ---- skipping spaces
 
 -- at a space, and at another byte
 pub loose-at-space : (b : ℕ) (s : List ℕ) → eqb b space ≡ true → (pastSpaces (b ∷ s) ≡ pastSpaces s) × (spacesIn (b ∷ s) ≡ suc (spacesIn s))
@@ -31,7 +31,7 @@ pub loose-at-other : (b : ℕ) (s : List ℕ) → eqb b space ≡ false → (pas
 unfolding pastSpaces spacesIn
 loose-at-other b s e = (rw (e, pastSpaces) refl, rw (e, spacesIn) refl)
 
--- where none stands first, none is passed
+-- if the text does not start with a space, none is skipped
 none-passed : (s : List ℕ) → NoSpace s → pastSpaces s ≡ s
 none-passed [] h = unfold pastSpaces in refl
 none-passed (b ∷ s) h = go (eqb b space) refl
@@ -40,13 +40,13 @@ none-passed (b ∷ s) h = go (eqb b space) refl
     go true e = absurd (omega (arith, loose-at-space b s e .1))
     go false e = loose-at-other b s e .0
 
--- blanks before something else are passed, all of them
+-- all blanks before something else are skipped
 blanks-passed : (count : ℕ) (rest : List ℕ) → NoSpace rest → pastSpaces (blanks count ++ rest) ≡ rest
 unfolding blanks pastSpaces space
 blanks-passed zero rest h = none-passed rest h
 blanks-passed (suc count) rest h = blanks-passed count rest h
 
--- any text is its spaces at the front, and then what stands past them
+-- any text is its spaces at the front, followed by what is past them
 passed-blanks : (s : List ℕ) → s ≡ blanks (spacesIn s) ++ pastSpaces s
 unfolding blanks
 passed-blanks [] = unfold pastSpaces spacesIn in refl
@@ -103,7 +103,7 @@ loose-newline {A} a = record { back = back; only = only }
         let (i, j) = separator-read a newline (pastSpaces s) (at + spacesIn s) b rest place e in
         (spacesIn s, i, passed-blanks s ∙ ap (λ (t : List ℕ). blanks (spacesIn s) ++ t) j ∙ sym (append-assoc (blanks (spacesIn s)) (newline ∷ []) rest), tt)
 
--- blanks and the line feed begin with a separator
+-- blanks and the line feed start with a separator
 blanks-begin : (count : ℕ) → (b : ℕ) × (t : List ℕ) × (isSeparator b ≡ true) × (blanks count ++ newline ∷ [] ≡ b ∷ t)
 unfolding blanks
 blanks-begin zero = (newline, [], parts-newline, refl)
@@ -124,7 +124,7 @@ module _ {A : Type 0} {judge : Judge A} {X : Type 0} {f : X → A} {p : X → Li
   pub spells-last : Spells (fieldIn loose judge newline) (X × ℕ) (λ z. f (z .0)) (λ z. p (z .0) ++ (blanks (z .1) ++ newline ∷ []))
   spells-last = spells-field-in loose newline loose-newline blanks-begin judges
 
--- a word does not begin with a space
+-- a word does not start with a space
 pub word-first : (w rest : List ℕ) → isWord w ≡ true → NoSpace (w ++ rest)
 unfolding isWord plain isSeparator
 word-first [] rest h = absurd (false≢true h)

@@ -1,5 +1,5 @@
--- Where a loose sheet is refused: the place is at most the sheet's length. A repeated row is placed at its first field, which stands before what is
--- judged then, so that readers are looked at with a place that none of them stands before.
+-- Where a loose sheet is refused: the place is at most the sheet's length. The place of a repeated row is its first field, which is before what is
+-- judged then. So each reader is considered with a place that is not after its start.
 -- Assumes nothing.
 use Prim.Native.Nat.{ℕ, zero, suc, _+_, _*_, _^_, _≤_}
 use mathlib.Core.Path.{_≡_, refl, ap, _∙_}
@@ -20,13 +20,13 @@ use Rattle.laws.specs.Lists.Runs.{run-past}
 use Rattle.readback.specs.Tables.LooseFields.{loose-at-space, loose-at-other}
 use Rattle.readback.specs.Readers.Refused.{PlacesWithin}
 
--- what a reader comes to at a place, in a text that ends at `end`: reading stops at or behind the place, with what is left, or the sheet is turned
--- back within the text
+-- the result of a reader at a place, in a text that ends at `end`: reading stops at or after the place, with what is left, or the sheet is refused
+-- within the text
 abbrev Stops : {A : Type 0} → ℕ → ℕ → Read A → Type 0
 Stops at end (read a rest place) = (at ≤ place) × (place + length rest ≡ end)
 Stops at end (turnedBack number place) = place ≤ end
 
--- `r` does, wherever it starts at or behind `first`
+-- this holds for `r` wherever it starts at or after `first`
 record Within {A : Type 0} (first : ℕ) (r : Reader A) : Type 0 where
   pub stops : (s : List ℕ) (at : ℕ) → first ≤ at → Stops at (at + length s) (r s at)
 

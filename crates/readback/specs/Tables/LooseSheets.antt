@@ -39,12 +39,12 @@ abbrev pub Parted : List (List ℕ) → List ℕ → Type 0
 Parted [] s = s ≡ []
 Parted (w ∷ ws) s = (count : ℕ) × (rest : List ℕ) × (s ≡ w ++ (blanks (suc count) ++ rest)) × Parted ws rest
 
--- words, each with spaces after it
+-- words, each followed by spaces
 abbrev Words : List (List ℕ) → Type 0
 Words [] = Unit {0}
 Words (w ∷ ws) = (isWord w ≡ true) × Words ws
 
--- they do not begin with a space, if what follows does not
+-- they do not start with a space, if what follows does not
 parted-first : (ws : List (List ℕ)) (s rest : List ℕ) → Words ws → Parted ws s → NoSpace rest → NoSpace (s ++ rest)
 parted-first [] s rest h e k = rw e k
 parted-first (w ∷ ws) s rest h (count, t, e, p) k = rw (e, append-assoc) (word-first w ((blanks (suc count) ++ t) ++ rest) (h .0))
@@ -123,7 +123,7 @@ spells-loose-names (suc (suc count)) earlier = name-more earlier (suc count) _ (
 
 -- ---- the first three lines, to the last name
 
--- a text that begins with a word
+-- a text that starts with a word
 ends-first : (w a b rest : List ℕ) → isWord w ≡ true → NoSpace (w ++ a ++ b ++ rest)
 ends-first w a b rest h = subst⁻¹ NoSpace (let z : w ++ a ++ b ++ rest ≡ w ++ (a ++ (b ++ rest)) = simp append-assoc in z) (word-first w (a ++ (b ++ rest)) h)
 
@@ -218,7 +218,7 @@ digit-words [] = tt
 digit-words (l ∷ ls) = (digit-word l, digit-words ls)
 
 module _ (m : ℕ) where
-  -- so many levels below m
+  -- that many levels below m
   abbrev LevelsIn : ℕ → Type 0
   LevelsIn count = (ls : List ℕ) × (s : List ℕ) × (length ls ≡ count) × Below m ls × Parted (digitWords ls) s
 
@@ -262,7 +262,7 @@ spells-not-given first earlier p = record { back = λ e rest at _. (at, rw (e, n
         go true d e = absurd (not-read 20 first a rest place e)
         go false d e = (d, refl, (cc), tt)
 
--- a reader that is told where it starts
+-- a reader that gets the place where it starts
 spells-here : {A : Type 0} (r : ℕ → Reader A) {X : Type 0} {f : X → A} {p : X → List ℕ} → ((first : ℕ) → Spells (r first) X f p)
     → Spells (λ s at. r at s at) X f p
 spells-here r spells = record { back = λ x rest at. spells at .back x rest at; only = λ s at. spells at .only s at }
@@ -328,7 +328,7 @@ module _ (m n : ℕ) (pos : 0 < m) where
 
   -- ---- rows
 
-  -- none of the rows names what one before it or an earlier one named
+  -- no row names an assignment that a row before it or an earlier one named
   abbrev NewRows : List Row → List Row → Type 0
   NewRows earlier rows = Unlike named rows × Fresh named earlier rows
 
@@ -371,7 +371,7 @@ module _ (m n : ℕ) (pos : 0 < m) where
 
 -- ---- the sheet
 
--- no two rows of the same assignment
+-- no two rows for the same assignment
 unlike-once : (rows : List Row) → Unlike named rows ↔ Distinct (map (λ row. row .index) rows)
 unlike-once [] = (λ _. tt, λ _. tt)
 unlike-once (row ∷ rows) =
@@ -381,7 +381,7 @@ unlike-once (row ∷ rows) =
     ∙ sym (any-map (λ row. row .index) (eqb (row .index)) rows) in
     (λ (e, u). (sym same ∙ e, to u), λ (e, d). (same ∙ e, from d))
 
--- a kept header has levels
+-- a valid header has at least one level
 head-pos : (h : Header) → HeaderRules h → 0 < h .levels
 head-pos h k = omega (arith, levels-fit (h .levels) .0 (k .levels) .0)
 
@@ -389,7 +389,7 @@ head-pos h k = omega (arith, levels-fit (h .levels) .0 (k .levels) .0)
 sheet-text : (a b c d u : List ℕ) → a ++ (b ++ c) ++ (d ++ (u ++ [])) ≡ a ++ (b ++ (c ++ d ++ u))
 sheet-text a b c d u = simp (append-assoc, append-nil)
 
--- the reader of loose sheets spells the texts that keep the rules
+-- the reader of loose sheets spells the texts that follow the rules
 pub spells-loose : SpellsTo Ended looseSheet ((t : LooseTable) × (s : List ℕ) × IsLoose s t) (λ x. x .0) (λ x. x .1)
 unfolding looseSheet looseFields plain isWord all text isSeparator space newline
 spells-loose = spells-as
@@ -440,7 +440,7 @@ spells-loose = spells-as
 moved : (s r : List ℕ) (t u : LooseTable) → s ≡ r → t ≡ u → IsLoose r u → IsLoose s t
 moved s r t u d q is = rw (d, q) is
 
--- a loose sheet is accepted exactly when it keeps the rules, said without the reader
+-- a loose sheet is accepted exactly if it follows the rules, stated without the reader
 pub loose-sheets : (s : List ℕ) (t : LooseTable) → (readLoose s ≡ accepted t) ↔ IsLoose s t
 unfolding readLoose
 loose-sheets s t = (

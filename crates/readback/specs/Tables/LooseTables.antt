@@ -1,5 +1,5 @@
--- The table of a loose sheet: each row gives its ink to the assignment that it names, every assignment is named by just one row, and so the table
--- keeps the rules of a table sheet. A strict sheet is a loose one, with its rows in order, and is the sheet of its own table.
+-- The table of a loose sheet: each row gives its ink to the assignment that it names, every assignment is named by exactly one row, and so the table
+-- follows the rules of a table sheet. A strict sheet is a loose one, with its rows in order, and is the sheet of its own table.
 -- Assumes nothing.
 use Prim.Native.Nat.{ℕ, zero, suc, _+_, _^_, _≤_, _<_}
 use mathlib.Core.Path.{_≡_, refl, sym, _∙_, ap, subst⁻¹}
@@ -32,7 +32,7 @@ use Rattle.readback.specs.Tables.LooseSheets.{loose-sheets}
 abbrev pub indices : List Row → List ℕ
 indices rows = map (λ row. row .index) rows
 
--- the first row, if it names p; otherwise the ink is another row's
+-- the first row's ink, if it names p; otherwise another row's
 named-first : (row : Row) (rows : List Row) (p : ℕ) → row .index ≡ p → inkNamed (row ∷ rows) p ≡ row .ink
 unfolding inkNamed find
 named-first row rows p e = rw (eq-eqb (row .index) p e, find) refl
@@ -70,7 +70,7 @@ row-of (row ∷ rows) p h d = go (eqb p (row .index)) refl (λ e. row-of rows p 
         (suc k, omega arith, i)
 
 module _ (m n : ℕ) where
-  -- none names anything past the table
+  -- no row names anything past the table
   named-below : (rows : List Row) → EachRow m n rows → (z : ℕ) → m ^ n ≤ z → NotIn z (indices rows)
   unfolding any
   named-below [] each z h = refl
@@ -82,7 +82,7 @@ module _ (m n : ℕ) where
   index-named (row ∷ rows) (i, _, each) zero d h = i
   index-named (row ∷ rows) (_, _, each) (suc k) d h = index-named rows each k d (omega arith)
 
-  -- an ink that is given is below m, or m where it is open
+  -- an ink that is given is below m, or m if it is open
   named-ink : (rows : List Row) → EachRow m n rows → (p : ℕ) → inkNamed rows p ≤ m
   unfolding inkNamed find
   named-ink [] each p = omega arith
@@ -111,7 +111,7 @@ module _ (t : LooseTable) (kept : LooseRules t) where
   unfolding tableOfLoose
   ink-at p h = map-range-at (inkNamed (t .rows)) 0 (m ^ n) p 0 h ∙ ap (inkNamed (t .rows)) (zero-add p)
 
-  -- the table keeps the rules of a table sheet
+  -- the table follows the rules of a table sheet
   pub loose-kept : TableRules (tableOfLoose t)
   unfolding tableOfLoose
   loose-kept = record {
@@ -203,7 +203,7 @@ module _ (t : Table) (kept : TableRules t) where
         };
       }
 
-  -- .. of that very table
+  -- .. of that same table
   pub strict-table : tableOfLoose (inOrder t) ≡ t
   unfolding inOrder tableOfLoose
   strict-table =
@@ -215,7 +215,7 @@ module _ (t : Table) (kept : TableRules t) where
       map-range-at (inkNamed (indexedRows 0 (t .inks))) 0 count i 0 i< ∙ rows-ink 0 (t .inks) i (omega (arith, kept .count))) in
       (λ q. record { header = t .header; inks = same q })
 
--- an accepted table sheet is the sheet of its table, so it is an accepted loose one, of that table
+-- an accepted table sheet is the sheet of its table, so it is also an accepted loose sheet with that table
 module _ (s : List ℕ) (t : Table) (reads : readTable s ≡ accepted t) where
   pub strict-read : readLoose s ≡ accepted (inOrder t)
   strict-read = ap readLoose (table-accepted s t reads .0) ∙ loose-sheets (printedTable t) (inOrder t) .1 (strict-loose t (table-accepted s t reads .1))

@@ -54,7 +54,7 @@ rows-length m n p (ink ∷ inks) = rw length-append (omega (arith, rows-length m
 
 -- ---- the bound
 
--- no table sheet of m levels and n inputs is longer: a fixed line (14), two values (5), the names and `ink`, the rows
+-- an upper bound for a table sheet of m levels and n inputs: a fixed line (14), two values (5), the names and `ink`, the rows
 bound : ℕ → ℕ → ℕ
 bound m n = 23 + 9 * n + m ^ n * (2 * n + 2)
 
@@ -76,7 +76,7 @@ table-length t kept = le-trans (sheet-length t kept) (bounded-at bound mostTable
 
 -- ---- what a program reads
 
--- the bound is within what a program reads, or it is the one size that is left
+-- the bound is within what a program reads, or it is the one remaining size
 readTest : ℕ → ℕ → Bool
 readTest m n = leb (bound m n) mostRead || (eqb m 2 && eqb n 12)
 

@@ -24,7 +24,7 @@ ended-space : (w : List ℕ) (ws : List (List ℕ)) → w ++ space ∷ [] ++ end
 ended-space w [] = ended-one space w [] refl
 ended-space w (v ∷ ws) = ended-more space (length ws) w (v ∷ ws) refl
 
--- one word, before others and the last
+-- one word, with others and the last after it
 line-more : (w : List ℕ) (ws : List (List ℕ)) (v : List ℕ) → line (w ∷ (ws ++ (v ∷ []))) ≡ w ++ space ∷ line (ws ++ (v ∷ []))
 unfolding line
 line-more w [] v = refl
@@ -76,7 +76,7 @@ table-text : (h : Header) (inks : List ℕ)
 unfolding headText printedTable firstLines
 table-text h inks = rw (table-line-last (h .names) (text "ink")) (simp (append-assoc, append-nil))
 
--- the reader of table sheets spells the tables that keep the rules
+-- the reader of table sheets spells the tables that follow the rules
 pub spells-table : SpellsTo Ended tableSheet ((t : Table) × TableRules t) (λ x. x .0) (λ x. printedTable (x .0))
 unfolding tableSheet plain isWord all text isSeparator space newline
 spells-table = spells-as

@@ -1,15 +1,15 @@
--- What calls share: an answer, which of two sheets a refusal names, the ink in a list of cells, what a buffer holds once it is written to.
+-- What calls share: an answer, which of two sheets a refusal names, the ink in a list of cells, what a buffer holds after it is written.
 -- Assumes nothing.
 use Prim.Native.Nat.{ℕ}
 use mathlib.Core.List.{List, _++_}
 use lib.ListN.{length, getD, drop}
 
--- what a call answers: a value, or a refusal's number and place
+-- the answer of a call: a value, or a refusal with its number and place
 pub data Answer (A : Type 0) : Type 0 where
   accepted : A → Answer A
   refused : ℕ → ℕ → Answer A
 
--- an accepted value goes on to the rest of a call; a refusal is the call's
+-- passes an accepted value to the rest of a call; a refusal becomes the call's
 unfoldable pub onward : {A B : Type 0} → Answer A → (A → Answer B) → Answer B
 onward (accepted a) next = next a
 onward (refused number place) next = refused number place

@@ -17,7 +17,7 @@ pub data Verdict : Type 0 where
   differ : ℕ → Verdict
   turnedDown : Named → ℕ → ℕ → Verdict
 
--- what checking answers, and what its buffer holds afterwards
+-- what checking returns, and what its buffer holds afterwards
 pub record Checked : Type 0 where
   pub answer : Verdict
   pub cells : List ℕ

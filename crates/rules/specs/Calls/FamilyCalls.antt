@@ -1,6 +1,6 @@
 -- Document 02, K3: the two calls over the whole family of a table's trees. "One call takes a table sheet with making's cells and marks buffers, no
 -- output, and answers the count of the trees. The other takes a table sheet, an order number and all of making's buffers, and writes the tree of
--- that number, from 0." What is judged before is making's.
+-- that number, from 0." Everything judged before that is as in making.
 -- Assumes nothing.
 use Prim.Native.Nat.{ℕ}
 use mathlib.Core.Bool.{true, false}
@@ -15,7 +15,7 @@ use Rattle.rules.specs.Calls.Answers.{Answer, accepted, inkIn, refused, 
 use Rattle.rules.specs.Calls.OpenCells.{readFull}
 use Rattle.rules.specs.Calls.Settling.{Made, roomFor, inRoom, writtenSheet}
 
--- ---- of a table
+-- ---- for a table
 
 -- how many trees a table has
 unfoldable pub countOfTable : Table → ℕ
@@ -35,13 +35,13 @@ familyNet number t =
 
 -- ---- the count
 
--- what the count call answers, and what its two buffers hold afterwards
+-- what the count call returns, and what its two buffers hold afterwards
 pub record Counted : Type 0 where
   pub answer : Answer ℕ
   pub cells : List ℕ
   pub marks : List ℕ
 
--- 13 and 14 are making's. "A table with no tree gets count 0, never 16."
+-- 13 and 14 are as in making. "A table with no tree gets count 0, never 16."
 unfoldable pub countedInto : Table → List ℕ → List ℕ → Counted
 countedInto t cells marks =
     let all-marks = marksOf (t .header .levels) (t .header .inputs) (inkIn (t .inks)) in

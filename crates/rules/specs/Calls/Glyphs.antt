@@ -53,7 +53,7 @@ unfoldable pub glyph : Net → ℕ → ℕ → List ℕ → List ℤ → List �
 glyph net width height picture offsets =
     concatMap (λ y. map (λ x. newCell net width height picture offsets x y) (range 0 width)) (range 0 height)
 
--- ---- what is turned back
+-- ---- what is refused
 
 -- "1 to 64 cells a side"
 unfoldable pub sideFits : ℕ → Bool
@@ -81,7 +81,7 @@ glyphJudged m n width height picture offsets output =
 
 -- ---- the call
 
--- It answers how many cells it wrote to the front of the output. A refusal leaves the output as it was.
+-- It returns the number of cells written to the front of the output. A refusal leaves the output unchanged.
 unfoldable pub glyphInto : Net → ℕ → ℕ → List ℕ → List ℤ → List ℕ → Written
 glyphInto net width height picture offsets output =
     elim (glyphJudged (net .header .levels) (net .header .inputs) width height picture offsets output) [

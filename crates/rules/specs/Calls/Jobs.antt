@@ -1,5 +1,5 @@
 -- Document 02, K9: "marking can also be had as a job, opened on a table sheet, that keeps its own copy of names, cells and marks." What a job is, and
--- what opening, a step, an asking and finishing answer and hand back, of every job whatsoever.
+-- what opening, stepping, asking and finishing return and hand back, for every job.
 -- Assumes nothing.
 use Prim.Native.Nat.{ℕ, _+_, _-_, _^_}
 use mathlib.Core.Bool.{true, false, _||_}
@@ -14,13 +14,13 @@ use Rattle.rules.specs.Calls.Settling.{Made, settledNet, madeInto}
 
 -- ---- a job
 
--- "its own copy of names, cells and marks", and how many groups have been passed. A mark stands at its group's number.
+-- "its own copy of names, cells and marks", and how many groups have been passed. The mark of group g is at place g.
 pub record Job : Type 0 where
   pub table : Table
   pub marks : List ℕ
   pub passed : ℕ
 
--- a job on a table, of which no group has been passed: "every other mark in the job is 0"
+-- a job on a table, with no group passed yet: "every other mark in the job is 0"
 unfoldable pub newJob : Table → Job
 newJob t = record { table = t; marks = replicate (2 ^ t .header .inputs) 0; passed = 0 }
 
@@ -32,13 +32,13 @@ noTable = record { header = record { levels = 0; inputs = 0; names = [] }; inks 
 unfoldable pub emptyJob : Job
 emptyJob = newJob noTable
 
--- its groups, but for the empty one: "2 to the n, less 1"
+-- the number of its groups, except the empty one: "2 to the n, less 1"
 unfoldable pub groupsOf : Job → ℕ
 groupsOf job = 2 ^ job .table .header .inputs - 1
 
 -- ---- opening
 
--- the job, and that the sheet is accepted or its refusal
+-- the job, and whether the sheet is accepted or its refusal
 pub record Opened : Type 0 where
   pub job : Job
   pub answer : Answer (Unit {0})
@@ -58,7 +58,7 @@ pub record Stepped : Type 0 where
   pub job : Job
   pub answer : Answer (Unit {0})
 
--- the job "one group further, in the order of group numbers from 1": the next group's mark, from those in the job
+-- the job "one group further, in the order of group numbers from 1": adds the next group's mark, computed from those in the job
 unfoldable pub further : Job → Job
 further job =
     let t = job .table in
@@ -77,9 +77,9 @@ stepJob job =
       | false ↦ record { job = further job; answer = accepted tt }
     ]
 
--- ---- an asking
+-- ---- asking
 
--- the mark of a group that has been passed, or `not reached`
+-- the mark of a group that has been passed, or else `not reached`
 pub data Reached : Type 0 where
   final : ℕ → Reached
   notReached : Reached
@@ -106,7 +106,7 @@ pub record Finished : Type 0 where
   pub job : Job
   pub made : Made
 
--- Its cells are judged as bare cells of a full table are: "finishing it", an empty job, gives "9 at 0". 22: "finish on an unfinished one, place the
+-- Its cells are judged as bare cells of a full table: "finishing it", an empty job, gives "9 at 0". 22: "finish on an unfinished one, place the
 -- groups still to go"
 unfoldable pub mayFinish : Job → Answer (Unit {0})
 mayFinish job =
@@ -125,13 +125,13 @@ finishJob job cells marks output =
       ];
     }
 
--- ---- lists of steps and askings
+-- ---- lists of steps and questions
 
 pub data Move : Type 0 where
   step : Move
   ask : ℕ → Move
 
--- the job after a step or an asking
+-- the job after a step or a question
 unfoldable pub moved : Move → Job → Job
 moved step job = stepJob job .job
 moved (ask g) job = askJob job g .job

@@ -1,5 +1,5 @@
--- Document 02, K10: a wiring kept. "On a masked panel only gate tables can be rewritten. Take a net sheet and a table sheet with the same m, n and names.
--- Fill the gates anew by the settled net's class rule over the given wiring, and write the sheet."
+-- Document 02, K10: a wiring kept. "On a masked panel only gate tables can be rewritten. Take a net sheet and a table sheet with the same m, n and
+-- names. Fill the gates anew by the settled net's class rule over the given wiring, and write the sheet."
 -- Assumes nothing.
 use Prim.Native.Nat.{ℕ, suc, _-_, _^_}
 use mathlib.Core.Bool.{Bool, true, false, not, _&&_}
@@ -38,11 +38,11 @@ unfoldable pub keptNet : Net → Table → Net
 keptNet net t =
     record { header = net .header; gates = keptGates (net .header .levels) (net .header .inputs) (inkIn (t .inks)) (net .gates) }
 
--- how many gates stand before "the first gate whose group has more than m classes"; all of them where there is none
+-- the number of gates before "the first gate whose group has more than m classes"; all of them if there is none
 unfoldable pub roomyGates : ℕ → ℕ → (ℕ → ℕ) → List Gate → ℕ
 roomyGates m n f gates = firstPlace (λ g. ltb m (multiplicity m n f g)) (gateGroups n gates)
 
--- the same of a net for a table
+-- the same for a net and a table
 unfoldable pub roomyBefore : Net → Table → ℕ
 roomyBefore net t = roomyGates (net .header .levels) (net .header .inputs) (inkIn (t .inks)) (net .gates)
 
@@ -69,18 +69,18 @@ changedGates old new = total (map (λ k. 2 ^ k) (those (tableDiffers old new) (r
 
 -- ---- the call
 
--- the sheet's length and the set of the gates that changed; or a refusal, by the sheet that it names, its number and its place
+-- the sheet's length and the set of the gates that changed; or a refusal: the sheet it names, its number and its place
 pub data Keeping : Type 0 where
   rewritten : ℕ → ℕ → Keeping
   turnedAway : Named → ℕ → ℕ → Keeping
 
--- what the call answers, and what its two buffers hold afterwards
+-- what the call returns, and what its two buffers hold afterwards
 pub record KeptWiring : Type 0 where
   pub answer : Keeping
   pub cells : List ℕ
   pub output : List ℕ
 
--- What is judged once both sheets are read, in this order: 12, 27, which names the table sheet, 13, 23 at 0, 23 at a gate, 15. "A kept wiring that
+-- What is judged once both sheets are read, in this order: 12; 27, which names the table sheet; 13; 23 at 0; 23 at a gate; 15. "A kept wiring that
 -- leaves out an input that matters is refused with 23 at place 0, before its gates are judged." (document 02, K12) 12: the sheets differ in m, n or
 -- names. 13: cells buffer short. "23, place the number of the first gate whose group has more than m classes, judged after 12 and 13 and before 15;
 -- it names neither sheet and leaves the cells written."

@@ -12,7 +12,7 @@ use Rattle.rules.specs.Sheets.Sheets.{Net}
 use Rattle.rules.specs.Calls.Answers.{Answer, accepted, onward}
 use Rattle.rules.specs.Sheets.Reading.{readNet}
 
--- a part of a sheet: where it begins and how long it is
+-- a part of a sheet: where it starts and how long it is
 pub record Part : Type 0 where
   pub start : ℕ
   pub count : ℕ
@@ -32,7 +32,7 @@ pub data Turn : Type 0 where
   gateAt : Part → Turn
   noneLeft : Turn
 
--- The turn of number k, from 0, on an accepted sheet. The gate lines stand after the first four lines.
+-- Turn number k, from 0, on an accepted sheet. The gate lines follow the first four lines.
 unfoldable pub turnOf : List ℕ → Net → ℕ → Turn
 turnOf s net k =
     let at = afterLines s (4 + k) in

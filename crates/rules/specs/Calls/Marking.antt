@@ -10,7 +10,7 @@ use Rattle.rules.specs.Groups.Marks.{markIn, marksOf, marksLength, store
 use Rattle.rules.specs.Calls.Answers.{Answer, accepted, inkIn, refused, written}
 use Rattle.rules.specs.Calls.OpenCells.{fullCells}
 
--- what marking answers, and what its buffer holds afterwards
+-- what marking returns, and what its buffer holds afterwards
 pub record Marked : Type 0 where
   pub answer : Answer ℕ
   pub marks : List ℕ

@@ -1,5 +1,5 @@
--- Document 02, K13: "Some assignments cannot occur on a given panel, and its maker writes `-` as their ink. Table sheets take it, and a cell holds m for it."
--- What needs a table without such cells.
+-- Document 02, K13: "Some assignments cannot occur on a given panel, and its maker writes `-` as their ink. Table sheets take it, and a cell holds m
+-- for it." What needs a table without such cells.
 -- Assumes nothing.
 use Prim.Native.Nat.{ℕ}
 use mathlib.Core.Bool.{Bool, true, false}
@@ -19,15 +19,15 @@ isOpen m c = eqb c m
 unfoldable pub full : ℕ → List ℕ → Answer (Unit {0})
 full m cells = elim (any (isOpen m) cells) [ true ↦ refused 27 (firstPlace (isOpen m) cells) | false ↦ accepted tt ]
 
--- bare cells of a full table: 27 is judged "for bare cells between 10 and 11"
+-- judges bare cells that must be a full table: 27 is judged "for bare cells between 10 and 11"
 unfoldable pub fullCells : ℕ → ℕ → List ℕ → Answer (Unit {0})
 fullCells m n cells = onward (bareCells m n cells) (λ _. full m cells)
 
--- a sheet's table, with 27 judged of it
+-- judges 27 for a sheet's table
 unfoldable pub fullTable : Table → Answer (Unit {0})
 fullTable t = full (t .header .levels) (t .inks)
 
--- a table sheet of a full table: 27 is judged once the sheet is read, "before 13"
+-- reads a table sheet that must be a full table: 27 is judged once the sheet is read, "before 13"
 unfoldable pub readFull : List ℕ → Answer Table
 readFull s = onward (readTable s) (λ t. onward (fullTable t) (λ _. accepted t))
 

@@ -1,6 +1,6 @@
--- Document 01, section 'Settling and making': the two calls, with what is 'Turned back because of the state'. Their answer, and what each buffer lent to
--- them holds afterwards, on accepted and on refused inputs alike. What follows the reading is said of any net that may be made of a table, so
--- that a call which makes another net has the same order of refusals.
+-- Document 01, section 'Settling and making': the two calls, with what is 'Turned back because of the state'. Their answer, and what each buffer lent
+-- to them holds afterwards, on accepted and on refused inputs. Everything after the reading is stated for any net that may be made of a table, so
+-- a call that makes another net has the same order of refusals.
 -- Assumes nothing.
 use Prim.Native.Nat.{ℕ, _^_}
 use mathlib.Core.Bool.{true, false}
@@ -16,7 +16,7 @@ use Rattle.rules.specs.Calls.Answers.{Answer, accepted, inkIn, refused, 
 use Rattle.rules.specs.Sheets.Reading.{readNet, tableOfNet}
 use Rattle.rules.specs.Calls.OpenCells.{readFull}
 
--- what settling and making answer, and what their three buffers hold afterwards
+-- what settling and making return, and what their three buffers hold afterwards
 pub record Made : Type 0 where
   pub answer : Answer ℕ
   pub cells : List ℕ
@@ -52,8 +52,8 @@ afterMarks netFor t cells marks output =
       | true ↦ writtenSheet (printedNet (netFor t)) cells-then marks-then output
     ]
 
--- "Judged in this order after the input": 13: cells buffer short; 14: marks buffer short. "Needed: m to the n bytes, ..", and for the marks "2 to the n,
--- divided by 4, and 14 reports that number" (document 02, K7)
+-- "Judged in this order after the input": 13: cells buffer short; 14: marks buffer short. "Needed: m to the n bytes, ..", and for the marks "2 to the
+-- n, divided by 4, and 14 reports that number" (document 02, K7)
 unfoldable pub roomFor : Table → List ℕ → List ℕ → Answer (Unit {0})
 roomFor t cells marks =
     let need = t .header .levels ^ t .header .inputs in
@@ -63,7 +63,7 @@ roomFor t cells marks =
       | false ↦ elim (ltb (length marks) marks-need) [ true ↦ refused 14 marks-need | false ↦ accepted tt ]
     ]
 
--- "Every other refusal changes no buffer.": 13 and 14 end a call. `rest` is what the call comes to where there is room.
+-- "Every other refusal changes no buffer.": 13 and 14 end a call. `rest` is the result of the call if there is room.
 unfoldable pub inRoom : Table → List ℕ → List ℕ → List ℕ → Made → Made
 inRoom t cells marks output rest =
     elim (roomFor t cells marks) [
@@ -71,7 +71,7 @@ inRoom t cells marks output rest =
       | accepted room ↦ rest
     ]
 
--- .. then 16, then 15, which needs "the settled sheet's length". `netFor` is the net that is made of a table.
+-- .. then 16, then 15, which needs "the settled sheet's length". `netFor` is the net made of a table.
 abbrev pub madeInto : (Table → Net) → Table → List ℕ → List ℕ → List ℕ → Made
 madeInto netFor t cells marks output = inRoom t cells marks output (afterMarks netFor t cells marks output)
 

@@ -29,21 +29,21 @@ pub record Layered : Type 0 where
   pub length : ℕ
   pub layers : ℕ
 
--- what the two calls answer, and what their three buffers hold afterwards
+-- what the two calls return, and what their three buffers hold afterwards
 pub record LayeredMade : Type 0 where
   pub answer : Answer Layered
   pub cells : List ℕ
   pub marks : List ℕ
   pub output : List ℕ
 
--- an accepted answer with the count of layers; a refusal has its number and place alone
+-- adds the count of layers to an accepted answer; a refusal keeps only its number and place
 unfoldable pub layered : ℕ → Answer ℕ → Answer Layered
 layered count answer = onward answer (λ length. accepted (record { length = length; layers = count }))
 
 unfoldable pub withLayers : ℕ → Made → LayeredMade
 withLayers count made = record { answer = layered count (made .answer); cells = made .cells; marks = made .marks; output = made .output }
 
--- what making a net of a table comes to, with the net's layers
+-- the result of making a net of a table, with the net's layers
 unfoldable pub layeredInto : (Table → Net) → Table → List ℕ → List ℕ → List ℕ → LayeredMade
 layeredInto netFor t cells marks output = withLayers (netLayers (netFor t)) (madeInto netFor t cells marks output)
 

@@ -12,7 +12,7 @@ use Rattle.rules.specs.Calls.ShallowSettling.{netLayers}
 unfoldable pub layersIn : List ℕ → Answer ℕ
 layersIn sheet = onward (readNet sheet) (λ net. accepted (netLayers net))
 
--- which of two sheets is handed back: one of them, or an empty part of the first
+-- which of two sheets is returned: one of them, or an empty part of the first
 pub data Which : Type 0 where
   firstSheet secondSheet noSheet : Which
 
@@ -28,7 +28,7 @@ whichBy (refused _ _) (refused _ _) = noSheet
 unfoldable pub whichOf : List ℕ → List ℕ → Which
 whichOf first second = whichBy (layersIn first) (layersIn second)
 
--- What is handed back, as bytes. That it is the sheet itself, a part of the memory lent, is in the contract of the code (crate `shallower`): its
+-- The bytes returned. The contract of the code (crate `shallower`) says that this is the sheet itself, a part of the memory lent: its
 -- result is one of the two slices.
 unfoldable pub shallowerCall : List ℕ → List ℕ → List ℕ
 shallowerCall first second = elim (whichOf first second) [ firstSheet ↦ first | secondSheet ↦ second | noSheet ↦ [] ]

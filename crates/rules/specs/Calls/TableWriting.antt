@@ -9,7 +9,7 @@ use Rattle.rules.specs.Sheets.Printed.{printedTable}
 use Rattle.rules.specs.Calls.Answers.{Answer, accepted, refused, written}
 use Rattle.rules.specs.Sheets.Reading.{readNet, tableOfNet}
 
--- what table writing answers, and what its output holds afterwards
+-- what table writing returns, and what its output holds afterwards
 pub record Written : Type 0 where
   pub answer : Answer ℕ
   pub output : List ℕ

@@ -1,5 +1,5 @@
--- Document 02, K8: tidying, a loose table sheet to the table sheet of document 01. Its answer, and what each buffer lent to it holds afterwards, on
--- accepted and on refused inputs alike.
+-- Document 02, K8: tidying, from a loose table sheet to the table sheet of document 01. Its answer, and what each buffer lent to it holds afterwards,
+-- on accepted and on refused inputs.
 -- Assumes nothing.
 use Prim.Native.Nat.{ℕ, _^_}
 use mathlib.Core.Bool.{true, false}
@@ -13,7 +13,7 @@ use Rattle.rules.specs.Calls.Answers.{Answer, accepted, refused, written
 use Rattle.rules.specs.Calls.Programs.{programOutput, zeros}
 use Rattle.rules.specs.Sheets.LooseSheet.{readLoose, tableOfLoose}
 
--- what tidying answers, and what its two buffers hold afterwards
+-- what tidying returns, and what its two buffers hold afterwards
 pub record Tidied : Type 0 where
   pub answer : Answer ℕ
   pub cells : List ℕ
@@ -46,7 +46,7 @@ tidyCall sheet cells output =
 
 -- ---- the program
 
--- a program that tidies what it reads, as the two of document 01 settle and make
+-- a program that tidies what it reads, as the two programs of document 01 settle and make
 unfoldable pub tidyProgram : List ℕ → List ℕ
 tidyProgram input =
     let tidied = tidyCall (take mostRead input) (zeros mostCells) (zeros mostRead) in

@@ -38,14 +38,14 @@ use Rattle.rules.specs.Evaluation.{computing}
 
 -- ---- what a case says
 
--- a buffer three bytes longer than what is to be written to it, and what it holds then
+-- a buffer three bytes longer than what will be written to it, and what it holds afterwards
 unfoldable pub lent : List ℕ → List ℕ
 lent bytes = nines (length bytes + 3)
 
 unfoldable pub held : List ℕ → List ℕ
 held bytes = bytes ++ nines 3
 
--- A case, by the call that it is of. Inks and other cells are written as digits.
+-- A case, by the call that it tests. Inks and other cells are written as digits.
 pub data Accepts : Type 0 where
   multiplicity : (m n : ℕ) (inks : String) (g count : ℕ) → Accepts
   marking : (m n : ℕ) (inks : String) (mark : ℕ) (marks : List ℕ) → Accepts
@@ -121,7 +121,7 @@ AnswersAs (shallower first second handed) = shallowerCall (paper first) (paper s
 AnswersAs (timing net-sheet arrival-sheet delay earliest latest) =
     bitsIn (arrivalsCall (paper net-sheet) (paper arrival-sheet) delay) ≡ earliest ∷ latest ∷ []
 AnswersAs (arrivalsBack sheet number place) = readArrivals (letterNames "ab") (paper sheet) ≡ refused number place
--- one step more than so many, and the mark of a group after so many
+-- one more step after a number of steps, and the mark of a group after a number of steps
 AnswersAs (stepping sheet steps) = stepJob (jobStepped sheet steps) ≡ record { job = jobStepped sheet (steps + 1); answer = accepted tt }
 AnswersAs (asking sheet steps g reached) = askJob (jobStepped sheet steps) g ≡ record { job = jobStepped sheet steps; answer = accepted reached }
 AnswersAs (finishing sheet steps made inks marks) =
@@ -138,7 +138,7 @@ AnswersAs (glyph sheet width height picture offsets new) =
     ≡ record { answer = accepted (length (digits (text new))); output = held (digits (text new)) }
 AnswersAs (settlingProgram sheet output) = settleProgram (paper sheet) ≡ paper output
 AnswersAs (makingProgram sheet output) = makeProgram (paper sheet) ≡ paper output
--- an accepted net sheet has so many gates; a net sheet is refused
+-- an accepted net sheet has this number of gates; a net sheet is refused
 AnswersAs (gates sheet count) = gateCount (readNet (paper sheet)) ≡ accepted count
 AnswersAs (netBack sheet number place) = gateCount (readNet (paper sheet)) ≡ refused number place
 -- a number that the documents fix
@@ -186,7 +186,7 @@ acceptedCases =
     ∷ checking both bothTable "0001" agree
     ∷ tableWriting both bothTable
     ∷ tidying "levels inputs/2  2/a b ink/1 1 1/0 1 0 /0 0  0/1 0 0/" bothTable "0001"
-    -- a line without its line feed; none left after the last
+    -- a line without its line feed; no line left after the last
     ∷ line chain 0 (gateAt (record { start = 41; count = 8 }))
     ∷ line chain 1 (gateAt (record { start = 50; count = 8 }))
     ∷ line chain 2 noneLeft

@@ -1,5 +1,5 @@
--- Document 02, K5, by small cases: when an output settles, in quarters of a microsecond and as doubles; which sheet is judged first. Sheets are written
--- as in `Cases`, with `/` for the line feed.
+-- Document 02, K5, by small cases: when an output settles, in quarters of a microsecond and as doubles; which sheet is judged first. Sheets are
+-- written as in `Cases`, with `/` for the line feed.
 -- Assumes nothing.
 use Prim.Native.Nat.{ℕ}
 use Prim.Native.String.{String}
@@ -15,13 +15,13 @@ use Rattle.rules.specs.Evaluation.{computing}
 
 -- ---- what a case says
 
--- the two settlings in quarters, where both sheets are accepted
+-- the two settling times in quarters, if both sheets are accepted
 unfoldable pub quartersIn : List ℕ → List ℕ → ℕ → Answer (List ℕ)
 quartersIn net-sheet arrival-sheet delay =
     onward (readNet net-sheet) (λ net. onward (readArrivals (net .header .names) arrival-sheet) (λ arrivals.
     accepted (earliestSettling net arrivals delay ∷ latestSettling net arrivals delay ∷ [])))
 
--- the bits of the two doubles that the call answers, and none where it refuses
+-- the bits of the two doubles that the call returns; empty if it refuses
 unfoldable pub bitsIn : Timing → List ℕ
 bitsIn (settles ends) = toBits binary64 (ends .earliest) ∷ toBits binary64 (ends .latest) ∷ []
 bitsIn (netRefused number place) = []
@@ -37,15 +37,15 @@ pub data ArrivalCase : Type 0 where
 
 -- The common statement: what each case says.
 abbrev pub ArrivalHolds : ArrivalCase → Type 0
--- the two settlings in quarters
+-- the two settling times in quarters
 ArrivalHolds (settlesBetween net-sheet arrival-sheet delay earliest latest) =
     quartersIn (paper net-sheet) (paper arrival-sheet) delay ≡ accepted (earliest ∷ latest ∷ [])
 -- the call's answer by the bits of the two doubles
 ArrivalHolds (answers net-sheet arrival-sheet delay earliest latest) =
     bitsIn (arrivalsCall (paper net-sheet) (paper arrival-sheet) delay) ≡ earliest ∷ latest ∷ []
--- the bits of so many quarters as a double
+-- the bits of a number of quarters as a double
 ArrivalHolds (double quarters bits) = toBits binary64 (quarter quarters) ≡ bits
--- the sheet that is refused, whatever the delay
+-- the sheet that is refused, for every delay
 ArrivalHolds (netBack net-sheet arrival-sheet number place) = (delay : ℕ) → arrivalsCall (paper net-sheet) (paper arrival-sheet) delay ≡ netRefused number place
 ArrivalHolds (arrivalsBack net-sheet arrival-sheet number place) =
     (delay : ℕ) → arrivalsCall (paper net-sheet) (paper arrival-sheet) delay ≡ arrivalsRefused number place
@@ -65,17 +65,17 @@ wide = "name from to/a 0 65535/b 0 65535/c 0 65535/d 0 65535/e 0 65535/f 0 65535
 
 abbrev pub arrivalCases : List ArrivalCase
 arrivalCases =
-    -- c settles the earliest time, b the latest
+    -- c determines the earliest time, b the latest
     settlesBetween three "name from to/a 0 0/b 4 6/c 5 5/" 2 9 10
-    -- a, which arrives late, settles the earliest time: 10 and one gate, against 0 and two
+    -- a, which arrives late, determines the earliest time: 10 and one gate, against 0 and two
     ∷ settlesBetween three "name from to/a 10 10/b 0 20/c 0 0/" 4 14 28
-    -- fixed times alone: one time
+    -- only fixed times: one time
     ∷ settlesBetween three "name from to/a 7 7/b 7 7/c 7 7/" 0 7 7
     -- all at 0 and a delay of 1: the layers
     ∷ settlesBetween three "name from to/a 0 0/b 0 0/c 0 0/" 1 2 2
     -- the largest time and the largest delay
     ∷ settlesBetween tenGates wide 255 2_550 68_085
-    -- the same answered: 3.5 and 7 microseconds, 637.5 and 17,021.25
+    -- the same as the call returns it: 3.5 and 7 microseconds, 637.5 and 17,021.25
     ∷ answers three "name from to/a 10 10/b 0 20/c 0 0/" 4 0x400c_0000_0000_0000 0x401c_0000_0000_0000
     ∷ answers tenGates wide 255 0x4083_ec00_0000_0000 0x40d0_9f50_0000_0000
     -- 0, 0.25, 1 and 12.75 microseconds
@@ -90,7 +90,7 @@ arrivalCases =
     -- the field before the byte after it
     ∷ arrivalsBack three "name from to/b/" 18 13
     ∷ arrivalsBack three "name from to/a 3 2 " 19 17
-    -- nothing stands after the last line
+    -- nothing may follow the last line
     ∷ arrivalsBack three "name from to/a 0 0/b 0 0/c 0 0/d 0 0/" 1 31
     ∷ []
 

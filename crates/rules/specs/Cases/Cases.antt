@@ -93,11 +93,11 @@ Holds (settles sheet output) = settleProgram (paper sheet) ≡ paper output
 Holds (makes t output) = makeProgram (printedTable t) ≡ paper output
 -- an accepted net sheet has this table
 Holds (computes sheet t) = onward (readNet (paper sheet)) (λ net. accepted (tableOfNet net)) ≡ accepted t
--- all marks, and the bytes that they are stored as (document 02, K7); one group's mark, and so in those bytes; one group's multiplicity
+-- all marks, and the bytes that store them (document 02, K7); one group's mark, also as read from those bytes; one group's multiplicity
 Holds (marks t due bytes) = (marksOfCase t ≡ due) × (storedMarks (marksOfCase t) ≡ bytes)
 Holds (mark t g due) = (markIn (marksOfCase t) g ≡ due) × (markStored (storedMarks (marksOfCase t)) g ≡ due)
 Holds (multiplicity t g due) = multiplicityCall (t .header .levels) (t .header .inputs) (t .inks) g ≡ accepted due
--- a net sheet is turned back, or accepted, with so many gates
+-- a net sheet is refused, or accepted with this number of gates
 Holds (refuses sheet number place) = gateCount (readNet (paper sheet)) ≡ refused number place
 Holds (accepts sheet gates) = gateCount (readNet (paper sheet)) ≡ accepted gates
 
@@ -127,8 +127,8 @@ starred-hold =
     refl also refl also refl also refl also (refl, refl) also refl also refl also refl also (refl, refl) also (refl, refl) also (refl, refl)
     also (refl, refl) also refl also refl also refl also tt
 
--- Cases 9 and 10, which the document leaves to tests. "2 with 12, 4 with 6, 5 with 5, 7 with 4 and 8 with 4 come in. Refusals 3 and 9 and case 10 move
--- with it; 2 with 13 is the new refused side." (document 02, K6)
+-- Cases 9 and 10, which the document leaves to tests. "2 with 12, 4 with 6, 5 with 5, 7 with 4 and 8 with 4 come in. Refusals 3 and 9 and case 10
+-- move with it; 2 with 13 is the new refused side." (document 02, K6)
 abbrev pub unstarred : List Case
 unstarred =
     refuses "levels inputs/2 2/a b/left right table/a a 0001/" 8 41
@@ -169,7 +169,7 @@ unstarred-hold =
     refl also refl also refl also refl also refl also refl also refl also refl also refl also refl also refl also refl also refl also refl also refl
     also refl also tt
 
--- Of all sizes with up to twelve levels and twenty inputs, those that a sheet may have: for each number of levels the numbers of inputs.
+-- For each number of levels below 13, the numbers of inputs up to 20 that a sheet may have.
 pub sizes-are : map (λ m. those (sizeFits m) (range 0 21)) (range 0 13)
     ≡ [] ∷ [] ∷ range 2 11 ∷ range 2 6 ∷ range 2 5 ∷ range 2 4 ∷ range 2 3 ∷ range 2 3 ∷ range 2 3 ∷ range 2 2 ∷ [] ∷ [] ∷ [] ∷ []
 unfolding computing

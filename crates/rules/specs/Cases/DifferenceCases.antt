@@ -1,5 +1,5 @@
--- Document 02, K4, by small cases: a b c of two levels, and the two assignments of b, whose index is 0 and 2. The other inputs, a and c, are counted
--- a slowest, so the columns of the two are the cells 0 1 4 5 and 2 3 6 7.
+-- Document 02, K4, by small cases: inputs a b c of two levels, and the two assignments of b, whose indices are 0 and 2. The other inputs, a and c,
+-- are counted with a slowest, so the columns of the two are the cells 0 1 4 5 and 2 3 6 7.
 -- Assumes nothing.
 use Prim.Native.Nat.{ℕ}
 use mathlib.Core.Path.{_≡_, refl}
@@ -13,7 +13,7 @@ use Rattle.rules.specs.Evaluation.{computing}
 unfoldable pub ofB : List ℕ → Option ℕ
 ofB cells = firstDifference 2 3 (inkIn cells) 2 0 2
 
--- the inks differ at two places, and the first of these is told, as its place and not as its index, which is 4
+-- the inks differ at two places; the first is reported, as its place and not as its index, which is 4
 pub first-of-two : ofB (0 ∷ 1 ∷ 0 ∷ 1 ∷ 1 ∷ 0 ∷ 0 ∷ 1 ∷ []) ≡ some 2
 unfolding computing ofB
 first-of-two = refl

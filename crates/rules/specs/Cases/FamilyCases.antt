@@ -33,7 +33,7 @@ wiringOfTable t r =
     let marks = marksOfCase t in
     familyWiring n marks (countsOf n marks) n (leavesOf m n (inkIn (t .inks))) r
 
--- of the odd ones over a b c: "The order is by A's number", which is 1, 3, 5
+-- for the odd table over a b c: "The order is by A's number", which is 1, 3, 5
 pub three-trees : (countOfTable oddTable ≡ 3)
     × (wiringOfTable oddTable 0 ≡ gate (input 0) (gate (input 1) (input 2)))
     × (wiringOfTable oddTable 1 ≡ gate (gate (input 0) (input 1)) (input 2))
@@ -41,7 +41,7 @@ pub three-trees : (countOfTable oddTable ≡ 3)
 unfolding computing writing wiringOfTable marksOfCase oddTable
 three-trees = (refl, refl, refl, refl)
 
--- "a family numbers the wirings on just these" leaves (document 02, K12): all ink 0 has one, `a b`; b and c alone matter in the other
+-- "a family numbers the wirings on just these" leaves (document 02, K12): the table of all ink 0 has one, `a b`; in the other only b and c matter
 pub one-tree : (countOfTable zeroTable ≡ 1)
     × (wiringOfTable zeroTable 0 ≡ gate (input 0) (input 1))
     × (countOfTable (abc 2 (λ a b c. (b + c) % 2)) ≡ 1)
@@ -59,11 +59,11 @@ pub fifteen-trees : treeCount 4 (0 ∷ replicate 15 2) 15 ≡ 15
 unfolding computing
 fifteen-trees = refl
 
--- six inputs, parted into the first three and the last three: 3 trees of each
+-- six inputs, split into the first three and the last three: 3 trees of each
 unfoldable pub halves : List ℕ
 halves = map (λ g. cond (not (eqb g 0) && (inside 6 g 7 || inside 6 g 56 || eqb g 63)) 2 0) (range 0 64)
 
--- "then A's tree, then B's": B's goes on first
+-- "then A's tree, then B's": B's tree changes fastest
 pub by-halves : (treeCount 6 halves 63 ≡ 9)
     × (familyWiring 6 halves (countsOf 6 halves) 6 63 1 ≡ gate (gate (input 0) (gate (input 1) (input 2))) (gate (gate (input 3) (input 4)) (input 5)))
     × (familyWiring 6 halves (countsOf 6 halves) 6 63 3 ≡ gate (gate (gate (input 0) (input 1)) (input 2)) (gate (input 3) (gate (input 4) (input 5))))
@@ -74,7 +74,7 @@ by-halves = (refl, refl, refl)
 unfoldable pub joining : ℕ → ℕ → Gate
 joining l r = record { left = l; right = r; digits = [] }
 
--- of a b c d: `a b`, `c d`, `1 2` and, with other sides and other gate numbers, `d c`, `b a`, `2 1` have the same groups; `a b`, `1 c`, `2 d` has not
+-- over a b c d: `a b`, `c d`, `1 2` and, with other sides and gate numbers, `d c`, `b a`, `2 1` have the same groups; `a b`, `1 c`, `2 d` does not
 pub groups-joined-case : (gateGroups 4 (joining 0 1 ∷ joining 2 3 ∷ joining 4 5 ∷ []) ≡ 3 ∷ 12 ∷ 15 ∷ [])
     × (gateGroups 4 (joining 3 2 ∷ joining 1 0 ∷ joining 5 4 ∷ []) ≡ 12 ∷ 3 ∷ 15 ∷ [])
     × (gateGroups 4 (joining 0 1 ∷ joining 4 2 ∷ joining 5 3 ∷ []) ≡ 3 ∷ 7 ∷ 15 ∷ [])
@@ -94,7 +94,7 @@ pub three-counted : familyCountCall (printedTable oddTable) (nines 8) (nines 2)
 unfolding computing writing oddTable
 three-counted = refl
 
--- the sheet of a number, of the odd ones over a b c
+-- the sheet of a number, for the odd table over a b c
 abbrev Writes : ℕ → String → Type 0
 Writes number sheet =
     let made = familyTreeCall (printedTable oddTable) number (nines 8) (nines 2) (nines 64) in

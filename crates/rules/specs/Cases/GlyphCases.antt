@@ -17,7 +17,7 @@ use Rattle.rules.specs.Evaluation.{computing}
 
 -- ---- how a case is written down
 
--- numbers of one digit, each perhaps with a minus before it; all else is passed over
+-- numbers of one digit, each perhaps preceded by a minus; everything else is skipped
 unfoldable pub signedFrom : Bool → List ℕ → List ℤ
 signedFrom minus [] = []
 signedFrom minus (b ∷ s) =
@@ -45,7 +45,7 @@ GlyphHolds (leaves sheet width height picture offsets output count output-then) 
     glyphCall (paper sheet) width height (digits (text picture)) (signed offsets) (digits (text output))
     ≡ record { answer = accepted count; output = digits (text output-then) }
 
--- the exclusive or of two levels, and the larger of a and the lesser of b and c
+-- the exclusive or of two levels, and the larger of a and the smaller of b and c
 abbrev pub differ : String
 differ = "levels inputs/2 2/a b/left right table/a b 0110/"
 
@@ -56,7 +56,7 @@ shade = "levels inputs/3 3/a b c/left right table/b c 000011012/a 1 012112222/"
 
 abbrev pub glyphCases : List GlyphCase
 glyphCases =
-    -- b is the cell to the left: at the left edge it is outside, where the level is 0, and not the last cell of the row above
+    -- b is the cell to the left: at the left edge it is outside, where the level is 0; it is not the last cell of the row above
     prints differ 3 2 "011 101" "0 0 -1 0" "010 111"
     -- b is the cell to the right, the one above, the one below
     ∷ prints differ 3 2 "011 101" "0 0 1 0" "101 111"
@@ -65,11 +65,11 @@ glyphCases =
     -- two cells off, across and down at once: outside in a small picture
     ∷ prints differ 3 2 "011 101" "0 0 2 1" "111 101"
     ∷ prints differ 3 2 "011 101" "2 -2 -2 2" "000 000"
-    -- all offsets 0: each cell from its own old level, which is the larger of it and the lesser of it and itself
+    -- all offsets 0: each new cell depends on its own old level, and is the larger of it and the smaller of it and itself
     ∷ prints shade 2 2 "01 20" "0 0 0 0 0 0" "01 20"
     -- three levels: a gap is closed where both neighbours across are dark
     ∷ prints shade 3 1 "202" "0 0 -1 0 1 0" "222"
-    -- one cell; further bytes of the output are kept
+    -- one cell; the output keeps its further bytes
     ∷ leaves differ 1 1 "1" "0 0 0 0" "999" 1 "099"
     ∷ leaves differ 3 2 "011 101" "0 0 -1 0" "9999999" 6 "0101119"
     ∷ []

@@ -12,7 +12,7 @@ use Rattle.rules.specs.Cases.Cases.{zeroTable, majority}
 use Rattle.rules.specs.Cases.Written.{writing}
 use Rattle.rules.specs.Evaluation.{computing}
 
--- so many steps after opening on the table of case 5, ink 1 when at least two of a b c are 1
+-- the job after a number of steps on the table of case 5, ink 1 when at least two of a b c are 1
 unfoldable pub majorityAfter : ℕ → Job
 majorityAfter k = afterMoves (replicate k step) (openJob (printedTable majority) .job)
 

@@ -24,7 +24,7 @@ Keeps net-sheet t length changed sheet =
 unfoldable pub weighted : Table
 weighted = abc 3 (λ a b c. (a + 2 * b + c) % 3)
 
--- Sides and line order stay: the settled net has `b c` first. The classes of b and c are numbered with b slowest, whichever is left. Only gate 1 changed.
+-- Sides and line order stay: the settled net has `b c` first. The classes of b and c are numbered with b slowest on either side. Only gate 1 changed.
 pub sides-stay : Keeps "levels inputs/3 3/a b c/left right table/c b 000000000/a 1 012120201/" weighted 69 2
     "levels inputs/3 3/a b c/left right table/c b 021102210/a 1 012120201/"
 unfolding computing writing weighted
@@ -42,7 +42,7 @@ pub none-changed-case : Keeps "levels inputs/3 3/a b c/left right table/c b 0211
 unfolding computing writing weighted
 none-changed-case = (refl, refl)
 
--- 1 when at least two of a + b, c and d are 1, where a + b is of 2 levels
+-- 1 when at least two of a + b, c and d are 1, where a + b is taken modulo 2
 unfoldable pub twoOfThree : Table
 twoOfThree = abcd 2 (λ a b c d. oneIf (leb 2 ((a + b) % 2 + c + d)))
 

@@ -1,5 +1,5 @@
--- Document 02, K12, by small cases: inputs that never matter. Which inputs are leaves, net sheets with fewer gate lines, and what is made,
--- settled, kept and timed of them. Sheets are written as in `Cases`, with `/` for the line feed.
+-- Document 02, K12, by small cases: inputs that never matter. Which inputs are leaves, net sheets with fewer gate lines, and how they are made,
+-- settled, kept and timed. Sheets are written as in `Cases`, with `/` for the line feed.
 -- Assumes nothing.
 use Prim.Native.Nat.{ℕ, _+_, _/_, _%_}
 use mathlib.Core.Path.{_≡_, refl}
@@ -22,7 +22,7 @@ abbrev Leaves : Table → List ℕ → List ℕ → ℕ → Type 0
 Leaves t matter leaves group =
     let f = inkIn (t .inks) in (mattering 2 3 f ≡ matter) × (leafInputs 2 3 f ≡ leaves) × (leavesOf 2 3 f ≡ group)
 
--- a and c alone; only c, so that a, the first-listed other, makes up two; none, so that a and b do
+-- a and c alone; only c, so a, the first-listed other, makes up two; none, so a and b do
 pub leaves-are : Leaves (abc 2 (λ a b c. (a + c) % 2)) (0 ∷ 2 ∷ []) (0 ∷ 2 ∷ []) 5
     × Leaves (abc 2 (λ a b c. c)) (2 ∷ []) (2 ∷ 0 ∷ []) 5
     × Leaves zeroTable [] (0 ∷ 1 ∷ []) 3
@@ -45,7 +45,7 @@ leafCases =
     ∷ refuses "levels inputs/2 4/a b c d/left right table/a b 0001/c d 0110/2 2 0001/" 8 63
     ∷ refuses "levels inputs/2 3/a b c/left right table/a b 0001/a c 0110/" 8 50
     ∷ refuses "levels inputs/2 4/a b c d/left right table/a b 0001/c d 0110" 1 60
-    -- an input that matters nowhere is no leaf, whatever the net that is settled has
+    -- an input that never matters is no leaf, even if the net to settle uses it
     ∷ settles "levels inputs/2 3/a b c/left right table/c a 0110/" "levels inputs/2 3/a b c/left right table/a c 0110/"
     ∷ settles "levels inputs/2 3/a b c/left right table/a b 0011/1 c 0110/" "levels inputs/2 3/a b c/left right table/a c 0110/"
     ∷ settles "levels inputs/2 4/a b c d/left right table/d c 0101/1 a 0110/" "levels inputs/2 4/a b c d/left right table/a c 0110/"

@@ -1,5 +1,5 @@
--- Document 02, K8, by small cases: what tidying makes of a loose sheet, and what turns one back. Sheets are written as in `Cases`, with `/` for the line
--- feed.
+-- Document 02, K8, by small cases: what tidying makes of a loose sheet, and why it refuses one. Sheets are written as in `Cases`, with `/` for the
+-- line feed.
 -- Assumes nothing.
 use Prim.Native.Nat.{ℕ}
 use Prim.Native.String.{String}
@@ -20,7 +20,7 @@ pub data LooseCase : Type 0 where
 
 -- The common statement: what each case says.
 abbrev pub LooseHolds : LooseCase → Type 0
--- the answer, and both buffers, of which the further bytes are kept
+-- the answer, and both buffers, which keep their further bytes
 LooseHolds (tidies sheet tidied inks) =
     tidyCall (paper sheet) (nines 10) (nines 100)
     ≡ record {
@@ -28,7 +28,7 @@ LooseHolds (tidies sheet tidied inks) =
       cells = written (nines 10) (digits (text inks));
       output = written (nines 100) (paper tidied);
     }
--- a sheet that is turned back
+-- a sheet that is refused
 LooseHolds (back sheet number place) = readLoose (paper sheet) ≡ refused number place
 
 abbrev pub looseCases : List LooseCase
@@ -56,14 +56,14 @@ looseCases =
     ∷ back "levels inputs/2 2/a b ink/0 2 1/" 5 28
     ∷ back "levels inputs/2 2/a b ink/00 0 1/" 5 26
     ∷ back "levels inputs/2 2/a b ink/0  ink/" 5 29
-    -- an ink field is 6 as ever
+    -- a bad ink field is still 6
     ∷ back "levels inputs/2 2/a b ink/0 0   2/" 6 32
     -- 20: "placed at the row's first field"; with an ink that is malformed; with an empty one
     ∷ back "levels inputs/2 2/a b ink/1 0 0/0 1 0/1 0 1/" 20 38
     ∷ back "levels inputs/2 2/a b ink/1 0 0/1  0  2/" 20 32
     ∷ back "levels inputs/2 2/a b ink/1 0 0/1 0  /" 20 32
     ∷ back "levels inputs/2 2/a b ink/1 0 0/1 0 " 20 32
-    -- .. which is not judged where no space stands after the last input field
+    -- .. which is not judged if no space follows the last input field
     ∷ back "levels inputs/2 2/a b ink/1 0 0/1 0/" 1 35
     -- "Too few rows is still 1"; a row beyond the last; a space beyond it
     ∷ back "levels inputs/2 2/a b ink/1 0 0/0 1 0/0 0 0/" 1 44

@@ -1,4 +1,4 @@
--- Document 02, K13, by small cases: what the sign of an open cell is read as, what a check passes over, and what needs a full table. Sheets are written as in
+-- Document 02, K13, by small cases: how the sign of an open cell is read, what a check skips, and what needs a full table. Sheets are written as in
 -- `Cases`, with `/` for the line feed.
 -- Assumes nothing.
 use Prim.Native.Nat.{ℕ}
@@ -19,7 +19,7 @@ use Rattle.rules.specs.Calls.Jobs.{emptyJob, openJob}
 use Rattle.rules.specs.Cases.Written.{paper, nines, writing}
 use Rattle.rules.specs.Evaluation.{computing}
 
--- a net sheet, and a table sheet that it computes but for the assignments 1 and 2, which are open
+-- a net sheet, and a table sheet that it computes except at the assignments 1 and 2, which are open
 unfoldable pub bothOn : List ℕ
 bothOn = paper "levels inputs/2 2/a b/left right table/a b 0001/"
 
@@ -31,7 +31,7 @@ pub sign-read : onward (readTable leftOpen) (λ t. accepted (t .inks)) ≡ accep
 unfolding computing writing leftOpen
 sign-read = refl
 
--- the sign is no level: 5 there
+-- the sign is not a level: 5 there
 pub no-level : readTable (paper "levels inputs/2 2/a b ink/- 0 0/") ≡ refused 5 26
 unfolding computing writing
 no-level = refl
@@ -62,7 +62,7 @@ pub making-27 : makeCall leftOpen [] [] [] ≡ record { answer = refused 27 1; c
 unfolding computing writing leftOpen
 making-27 = refl
 
--- nor is one that is long enough
+-- a buffer that is long enough is not changed either
 pub making-untouched : makeCall leftOpen (nines 4) (nines 1) (nines 60) ≡ record { answer = refused 27 1; cells = nines 4; marks = nines 1; output = nines 60 }
 unfolding computing writing leftOpen
 making-untouched = refl
@@ -95,12 +95,12 @@ pub keeping-12-first : keepCall (paper "levels inputs/2 2/b a/left right table/a
 unfolding computing writing leftOpen
 keeping-12-first = refl
 
--- a table sheet that ends too early is refused for that
+-- a table sheet that ends too early is refused with 1 first
 pub ended-first : makeCall (paper "levels inputs/2 2/a b ink/0 0 -/") [] [] [] ≡ record { answer = refused 1 32; cells = []; marks = []; output = [] }
 unfolding computing writing
 ended-first = refl
 
--- of bare cells
+-- for bare cells
 pub multiplicity-27-case : multiplicityCall 2 2 (0 ∷ 1 ∷ 1 ∷ 2 ∷ []) 1 ≡ refused 27 3
 unfolding computing
 multiplicity-27-case = refl

@@ -1,4 +1,4 @@
--- Documents 01 and 02: what is judged first. Inputs with several faults at once, and the one refusal that each is given.
+-- Documents 01 and 02: what is judged first. Inputs with several faults at once, and the one refusal that each gets.
 -- Assumes nothing.
 use Prim.Native.Nat.{ℕ}
 use mathlib.Core.Path.{_≡_, refl}
@@ -91,12 +91,12 @@ pub counting-cells-before-marks : familyCountCall (printedTable noTree) [] [] �
 unfolding computing noTree
 counting-cells-before-marks = refl
 
--- marks and output empty, and no tree of the number
+-- marks and output empty, and no tree with that number
 pub marks-before-number : familyTreeCall (printedTable noTree) 0 (nines 8) [] [] ≡ record { answer = refused 14 2; cells = nines 8; marks = []; output = [] }
 unfolding computing writing noTree
 marks-before-number = refl
 
--- the output empty, and no tree of the number; "it takes the place of 16 .. and leaves what 16 leaves"
+-- the output empty, and no tree with that number; "it takes the place of 16 .. and leaves what 16 leaves"
 pub number-before-output : familyTreeCall (printedTable noTree) 0 (nines 8) (nines 2) []
     ≡ record { answer = refused 17 0; cells = noTree .inks; marks = 0x28 ∷ 0x42 ∷ []; output = [] }
 unfolding computing writing noTree
@@ -163,7 +163,7 @@ pub net-before-arrivals : (delay : ℕ) → arrivalsCall [] [] delay ≡ netRefu
 unfolding computing
 net-before-arrivals delay = refl
 
--- a wrong name before the time behind it, which is malformed
+-- a wrong name before the time after it, which is malformed
 pub name-before-time : (delay : ℕ) → arrivalsCall (printedNet oneGateNet) (text "name from to" ++ newline ∷ (text "b 00 0" ++ newline ∷ [])) delay
     ≡ arrivalsRefused 18 13
 unfolding computing oneGateNet

@@ -1,6 +1,6 @@
 -- The examples of docs/REFUSALS.md as one theorem, `refusals-hold`: every refusal, 1 to 27, by calls that give it, with its number, its
--- place, and what each buffer lent to the call holds afterwards. They compute, so that a reader who believes nothing sees each number
--- come out. The document's examples are these and no others (rust/sitgurp/tests/refusals.rs).
+-- place, and what each buffer lent to the call holds afterwards. They compute, so even a reader who trusts nothing can watch each number
+-- come out. The document's examples are exactly these (rust/sitgurp/tests/refusals.rs).
 -- Assumes nothing.
 use Prim.Native.Nat.{ℕ}
 use Prim.Native.String.{String}
@@ -36,7 +36,7 @@ use Rattle.rules.specs.Cases.GlyphCases.{signedFrom, signed}
 
 -- ---- what an example says
 
--- A net sheet that is turned back: each call that takes one gives that refusal and changes no buffer, whatever else is lent to it. (But the shallower
+-- A net sheet that is refused: each call that takes one gives that refusal and changes no buffer, whatever else is lent to it. (Except the shallower
 -- of two sheets, which gives no number: `Shallower`.)
 pub record NetBack (sheet : List ℕ) (number place : ℕ) : Type 0 where
   pub settling : (cells marks output : List ℕ)
@@ -53,7 +53,7 @@ pub record NetBack (sheet : List ℕ) (number place : ℕ) : Type 0 where
   pub printing : (width height : ℕ) (picture : List ℕ) (offsets : List ℤ) (output : List ℕ)
       → glyphCall sheet width height picture offsets output ≡ record { answer = refused number place; output = output }
 
--- A table sheet that is turned back: the same, in a check and in keeping behind every accepted net sheet.
+-- A table sheet that is refused: the same, and also in a check and in keeping after every accepted net sheet.
 pub record TableBack (sheet : List ℕ) (number place : ℕ) : Type 0 where
   pub making : (cells marks output : List ℕ)
       → makeCall sheet cells marks output ≡ record { answer = refused number place; cells = cells; marks = marks; output = output }
@@ -68,16 +68,16 @@ pub record TableBack (sheet : List ℕ) (number place : ℕ) : Type 0 where
   pub keeping : (net-sheet cells output : List ℕ) (net : Net) → readNet net-sheet ≡ accepted net
       → keepCall net-sheet sheet cells output ≡ record { answer = turnedAway tableNamed number place; cells = cells; output = output }
 
--- An arrival sheet for inputs of these names that is turned back: the same behind every accepted net sheet with these names, whatever the delay.
+-- An arrival sheet, for inputs with these names, that is refused: the same after every accepted net sheet with these names, for every delay.
 pub record ArrivalsBack (names : List (List ℕ)) (sheet : List ℕ) (number place : ℕ) : Type 0 where
   pub arriving : (net-sheet : List ℕ) (net : Net) (delay : ℕ) → readNet net-sheet ≡ accepted net → net .header .names ≡ names
       → arrivalsCall net-sheet sheet delay ≡ arrivalsRefused number place
 
--- A loose table sheet that is turned back, whatever else is lent to tidying.
+-- A loose table sheet that is refused, whatever else is lent to tidying.
 pub record LooseBack (sheet : List ℕ) (number place : ℕ) : Type 0 where
   pub tidying : (cells output : List ℕ) → tidyCall sheet cells output ≡ record { answer = refused number place; cells = cells; output = output }
 
--- Bare cells that are turned back: the same for every group and every marks buffer.
+-- Bare cells that are refused: the same for every group and every marks buffer.
 pub record CellsBack (m n : ℕ) (cells : List ℕ) (number place : ℕ) : Type 0 where
   pub counting : (g : ℕ) → multiplicityCall m n cells g ≡ refused number place
   pub marking : (marks : List ℕ) → markingCall m n cells marks ≡ record { answer = refused number place; marks = marks }
@@ -123,15 +123,15 @@ pub cells-back : {m n : ℕ} {cells : List ℕ} {number place : ℕ} → fullCel
 unfolding multiplicityCall markingCall onward
 cells-back e = record { counting = λ g. rw (e, multiplicityCall); marking = λ marks. rw (e, markingCall) }
 
--- 27 names the table sheet where two sheets are given; 12, 13, 15 and 23 name neither.
+-- If two sheets are given, 27 names the table sheet; 12, 13, 15 and 23 name neither.
 unfoldable pub namedBy : ℕ → Named
 namedBy number = elim (eqb number 27) [ true ↦ tableNamed | false ↦ neither ]
 
--- The job on a sheet after so many steps.
+-- The job on a sheet after a number of steps.
 unfoldable pub jobStepped : String → ℕ → Job
 jobStepped sheet steps = afterMoves (replicate steps step) (openJob (paper sheet) .job)
 
--- An example, by what it is of. Buffers are given by their lengths, and cells and buffers afterwards by their digits.
+-- An example, by the call or sheet that it tests. Buffers are given by their lengths, and cells and buffers afterwards by their digits.
 pub data Example : Type 0 where
   net : (sheet : String) (number place : ℕ) → Example
   table : (sheet : String) (number place : ℕ) → Example
@@ -155,11 +155,11 @@ pub data Example : Type 0 where
 
 -- The common statement: a call's whole result, its answer and every buffer lent to it.
 abbrev pub Comes : Example → Type 0
--- a sheet or bare cells, turned back by every call that takes them
+-- a sheet or bare cells, refused by every call that takes them
 Comes (net sheet number place) = NetBack (paper sheet) number place
 Comes (table sheet number place) = TableBack (paper sheet) number place
 Comes (bare m n inks number place) = CellsBack m n (digits (text inks)) number place
--- multiplicity, which has no buffer, of a group; marking
+-- multiplicity of a group, which has no buffer; marking
 Comes (group m n inks g number place) = multiplicityCall m n (digits (text inks)) g ≡ refused number place
 Comes (marking m n inks marks number place) =
     markingCall m n (digits (text inks)) (nines marks) ≡ record { answer = refused number place; marks = nines marks }
@@ -167,7 +167,7 @@ Comes (marking m n inks marks number place) =
 Comes (check net-sheet table-sheet cells number place) =
     checkCall (paper net-sheet) (paper table-sheet) (nines cells)
     ≡ record { answer = turnedDown neither number place; cells = nines cells }
--- settling and making: cells and marks as said, the output as it was
+-- settling and making: cells and marks as stated, the output unchanged
 Comes (settle sheet cells marks output number place cells-then marks-then) =
     settleCall (paper sheet) (nines cells) (nines marks) (nines output)
     ≡ record {
@@ -199,14 +199,14 @@ Comes (tree sheet order cells marks output number place cells-then marks-then) =
       marks = marks-then;
       output = nines output;
     }
--- an arrival sheet for the inputs a and b, turned back by the one call that takes one
+-- an arrival sheet for the inputs a and b, refused by the one call that takes one
 Comes (arrival sheet number place) = ArrivalsBack (letterNames "ab") (paper sheet) number place
--- a loose table sheet, turned back by the one call that takes one; tidying, with the cells as said and the output as it was
+-- a loose table sheet, refused by the one call that takes one; tidying, with the cells as stated and the output unchanged
 Comes (loose sheet number place) = LooseBack (paper sheet) number place
 Comes (tidy sheet cells output number place cells-then) =
     tidyCall (paper sheet) (nines cells) (nines output)
     ≡ record { answer = refused number place; cells = digits (text cells-then); output = nines output }
--- a job after so many steps: one step further, the mark of a group, finishing; it comes back as it was
+-- a job after a number of steps: one step further, the mark of a group, finishing; the job comes back unchanged
 Comes (further sheet steps number place) =
     stepJob (jobStepped sheet steps) ≡ record { job = jobStepped sheet steps; answer = refused number place }
 Comes (ask sheet steps g number place) =
@@ -222,11 +222,11 @@ Comes (finish sheet steps cells marks output number place cells-then marks-then)
         output = nines output;
       };
     }
--- a wiring of an accepted net sheet kept for an accepted table sheet: the sheet that is named, cells as said, the output as it was
+-- a wiring of an accepted net sheet kept for an accepted table sheet: the sheet that is named, cells as stated, the output unchanged
 Comes (keep net-sheet table-sheet cells output number place cells-then) =
     keepCall (paper net-sheet) (paper table-sheet) (nines cells) (nines output)
     ≡ record { answer = turnedAway (namedBy number) number place; cells = digits (text cells-then); output = nines output }
--- a glyph: the output as it was
+-- a glyph: the output unchanged
 Comes (glyph sheet picture offsets width height output number place) =
     glyphCall (paper sheet) width height (digits (text picture)) (signed offsets) (nines output)
     ≡ record { answer = refused number place; output = nines output }
@@ -327,7 +327,7 @@ refusals =
     ∷ make
     "levels inputs/2 4/a b c d ink/0 0 0 0 0/0 0 0 1 1/0 0 1 0 0/0 0 1 1 1/0 1 0 0 0/0 1 0 1 1/0 1 1 0 1/0 1 1 1 0/1 0 0 0 0/1 0 0 1 1/1 0 1 0 1/1 0 1 1 0/1 1 0 0 1/1 1 0 1 0/1 1 1 0 1/1 1 1 1 0/"
     16 4 70 16 7 "0101011001101010" (0x28 ∷ 0x42 ∷ 0x02 ∷ 0x40 ∷ [])
-    -- 17: three trees, 0 to 2; a number past them, whatever the output; no tree, and so none of number 0
+    -- 17: three trees, 0 to 2; a number past them, whatever the output; no tree, so not even number 0
     ∷ tree "levels inputs/2 3/a b c ink/0 0 0 0/0 0 1 1/0 1 0 1/0 1 1 0/1 0 0 1/1 0 1 0/1 1 0 0/1 1 1 1/" 3 8 3 60 17 3 "01101001" (0xa8 ∷ 0xaa ∷ 9 ∷ [])
     ∷ tree "levels inputs/2 3/a b c ink/0 0 0 0/0 0 1 1/0 1 0 1/0 1 1 0/1 0 0 1/1 0 1 0/1 1 0 0/1 1 1 1/" 1000000007 9 2 0 17 1000000007 "011010019"
     (0xa8 ∷ 0xaa ∷ [])
@@ -343,7 +343,7 @@ refusals =
     -- 20: an assignment of an earlier row, whatever the ink; with no ink
     ∷ loose "levels inputs/2 2/a b ink/1 1 1/0 0 0/1 1 1/" 20 38
     ∷ loose "levels inputs/2 2/a b ink/1 1 1/1 1  /" 20 32
-    -- 21: a job that is done; the empty job, beside a refusal, is done from the start
+    -- 21: a job that is done; the empty job, returned with a refusal, is done from the start
     ∷ further "levels inputs/2 2/a b ink/0 0 0/0 1 0/1 0 0/1 1 1/" 3 21 0
     ∷ further "levels inputs/2 2/a b b ink/" 0 21 0
     -- 22: a job that is not done, whatever the buffers
@@ -354,7 +354,7 @@ refusals =
     "levels inputs/2 3/a b c ink/0 0 0 0/0 0 1 0/0 1 0 0/0 1 1 1/1 0 0 0/1 0 1 1/1 1 0 1/1 1 1 1/" 9 0 23 1 "000101119"
     ∷ keep "levels inputs/2 4/a b c d/left right table/a b 0110/c 1 0001/2 d 0001/"
     "levels inputs/2 4/a b c d ink/0 0 0 0 0/0 0 0 1 0/0 0 1 0 0/0 0 1 1 1/0 1 0 0 0/0 1 0 1 1/0 1 1 0 1/0 1 1 1 1/1 0 0 0 0/1 0 0 1 1/1 0 1 0 1/1 0 1 1 1/1 1 0 0 0/1 1 0 1 0/1 1 1 0 0/1 1 1 1 1/" 16 80 23 2 "0001011101110001"
-    -- .. and an input that matters left out, at place 0, before the gates
+    -- .. and an input that matters but is left out, at place 0, before the gates
     ∷ keep "levels inputs/2 3/a b c/left right table/a b 0001/"
     "levels inputs/2 3/a b c ink/0 0 0 0/0 0 1 0/0 1 0 0/0 1 1 1/1 0 0 0/1 0 1 1/1 1 0 1/1 1 1 1/" 9 50 23 0 "000101119"
     -- 24: a side of 0; of 65; the number of cells; a cell's level
@@ -367,11 +367,11 @@ refusals =
     ∷ glyph "levels inputs/2 2/a b/left right table/a b 0110/" "01 11" "0 0 -1 0 0" 2 2 4 25 0
     ∷ glyph "levels inputs/2 2/a b/left right table/a b 0110/" "01 11" "0 0 -3 0" 2 2 4 25 0
     ∷ glyph "levels inputs/2 2/a b/left right table/a b 0110/" "01 11" "0 0 0 3" 2 2 4 25 0
-    -- 26: an earlier gate that is never used; of three gates the first; judged last, so that a reference used before comes first
+    -- 26: an earlier gate that is never used; the first of three gates; judged last, so a reference used before comes first
     ∷ net "levels inputs/2 4/a b c d/left right table/a b 0001/c d 0001/" 26 61
     ∷ net "levels inputs/2 5/a b c d e/left right table/a b 0001/c d 0001/2 e 0001/" 26 72
     ∷ net "levels inputs/2 5/a b c d e/left right table/a b 0001/c d 0001/e a 0001/" 8 65
-    -- 27: an open cell, of bare cells after 10; of a sheet before any buffer; in keeping after 12; a job that was refused so is the empty one
+    -- 27: an open cell, among bare cells after 10; in a sheet before any buffer; in keeping after 12; a job refused with 27 is the empty one
     ∷ bare 2 2 "0122" 27 2
     ∷ bare 2 2 "2223" 10 3
     ∷ make "levels inputs/2 2/a b ink/0 0 0/0 1 -/1 0 -/1 1 1/" 4 1 48 27 1 "9999" (nines 1)

@@ -1,5 +1,5 @@
 -- Document 02, K14, by small cases: "Designers invert a panel, dark for light, and expect the same masks." A table, the table that it becomes,
--- and the sheet that is made of each. Sheets are written as in `Cases`, with `/` for the line feed.
+-- and the sheet made of each. Sheets are written as in `Cases`, with `/` for the line feed.
 -- Assumes nothing.
 use Prim.Native.Nat.{_+_, _-_, _%_}
 use Prim.Native.String.{String}
@@ -17,7 +17,7 @@ use Rattle.rules.specs.Evaluation.{computing}
 unfoldable pub inverted : Table → Table
 inverted t = record { header = t .header; inks = map (λ v. t .header .levels - 1 - v) (t .inks) }
 
--- what is made of the table and of its inverse: one sheet but for the last table
+-- what is made of the table and of its inverse: the same sheet except for the last table
 abbrev Inverts : Table → String → String → String → Type 0
 Inverts t front table inverse =
     (makeProgram (printedTable t) ≡ paper front ++ paper table) × (makeProgram (printedTable (inverted t)) ≡ paper front ++ paper inverse)
@@ -27,7 +27,7 @@ pub weighted-inverts : Inverts weighted "levels inputs/3 3/a b c/left right tabl
 unfolding computing writing inverted weighted
 weighted-inverts = (refl, refl)
 
--- a, and 1 more where b = c: gate 1 has two classes, so that no assignment reaches the last digit of each row of the last gate, which is 0 in both
+-- a, plus 1 if b = c: gate 1 has two classes, so no assignment reaches the last digit of each row of the last gate; it is 0 in both
 unfoldable pub equalAdds : Table
 equalAdds = abc 3 (λ a b c. (a + oneIf (eqb b c)) % 3)
 

@@ -1,4 +1,4 @@
--- Document 02, K2, by small cases: a table whose settled net has a layer more than need be, and the shallower of two sheets. Sheets are
+-- Document 02, K2, by small cases: a table whose settled net has one layer more than needed, and the shallower of two sheets. Sheets are
 -- written as in `Cases`, with `/` for the line feed.
 -- Assumes nothing.
 use Prim.Native.Nat.{ℕ, _+_, _%_}
@@ -41,22 +41,22 @@ pub record Wrote : Type 0 where
 unfoldable pub wroteIn : LayeredMade → Answer Wrote
 wroteIn made = onward (made .answer) (λ a. accepted (record { sheet = take (a .length) (made .output); count = a .layers }))
 
--- a call with buffers that suffice
+-- a call with buffers that are long enough
 unfoldable pub on : (List ℕ → List ℕ → List ℕ → List ℕ → LayeredMade) → List ℕ → Answer Wrote
 on call sheet = wroteIn (call sheet (zeros mostCells) (zeros (marksLength mostInputs)) (zeros mostSettled))
 
 -- The common statement: what each case says.
 abbrev pub ShallowHolds : ShallowCase → Type 0
--- the net sheet that is made of a table's sheet, and its layers
+-- the net sheet made of a table's sheet, and its layers
 ShallowHolds (makes t output count) = on makeShallowCall (printedTable t) ≡ accepted (record { sheet = paper output; count = count })
 -- .. and of a net sheet
 ShallowHolds (settles sheet output count) = on settleShallowCall (paper sheet) ≡ accepted (record { sheet = paper output; count = count })
 -- the layers of a net sheet as it is wired
 ShallowHolds (has sheet count) = layersIn (paper sheet) ≡ accepted count
--- which of two sheets is handed back
+-- which of two sheets is returned
 ShallowHolds (hands first second which) = whichOf (paper first) (paper second) ≡ which
 
--- the settled net of `odd`, its shallow net, and a sheet that is turned back
+-- the settled net of `odd`, its shallow net, and a sheet that is refused
 abbrev pub deep : String
 deep = "levels inputs/2 4/a b c d/left right table/c d 0110/b 1 0110/a 2 0110/"
 
@@ -79,7 +79,7 @@ shallowCases =
     ∷ hands deep flat secondSheet
     ∷ hands flat deep firstSheet
     ∷ hands deep deep firstSheet
-    -- whatever their m, n and names: level, so the first; of fewer layers, the second
+    -- whatever their m, n and names: the first if the layers are equal; the second if it has fewer layers
     ∷ hands "levels inputs/2 3/x y z/left right table/x y 0001/1 z 0001/" flat firstSheet
     ∷ hands deep "levels inputs/3 2/x y/left right table/x y 000000000/" secondSheet
     ∷ hands unreadable deep secondSheet

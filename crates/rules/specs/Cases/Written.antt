@@ -1,4 +1,4 @@
--- How a case is written down: sheets with `/` for the line feed, as document 01 has them; tables by their rule; buffers before a call. Every file of
+-- How a case is written down: sheets with `/` for the line feed, as in document 01; tables by their rule; buffers before a call. Every file of
 -- cases uses these.
 -- Assumes nothing.
 use Prim.Native.Nat.{ℕ, _-_, _^_}
@@ -25,11 +25,11 @@ unfoldable pub lineEnds : List ℕ → List ℕ
 lineEnds [] = []
 lineEnds (b ∷ s) = cond (eqb b 47) newline b ∷ lineEnds s
 
--- a sheet as the document has it, `/` for the line feed
+-- a sheet as in the document, with `/` for the line feed
 unfoldable pub paper : String → List ℕ
 paper s = lineEnds (text s)
 
--- a run of digits, spaces passed over
+-- the digits in a text, skipping spaces
 unfoldable pub digits : List ℕ → List ℕ
 digits [] = []
 digits (b ∷ s) = elim (isDigit 10 b) [ true ↦ (b - 48) ∷ digits s | false ↦ digits s ]
@@ -51,11 +51,11 @@ abc m rule = byRule m 3 (letterNames "abc") (λ ls. rule (getD ls 0 0) (getD ls 
 unfoldable pub abcd : ℕ → (ℕ → ℕ → ℕ → ℕ → ℕ) → Table
 abcd m rule = byRule m 4 (letterNames "abcd") (λ ls. rule (getD ls 0 0) (getD ls 1 0) (getD ls 2 0) (getD ls 3 0))
 
--- 1 where it holds, 0 where not
+-- 1 if it holds, 0 if not
 unfoldable pub oneIf : Bool → ℕ
 oneIf b = cond b 1 0
 
--- a buffer before a call: so many nines, a byte that none of the calls in the cases writes
+-- a buffer before a call: the given number of nines, a byte that none of the calls in the cases writes
 unfoldable pub nines : ℕ → List ℕ
 nines k = replicate k 9
 

@@ -31,7 +31,7 @@ points m zero g = 0 ∷ []
 points m (suc n) g =
     concatMap (λ p. elim (member n g) [ true ↦ map (λ l. p * m + l) (range 0 m) | false ↦ p * m ∷ [] ]) (points m n g)
 
--- what an index gives the group: its levels at the members, 0 elsewhere
+-- the part of an index in the group: its levels at the members, 0 elsewhere
 unfoldable pub part : ℕ → ℕ → ℕ → ℕ → ℕ
 part m zero g p = 0
 part m (suc n) g p = part m n g (p / m) * m + cond (member n g) (p % m) 0

@@ -13,7 +13,7 @@ use Rattle.rules.specs.Groups.Groups.{member, size, multiplicity}
 unfoldable pub inside : ℕ → ℕ → ℕ → Bool
 inside n a g = all (λ i. not (member i a) || member i g) (range 0 n)
 
--- the mark of g in a list that has it at its number
+-- the mark of g in a list that holds each group's mark at its number
 abbrev pub markIn : List ℕ → ℕ → ℕ
 markIn marks g = getD marks g 0
 
@@ -22,7 +22,7 @@ unfoldable pub partsAt : ℕ → List ℕ → ℕ → ℕ → Bool
 partsAt n marks g a = inside n a g && eqb (markIn marks a) 2 && eqb (markIn marks (g - a)) 2
 
 -- "0 if it is empty or its multiplicity is over m; 2 if it has one member, or its multiplicity is at most m and it parts
--- into two non-empty groups that both have mark 2; 1 otherwise." `marks` has the marks of the groups below g.
+-- into two non-empty groups that both have mark 2; 1 otherwise." `marks` holds the marks of the groups below g.
 unfoldable pub markOf : ℕ → ℕ → (ℕ → ℕ) → List ℕ → ℕ → ℕ
 markOf m n f marks g =
     elim (eqb g 0 || not (leb (multiplicity m n f g) m)) [
@@ -45,8 +45,8 @@ marksOf m n f = marksBelow m n f (2 ^ n)
 unfoldable pub marksLength : ℕ → ℕ
 marksLength n = 2 ^ n / 4
 
--- "Marks are packed four to a byte, group 0 in the lowest two bits of byte 0." (document 02, K7) Fewer than four left over have no byte; the
--- groups are a multiple of four.
+-- "Marks are packed four to a byte, group 0 in the lowest two bits of byte 0." (document 02, K7) Fewer than four left over get no byte; the
+-- number of groups is a multiple of four.
 unfoldable pub storedMarks : List ℕ → List ℕ
 storedMarks [] = []
 storedMarks (a ∷ []) = []
@@ -58,16 +58,16 @@ storedMarks (a ∷ b ∷ c ∷ d ∷ marks) = (a + 4 * b + 16 * c + 64 * d) ∷ 
 unfoldable pub markStored : List ℕ → ℕ → ℕ
 markStored bytes g = getD bytes (g / 4) 0 / 4 ^ (g % 4) % 4
 
--- all marks of stored bytes
+-- all marks in stored bytes
 unfoldable pub unpacked : List ℕ → List ℕ
 unpacked [] = []
 unpacked (byte ∷ bytes) = byte % 4 ∷ byte / 4 % 4 ∷ byte / 16 % 4 ∷ byte / 64 % 4 ∷ unpacked bytes
 
--- the groups, those of fewest members first, then of lowest number
+-- the groups, fewest members first, then lowest number
 unfoldable pub bySize : ℕ → List ℕ
 bySize n = concatMap (λ k. those (λ g. eqb (size n g) k) (range 0 (2 ^ n))) (range 0 (n + 1))
 
--- "no tree; place: the group of fewest members, then lowest number, with mark 1". There is such a group whenever the whole group has another mark than 2
+-- "no tree; place: the group of fewest members, then lowest number, with mark 1". Such a group exists whenever the whole group's mark is not 2
 -- (`no-tree-place` in the crate `trees`), so `none ↦ 0` is never used.
 unfoldable pub noTreePlace : ℕ → List ℕ → ℕ
 noTreePlace n marks = elim (find (λ g. eqb (markIn marks g) 1) (bySize n)) [ none ↦ 0 | some g ↦ g ]

@@ -1,4 +1,4 @@
--- Document 02, K5: when a net's output settles, by the arrivals at its inputs, and the call.
+-- Document 02, K5: when a net's output settles, given the arrivals at its inputs, and the call.
 -- Assumes nothing.
 use Prim.Native.Nat.{ℕ, _+_, _-_, _*_}
 use mathlib.Core.Bool.{true, false}
@@ -19,7 +19,7 @@ use Rattle.rules.specs.Sheets.ArrivalSheet.{Arrival, earliestOf, latestO
 unfoldable pub startsAt : ℕ → ℕ → List (List ℕ)
 startsAt n i = map (λ j. elim (eqb j i) [ true ↦ 0 ∷ [] | false ↦ [] ]) (range 0 n)
 
--- The ways from input i to the output, which is the last gate, by the number of gates on each. In a net a used input has just one, and an unused
+-- The ways from input i to the output, which is the last gate, by the number of gates on each. In a net a used input has exactly one, and an unused
 -- input has none.
 unfoldable pub waysFrom : ℕ → List Gate → ℕ → List ℕ
 waysFrom n gates i = getD (withWays (startsAt n i) gates) (n + length gates - 1) []
@@ -58,7 +58,7 @@ pub record Ends : Type 0 where
 
 -- ---- the call
 
--- the two ends, or a refusal of the one sheet or of the other
+-- the two ends, or a refusal of one of the two sheets
 pub data Timing : Type 0 where
   settles : Ends → Timing
   netRefused : ℕ → ℕ → Timing

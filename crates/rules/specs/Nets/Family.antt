@@ -1,5 +1,5 @@
 -- Document 02, K3: how many trees a table has, the tree of each number, and when two nets are one wiring. The rule for the gates' digits
--- is `Filling`'s.
+-- is in `Filling`.
 -- Assumes nothing.
 use Prim.Native.Nat.{ℕ, zero, suc, _+_, _-_, _*_, _/_, _%_, _^_}
 use mathlib.Core.Path.{_≡_}
@@ -17,20 +17,20 @@ use Rattle.rules.specs.Nets.Leaves.{leavesOf}
 
 -- ---- the count
 
--- The splits of a group into two of mark 2, each by its part A, by rising number of A. "A split is counted once, with the first-listed
+-- The splits of a group into two of mark 2, each given by its part A, in rising order of A's number. "A split is counted once, with the first-listed
 -- input on the left."
 unfoldable pub splitsOf : ℕ → List ℕ → ℕ → List ℕ
 splitsOf n marks g = those (λ a. partsAt n marks g a && member (firstInput n g) a) (range 1 (g - 1))
 
--- the count of g in a list that has it at its number
+-- the count of g in a list that holds each group's count at its number
 abbrev pub countIn : List ℕ → ℕ → ℕ
 countIn counts g = getD counts g 0
 
--- "a split's count from its two groups": a tree of A and one of B, each with each
+-- "a split's count from its two groups": each tree of A with each tree of B
 unfoldable pub splitCount : List ℕ → ℕ → ℕ → ℕ
 splitCount counts g a = countIn counts a * countIn counts (g - a)
 
--- "A group's count comes from its splits": none where its mark is not 2, and one for a single input. `counts` has the counts of the
+-- "A group's count comes from its splits": 0 if its mark is not 2, and 1 for a single input. `counts` holds the counts of the
 -- groups below g.
 unfoldable pub countOf : ℕ → List ℕ → List ℕ → ℕ → ℕ
 countOf n marks counts g =
@@ -44,7 +44,7 @@ unfoldable pub countsBelow : ℕ → List ℕ → ℕ → List ℕ
 countsBelow n marks zero = []
 countsBelow n marks (suc end) = let counts = countsBelow n marks end in counts ++ (countOf n marks counts end ∷ [])
 
--- of every group
+-- the counts of all groups
 unfoldable pub countsOf : ℕ → List ℕ → List ℕ
 countsOf n marks = countsBelow n marks (2 ^ n)
 
@@ -59,7 +59,7 @@ pub record Numbered : Type 0 where
   pub part : ℕ
   pub number : ℕ
 
--- The split that number r falls in, and its number there: split counts are taken off r until it is below the next one. Where there is none,
+-- The split that number r falls in, and its number there: split counts are subtracted from r until it is below the next one. If there is none,
 -- part 0.
 unfoldable pub numberedAt : (ℕ → ℕ) → List ℕ → ℕ → Numbered
 numberedAt count [] r = record { part = 0; number = r }
@@ -85,7 +85,7 @@ familyGates m n f marks r = filled m n f (linksOf n 0 (familyWiring n marks (cou
 
 -- ---- one wiring
 
--- the groups of some gates, where `groups` has the group of every reference so far; a gate's group is the union of its references'
+-- the groups of some gates, where `groups` holds the group of every reference so far; a gate's group is the union of its references' groups
 unfoldable pub groupsFrom : List ℕ → List Gate → List ℕ
 groupsFrom groups [] = []
 groupsFrom groups (g ∷ gates) =
@@ -96,10 +96,10 @@ groupsFrom groups (g ∷ gates) =
 unfoldable pub gateGroups : ℕ → List Gate → List ℕ
 gateGroups n gates = groupsFrom (inputGroups n) gates
 
--- "Nets that differ only in which side is left, in gate numbers or in gate tables are one wiring": the same groups of inputs are joined
--- by a gate. A group says which inputs stand below a gate, and nothing of a side, a number or a table; and in a net it tells which two
+-- "Nets that differ only in which side is left, in gate numbers or in gate tables are one wiring": gates join the same groups of inputs.
+-- A group says which inputs are below a gate, but nothing about a side, a number or a table; and in a net it determines which two
 -- smaller groups its gate joins. (`same-wiring` in trees/Filling/GateGroups proves that this is
--- the sentence, said of the two trees: one is the other with sides exchanged, `Turned`.)
+-- what the sentence says about the two trees: one is the other with sides exchanged, `Turned`.)
 abbrev pub SameWiring : ℕ → List Gate → List Gate → Type 0
 SameWiring n gates others = (g : ℕ) → any (eqb g) (gateGroups n gates) ≡ any (eqb g) (gateGroups n others)
 

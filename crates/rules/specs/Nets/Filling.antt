@@ -13,7 +13,7 @@ use Rattle.rules.specs.Nets.Wirings.{Link, firstInput}
 
 -- ---- what a wire carries
 
--- The number of the class of what p gives group g: "classes, numbered from 0 in the order in which they first appear as the
+-- The number of the class of p's part in group g: "classes, numbered from 0 in the order in which they first appear as the
 -- group's assignments are counted".
 unfoldable pub classNumber : ℕ → ℕ → (ℕ → ℕ) → ℕ → ℕ → ℕ
 classNumber m n f g =
@@ -27,7 +27,7 @@ unfoldable pub carried : ℕ → ℕ → (ℕ → ℕ) → ℕ → ℕ → ℕ
 carried m n f g = elim (eqb (size n g) 1) [ true ↦ let i = firstInput n g in λ p. level m n p i | false ↦ classNumber m n f g ]
 
 -- What the gate of group g gives at index p. "A gate below the last gives its group's classes". "The last gate gives the ink." Inputs outside g do
--- not matter there (document 02, K12: they are no leaves), so the ink is read with level 0 at them.
+-- not matter there (document 02, K12: they are not leaves), so the ink is read with level 0 at them.
 unfoldable pub given : ℕ → ℕ → (ℕ → ℕ) → Bool → ℕ → ℕ → ℕ
 given m n f true g = λ p. f (part m n g p)
 given m n f false g = classNumber m n f g
@@ -59,7 +59,7 @@ gateDigits m n f last a b =
 unfoldable pub inputGroups : ℕ → List ℕ
 inputGroups n = map (λ i. 2 ^ i) (range 0 n)
 
--- The gates of some lines. `groups` has the group of every reference so far; a gate's group is the union of its references'.
+-- The gates of some lines. `groups` holds the group of every reference so far; a gate's group is the union of its references' groups.
 unfoldable pub filledFrom : ℕ → ℕ → (ℕ → ℕ) → List ℕ → List Link → List Gate
 filledFrom m n f groups [] = []
 filledFrom m n f groups (l ∷ links) =

@@ -7,11 +7,11 @@ use Rattle.rules.specs.Lists.{range, withEach}
 use Rattle.rules.specs.Sheets.Sheets.{Gate}
 
 -- A way from an input to a reference, by the number of gates on it: the ways to a gate are those to its left and those to its right, each with
--- one gate more. `ways` has the ways to every reference so far.
+-- one more gate. `ways` holds the ways to every reference so far.
 unfoldable pub gateWays : List (List ℕ) → Gate → List ℕ
 gateWays ways g = map suc (getD ways (g .left) [] ++ getD ways (g .right) [])
 
--- the ways to all references: those given, to the inputs; then the gates', in order
+-- the ways to all references: the given ones, to the inputs; then those to the gates, in order
 abbrev pub withWays : List (List ℕ) → List Gate → List (List ℕ)
 withWays ways gates = withEach gateWays ways gates
 

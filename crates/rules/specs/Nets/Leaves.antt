@@ -1,4 +1,4 @@
--- Document 02, K12: which inputs matter, and which inputs a tree that is made of a table has as leaves.
+-- Document 02, K12: which inputs matter, and which inputs are the leaves of a tree made of a table.
 -- Assumes nothing.
 use Prim.Native.Nat.{ℕ, _-_, _^_}
 use mathlib.Core.Bool.{Bool, not}
@@ -7,7 +7,7 @@ use lib.ListN.{length, take}
 use Rattle.rules.specs.Lists.{range, any, those, total}
 use Rattle.rules.specs.Groups.Groups.{points, alike}
 
--- "An input matters when some two assignments differing only there differ in ink.": two assignments of the group of this input alone that are not alike
+-- "An input matters when some two assignments differing only there differ in ink.": two assignments of this input as a group that are not alike
 unfoldable pub matters : ℕ → ℕ → (ℕ → ℕ) → ℕ → Bool
 matters m n f i = let own = points m n (2 ^ i) in any (λ p. any (λ q. not (alike m n f (2 ^ i) p q)) own) own
 

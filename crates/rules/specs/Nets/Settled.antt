@@ -1,5 +1,5 @@
 -- Document 01, section 'The settled net': the choice of its wiring from the marks, and the net. The rule for the gates' digits is
--- `Filling`'s.
+-- in `Filling`.
 -- Assumes nothing.
 use Prim.Native.Nat.{ℕ, _+_, _-_}
 use mathlib.Core.Bool.{_&&_}

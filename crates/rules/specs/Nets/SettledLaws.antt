@@ -1,5 +1,5 @@
 -- Laws of the settled net's choices, from the definitions alone: A is "of lowest number", and a group's classes are "numbered from
--- 0 in the order in which they first appear". They stand beside the definitions, so that a definition that chooses otherwise is refused.
+-- 0 in the order in which they first appear". They are proved next to the definitions, so a definition that chooses otherwise is refused.
 -- Assumes nothing.
 use Prim.Native.Nat.{ℕ, zero, suc, _+_, _-_, _≤_, _<_}
 use mathlib.Core.Path.{_≡_, refl, sym, ap, _∙_, subst}
@@ -20,7 +20,7 @@ use Rattle.rules.specs.Nets.Settled.{splitOf}
 
 -- ---- "A of lowest number"
 
--- The first place of a range that passes is the least number that does, where one does.
+-- If some number of a range passes, the first place that passes is the least such number.
 pub found-in-range : (test : ℕ → Bool) (from count a : ℕ) → from ≤ a → a < from + count → test a ≡ true
     → (test (from + firstPlace test (range from count)) ≡ true) × (from + firstPlace test (range from count) ≤ a)
 unfolding firstPlace range
@@ -39,7 +39,7 @@ found-in-range test from (suc count) a l h e = go (test from) refl (λ l′. fou
         past (inl same) = absurd (false≢true (sym d ∙ ap test same ∙ e))
         past (inr l′) = rw (suc-add, ← add-suc from rest) at (later l′)
 
--- A group's "first-listed input" is a member of it, and no member stands before it.
+-- A group's "first-listed input" is a member of it, and no member comes before it.
 pub first-input : (n g i : ℕ) → i < n → member i g ≡ true → (member (firstInput n g) g ≡ true) × (firstInput n g ≤ i)
 unfolding firstInput
 first-input n g i h is = rw zero-add at (found-in-range (λ i. member i g) 0 n i (omega arith) (omega arith) is)
@@ -70,7 +70,7 @@ module _ (n : ℕ) (marks : List ℕ) (g : ℕ) where
       let (part, two) = and-eq-true-iff (inside n a g) (eqb (markIn marks a) 2) .0 front in
       record { some = some; less = less; part = part; two = eqb-true _ _ two; rest-two = eqb-true _ _ rest; holds-first = first }
 
-  -- Where there is such a part, `splitOf` is one, and of lowest number.
+  -- If there is such a part, `splitOf` is one, and the one of lowest number.
   pub split-lowest : (a : ℕ) → MayBeA n marks g a → MayBeA n marks g (splitOf n marks g) × (splitOf n marks g ≤ a)
   unfolding splitOf
   split-lowest a is =
@@ -81,17 +81,17 @@ module _ (n : ℕ) (marks : List ℕ) (g : ℕ) where
 -- ---- "in the order in which they first appear"
 
 -- l has one element of each class of ps under the test `same`, numbered "in the order in which they first appear": the class of an
--- element appears first at the first place that is alike with it.
+-- element appears first at the first place that is alike to it.
 pub record ByAppearance (same : ℕ → ℕ → Bool) (ps l : List ℕ) : Type 0 where
   -- every class is listed, ..
   pub all-listed : (p : ℕ) → any (same p) ps ≡ true → any (same p) l ≡ true
   -- .. by the element with which it appears first, ..
   pub appears : (i : ℕ) → i < length l → firstPlace (same (getD l i 0)) ps < length ps
   pub first : (i : ℕ) → i < length l → getD ps (firstPlace (same (getD l i 0)) ps) 0 ≡ getD l i 0
-  -- .. and one of lower number appears earlier
+  -- .. and a class of lower number appears earlier
   pub order : (i j : ℕ) → i < j → j < length l → firstPlace (same (getD l i 0)) ps < firstPlace (same (getD l j 0)) ps
 
--- what a test of the first element makes of the rest's answer, in `any` and in `firstPlace`
+-- combines the test of the first element with the rest's answer, in `any` and in `firstPlace`
 abbrev orRest : Bool → Bool → Bool
 orRest t rest = elim t [ true ↦ true | false ↦ rest ]
 
@@ -112,7 +112,7 @@ any-snoc test (y ∷ xs) x = go (test y) _ _ (any-snoc test xs x)
     go true b c e = refl
     go false b c e = e
 
--- the first place stays where more elements follow, ..
+-- the first place stays the same if more elements follow, ..
 first-stays : (test : ℕ → Bool) (xs ys : List ℕ) → firstPlace test xs < length xs → firstPlace test (xs ++ ys) ≡ firstPlace test xs
 unfolding firstPlace
 first-stays test [] ys h = absurd (omega arith)
@@ -124,7 +124,7 @@ first-stays test (x ∷ xs) ys h = go (test x) h (first-stays test xs ys)
     go true h later = refl
     go false h later = ap suc (later (omega arith))
 
--- .. and is the end where none passed before
+-- .. and is the end if none passed before
 first-new : (test : ℕ → Bool) (xs : List ℕ) (x : ℕ) → any test xs ≡ false → test x ≡ true → firstPlace test (xs ++ (x ∷ [])) ≡ length xs
 unfolding firstPlace any
 first-new test [] x none e = rw (e, firstPlace)
@@ -140,12 +140,12 @@ either : (a b : Bool) → (a || b) ≡ true → (a ≡ true) ⊎ (b ≡ true)
 either true b e = inl refl
 either false b e = inr e
 
--- a place of a list with one more element is the new one's, or an earlier one
+-- a place in a list with one more element is that of the new element, or an earlier one
 new-or-old : (l : List ℕ) (p i : ℕ) → i < length (l ++ (p ∷ [])) → (i ≡ length l) ⊎ (i < length l)
 new-or-old l p i h = eq-or-lt-of-le (omega (arith, length-append l (p ∷ [])))
 
 module _ (same : ℕ → ℕ → Bool) (own : (p : ℕ) → same p p ≡ true) (chain : (p q r : ℕ) → same p q ≡ true → same q r ≡ true → same p r ≡ true) where
-  -- what is alike with an element is alike with what that one is alike with
+  -- if q is alike to p, and p to an element of l, then q is alike to an element of l
   any-chain : (q p : ℕ) (l : List ℕ) → same q p ≡ true → any (same p) l ≡ true → any (same q) l ≡ true
   unfolding any
   any-chain q p [] e h = h
@@ -157,7 +157,7 @@ module _ (same : ℕ → ℕ → Bool) (own : (p : ℕ) → same p p ≡ true) (
       go true d false c h later = absurd (false≢true (sym c ∙ chain q p x e d))
       go false d false c h later = later h
 
-  -- one more element after those of `done`, of which l has the classes
+  -- one more element after those of `done`, whose classes are in l
   module _ (done l : List ℕ) (p : ℕ) (before : ByAppearance same done l) where
     -- the classes listed appear where they did
     place-kept : (i : ℕ) → i < length l → firstPlace (same (getD l i 0)) (done ++ (p ∷ [])) ≡ firstPlace (same (getD l i 0)) done
@@ -228,17 +228,17 @@ module _ (same : ℕ → ℕ → Bool) (own : (p : ℕ) → same p p ≡ true) (
               let i< : i < length l = omega arith in
               rw (old-at i i<, old-at j k, place-kept i i<, place-kept j k) (before .order i j h k)
 
-  -- an element of a class that is listed is passed over, ..
+  -- an element of a class that is listed is skipped, ..
   firsts-listed : (l ps : List ℕ) (p : ℕ) → any (same p) l ≡ true → firsts same l (p ∷ ps) ≡ firsts same l ps
   unfolding firsts
   firsts-listed l ps p e = rw (e, firsts)
 
-  -- .. and one of a class that is not is listed last
+  -- .. and one of an unlisted class is appended
   firsts-unlisted : (l ps : List ℕ) (p : ℕ) → any (same p) l ≡ false → firsts same l (p ∷ ps) ≡ firsts same (l ++ (p ∷ [])) ps
   unfolding firsts
   firsts-unlisted l ps p e = rw (e, firsts)
 
-  -- so `firsts` goes on as it began
+  -- so `firsts` continues as it began
   firsts-on : (done l ps : List ℕ) → ByAppearance same done l → ByAppearance same (done ++ ps) (firsts same l ps)
   firsts-on done l [] before = unfold firsts in rw append-nil before
   firsts-on done l (p ∷ ps) before =
@@ -258,7 +258,7 @@ module _ (same : ℕ → ℕ → Bool) (own : (p : ℕ) → same p p ≡ true) (
       firsts-on [] [] ps
       (record { all-listed = λ p h. h; appears = λ i h. absurd (omega arith); first = λ i h. absurd (omega arith); order = λ i j h k. absurd (omega arith) })
 
--- two assignments are alike over a list of others exactly when the ink is the same with each
+-- two assignments are alike over a list of others exactly if the ink is the same with each
 alike-cons : (f : ℕ → ℕ) (y : ℕ) (ys : List ℕ) (p q : ℕ) → (alikeOver f (y ∷ ys) p q ≡ true) ↔ ((f (p + y) ≡ f (q + y)) × (alikeOver f ys p q ≡ true))
 unfolding alikeOver all
 alike-cons f y ys p q = go (eqb (f (p + y)) (f (q + y))) refl
@@ -268,13 +268,13 @@ alike-cons f y ys p q = go (eqb (f (p + y)) (f (q + y))) refl
     go true e = (λ h. (eqb-true _ _ e, h), λ h. h .1)
     go false e = (λ h. absurd (false≢true h), λ h. absurd (eqb-false _ _ e (h .0)))
 
--- so each is alike with itself, ..
+-- so each is alike to itself, ..
 alike-own : (f : ℕ → ℕ) (ys : List ℕ) (p : ℕ) → alikeOver f ys p p ≡ true
 unfolding alikeOver all
 alike-own f [] p = refl
 alike-own f (y ∷ ys) p = alike-cons f y ys p p .1 (refl, alike-own f ys p)
 
--- .. and with what one is alike with that it is alike with
+-- .. and alikeness is transitive
 alike-chain : (f : ℕ → ℕ) (ys : List ℕ) (p q r : ℕ) → alikeOver f ys p q ≡ true → alikeOver f ys q r ≡ true → alikeOver f ys p r ≡ true
 unfolding alikeOver all
 alike-chain f [] p q r a b = refl

@@ -1,4 +1,4 @@
--- Document 02, K2: the choice of the shallow net's wiring from the marks, and the net. The rule for the gates' digits is `Filling`'s.
+-- Document 02, K2: the choice of the shallow net's wiring from the marks, and the net. The rule for the gates' digits is in `Filling`.
 -- Assumes nothing.
 use Prim.Native.Nat.{ℕ, zero, suc, _+_, _-_, _^_, min, max}
 use mathlib.Core.Bool.{_&&_}
@@ -15,7 +15,7 @@ use Rattle.rules.specs.Nets.Leaves.{leavesOf}
 
 -- ---- the fewest layers of a group
 
--- the smallest of some numbers, and 0 of none
+-- the smallest of some numbers; 0 for an empty list
 unfoldable pub least : List ℕ → ℕ
 least [] = 0
 least (x ∷ []) = x
@@ -25,24 +25,24 @@ least (x ∷ y ∷ xs) = min x (least (y ∷ xs))
 unfoldable pub splitLayers : List ℕ → ℕ → ℕ → ℕ
 splitLayers fewest g a = 1 + max (getD fewest a 0) (getD fewest (g - a) 0)
 
--- The fewest layers of a group g of mark 2: the least over the ways to part it into two groups of mark 2. `fewest` has those of the groups below g. A
--- single input has no two parts, so it gets 0, which is right: it has no gate. A group of several members and mark 0 or 1 may get a number too; no
+-- The fewest layers of a group g of mark 2: the least over all splits into two groups of mark 2. `fewest` holds those of the groups below g. A
+-- single input has no split, so it gets 0, which is right: it has no gate. A group with several members and mark 0 or 1 may get a number too; no
 -- wiring uses it.
 unfoldable pub fewestOf : ℕ → List ℕ → List ℕ → ℕ → ℕ
 fewestOf n marks fewest g = least (map (splitLayers fewest g) (those (partsAt n marks g) (range 1 (g - 1))))
 
--- of the groups below `count`
+-- the fewest layers of the groups below `count`
 unfoldable pub fewestBelow : ℕ → List ℕ → ℕ → List ℕ
 fewestBelow n marks zero = []
 fewestBelow n marks (suc count) = let fewest = fewestBelow n marks count in fewest ++ (fewestOf n marks fewest count ∷ [])
 
--- of every group
+-- the fewest layers of every group
 unfoldable pub fewestLayers : ℕ → List ℕ → List ℕ
 fewestLayers n marks = fewestBelow n marks (2 ^ n)
 
 -- ---- the choice
 
--- "each group takes the part A of lowest number that keeps its own group shallowest", otherwise as the settled net does. The result is A's
+-- "each group takes the part A of lowest number that keeps its own group shallowest", otherwise as in the settled net. The result is A's
 -- number; for a non-empty g without such an A it is g itself, which no wiring uses.
 unfoldable pub shallowSplit : ℕ → List ℕ → List ℕ → ℕ → ℕ
 shallowSplit n marks fewest g =

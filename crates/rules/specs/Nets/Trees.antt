@@ -1,6 +1,6 @@
 -- Trees. "a tree is any net as above with the same m and n, whatever its wiring and its gates' digits. It is fanout-free, since nothing in it is
 -- referred to twice."
--- (document 01, 'Marks'). Said of nets, whose gate lines are listed, and of trees as values, which have no line order.
+-- (document 01, 'Marks'). Stated for nets, whose gate lines are listed, and for trees as values, which have no line order.
 -- Assumes nothing.
 use Prim.Native.Nat.{ℕ, _+_, _*_, _^_, _<_}
 use mathlib.Core.Path.{_≡_}
@@ -45,7 +45,7 @@ abbrev pub EachOnce : ℕ → Wiring → Type 0
 EachOnce n (input i) = i < n
 EachOnce n (gate a b) = Apart n (groupOf a) (groupOf b) × EachOnce n a × EachOnce n b
 
--- One wiring and another that "differ only in which side is left" (document 02, K3)
+-- Two wirings that "differ only in which side is left" (document 02, K3)
 pub data Turned : Wiring → Wiring → Type 0 where
   same-input : {i : ℕ} → Turned (input i) (input i)
   straight : {a b c d : Wiring} → Turned a c → Turned b d → Turned (gate a b) (gate c d)

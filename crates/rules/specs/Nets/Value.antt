@@ -6,7 +6,7 @@ use lib.ListN.{length, getD}
 use Rattle.rules.specs.Lists.{range, withEach}
 use Rattle.rules.specs.Sheets.Sheets.{Gate, levelsAt}
 
--- "A gate's value is its digit at (left's value · m + right's value)." `values` has every reference's value so far.
+-- "A gate's value is its digit at (left's value · m + right's value)." `values` holds every reference's value so far.
 unfoldable pub gateValue : ℕ → List ℕ → Gate → ℕ
 gateValue m values g = getD (g .digits) (getD values (g .left) 0 * m + getD values (g .right) 0) 0
 

@@ -1,5 +1,5 @@
--- Wirings: which two things each gate joins. A wiring is a value, apart from how it was chosen (`Settled`, `Shallow`, `Family`) and from its gates' digits
--- (`Filling`): as a tree (`Wiring`), or as gate lines without their tables (`Link`).
+-- Wirings: which two things each gate joins. A wiring is a value, independent of how it was chosen (`Settled`, `Shallow`, `Family`) and of its gates'
+-- digits (`Filling`): a tree (`Wiring`), or gate lines without their tables (`Link`).
 -- Assumes nothing.
 use Prim.Native.Nat.{ℕ, zero, suc, _+_, _-_, _^_}
 use mathlib.Core.Bool.{true, false}
@@ -18,7 +18,7 @@ unfoldable pub groupOf : Wiring → ℕ
 groupOf (input i) = 2 ^ i
 groupOf (gate a b) = groupOf a + groupOf b
 
--- ---- by a choice of parts
+-- ---- from a choice of parts
 
 -- a group's "first-listed input"
 unfoldable pub firstInput : ℕ → ℕ → ℕ

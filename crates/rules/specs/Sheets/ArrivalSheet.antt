@@ -1,4 +1,4 @@
--- Document 02, K5: the arrival sheet, field by field, with the number and the place of every refusal; its print; and its rules said without a
+-- Document 02, K5: the arrival sheet, field by field, with the number and the place of every refusal; its print; and its rules stated without a
 -- reader. "A sheet has the line `name from to`, then one line an input in order, whole numbers of quarter microseconds, 0 to 65,535."
 -- Assumes nothing.
 use Prim.Native.Nat.{ℕ, _≤_, _<_}
@@ -51,12 +51,12 @@ arrivalLine name = do
   to ← field (timeField from) newline
   give (arrivalOf from to)
 
--- "one line an input in order", behind the arrivals read before
+-- "one line an input in order", after the arrivals read before
 unfoldable pub arrivalLines : List (List ℕ) → List Arrival → Reader (List Arrival)
 arrivalLines [] earlier = give earlier
 arrivalLines (name ∷ names) earlier = arrivalLine name >>= λ arrival. arrivalLines names (earlier ++ (arrival ∷ []))
 
--- the whole sheet, for inputs of these names. "both judged field by field as in document 01, layout still 1."
+-- the whole sheet, for inputs with these names. "both judged field by field as in document 01, layout still 1."
 unfoldable pub arrivalSheet : List (List ℕ) → Reader (List Arrival)
 arrivalSheet names = do
   _ ← field (theWord "name") space
@@ -76,7 +76,7 @@ readArrivals names s = answered (arrivalSheet names s 0)
 unfoldable pub printedArrival : List ℕ → Arrival → List ℕ
 printedArrival name arrival = line (name ∷ decimal (earliestOf arrival) ∷ decimal (latestOf arrival) ∷ [])
 
--- of each input
+-- the lines of all inputs
 unfoldable pub printedArrivals : List (List ℕ) → List Arrival → List ℕ
 printedArrivals [] arrivals = []
 printedArrivals (name ∷ names) [] = []
@@ -93,12 +93,12 @@ abbrev pub ArrivalRules : Arrival → Type 0
 ArrivalRules (fixed time) = time ≤ mostTime
 ArrivalRules (between from to) = (from < to) × (to ≤ mostTime)
 
--- of every arrival
+-- the rules for every arrival
 abbrev pub EachArrivalRules : List Arrival → Type 0
 EachArrivalRules [] = Unit {0}
 EachArrivalRules (arrival ∷ arrivals) = ArrivalRules arrival × EachArrivalRules arrivals
 
--- one arrival an input, and each keeps the rules
+-- one arrival for each input, and each follows the rules
 pub record ArrivalSheetRules (names : List (List ℕ)) (arrivals : List Arrival) : Type 0 where
   pub count : length arrivals ≡ length names
   pub each : EachArrivalRules arrivals

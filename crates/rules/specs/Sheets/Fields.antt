@@ -1,6 +1,6 @@
 -- How a sheet is judged: document 01, first lines of the section 'Sheets' and of 'Turned back because of the input'.
 -- A reader takes the bytes that are left and their place in the sheet. It gives a value, the bytes then left and their place,
--- or the number and the place with which the sheet is turned back.
+-- or the number and the place of the refusal.
 -- Assumes nothing.
 use Prim.Native.Nat.{ℕ, suc, _+_}
 use Prim.Native.String.{String}
@@ -11,7 +11,7 @@ use lib.Dec.{eqb}
 use Rattle.rules.specs.Lists.{same}
 use Rattle.rules.specs.Text.{space, newline, text}
 
--- what a reader comes to
+-- the result of a reader
 pub data Read (A : Type 0) : Type 0 where
   read : A → List ℕ → ℕ → Read A
   turnedBack : ℕ → ℕ → Read A
@@ -25,7 +25,7 @@ unfoldable pub then : {A B : Type 0} → Read A → (A → Reader B) → Read B
 then (read a rest place) next = next a rest place
 then (turnedBack number place) next = turnedBack number place
 
--- the same of readers
+-- the same for readers
 infixl 20 _>>=_
 abbrev pub _>>=_ : {A B : Type 0} → Reader A → (A → Reader B) → Reader B
 (reader >>= next) s at = then (reader s at) next
@@ -34,7 +34,7 @@ abbrev pub _>>=_ : {A B : Type 0} → Reader A → (A → Reader B) → Reader B
 abbrev pub give : {A : Type 0} → A → Reader A
 give a s at = read a s at
 
--- What a field's bytes are found to be: a value, or the number with which the sheet is turned back.
+-- The verdict on a field's bytes: a value, or the number of the refusal.
 pub data Judged (A : Type 0) : Type 0 where
   good : A → Judged A
   bad : ℕ → Judged A
@@ -56,12 +56,12 @@ unfoldable pub run : List ℕ → List ℕ
 run [] = []
 run (b ∷ s) = elim (isSeparator b) [ true ↦ [] | false ↦ b ∷ run s ]
 
--- what stands after that run
+-- what follows that run
 unfoldable pub past : List ℕ → List ℕ
 past [] = []
 past (b ∷ s) = elim (isSeparator b) [ true ↦ b ∷ s | false ↦ past s ]
 
--- The byte after a field, at `place`: it is the separator that is due. "fixed word, separator, missing end": 1
+-- The byte after a field, at `place`, must be the separator that is due. "fixed word, separator, missing end": 1
 unfoldable pub separator : {A : Type 0} → A → ℕ → List ℕ → ℕ → Read A
 separator a due [] place = turnedBack 1 place
 separator a due (b ∷ s) place = elim (eqb b due) [ true ↦ read a s (suc place) | false ↦ turnedBack 1 place ]
@@ -71,22 +71,22 @@ unfoldable pub pastSpaces : List ℕ → List ℕ
 pastSpaces [] = []
 pastSpaces (b ∷ s) = elim (eqb b space) [ true ↦ pastSpaces s | false ↦ b ∷ s ]
 
--- how many spaces stand at the front
+-- how many spaces are at the front
 unfoldable pub spacesIn : List ℕ → ℕ
 spacesIn [] = 0
 spacesIn (b ∷ s) = elim (eqb b space) [ true ↦ suc (spacesIn s) | false ↦ 0 ]
 
--- any number of spaces, none too, passed over
+-- skips any number of spaces, including none
 unfoldable pub spaces : {A : Type 0} → A → Reader A
 spaces a s at = read a (pastSpaces s) (at + spacesIn s)
 
--- How fields are parted. Strictly: "Fields are parted by exactly one space", and the line feed stands straight after a line's last field. Loosely
+-- How fields are separated. Strictly: "Fields are parted by exactly one space", and the line feed follows a line's last field directly. Loosely
 -- (document 02, K8): "one or more spaces between fields, spaces before a line feed".
 pub data Layout : Type 0 where
   strict : Layout
   loose : Layout
 
--- Loosely, where a space is due, one stands there and any others are passed; where a line feed is due, any spaces are passed and it stands there. So
+-- Loosely: if a space is due, one must be there and any more are skipped; if a line feed is due, any spaces are skipped and it must follow. So
 -- "elsewhere 1 is placed after any spaces passed".
 unfoldable pub looseSeparator : {A : Type 0} → A → ℕ → Reader A
 looseSeparator a due s at =
@@ -112,7 +112,7 @@ fieldOfIn layout judge due (b ∷ w) rest at = afterFieldIn layout (judge (b ∷
 unfoldable pub fieldIn : Layout → {A : Type 0} → Judge A → ℕ → Reader A
 fieldIn layout judge due s at = fieldOfIn layout judge due (run s) (past s) at
 
--- the three of a strict sheet
+-- the three functions for a strict sheet
 abbrev pub afterField : {A : Type 0} → Judged A → ℕ → List ℕ → ℕ → ℕ → Read A
 afterField verdict due rest at end = afterFieldIn strict verdict due rest at end
 

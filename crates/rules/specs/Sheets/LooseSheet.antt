@@ -1,4 +1,4 @@
--- Document 02, K8: the loose table sheet, field by field, with the number and the place of every refusal; and its rules said without a reader.
+-- Document 02, K8: the loose table sheet, field by field, with the number and the place of every refusal; and its rules stated without a reader.
 -- "Customers export loosely laid tables. A tidier accepts one or more spaces between fields, spaces before a line feed, rows in any order."
 -- Assumes nothing.
 use Prim.Native.Nat.{ℕ, zero, suc, _+_, _-_, _*_, _^_, _≤_, _<_}
@@ -16,12 +16,12 @@ use Rattle.rules.specs.Sheets.SheetRules.{Distinct, HeaderRules}
 use Rattle.rules.specs.Calls.Answers.{Answer}
 use Rattle.rules.specs.Sheets.Reading.{answered}
 
--- a row: the index of the assignment that it names, and the ink that it gives it
+-- a row: the index of the assignment that it names, and that assignment's ink
 pub record Row : Type 0 where
   pub index : ℕ
   pub ink : ℕ
 
--- what a loose sheet is read as: its header, and its rows in the order of their lines
+-- the value of a loose sheet: its header, and its rows in the order of their lines
 pub record LooseTable : Type 0 where
   pub header : Header
   pub rows : List Row
@@ -34,7 +34,7 @@ anyLevel m [] = bad 5
 anyLevel m (b ∷ []) = judged (isDigit m b) (b - zeroByte) 5
 anyLevel m (b ∷ c ∷ w) = bad 5
 
--- `count` input fields, each with a space after it: the index of the assignment, "last input fastest", behind the levels that come to `before`
+-- `count` input fields, each followed by a space: the index of the assignment, "last input fastest", where the levels read so far give `before`
 unfoldable pub indexFields : ℕ → ℕ → ℕ → Reader ℕ
 indexFields m zero before = give before
 indexFields m (suc count) before = fieldIn loose (anyLevel m) space >>= λ l. indexFields m count (before * m + l)
@@ -43,8 +43,8 @@ indexFields m (suc count) before = fieldIn loose (anyLevel m) space >>= λ l. in
 abbrev pub isOf : ℕ → Row → Bool
 isOf p row = eqb (row .index) p
 
--- 20: "assignment given in an earlier row, placed at the row's first field, judged just before its ink field, even an empty one". `first` is the place
--- of that field.
+-- 20: "assignment given in an earlier row, placed at the row's first field, judged just before its ink field, even an empty one". `first` is the
+-- place of that field.
 unfoldable pub notGiven : ℕ → List Row → ℕ → Reader (Unit {0})
 notGiven first earlier p s at = elim (any (isOf p) earlier) [ true ↦ turnedBack 20 first | false ↦ read tt s at ]
 
@@ -76,7 +76,7 @@ readLoose s = answered (looseSheet s 0)
 
 -- ---- its table
 
--- the ink of a row, if there is one
+-- the ink of a row, or 0 if there is none
 abbrev pub inkOf : Option Row → ℕ
 inkOf none = 0
 inkOf (some row) = row .ink
@@ -96,7 +96,7 @@ tableOfLoose t =
 unfoldable pub blanks : ℕ → List ℕ
 blanks count = replicate count space
 
--- A line's fields laid loosely: "one or more spaces between fields, spaces before a line feed"
+-- A line's fields in loose layout: "one or more spaces between fields, spaces before a line feed"
 abbrev pub LooseLine : List (List ℕ) → List ℕ → Type 0
 LooseLine [] s = s ≡ newline ∷ []
 LooseLine (w ∷ []) s = (count : ℕ) × (s ≡ w ++ (blanks count ++ newline ∷ []))
@@ -120,12 +120,12 @@ looseFields t =
     ∷ (h .names ++ (text "ink" ∷ []))
     ∷ map (rowFields (h .levels) (h .inputs)) (t .rows)
 
--- a row names an assignment and has an ink below m, or m where it is open
+-- a row names an assignment and has an ink below m, or m if it is open
 abbrev pub EachRow : ℕ → ℕ → List Row → Type 0
 EachRow m n [] = Unit {0}
 EachRow m n (row ∷ rows) = (row .index < m ^ n) × (row .ink ≤ m) × EachRow m n rows
 
--- A loose sheet's table keeps every rule: a good header, and as many rows as cells, no two of the same assignment
+-- A loose sheet's table follows every rule: a good header, and as many rows as cells, no two for the same assignment
 pub record LooseRules (t : LooseTable) : Type 0 where
   pub header : HeaderRules (t .header)
   pub count : length (t .rows) ≡ t .header .levels ^ t .header .inputs

@@ -12,7 +12,7 @@ line [] = newline ∷ []
 line (w ∷ []) = w ++ (newline ∷ [])
 line (w ∷ v ∷ ws) = w ++ (space ∷ line (v ∷ ws))
 
--- the first three lines, of which the third has the fields given
+-- the first three lines, where the third has the given fields
 unfoldable pub firstLines : Header → List (List ℕ) → List ℕ
 firstLines h third =
     line (text "levels" ∷ text "inputs" ∷ []) ++ line (decimal (h .levels) ∷ decimal (h .inputs) ∷ []) ++ line third

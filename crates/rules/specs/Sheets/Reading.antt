@@ -1,4 +1,4 @@
--- Document 01: a sheet read, to its end or to its refusal.
+-- Document 01: reading a sheet, to its end or to its refusal.
 -- Assumes nothing.
 use Prim.Native.Nat.{ℕ}
 use mathlib.Core.List.{List}
@@ -7,7 +7,7 @@ use Rattle.rules.specs.Sheets.Sheets.{Net, Table, netSheet, tableSheet}
 use Rattle.rules.specs.Nets.Value.{tableOf}
 use Rattle.rules.specs.Calls.Answers.{Answer, accepted, refused}
 
--- the answer of a reader
+-- the answer from a reader's result
 unfoldable pub answered : {A : Type 0} → Read A → Answer A
 answered (read a rest place) = accepted a
 answered (turnedBack number place) = refused number place
@@ -16,7 +16,7 @@ answered (turnedBack number place) = refused number place
 unfoldable pub readNet : List ℕ → Answer Net
 readNet s = answered (netSheet s 0)
 
--- the same of a table sheet
+-- the same for a table sheet
 unfoldable pub readTable : List ℕ → Answer Table
 readTable s = answered (tableSheet s 0)
 

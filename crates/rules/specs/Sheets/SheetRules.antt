@@ -1,5 +1,5 @@
--- Document 01, section 'Sheets', said without a reader: the rules that a header, a net's gates and a table's inks keep. A sheet is
--- accepted exactly when it is the print of a net or a table that keeps them (the theorems are in the crate `readback`).
+-- Document 01, section 'Sheets', stated without a reader: the rules for a header, a net's gates and a table's inks. A sheet is
+-- accepted exactly if it is the print of a net or a table that follows them (the theorems are in the crate `readback`).
 -- Assumes nothing.
 use Prim.Native.Nat.{ℕ, suc, _+_, _*_, _^_, _≤_, _<_}
 use mathlib.Core.Path.{_≡_}
@@ -29,22 +29,22 @@ pub record GateTable (m : ℕ) (digits : List ℕ) : Type 0 where
   pub count : length digits ≡ m * m
   pub below : (k : ℕ) → k < length digits → getD digits k 0 < m
 
--- of every gate
+-- the same for every gate
 abbrev pub Tables : ℕ → List Gate → Type 0
 Tables m [] = Unit {0}
 Tables m (g ∷ gates) = GateTable m (g .digits) × Tables m gates
 
--- "Left and right are each an input name or the decimal number .. of an earlier gate." `k` references stand before the list.
+-- "Left and right are each an input name or the decimal number .. of an earlier gate." `k` references come before the list.
 abbrev pub RefersBack : ℕ → List Gate → Type 0
 RefersBack k [] = Unit {0}
 RefersBack k (g ∷ gates) = (g .left < k) × (g .right < k) × RefersBack (suc k) gates
 
--- no number stands twice
+-- no number occurs twice
 abbrev pub Distinct : List ℕ → Type 0
 Distinct [] = Unit {0}
 Distinct (x ∷ xs) = (any (eqb x) xs ≡ false) × Distinct xs
 
--- The rules that gate lines keep, however many there are: "No input or gate is referred to twice."
+-- The rules for gate lines, however many there are: "No input or gate is referred to twice."
 pub record GateRules (m n : ℕ) (gates : List Gate) : Type 0 where
   pub back : RefersBack n gates
   pub once : Distinct (usedBy gates)
@@ -54,19 +54,19 @@ pub record GateRules (m n : ℕ) (gates : List Gate) : Type 0 where
 abbrev pub EarlierUsed : ℕ → List Gate → Type 0
 EarlierUsed n gates = (k : ℕ) → suc k < length gates → any (eqb (n + k)) (usedBy gates) ≡ true
 
--- "A net sheet may have from 1 to n − 1 gate lines .. inputs may stay unused, earlier gates may not." (document 02, K12): a net of m levels and n inputs
+-- "A net sheet may have from 1 to n − 1 gate lines .. inputs may stay unused, earlier gates may not." (document 02, K12): a net of m levels, n inputs
 pub record IsNet (m n : ℕ) (gates : List Gate) : Type 0 where
   pub some : 0 < length gates
   pub count : length gates < n
   pub rules : GateRules m n gates
   pub used : EarlierUsed n gates
 
--- a net sheet keeps every rule
+-- a net sheet follows every rule
 pub record NetRules (net : Net) : Type 0 where
   pub header : HeaderRules (net .header)
   pub gates : IsNet (net .header .levels) (net .header .inputs) (net .gates)
 
--- a table sheet keeps every rule: for each cell one ink below m, or m where it is open
+-- a table sheet follows every rule: one ink for each cell, below m, or m if the cell is open
 pub record TableRules (t : Table) : Type 0 where
   pub header : HeaderRules (t .header)
   pub count : length (t .inks) ≡ t .header .levels ^ t .header .inputs

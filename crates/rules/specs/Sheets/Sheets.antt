@@ -1,4 +1,4 @@
--- Document 01, section 'Sheets': what a sheet is read as, field by field, with the number and the place of every refusal.
+-- Document 01, section 'Sheets': the value of a sheet, field by field, with the number and the place of every refusal.
 -- Assumes nothing.
 use Prim.Native.Nat.{ℕ, zero, suc, _+_, _-_, _*_, _/_, _%_, _^_}
 use mathlib.Core.Bool.{Bool, true, false, not, _&&_, _||_}
@@ -25,12 +25,12 @@ levelsField [] = bad 2
 levelsField (b ∷ []) = judged (isDigit 10 b && levelsFit (b - 48)) (b - 48) 2
 levelsField (b ∷ c ∷ w) = bad 2
 
--- the number from 2 to 12 of which the field is the decimal value
+-- the number from 2 to 12 whose decimal value is the field
 unfoldable pub inputsOf : List ℕ → Option ℕ
 inputsOf w = find (λ n. same w (decimal n)) (range fewestInputs (mostInputs + 1 - fewestInputs))
 
--- "Inputs, written n," is a number "without leading zero. m to the power n, the number of cells, is at most" the cell limit. "The cell limit rises to 4,096
--- and inputs to 12 .. Refusals 3 and 9 and case 10 move with it" (document 02, K6). 3: inputs field, or over 4,096 cells
+-- "Inputs, written n," is a number "without leading zero. m to the power n, the number of cells, is at most" the cell limit. "The cell limit rises to
+-- 4,096 and inputs to 12 .. Refusals 3 and 9 and case 10 move with it" (document 02, K6). 3: inputs field, or over 4,096 cells
 unfoldable pub inputsField : ℕ → Judge ℕ
 inputsField m w = elim (inputsOf w) [ none ↦ bad 3 | some n ↦ judged (cellsFit m n) n 3 ]
 
@@ -68,7 +68,7 @@ headerLinesIn layout last = do
   names ← nameFieldsIn layout last n []
   give (record { levels = m; inputs = n; names = names })
 
--- the two of a strict sheet
+-- the two functions for a strict sheet
 abbrev pub nameFields : ℕ → ℕ → List (List ℕ) → Reader (List (List ℕ))
 nameFields last count earlier = nameFieldsIn strict last count earlier
 
@@ -133,12 +133,12 @@ gateLines m names zero earlier = give earlier
 gateLines m names (suc count) earlier =
     gateLine m names earlier >>= λ g. orEnd (earlier ++ (g ∷ [])) (gateLines m names count (earlier ++ (g ∷ [])))
 
--- what a net sheet is read as
+-- the value of a net sheet
 pub record Net : Type 0 where
   pub header : Header
   pub gates : List Gate
 
--- "Line 3 has the n input names. Line 4 is `left right table`." Then the gate lines. Nothing stands after the last line.
+-- "Line 3 has the n input names. Line 4 is `left right table`." Then the gate lines. Nothing follows the last line.
 unfoldable pub netSheet : Reader Net
 netSheet = do
   h ← headerLines newline
@@ -176,7 +176,7 @@ inkField m (b ∷ c ∷ w) = bad 6
 unfoldable pub inkByte : ℕ → ℕ → ℕ
 inkByte m ink = elim (eqb ink m) [ true ↦ openByte | false ↦ digitByte ink ]
 
--- a row's input levels, each with a space after it
+-- a row's input levels, each followed by a space
 unfoldable pub levelFields : List ℕ → Reader (Unit {0})
 levelFields [] = give tt
 levelFields (l ∷ ls) = field (levelField l) space >>= λ _. levelFields ls
@@ -192,7 +192,7 @@ pub record Table : Type 0 where
   pub header : Header
   pub inks : List ℕ
 
--- "Line 3 has the n input names and then `ink`. Then one line for each cell". Nothing stands after the last line.
+-- "Line 3 has the n input names and then `ink`. Then one line for each cell". Nothing follows the last line.
 unfoldable pub tableSheet : Reader Table
 tableSheet = do
   h ← headerLines space

@@ -1,4 +1,4 @@
--- From a row's levels to the next row's: the last four as a number, and those before them where the four turn to zeros.
+-- From a row's levels to the next row's: the last four as a number, and those before them if the four become zeros.
 -- Assumes nothing.
 use Prim.Native.Nat.{ℕ, zero, suc, _+_, _-_, _*_, _/_, _%_, _≤_, _<_}
 use mathlib.Core.Path.{_≡_, refl, sym, ap, _∙_}
@@ -22,21 +22,21 @@ use Rattle.table_printer.specs.Rows.Words.{levelsWord, four-levels, belo
 abbrev pub fourWord : ℕ → ℕ → ℕ → ℕ → ℕ
 fourWord a b c d = levelsWord (a ∷ b ∷ c ∷ d ∷ [])
 
--- the four turned to zeros
+-- the four after becoming zeros
 abbrev pub turned : ℕ
 turned = fourWord 0 0 0 0
 
--- r is the word of the levels after ls, and that of zeros exactly where all turned
+-- r is the word of the levels after ls; it is that of zeros exactly if all of ls are the highest
 pub record FourNext (m : ℕ) (ls : List ℕ) (r : ℕ) : Type 0 where
   pub word : r ≡ levelsWord (nextLevels m ls)
   pub all : allTop m ls ≡ true → r ≡ turned
   pub some : allTop m ls ≡ false → r ≡ turned → ⊥
 
--- some level moved up
+-- some level was incremented
 moved : {m : ℕ} {ls : List ℕ} {r : ℕ} (next : List ℕ) → nextLevels m ls ≡ next → allTop m ls ≡ false → r ≡ levelsWord next → (r ≡ turned → ⊥) → FourNext m ls r
 moved next is some word other = record { word = word ∙ ap levelsWord (sym is); all = λ e. absurd (false≢true (sym some ∙ e)); some = λ _. other }
 
--- a law of any four levels is one of any list of them
+-- a law of any four levels holds for any list of four
 pub for-four : (m word r : ℕ) → ((a b c d : ℕ) → a < m → b < m → c < m → d < m → word ≡ fourWord a b c d → FourNext m (a ∷ b ∷ c ∷ d ∷ []) r)
     → (ls : List ℕ) → length ls ≡ 4 → Below m ls → word ≡ levelsWord ls → FourNext m ls r
 for-four m word r next [] count h is = absurd (omega arith)
@@ -48,7 +48,7 @@ for-four m word r next (a ∷ b ∷ c ∷ d ∷ e ∷ ls) count h is = absurd (o
 
 -- ---- their number
 
--- the level 0 with a space behind it
+-- the level 0 followed by a space
 abbrev pub zeroLevel : ℕ
 zeroLevel = duePair 0
 
@@ -66,7 +66,7 @@ module _ (a b c d : ℕ) (a< : a < 10) (b< : b < 10) (c< : c < 10) (d< : d < 10)
   lane-d : fourWord a b c d / 281474976710656 ≡ zeroLevel + d
   lane-d = omega arith
 
--- a highest level turned to 0
+-- a highest level becomes 0
 clear-d : (m a b c d : ℕ) → d + 1 ≡ m → fourWord a b c d - 281474976710656 * (m - 1) ≡ fourWord a b c 0
 clear-d m a b c d e = let top : m - 1 ≡ d = omega arith in rw top (omega arith)
 
@@ -79,7 +79,7 @@ clear-b m a b e = let top : m - 1 ≡ b = omega arith in rw top (omega arith)
 clear-a : (m a : ℕ) → a + 1 ≡ m → fourWord a 0 0 0 - (m - 1) ≡ turned
 clear-a m a e = let top : m - 1 ≡ a = omega arith in rw top (omega arith)
 
--- a level moves up, or is the highest
+-- a level is incremented, or is the highest
 lane-up : (x l m : ℕ) → x ≡ zeroLevel + l → x < zeroLevel + (m - 1) → l + 1 < m
 lane-up x l m e h = omega arith
 
@@ -164,7 +164,7 @@ module _ (m a b c d word : ℕ) (few : m ≤ mostLevels) (a< : a < m) (b< : b < 
 
 -- ---- all levels
 
--- levels behind others: where all are the highest, the others move too, ..
+-- levels after others: if all are the highest, the others change too, ..
 top-both : (m : ℕ) (xs ls : List ℕ) → allTop m ls ≡ true → allTop m (xs ++ ls) ≡ allTop m xs
 unfolding allTop
 top-both m [] ls h = h
@@ -175,7 +175,7 @@ unfolding nextLevels
 next-both m [] ls h = refl
 next-both m (x ∷ xs) ls h = λ i. cond (top-both m xs ls h i) (cond (leb m (x + 1)) 0 (x + 1)) x ∷ next-both m xs ls h i
 
--- .. and where one is not, the others stay
+-- .. and if one is not, the others stay
 top-some : (m : ℕ) (xs ls : List ℕ) → allTop m ls ≡ false → allTop m (xs ++ ls) ≡ false
 unfolding allTop
 top-some m [] ls h = h

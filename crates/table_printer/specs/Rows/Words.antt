@@ -1,4 +1,4 @@
--- A row's levels four at a time: four levels, each with the space behind it, as one number, and its eight bytes.
+-- A row's levels four at a time: four levels, each with the space after it, as one number, and its eight bytes.
 -- Assumes nothing.
 use Prim.Native.Nat.{ℕ, zero, suc, _+_, _-_, _*_, _/_, _%_, _≤_, _<_}
 use mathlib.Core.Path.{_≡_, refl, sym, ap, _∙_}
@@ -20,7 +20,7 @@ use Rattle.table_printer.specs.Rows.Rows.{oneDigit, rowText, rowFromInpu
 
 -- ---- the text of some levels
 
--- each level with the space behind it
+-- each level followed by a space
 unfoldable pub levelsText : List ℕ → List ℕ
 levelsText [] = []
 levelsText (l ∷ ls) = digitByte l ∷ space ∷ levelsText ls
@@ -68,7 +68,7 @@ pub word-bytes : (w : ℕ) →
     ∷ w / 4294967296 % 256 ∷ w / 1099511627776 % 256 ∷ w / 281474976710656 % 256 ∷ w / 72057594037927936 % 256 ∷ [] ≡ wordBytes w
 word-bytes w = simp div-div-eq-div-mul
 
--- so they are stored
+-- stored one byte after another
 pub bytes-set : (l : List ℕ) (at a b c d e f g h : ℕ)
     → set (set (set (set (set (set (set (set l at a) (at + 1) b) (at + 2) c) (at + 3) d) (at + 4) e) (at + 5) f) (at + 6) g) (at + 7) h
     ≡ sets l at (a ∷ b ∷ c ∷ d ∷ e ∷ f ∷ g ∷ h ∷ [])
@@ -126,7 +126,7 @@ word-text levels i h digits =
     ap wordBytes is
     ∙ four-text (take 4 (drop i levels)) (length-take-le 4 (drop i levels) (rw length-drop (omega arith))) (below-take 4 (drop i levels) (below-drop i levels digits))
 
--- ---- a text that is written over another
+-- ---- a text written over another
 
 set-under : (v l : List ℕ) (p q a : ℕ) → p < q → set (sets l q v) p a ≡ sets (set l p a) q v
 set-under [] l p q a h = refl
@@ -141,7 +141,7 @@ written-over (a ∷ v) (b ∷ w) l p h =
     (set-under v (set l p a) p (suc p) b (omega arith) ∙ ap (λ (x : List ℕ). sets x (suc p) v) (set-set l p a b))
     ∙ written-over v w (set l p b) (suc p) (omega arith)
 
--- behind u
+-- after u
 over : (u v w l : List ℕ) (at : ℕ) → length v ≤ length w → sets (sets l at (u ++ v)) (at + length u) w ≡ sets l at (u ++ w)
 over u v w l at h =
     ap (λ (x : List ℕ). sets x (at + length u) w) (sets-append u v l at)
@@ -199,7 +199,7 @@ module _ (words : Words) (n : ℕ) (before : List ℕ) (at : ℕ) (wide : 4 ≤ 
             ∙ ap (λ (t : List ℕ). sets before at t) (sym (text-parts levels 4 4))));
       }
 
--- the last four behind those before them, and the ink
+-- the last four after those before them, and the ink
 module _ (m n : ℕ) (words : Words) (levels ls : List ℕ) (row : PrintedSpells m n words levels ls) (few : m ≤ 10) (wide : 4 ≤ n) (most : n ≤ mostInputs) where
   levels-text : levelsText ls ≡ levelsText (take (n - 4) levels) ++ levelsText (row .four)
   levels-text = ap levelsText (row .is) ∙ text-append (take (n - 4) levels) (row .four)

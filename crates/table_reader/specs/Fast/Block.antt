@@ -1,4 +1,4 @@
--- A block of m rows: the last level counts from 0, and the levels before it stay.
+-- A block of m rows: the last level counts up from 0, and the levels before it stay the same.
 -- Assumes nothing.
 use Prim.Native.Nat.{ℕ, _+_, _*_, _^_, _≤_, _<_}
 use mathlib.Core.Path.{_≡_, refl, sym, ap, _∙_}
@@ -17,7 +17,7 @@ use Rattle.table_reader.specs.Fast.Due.{AreDigits, rowBytes, RowStands}
 use Rattle.table_reader.specs.Row.{rowLine}
 use Rattle.table_reader.specs.Fast.Rows.{TableReached, reached-next}
 
--- block q is due: `levels` begins with the levels of its rows before the last, and the cells have room
+-- block q is next: `levels` begins with the levels that its rows share, and the cells have room
 pub record BlockStarts (m front q : ℕ) (levels cells : List ℕ) : Type 0 where
   pub few : m ≤ mostLevels
   pub inputs : front ≤ mostInputs
@@ -26,7 +26,7 @@ pub record BlockStarts (m front q : ℕ) (levels cells : List ℕ) : Type 0 wher
   pub most : q * m + m ≤ m ^ (front + 1)
   pub room : q * m + m ≤ length cells
 
--- block q was tried: the cells before its own are kept and, where it stands as it is due, its rows are read after those before it
+-- block q was tried: the cells before its own are unchanged and, if it has the expected bytes, its rows are read after those before it
 pub record BlockTried (s : List ℕ) (at m front q : ℕ) (before after : List ℕ) (r : Bool) : Type 0 where
   pub kept : take (q * m) after ≡ take (q * m) before
   pub within : r ≡ true → at + m * rowBytes front ≤ length s
@@ -44,7 +44,7 @@ module _ (m front q : ℕ) (levels cells : List ℕ) (starts : BlockStarts m fro
       let below : getD (take front levels) k 0 < m = rw (starts .due) (levels-below m front q k pos h) in
       omega (arith, rw getD-take at below, starts .few)
 
-  -- one row more
+  -- one more row
   pub block-next : (s now : List ℕ) (start place l ink next : ℕ) → l < m → q * m + l < length now
       → RowStands s place m (take front levels ++ (l ∷ [])) ink next
       → TableReached s start m (front + 1) now place (q * m + l) → TableReached s start m (front + 1) (set now (q * m + l) ink) next (q * m + (l + 1))
@@ -62,7 +62,7 @@ pub block-read : (s before after : List ℕ) (m front q at place l : ℕ) → ta
 block-read s before after m front q at place l kept all end within rows =
     record { kept = kept; within = λ _. within; reached = λ _ start read. rw (end, all) at (rows start read) }
 
--- none of them counts
+-- no row of the block counts as read
 pub block-left : (s before after : List ℕ) (m front q at : ℕ) → take (q * m) after ≡ take (q * m) before → BlockTried s at m front q before after false
 block-left s before after m front q at kept =
     record { kept = kept; within = λ e. absurd (false≢true e); reached = λ e. absurd (false≢true e) }

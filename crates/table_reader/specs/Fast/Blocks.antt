@@ -1,4 +1,4 @@
--- The rows block after block.
+-- The rows, block by block.
 -- Assumes nothing.
 use Prim.Native.Nat.{ℕ, _+_, _*_, _^_, _≤_, _<_}
 use mathlib.Core.Path.{_≡_, sym, ap, ap₂, _∙_}
@@ -49,14 +49,14 @@ module _ (m front : ℕ) (pos : 0 < m) where
       zeros = due ∙ ap (levelsAt m (front + 1)) (sym (zero-mul m)) ∙ first-levels 0
 
   module _ (s : List ℕ) (at : ℕ) (cells levels : List ℕ) (place q : ℕ) (blocks : InBlocks s at m front cells levels place q) where
-    -- a block more is due
+    -- one more block is expected
     pub block-starts : m ≤ mostLevels → front ≤ mostInputs → front ≤ length levels → q < m ^ front → m ^ (front + 1) ≤ length cells
         → BlockStarts m front q levels cells
     block-starts few inputs short more room =
         let within : q * m + m ≤ m ^ (front + 1) = rw (add-one, pow-suc) (omega (arith, mul-le-mul-right m more, suc-mul q m)) in
         record { few = few; inputs = inputs; short = short; due = blocks .due; most = within; room = omega arith }
 
-    -- it was read, and the levels moved on
+    -- it was read, and the levels were updated
     pub blocks-next : (later after : List ℕ) → front ≤ length levels → q < m ^ front → (r : Bool) → BlockTried s place m front q cells after r → r ≡ true
         → later ≡ nextLevels m (take front levels) ++ drop front levels → InBlocks s at m front after later (place + m * rowBytes front) (q + 1)
     blocks-next later after short more r tried told step =
@@ -80,7 +80,7 @@ module _ (m front : ℕ) (pos : 0 < m) where
             ∙ ap (λ k. getD levels k 0) (add-zero front)
             ∙ blocks .last
 
-    -- the rows are left here: the cells of the blocks read are kept
+    -- the reading of blocks stops here: the cells of the blocks read are kept
     pub blocks-left : (n : ℕ) (after : List ℕ) → n ≡ front + 1 → front < length levels → take (q * m) after ≡ take (q * m) cells
         → InRows s at m n after levels place (q * m)
     blocks-left n after e short kept = rw e (record { reached = reached-kept s at m (front + 1) cells place (q * m) (blocks .reached) after kept; due = due })

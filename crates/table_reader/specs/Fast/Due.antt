@@ -1,4 +1,4 @@
--- A row that stands as it is due, two bytes after two.
+-- A row with the expected bytes, two bytes at a time.
 -- Assumes nothing.
 use Prim.Native.Nat.{ℕ, _+_, _*_, _≤_, _<_}
 use mathlib.Core.Path.{_≡_, refl, sym, ap, _∙_}
@@ -27,16 +27,16 @@ AreDigits levels n = (k : ℕ) → k < n → getD levels k 0 < 10
 abbrev pub rowBytes : ℕ → ℕ
 rowBytes front = 2 * front + 4
 
--- the levels `ls` stand at `at`, each with a space after it, and end at `next`
+-- the levels `ls` are at `at`, each followed by a space, and end at `next`
 abbrev pub LevelsStand : List ℕ → ℕ → List ℕ → ℕ → Type 0
 LevelsStand s at ls next = read tt (drop next s) next ≡ levelFields ls (drop at s) at
 
--- the row of the levels `ls` stands at `at`, with this ink, and the next one begins at `next`
+-- the row with the levels `ls` is at `at`, with this ink, and the next one begins at `next`
 pub record RowStands (s : List ℕ) (at m : ℕ) (ls : List ℕ) (ink next : ℕ) : Type 0 where
   pub reads : read ink (drop next s) next ≡ rowLine m ls (drop at s) at
   pub within : ink ≤ m
 
--- nothing is said of a row where the answer is no
+-- if the answer is no, nothing is claimed of the row
 pub not-due : {A : Type 0} → _≡_ {A = Bool} false true → A
 not-due e = absurd (false≢true e)
 

@@ -1,4 +1,4 @@
--- A field of one byte, mostly a digit, with the separator that is due after it: two bytes, which are looked at as one number.
+-- A field of one byte, mostly a digit, with the required separator after it: two bytes, compared as one number.
 -- Assumes nothing.
 use Prim.Native.Nat.{ℕ, _+_, _*_, _<_}
 use mathlib.Core.Path.{_≡_, refl, ap}
@@ -13,7 +13,7 @@ use Rattle.rules.specs.Sheets.Fields.{Read, read, Judge, good, isSeparator, run
 use Rattle.laws.specs.Lists.Walks.{rest}
 use Rattle.fields.specs.Runs.{is-neither}
 
--- at `at` stands the byte b, and after it the byte `due`
+-- the byte b is at `at`, and the byte `due` after it
 pub record OneByte (s : List ℕ) (at b due : ℕ) : Type 0 where
   pub within : at + 1 < length s
   pub byte : getD s at 0 ≡ b
@@ -23,17 +23,17 @@ pub record OneByte (s : List ℕ) (at b due : ℕ) : Type 0 where
 abbrev pub Plain : List ℕ → ℕ → ℕ → ℕ → Type 0
 Plain s at d due = OneByte s at (zeroByte + d) due
 
--- so do the two bytes tell: a digit's byte is below 256
+-- equal two-byte numbers mean equal bytes, for a digit, whose byte is below 256, ..
 pub two-plain : (s : List ℕ) (at d due : ℕ) → at + 1 < length s → getD s at 0 < 256 → d < 10
     → getD s at 0 + 256 * getD s (at + 1) 0 ≡ zeroByte + 256 * due + d → Plain s at d due
 two-plain s at d due within byte few e = record { within = within; byte = omega arith; after = omega arith }
 
--- .. and of any byte
+-- .. and for any byte
 pub two-bytes-are : (s : List ℕ) (at b due : ℕ) → at + 1 < length s → getD s at 0 < 256 → b < 256
     → getD s at 0 + 256 * getD s (at + 1) 0 ≡ b + 256 * due → OneByte s at b due
 two-bytes-are s at b due within byte few e = record { within = within; byte = omega arith; after = omega arith }
 
--- a run of one byte, and what stands past it
+-- a run of one byte, and what follows it
 module _ (b due : ℕ) (t : List ℕ) (inside : isSeparator b ≡ false) (ends : isSeparator due ≡ true) where
   run-one : run (b ∷ due ∷ t) ≡ b ∷ []
   unfolding run
@@ -43,7 +43,7 @@ module _ (b due : ℕ) (t : List ℕ) (inside : isSeparator b ≡ false) (ends :
   unfolding past
   past-one = rw (past, inside, past, ends)
 
--- the field is the byte, and its separator stands past it
+-- the field is the byte, and its separator follows
 byte-run : (s : List ℕ) (at b due : ℕ) → isSeparator b ≡ false → isSeparator due ≡ true → OneByte s at b due
     → (run (drop at s) ≡ b ∷ []) × (past (drop at s) ≡ drop (at + 1) s)
 byte-run s at b due inside ends plain =
@@ -60,7 +60,7 @@ pub plain-run : (s : List ℕ) (at d due : ℕ) → isSeparator due ≡ true →
     → (run (drop at s) ≡ (zeroByte + d) ∷ []) × (past (drop at s) ≡ drop (at + 1) s)
 plain-run s at d due ends plain = byte-run s at (zeroByte + d) due (digit-inside d) ends plain
 
--- two bytes on, the field is read
+-- the field is read, and reading continues two bytes on
 pub byte-read : {A : Type 0} (judge : Judge A) (a : A) (s : List ℕ) (at b due : ℕ) → isSeparator b ≡ false → isSeparator due ≡ true → OneByte s at b due
     → judge (b ∷ []) ≡ good a → read a (drop (at + 2) s) (at + 2) ≡ field judge due (drop at s) at
 unfolding fieldIn fieldOfIn afterFieldIn separator

@@ -17,7 +17,7 @@ use Rattle.fields.specs.declared.steps.Step.the-variants.{On, Back}
 use Rattle.fields.specs.Chained.{field-then-then}
 use Rattle.table_reader.specs.Row.{rowLine, row-ink}
 
--- reading all rows from `at` on; their inks stand at the front of `cells`
+-- reading all rows from `at` on; their inks are at the front of `cells`
 pub record RowsRead (s : List ℕ) (at m n : ℕ) (cells : List ℕ) (r : Step) : Type 0 where
   pub reads : stepAs (λ _. take (m ^ n) cells) s r ≡ rowLines m n 0 (m ^ n) [] (drop at s) at
   pub held : (value next : ℕ) → r ≡ On value next → Below (suc m) (take (m ^ n) cells)
@@ -33,7 +33,7 @@ pub record TableReached (s : List ℕ) (at m n : ℕ) (cells : List ℕ) (place 
   pub inks : Below (suc m) (take p cells)
   pub reads : rowLines m n 0 (m ^ n) [] (drop at s) at ≡ rowLines m n p (m ^ n - p) (take p cells) (drop place s) place
 
--- and `levels` begins with the levels of the row that is due
+-- and `levels` begins with the levels of the next row
 pub record InRows (s : List ℕ) (at m n : ℕ) (cells levels : List ℕ) (place p : ℕ) : Type 0 where
   pub reached : TableReached s at m n cells place p
   pub due : take n levels ≡ levelsAt m n p
@@ -42,7 +42,7 @@ pub none-reached : (s : List ℕ) (at m n : ℕ) (cells : List ℕ) → TableRea
 none-reached s at m n cells = record { most = omega arith; inks = tt; reads = rw (sub-zero (m ^ n)) refl }
 
 module _ (s : List ℕ) (at m n : ℕ) (cells : List ℕ) (place p : ℕ) (rows : TableReached s at m n cells place p) where
-  -- cells past those of the rows read do not count
+  -- cells after those of the rows read do not matter
   pub reached-kept : (after : List ℕ) → take p after ≡ take p cells → TableReached s at m n after place p
   reached-kept after e = record { most = rows .most; inks = rw e (rows .inks); reads = rw e (rows .reads) }
 
@@ -84,7 +84,7 @@ module _ (s : List ℕ) (at m n : ℕ) (cells : List ℕ) (place p : ℕ) (rows 
           stored : take (p + 1) (set cells p ink) ≡ take p cells ++ (ink ∷ [])
           stored = rw (add-one) (take-suc-set cells p ink here)
 
--- the row that was read is the one that `levels` says
+-- the row that was read is the one given by `levels`
 pub row-due : {s : List ℕ} {at m n : ℕ} {cells levels : List ℕ} {place p : ℕ} → InRows s at m n cells levels place p → (step : Step)
     → stepAs itself s step ≡ rowLine m (take n levels) (drop place s) place → stepAs itself s step ≡ rowLine m (levelsAt m n p) (drop place s) place
 row-due {s} {at} {m} {n} {cells} {levels} {place} rows step row = row ∙ ap (λ ls. rowLine m ls (drop place s) place) (rows .due)

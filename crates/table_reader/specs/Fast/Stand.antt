@@ -1,4 +1,4 @@
--- Levels that stand where they are due, four of them told by eight bytes as one number.
+-- Levels at the expected places, four of them checked by eight bytes as one number.
 -- Assumes nothing.
 use Prim.Native.Nat.{ℕ, zero, suc, _+_, _-_, _*_, _≤_, _<_}
 use mathlib.Core.Path.{_≡_, sym, ap, _∙_, subst, subst₂}
@@ -15,7 +15,7 @@ use Rattle.table_reader.specs.Fast.Words.{pairAt, duePair, wordAt, dueWo
 use Rattle.table_reader.specs.Row.{InRow, row-start}
 use Rattle.table_reader.specs.Fast.Due.{AreDigits, LevelsStand, table-levels-next, levels-done}
 
--- ---- equal numbers are made of equal ones
+-- ---- equal numbers have equal parts
 
 small : (a b x y : ℕ) → a < 65536 → b < 65536 → a + 65536 * x ≡ b + 65536 * y → (a ≡ b) × (x ≡ y)
 small a b x y a< b< e = (omega (arith, e), omega (arith, e))
@@ -23,7 +23,7 @@ small a b x y a< b< e = (omega (arith, e), omega (arith, e))
 large : (a b x y : ℕ) → a < 4294967296 → b < 4294967296 → a + 4294967296 * x ≡ b + 4294967296 * y → (a ≡ b) × (x ≡ y)
 large a b x y a< b< e = (omega (arith, e), omega (arith, e))
 
--- ---- four levels stand
+-- ---- four levels are there
 
 module _ (s levels : List ℕ) (at n : ℕ) (bytes : (k : ℕ) → getD s k 0 < 256) (digits : AreDigits levels n) (room : at + 2 * n ≤ length s) where
   pair-plain : (k p : ℕ) → k < n → p ≡ at + 2 * k → pairAt s p ≡ duePair (getD levels k 0) → Plain s (at + 2 * k) (getD levels k 0) spaceByte
@@ -61,7 +61,7 @@ module _ (s levels : List ℕ) (at n : ℕ) (bytes : (k : ℕ) → getD s k 0 < 
             let e : k ≡ i + 2 + 1 = omega (arith, x, y, z) in
             rw e (pair-plain (i + 2 + 1) _ (omega arith) (omega arith) (last-two .1))
 
--- ---- all of them stand
+-- ---- all levels are there
 
 module _ (s levels : List ℕ) (at n : ℕ) (long : n ≤ length levels) (plain : (k : ℕ) → k < n → Plain s (at + 2 * k) (getD levels k 0) spaceByte) where
   read-so-far : (i : ℕ) → i ≤ n → InRow s levels at n (at + 2 * i) i

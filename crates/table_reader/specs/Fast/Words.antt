@@ -1,4 +1,4 @@
--- Eight bytes as one number: four levels, each with the space after it, as they stand and as they are due.
+-- Eight bytes as one number: four levels, each with the space after it, as read and as expected.
 -- Assumes nothing.
 use Prim.Native.Nat.{ℕ, _+_, _-_, _*_, _≤_, _<_}
 use mathlib.Core.Path.{_≡_}
@@ -35,7 +35,7 @@ dueWord levels i = packed (duePair (getD levels i 0)) (duePair (getD levels (i +
 unfoldable pub middleOf : ℕ → ℕ
 middleOf front = cond (ltb front 8) (front - 4) 4
 
--- what is due of four levels or more
+-- the expected words of four levels or more
 pub record WideWords (levels : List ℕ) (front : ℕ) (words : Words) : Type 0 where
   pub first : words .first ≡ dueWord levels 0
   pub middle : words .middle ≡ dueWord levels (middleOf front)
@@ -44,7 +44,7 @@ pub record WideWords (levels : List ℕ) (front : ℕ) (words : Words) : Type 0 
 abbrev pub WordsOf : List ℕ → ℕ → Words → Type 0
 WordsOf levels front words = 4 ≤ front → WideWords levels front words
 
--- the middle is near the first four and near the last
+-- the middle four overlap or adjoin the first four and the last four
 pub middle-near : (front : ℕ) → 4 ≤ front → front ≤ mostInputs → (middleOf front ≤ front - 4) × (middleOf front ≤ 4) × (front - 4 ≤ middleOf front + 4)
 unfolding middleOf
 middle-near front wide few = go (decLt front 8)

@@ -1,4 +1,4 @@
-// The rows that stand as they are due, m at a time: in a block the last level counts from 0, and the levels before it stay.
+// Reads the rows that have exactly the expected bytes, m at a time: in a block the last level counts up from 0, and the levels before it stay.
 ghost use Rattle.table_reader.specs.Fast.Block.{BlockStarts, BlockTried};
 ghost use Rattle.table_reader.specs.Fast.Blocks.{RowsStart};
 ghost use Rattle.table_reader.specs.Fast.Rows.{InRows};
@@ -8,13 +8,13 @@ use fields::steps::Found;
 use radix::levels::next_levels;
 use radix::powers::power;
 
-// How many rows were taken, and where the next one begins.
+// How many rows were read, and where the next one begins.
 pub struct Taken {
     pub rows: usize,
     pub place: usize,
 }
 
-// Are the m rows of block q, of which the first begins at `at`, all as they are due? Then their inks go to `cells`.
+// Tests whether the m rows of block q, which starts at `at`, all have the expected bytes, and puts their inks in `cells`.
 fn due_block(
     s: &[u8],
     at: usize,
@@ -50,8 +50,8 @@ fn due_block(
     true
 }
 
-// Takes as many blocks as stand as they are due, from the row of index 0 at `at` on. Their inks go to the front of `cells`, and `levels` is
-// taken from the levels of index 0 to those of the next row.
+// Reads as many blocks with the expected bytes as there are, starting with the row of index 0 at `at`. Their inks go to the front of `cells`, and
+// `levels` changes from the levels of index 0 to those of the next row.
 pub fn due_rows(
     s: &[u8],
     at: usize,

@@ -1,4 +1,4 @@
-// A row that stands as it is due: its bytes are known but for the ink. They are looked at eight by eight, or two by two where they are few.
+// A row with the expected bytes: all of them are known except the ink. They are compared eight at a time, or two at a time if there are few.
 ghost use mathlib.Core.Path.{_≡_};
 ghost use mathlib.Core.Bool.{true};
 ghost use mathlib.Core.List.{[], _∷_, _++_};
@@ -21,10 +21,10 @@ use fields::steps::Found;
 // The ink 0 with a line feed, as two bytes.
 const INK: usize = ZERO + 256 * NEWLINE as usize;
 
-// The sign of an open cell with a line feed, which is less.
+// The sign of an open cell with a line feed. It is less than `INK`.
 const SIGN: usize = OPEN + 256 * NEWLINE as usize;
 
-// Do the first n levels stand at `at`, each with a space after it?
+// Tests whether the first n levels are at `at`, each followed by a space.
 fn are_levels(s: &[u8], at: usize, levels: &[u8], n: usize) -> bool
     requires { ⌜ (n ≤ length (now levels)) × AreDigits (now levels) n × (at + 2 * n ≤ length (now s)) ⌝ }
     ensures { λ r. ⌜ (r ≡ true → LevelsStand (now (s .entry)) at (take n (now (levels .entry))) (at + 2 * n)) ⌝ }
@@ -41,7 +41,7 @@ fn are_levels(s: &[u8], at: usize, levels: &[u8], n: usize) -> bool
     true
 }
 
-// What `are_levels` tells, of four levels or more.
+// Does the same as `are_levels` for four levels or more.
 fn are_wide(s: &[u8], at: usize, levels: &[u8], front: usize, words: Words) -> bool
     requires { ⌜ (4 ≤ front) × (front ≤ length (now levels)) × AreDigits (now levels) front × (at + 2 * front ≤ length (now s)) × (front ≤ mostInputs)
         × WordsOf (now levels) front words ⌝ }
@@ -57,7 +57,7 @@ fn are_wide(s: &[u8], at: usize, levels: &[u8], front: usize, words: Words) -> b
     eight_bytes(s, at + 2 * (front - 4)) == words.last
 }
 
-// What `are_levels` tells, of any number of levels.
+// Does the same as `are_levels` for any number of levels.
 fn levels_due(s: &[u8], at: usize, levels: &[u8], front: usize, words: Words) -> bool
     requires { ⌜ (front ≤ length (now levels)) × AreDigits (now levels) front × (at + 2 * front ≤ length (now s)) × (front ≤ mostInputs) × WordsOf (now levels) front words ⌝ }
     ensures { λ r. ⌜ (r ≡ true → LevelsStand (now (s .entry)) at (take front (now (levels .entry))) (at + 2 * front)) ⌝ }

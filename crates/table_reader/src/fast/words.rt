@@ -1,4 +1,4 @@
-// A row's bytes as numbers: two of them, four and eight, as they stand and as they are due.
+// A row's bytes as numbers of two, four and eight bytes: those read and those expected.
 ghost use mathlib.Core.Path.{_≡_};
 ghost use Prim.Native.Nat.{_+_, _*_, _≤_, _<_};
 ghost use lib.ListN.{length, getD};
@@ -61,7 +61,7 @@ pub fn middle_of(front: usize) -> usize
     4
 }
 
-// What is due for the first four levels, for four in the middle and for the last four.
+// The expected bytes of the first four levels, of four in the middle and of the last four.
 pub struct Words {
     pub first: usize,
     pub middle: usize,

@@ -1,4 +1,4 @@
--- A group of which every part has mark 2 has (2k − 3)!! trees, k being the number of its members: as many as k inputs have.
+-- A group whose parts all have mark 2 has (2k − 3)!! trees, where k is the number of its members: as many as k inputs have.
 -- Assumes nothing.
 use Prim.Native.Nat.{ℕ, zero, suc, _+_, _-_, _*_, _^_, _≤_, _<_}
 use mathlib.Core.Path.{_≡_, refl, sym, ap, ap₂, _∙_}
@@ -33,7 +33,7 @@ use Rattle.radix.specs.Parts.{PartOf, Next, inside-part, part-inside}
 
 -- ---- sums
 
--- over those of a range that pass: over all below its end, the others for nothing
+-- a sum over the numbers of a range that pass is a sum over all numbers below its end, where the others add 0
 total-is-sum : (f : ℕ → ℕ) (test : ℕ → Bool) (k : ℕ)
     → cond (test 0) (f 0) 0 + total (map f (those test (range 1 k))) ≡ sumTo (λ a. cond (test a) (f a) 0) (suc k)
 unfolding range those total sumTo
@@ -53,7 +53,7 @@ total-is-sum f test (suc k) =
         go true = omega arith
         go false = refl
 
--- no more where the rest is nothing
+-- a longer sum is the same if the rest is 0
 sum-end : (f : ℕ → ℕ) (j k : ℕ) → j ≤ k → ((i : ℕ) → j ≤ i → i < k → f i ≡ 0) → sumTo f j ≡ sumTo f k
 unfolding sumTo
 sum-end f j zero h none = let empty : j ≡ 0 = omega arith in rw empty
@@ -86,7 +86,7 @@ part-part n a b g a< in-b p =
 abbrev pub AllTwo : List ℕ → ℕ → Type 0
 AllTwo marks g = (a : ℕ) → 0 < a → PartOf a g → markIn marks a ≡ 2
 
--- so it is with each part
+-- the same holds for each part of g
 pub part-two : (n : ℕ) (marks : List ℕ) (a g : ℕ) → a < 2 ^ n → PartOf a g → AllTwo marks g → AllTwo marks a
 part-two n marks a g a< p twos b some q =
     twos b some (part-part n b a g (omega (arith, and-le-r b a, q)) (part-inside n b a q) p)
@@ -119,7 +119,7 @@ module _ (n : ℕ) (marks : List ℕ) where
       abbrev h : ℕ → ℕ
       h = splitTrees (size n g)
 
-      -- what each number below g adds to the count, by its size alone
+      -- what each number below g adds to the count depends only on its size
       split-is : (a : ℕ) → a < g → cond (isA n marks g a) (splitCounted n marks g a) 0 ≡ inFirst n g h a
       unfolding partsAt splitCount inFirst splitTrees
       split-is a less = go (inside n a g) refl (member (firstInput n g) a) refl
@@ -134,7 +134,7 @@ module _ (n : ℕ) (marks : List ℕ) where
               let rest : size n (g - a) ≡ size n g - size n a = omega (arith, split-sizes n marks g a g< split .0) in
               rw (in-g, held, split .two, split .rest-two) (ap₂ _*_ (is .0) (is .1 ∙ ap treesOn rest))
 
-      -- and the others nothing: g itself leaves no member
+      -- and the other numbers add 0: g itself leaves no member
       past-none : (a : ℕ) → g ≤ a → a < 2 ^ n → inFirst n g h a ≡ 0
       unfolding inFirst splitTrees treesOn
       past-none a past a< = go (inside n a g) refl (member (firstInput n g) a)
@@ -184,12 +184,12 @@ module _ (n : ℕ) (marks : List ℕ) where
 
 -- ---- for every number of inputs
 
--- A full group's count, for every number of inputs that has the group.
+-- The count of a full group, for every number of inputs that has the group.
 pub full-count : (marks : List ℕ) (g : ℕ) → 0 < g → g < 2 ^ mostInputs → AllTwo marks g → (n : ℕ) → g < 2 ^ n → treesOn (size n g) ≡ groupTrees n marks g
 full-count marks g some small twos n g< =
     sym (full-below n marks mostInputs g g< some (omega (arith, ones-size n g g<, ones-size mostInputs g small, size-le mostInputs g)) (omega arith) twos)
 
--- ---- as the code goes through the parts
+-- in the order in which the code visits the parts
 
 -- the parts of g up to `part` have mark 2
 abbrev pub TwosTo : List ℕ → ℕ → ℕ → Type 0

@@ -1,4 +1,4 @@
-// The counts of full groups: where every part of a group has mark 2, its number of members alone says how many trees it has.
+// The counts of full groups: if every part of a group has mark 2, its number of trees depends only on its number of members.
 ghost use mathlib.Core.Path.{_≡_};
 ghost use Prim.Native.Nat.{_≤_, _<_};
 ghost use Rattle.rules.specs.Limits.{mostInputs};
@@ -8,7 +8,7 @@ use crate::counts;
 use marks::own;
 use radix::members;
 
-// By the number of members: 2k - 3 times as many as one member less has.
+// The number of trees by number of members. Entry k is 2k - 3 times entry k - 1.
 const TREES: [u64; 13] = [
     0,
     1,
@@ -33,8 +33,8 @@ fn trees_on(k: usize) -> u64
     TREES[k]
 }
 
-// Records the counts of the parts of group g, by rising number, up to the first that does not have mark 2: every part of one that is passed was passed
-// before it.
+// Records the counts of the parts of group g, by rising number, up to the first that does not have mark 2. All parts of a recorded part have lower
+// numbers, so they were recorded before it.
 fn keep_full(marks: &[u8], counts: &mut [u64], g: usize)
     requires { ⌜ Countable (now marks) (now counts) g ⌝ }
     ensures { λ _. ⌜ CountsKnown (now (marks .entry)) (now (counts .exit)) ⌝ }

@@ -1,5 +1,5 @@
--- When the output of a net settles: every used input has just one way to it and no other input has any, and the settling time is, gate by gate, that
--- of the later of the two that a gate joins and one delay more.
+-- When the output of a net settles: every used input has exactly one way to it and no other input has any, and a gate settles one delay after
+-- the later of the two that it joins.
 -- Assumes nothing.
 use Prim.Native.Nat.{ℕ, suc, _+_, _-_, _*_, _≤_, _<_, max}
 use mathlib.Core.Path.{_≡_, refl, sym, ap, ap₂, _∙_}
@@ -35,7 +35,7 @@ use Rattle.trees.specs.Trees.UsedOnce.{listed-used, used-listed, used-in
 use Rattle.trees.specs.Shallow.Depths.{depth}
 use Rattle.trees.specs.Shallow.Layers.{gates-ways, net-layers}
 
--- the largest of one number
+-- the largest of a single number
 most-one : (k : ℕ) → most (k ∷ []) ≡ k
 unfolding most
 most-one k = max-zero k
@@ -67,7 +67,7 @@ ways-count n i h (gate a b) (apart, once-a, once-b) =
     ∙ sym (ap oneWhere (member-join i n (groupOf a) (groupOf b) (group-below n a once-a) (group-below n b once-b) apart h)
     ∙ one-if-or (member i (groupOf a)) (member i (groupOf b)) (apart i h))
 
--- so an input that has a way is a member
+-- so an input with a way is a member
 leaf-from : (n i k : ℕ) → i < n → (w : Wiring) → EachOnce n w → List·Memᴰ k (waysInFrom i w) → member i (groupOf w) ≡ true
 leaf-from n i k h w once is =
     not-false-true _ λ out.
@@ -122,7 +122,7 @@ module _ (delay : ℕ) (arrival : ℕ → ℕ) where
 
 -- ---- in a gate list
 
--- times at the references are those of their trees
+-- the times at the references are those of their trees
 module _ (delay : ℕ) (arrival : ℕ → ℕ) where
   abbrev timeTo : Tree → ℕ
   timeTo t = timeIn delay arrival (wiringIn t)
@@ -158,12 +158,12 @@ module _ (m n : ℕ) (gates : List Gate) (net : IsNet m n gates) where
       ways : Tree → List ℕ
       ways t = waysInFrom i (wiringIn t)
 
-  -- as many as it has places among the leaves
+  -- there are as many ways as the input has leaves
   ways-many : (i : ℕ) → i < n → length (waysFrom n gates i) ≡ oneWhere (any (eqb i) (usedBy gates))
   ways-many i h =
       ap length (ways-from i) ∙ ways-count n i h tree (net-tree m n gates net .once) ∙ ap oneWhere (sym (net-uses m n gates net i h))
 
-  -- "gates on the way": every used input has just one way, ..
+  -- "gates on the way": every used input has exactly one way, ..
   pub one-way : (i : ℕ) → i < n → any (eqb i) (usedBy gates) ≡ true → waysFrom n gates i ≡ gatesOnWay n gates i ∷ []
   unfolding gatesOnWay
   one-way i h used = single (waysFrom n gates i) (ways-many i h ∙ ap oneWhere used)
@@ -185,7 +185,7 @@ module _ (m n : ℕ) (gates : List Gate) (net : IsNet m n gates) where
     abbrev arrival : ℕ → ℕ
     arrival i = getD arrivals i 0
 
-    -- what one input asks for
+    -- the time that one input requires
     abbrev through : ℕ → ℕ
     through i = arrival i + delay * gatesOnWay n gates i
 
@@ -227,7 +227,7 @@ module _ (m n : ℕ) (gates : List Gate) (net : IsNet m n gates) where
         ∙ ap (λ (times : List ℕ). withTimes delay times gates)
         (inputs-times delay arrival n ∙ ap (λ (k : ℕ). map arrival (range 0 k)) (sym count) ∙ by-places 0 arrivals))
 
-  -- with every arrival at 0 and a delay of 1 it is the layers
+  -- if every arrival is 0 and the delay is 1, it is the number of layers
   pub settling-layers : (arrivals : List ℕ) → ((i : ℕ) → getD arrivals i 0 ≡ 0) → settlingTime n gates 1 arrivals ≡ layers n gates
   unfolding timeIn depth
   settling-layers arrivals none = settling-tree 1 arrivals ∙ as-depth tree ∙ sym (net-layers m n gates net)

@@ -26,7 +26,7 @@ use Rattle.trees.specs.Trees.MarkTwo.{isA}
 use Rattle.trees.specs.Families.NormalWirings.{Normal, left-inside}
 use Rattle.trees.specs.Families.FamilyCounts.{split-is, is-split, groupTrees, splitCounted, count-single, count-several, counted-two, counted-some}
 
--- a factor of a product that is not 0
+-- if x < p * q, then q is not 0
 factor-some : (x p q : ℕ) → x < p * q → 0 < q
 factor-some x p zero h = absurd (omega (arith, mul-zero p))
 factor-some x p (suc q) h = omega arith
@@ -42,7 +42,7 @@ module _ (n : ℕ) (marks : List ℕ) where
   own-two (input i) twos = twos
   own-two (gate a b) twos = twos .0
 
-  -- a wiring that is counted for group g
+  -- a wiring that counts for group g
   pub record InFamily (g : ℕ) (w : Wiring) : Type 0 where
     pub of : WiringOf n g w
     pub twos : AllTwos w
@@ -61,7 +61,7 @@ module _ (n : ℕ) (marks : List ℕ) where
   abbrev pub wired : ℕ → ℕ → ℕ → Wiring
   wired fuel g r = familyWiring n marks (countsOf n marks) fuel g r
 
-  -- where the split and the number in it are known
+  -- the wiring, if the split and the number in it are known
   abbrev wiredAt : ℕ → ℕ → Numbered → Wiring
   wiredAt fuel g at =
       gate (wired fuel (at .part) (at .number / groupTrees n marks (g - at .part))) (wired fuel (g - at .part) (at .number % groupTrees n marks (g - at .part)))
@@ -119,7 +119,7 @@ module _ (n : ℕ) (marks : List ℕ) where
 
   -- ---- from a number to a wiring
 
-  -- a split and a number in it, of the number r of g: each part has a number of its own
+  -- the split of number r of g and the number in it: each part has its own number
   pub record SplitAt (g r : ℕ) (at : Numbered) : Type 0 where
     pub split : MayBeA n marks g (at .part)
     pub rest-some : 0 < groupTrees n marks (g - at .part)
@@ -127,7 +127,7 @@ module _ (n : ℕ) (marks : List ℕ) where
     pub right : at .number % groupTrees n marks (g - at .part) < groupTrees n marks (g - at .part)
     pub again : before (splitCounted n marks g) (splitsOf n marks g) (at .part) + at .number ≡ r
 
-  -- where a number of a group of several members falls
+  -- where a number of a group with several members falls
   pub number-split : (g r : ℕ) → g < 2 ^ n → size n g ≢ 1 → r < groupTrees n marks g → SplitAt g r (numberedAt (splitCounted n marks g) (splitsOf n marks g) r)
   number-split g r g< several h =
       let two = counted-two n marks g g< (omega arith) in
@@ -144,7 +144,7 @@ module _ (n : ℕ) (marks : List ℕ) where
         again = placed .again;
       }
 
-  -- a wiring that is counted, with its number
+  -- a wiring that counts, with its number
   pub record HasNumber (g r : ℕ) (w : Wiring) : Type 0 where
     pub family : InFamily g w
     pub number : numberOf w ≡ r
@@ -160,7 +160,7 @@ module _ (n : ℕ) (marks : List ℕ) where
         number = omega (arith, count-single n marks g g< two one);
       }
 
-  -- Each number below the count gives a wiring that is counted, and is that wiring's number.
+  -- Each number below the count gives a wiring that counts, and is that wiring's number.
   pub wiring-numbered : (fuel g r : ℕ) → g < 2 ^ n → size n g ≤ fuel → r < groupTrees n marks g → HasNumber g r (wired fuel g r)
   wiring-numbered zero g r g< enough h = absurd (omega (arith, size-pos n g g< (counted-some n marks g g< (omega arith))))
   wiring-numbered (suc fuel) g r g< enough h =
@@ -201,7 +201,7 @@ module _ (n : ℕ) (marks : List ℕ) where
         holds-first = norm .0;
       }
 
-  -- a gate whose two sides are counted
+  -- a gate whose two sides count
   module _ (a b : Wiring) (once : EachOnce n (gate a b)) (twos : AllTwos (gate a b)) (norm : Normal n (gate a b))
       (a-small : numberOf a < groupTrees n marks (groupOf a)) (b-small : numberOf b < groupTrees n marks (groupOf b)) where
     abbrev own : ℕ
@@ -249,7 +249,7 @@ module _ (n : ℕ) (marks : List ℕ) where
         ∙ rw (rest, digits-div (numberOf a) b-small, digits-mod (numberOf a) b-small)
         (ap₂ gate (left fuel (omega (arith, sizes))) (right fuel (omega (arith, sizes))))
 
-  -- Each wiring that is counted has a number below the count, and is the wiring of that number.
+  -- Each wiring that counts has a number below the count, and is the wiring of that number.
   pub number-wired : (w : Wiring) → EachOnce n w → AllTwos w → Normal n w
       → (numberOf w < groupTrees n marks (groupOf w)) × ((fuel : ℕ) → size n (groupOf w) ≤ fuel → wired fuel (groupOf w) (numberOf w) ≡ w)
   unfolding groupOf

@@ -1,5 +1,5 @@
--- No count is over 64 bits: a group of k members has at most (2k − 3)!! trees, for k up to the most inputs that a sheet may have. The splits of a
--- group, by the size of A, are as many as there are ways to choose the other members of A.
+-- Every count fits into 64 bits: a group of k members has at most (2k − 3)!! trees, for k up to the most inputs that a sheet may have. For each size
+-- of A, the group has as many splits as there are ways to choose the other members of A.
 -- Assumes nothing.
 use Prim.Native.Nat.{ℕ, zero, suc, _+_, _-_, _*_, _/_, _%_, _^_, _≤_, _<_}
 use mathlib.Core.Path.{_≡_, refl, sym, ap, ap₂, _∙_}
@@ -29,7 +29,7 @@ use Rattle.trees.specs.Families.Families.{split-a-below, split-b-below, 
 
 -- ---- the parts of a group by their size
 
--- the sum of h, at the size of a set, over all sets of some of k things
+-- the sum of h, at the size of a set, over all subsets of k things
 unfoldable pub overSets : ℕ → (ℕ → ℕ) → ℕ
 overSets zero h = h 0
 overSets (suc k) h = overSets k h + overSets k (λ j. h (suc j))
@@ -40,12 +40,12 @@ unfolding all
 all-map f t [] = refl
 all-map f t (x ∷ xs) = all-cons t (f x) (map f xs) ∙ ap (λ (b : Bool). t (f x) && b) (all-map f t xs) ∙ sym (all-cons (λ x. t (f x)) x xs)
 
--- a part by its lowest bit and its half
+-- `inside` by the lowest bit and the half
 inside-half : (n a g : ℕ) → inside (suc n) a g ≡ ((not (member 0 a) || member 0 g) && inside n (a / 2) (g / 2))
 unfolding inside range
 inside-half n a g = simp (all-cons (λ i. not (member i a) || member i g) 0, range-shift 0 n, all-map suc (λ i. not (member i a) || member i g), member-suc)
 
--- a number that is twice another, and one more
+-- a number that is twice another, and one more than that
 module _ (b : ℕ) where
   even-half : (b + b) / 2 ≡ b
   even-half = omega arith
@@ -69,7 +69,7 @@ module _ (b : ℕ) where
 twice : (n : ℕ) → 2 ^ suc n ≡ 2 ^ n + 2 ^ n
 twice n = omega arith
 
--- h at the size of a, where a is a part of g
+-- h at the size of a, if a is a part of g
 inPart : ℕ → ℕ → (ℕ → ℕ) → ℕ → ℕ
 inPart n g h a = cond (inside n a g) (h (size n a)) 0
 
@@ -90,7 +90,7 @@ module _ (n g : ℕ) (h : ℕ → ℕ) (b : ℕ) where
   unfolding inPart
   part-none e = rw (inside-half, odd-low, e)
 
--- over the parts of a group of k members: over all sets of k things
+-- the sum over the parts of a group of k members is the sum over all subsets of k things
 over-parts : (n g : ℕ) (h : ℕ → ℕ) → sumTo (inPart n g h) (2 ^ n) ≡ overSets (size n g) h
 unfolding sumTo overSets inPart inside size those range all
 over-parts zero g h = omega arith
@@ -111,7 +111,7 @@ over-parts (suc n) g h = rw (twice, sum-pairs, size-suc, low-bit) (go (member 0 
 -- ---- the parts that hold the first-listed input
 
 module _ (n g : ℕ) (h : ℕ → ℕ) (b : ℕ) where
-  -- where that is input 0: the odd ones
+  -- if that is input 0: the odd ones
   first-odd-even : member 0 g ≡ true → inFirst (suc n) g h (b + b) ≡ 0
   unfolding inFirst
   first-odd-even e = rw (first-odd n g e, even-low, and-false)
@@ -120,7 +120,7 @@ module _ (n g : ℕ) (h : ℕ → ℕ) (b : ℕ) where
   unfolding inFirst inPart
   first-odd-odd e = rw (first-odd n g e, odd-low, and-true, inside-half, odd-low, odd-half, odd-size, e)
 
-  -- and else the even ones
+  -- otherwise the even ones
   first-even-even : member 0 g ≡ false → inFirst (suc n) g h (b + b) ≡ inFirst n (g / 2) h b
   unfolding inFirst
   first-even-even e = rw (first-even n g e, member-suc, inside-half, even-low, even-half, even-size)
@@ -129,7 +129,7 @@ module _ (n g : ℕ) (h : ℕ → ℕ) (b : ℕ) where
   unfolding inFirst
   first-even-odd e = rw (inside-half, odd-low, e)
 
--- over those: over all sets of the other members, A having one more
+-- the sum over those is the sum over all subsets of the other members; A has one more
 pub over-firsts : (n g : ℕ) (h : ℕ → ℕ) → g < 2 ^ n → 0 < g → sumTo (inFirst n g h) (2 ^ n) ≡ overSets (size n g - 1) (λ j. h (suc j))
 over-firsts zero g h g< some = absurd (omega arith)
 over-firsts (suc n) g h g< some = rw (twice, sum-pairs) (go (member 0 g) refl (over-firsts n (g / 2) h (omega arith)))
@@ -149,7 +149,7 @@ over-firsts (suc n) g h g< some = rw (twice, sum-pairs) (go (member 0 g) refl (o
 
 -- ---- the bound
 
--- (2k − 3)!!, and 1 for one member: as many trees as k inputs have
+-- (2k − 3)!!, and 1 for one member: the number of trees on k inputs
 unfoldable pub treesOn : ℕ → ℕ
 treesOn zero = 0
 treesOn (suc zero) = 1
@@ -168,13 +168,13 @@ trees-fit : all (λ k. ltb (treesOn k) (2 ^ 64)) (range 0 (mostInputs + 1)) ≡ 
 unfolding all range treesOn
 trees-fit = refl
 
--- the largest, that of 12 inputs
+-- the largest, for 12 inputs
 pub most-trees : treesOn mostInputs ≡ 13_749_310_575
 unfolding treesOn
 most-trees = refl
 
 module _ (n : ℕ) (marks : List ℕ) where
-  -- what a split counts for, where its two groups keep the bound
+  -- the count of a split whose two groups meet the bound
   split-bound : (g a : ℕ) → g < 2 ^ n → MayBeA n marks g a
       → groupTrees n marks a ≤ treesOn (size n a) → groupTrees n marks (g - a) ≤ treesOn (size n (g - a))
       → splitCounted n marks g a ≤ inFirst n g (splitTrees (size n g)) a
@@ -183,7 +183,7 @@ module _ (n : ℕ) (marks : List ℕ) where
       let rest : size n g - size n a ≡ size n (g - a) = omega (arith, split-sizes n marks g a g< split .0) in
       rw (split .part, split .holds-first, rest) (mul-le-mul of-a of-b)
 
-  -- what its splits count for together
+  -- the sum over its splits
   several-bound : (g : ℕ) → g < 2 ^ n → 0 < groupTrees n marks g → size n g ≢ 1 → size n g ≤ mostInputs
       → ((a : ℕ) → MayBeA n marks g a → (groupTrees n marks a ≤ treesOn (size n a)) × (groupTrees n marks (g - a) ≤ treesOn (size n (g - a))))
       → groupTrees n marks g ≤ treesOn (size n g)
@@ -220,7 +220,7 @@ module _ (n : ℕ) (marks : List ℕ) where
           let sizes = split-sizes n marks g a g< split in
           (below a (split-a-below n marks g a g< split) (omega arith), below (g - a) (split-b-below n marks g a g< split) (omega arith)))
 
-  -- A group has at most (2k − 3)!! trees, k being the number of its members, ..
+  -- A group of k members has at most (2k − 3)!! trees, ..
   pub count-bound : n ≤ mostInputs → (g : ℕ) → g < 2 ^ n → groupTrees n marks g ≤ treesOn (size n g)
   count-bound n≤ g g< = bounded n g n≤ g< (size-le n g)
 

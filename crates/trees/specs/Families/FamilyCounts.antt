@@ -26,7 +26,7 @@ use Rattle.trees.specs.Groups.Members.{size-zero}
 use Rattle.trees.specs.Groups.MarkRule.{parts-at-holds}
 use Rattle.trees.specs.Trees.MarkTwo.{isA}
 
--- the rule's answer, by its two tests, mark 2 and one member, and the sum over the splits
+-- the rule's result, by its two tests, mark 2 and one member, and the sum over the splits
 abbrev outcome : Bool → Bool → ℕ → ℕ
 outcome true true sum = 1
 outcome true false sum = sum
@@ -67,7 +67,7 @@ module _ (n : ℕ) (marks : List ℕ) where
       go true false = refl
       go false c = refl
 
-  -- the rule reads the counts below the group alone
+  -- the rule reads only the counts below the group
   count-agree : (xs ys : List ℕ) (g : ℕ) → ((a : ℕ) → a < g → countIn xs a ≡ countIn ys a) → countOf n marks xs g ≡ countOf n marks ys g
   unfolding splitCount
   count-agree xs ys g e =
@@ -83,7 +83,7 @@ module _ (n : ℕ) (marks : List ℕ) where
   counts-below-length zero = refl
   counts-below-length (suc k) = rw (length-append, counts-below-length k, add-one)
 
-  -- a count in the list is the rule's, with the counts below at hand
+  -- a count in the list follows the rule, given the counts below
   count-below : (k g : ℕ) → g < k → countIn (countsBelow n marks k) g ≡ countOf n marks (countsBelow n marks g) g
   unfolding countsBelow
   count-below zero g h = absurd (omega arith)
@@ -106,7 +106,7 @@ module _ (n : ℕ) (marks : List ℕ) where
   unfolding countsOf
   counts-length = counts-below-length (2 ^ n)
 
-  -- each count is the rule's, with all counts at hand
+  -- each count follows the rule, given all counts
   pub count-rule : (g : ℕ) → g < 2 ^ n → groupTrees g ≡ countOf n marks (countsOf n marks) g
   unfolding countsOf
   count-rule g g< =
@@ -116,15 +116,15 @@ module _ (n : ℕ) (marks : List ℕ) where
   -- ---- the rule
 
   module _ (g : ℕ) (g< : g < 2 ^ n) where
-    -- none where the mark is not 2
+    -- 0 if the mark is not 2
     pub no-parts-count : markIn marks g ≢ 2 → groupTrees g ≡ 0
     no-parts-count other = count-rule g g< ∙ rw (count-outcome, ne-eqb (markIn marks g) 2 other)
 
-    -- one for a single input
+    -- 1 for a single input
     pub count-single : markIn marks g ≡ 2 → size n g ≡ 1 → groupTrees g ≡ 1
     count-single two one = count-rule g g< ∙ rw (count-outcome, two, one)
 
-    -- else that of its splits
+    -- otherwise the sum over its splits
     pub count-several : markIn marks g ≡ 2 → size n g ≢ 1 → groupTrees g ≡ total (map (splitCounted g) (splitsOf n marks g))
     count-several two several = count-rule g g< ∙ rw (count-outcome, two, ne-eqb (size n g) 1 several)
 
@@ -136,14 +136,14 @@ module _ (n : ℕ) (marks : List ℕ) where
         go (yes two) = two
         go (no other) = absurd (omega (arith, no-parts-count other))
 
-  -- .. and an input
+  -- .. and is not empty
   pub counted-some : (g : ℕ) → g < 2 ^ n → 0 < groupTrees g → 0 < g
   unfolding splitsOf those range total
   counted-some zero g< some =
       absurd (omega (arith, count-several 0 g< (counted-two 0 g< some) (λ one. omega (arith, size-zero n))))
   counted-some (suc g) g< some = omega arith
 
-  -- ---- what is summed is at most the count
+  -- ---- each term is at most the count
 
   module _ (g : ℕ) (g< : g < 2 ^ n) (two : markIn marks g ≡ 2) (several : size n g ≢ 1) where
     -- the count of each split

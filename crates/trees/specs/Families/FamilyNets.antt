@@ -1,7 +1,7 @@
--- "Every wiring that computes the table turns up under just one number, and number 0 is the settled net." "A family numbers the wirings on just these" leaves
--- (document 02, K12). Said of nets: the net of each number below the count is on just the leaves and computes the table, nets of different numbers are
--- different wirings, and each net on just the leaves that computes the table is one wiring with the net of just one number. The count is 0 exactly when no
--- net computes the table, whatever its leaves.
+-- "Every wiring that computes the table turns up under just one number, and number 0 is the settled net." "A family numbers the wirings on just
+-- these" leaves (document 02, K12). Stated for nets: the net of each number below the count is on just the leaves and computes the table; nets of
+-- different numbers are different wirings; and each net on just the leaves that computes the table is one wiring with the net of exactly one number.
+-- The count is 0 exactly if no net computes the table, whatever its leaves.
 -- Assumes nothing.
 use Prim.Native.Nat.{ℕ, _^_, _<_}
 use mathlib.Core.Path.{_≡_, sym, ap, _∙_, subst, subst⁻¹}
@@ -63,7 +63,7 @@ module _ (m n : ℕ) (pos : 0 < m) (several : 1 < n) (f : ℕ → ℕ) where
   unfolding familyGates
   family-leaves r h = filled-leaves m n pos f (leavesOf m n f) (leaves-several m n pos f several) (wiringOf r) (gives r h .of)
 
-  -- Two nets that are one wiring have one number.
+  -- Two nets that are one wiring have the same number.
   pub family-differ : (r s : ℕ) → r < howMany → s < howMany → SameWiring n (familyGatesOf r) (familyGatesOf s) → r ≡ s
   unfolding treeCount
   family-differ r s h k same =
@@ -125,7 +125,7 @@ module _ (m n : ℕ) (pos : 0 < m) (several : 1 < n) (f : ℕ → ℕ) where
       ap (λ (w : Wiring). filled m n f (linksOf n 0 w))
       (number-zero m n pos f (leavesOf m n f) leaves< (counted-two n (marksOf m n f) (leavesOf m n f) leaves< some))
 
-  -- "A table with no tree gets count 0": the count is 0 exactly when no net computes the table.
+  -- "A table with no tree gets count 0": the count is 0 exactly if no net computes the table.
   pub no-family : ((p : ℕ) → p < m ^ n → f p < m) → (howMany ≡ 0) ↔ (TreeExists m n f → ⊥)
   unfolding treeCount
   no-family inks =

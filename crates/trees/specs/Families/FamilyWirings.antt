@@ -1,5 +1,5 @@
 -- The family of a table: a group's numbers below its count, and the group's wirings with few classes at each gate, up to sides. A group has
--- count 0 exactly when its mark is not 2, and its number 0 is the settled wiring.
+-- count 0 exactly if its mark is not 2, and its number 0 is the settled wiring.
 -- Assumes nothing.
 use Prim.Native.Nat.{ℕ, zero, suc, _-_, _^_, _<_}
 use mathlib.Core.Path.{_≡_, refl, sym, _∙_, ap, ap₂}
@@ -37,7 +37,7 @@ module _ (m n : ℕ) (pos : 0 < m) (f : ℕ → ℕ) where
   abbrev pub countAt : ℕ → ℕ
   countAt g = groupTrees n (marksOf m n f) g
 
-  -- ---- mark 2 at each group, and few classes at each gate's
+  -- ---- mark 2 at each group, and few classes at each gate's group
 
   twos-few : (w : Wiring) → EachOnce n w → AllTwos n (marksOf m n f) w → EachGate (Few m n f) w
   twos-few (input i) once twos = tt
@@ -50,7 +50,7 @@ module _ (m n : ℕ) (pos : 0 < m) (f : ℕ → ℕ) where
 
   -- ---- numbers and wirings
 
-  -- what the wiring of a number is
+  -- properties of the wiring of a number
   pub record OfFamily (g r : ℕ) (w : Wiring) : Type 0 where
     pub of : WiringOf n g w
     pub few : EachGate (Few m n f) w
@@ -79,7 +79,7 @@ module _ (m n : ℕ) (pos : 0 < m) (f : ℕ → ℕ) where
         let is = number-wired n (marksOf m n f) w (of .0) (few-twos w (of .0) few) norm in
         (rw (of .1) at (is .0), rw (of .1) at (is .1 n (size-le n (groupOf w))))
 
-    -- of any wiring with few classes at each gate, up to sides
+    -- the number of any wiring with few classes at each gate, up to sides
     pub normal-has : (w : Wiring) → WiringOf n g w → EachGate (Few m n f) w
         → (numberIn (normal n w) < countAt g) × (wiringNumbered g (numberIn (normal n w)) ≡ normal n w)
     normal-has w of few =
@@ -93,13 +93,13 @@ module _ (m n : ℕ) (pos : 0 < m) (f : ℕ → ℕ) where
         let w = settled-wiring-of m n pos f g g< two in
         omega (arith, normal-has (settledWiring n (marksOf m n f) g) (w .0) (w .1) .0)
 
-    -- .. and no other: the count is 0 exactly when the mark is not 2.
+    -- .. and no other group has: the count is 0 exactly if the mark is not 2.
     pub count-zero : (countAt g ≡ 0) ↔ (marked m n pos f g ≢ 2)
     count-zero = (λ none two. omega (arith, two-counted two), λ other. no-parts-count n (marksOf m n f) g g< other)
 
   -- ---- number 0
 
-  -- of a group's splits, number 0 falls in that of lowest number
+  -- number 0 falls in the group's split of lowest number
   first-split : (g : ℕ) → g < 2 ^ n → marked m n pos f g ≡ 2 → size n g ≢ 1
       → numberedAt (splitCounted n (marksOf m n f) g) (splitsOf n (marksOf m n f) g) 0 ≡ record { part = splitOf n (marksOf m n f) g; number = 0 }
   unfolding splitsOf splitOf splitCount

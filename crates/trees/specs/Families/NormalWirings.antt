@@ -1,4 +1,4 @@
--- A wiring is known, up to which side is left, by its leaves and by the groups that its gates join. Its normal form has the first-listed input
+-- A wiring is determined, up to which side is left, by its leaves and by the groups that its gates join. Its normal form has the first-listed input
 -- of every gate's group on the left.
 -- Assumes nothing.
 use Prim.Native.Nat.{ℕ, _+_, _^_, _<_}
@@ -23,7 +23,7 @@ use Rattle.trees.specs.Trees.MarkTwo.{inside-trans}
 
 -- ---- the groups that the gates join
 
--- A's, then B's, then the gate's own
+-- the groups of A's gates, then of B's, then the gate's own
 unfoldable pub groupsJoined : Wiring → List ℕ
 groupsJoined (input i) = []
 groupsJoined (gate a b) = groupsJoined a ++ groupsJoined b ++ ((groupOf a + groupOf b) ∷ [])
@@ -89,14 +89,14 @@ module _ (n : ℕ) where
     pub not-in-both : (i : ℕ) → i < n → member i (groupOf a) ≡ true → member i (groupOf b) ≡ true → ⊥
     not-in-both i i< l r = true≢false (sym (ap₂ _&&_ l r) ∙ once .0 i i<)
 
-    -- so no group of some input is inside both
+    -- so no non-empty group is inside both
     pub inside-one : (h : ℕ) → h < 2 ^ n → 0 < h → inside n h (groupOf a) ≡ true → inside n h (groupOf b) ≡ true → ⊥
     inside-one h h< some l r =
         let first = first-member n h h< some in
         not-in-both (firstInput n h) (first .0) (inside-member (firstInput n h) n h (groupOf a) l (first .0) (first .1))
         (inside-member (firstInput n h) n h (groupOf b) r (first .0) (first .1))
 
-  -- what a gate joins is a group of some of the wiring's inputs
+  -- what a gate joins is a non-empty group of the wiring's inputs
   pub joins-inside : (h : ℕ) (w : Wiring) → EachOnce n w → Joins h w → (h < 2 ^ n) × (0 < h) × (inside n h (groupOf w) ≡ true)
   joins-inside h (input i) once is = absurd (joins-none h i is)
   joins-inside h (gate a b) once is = go (joins-cases h a b is) (joins-inside h a (once .1)) (joins-inside h b (once .2))
@@ -129,7 +129,7 @@ module _ (n : ℕ) where
   Normal (input i) = Unit {0}
   Normal (gate a b) = (member (firstInput n (groupOf (gate a b))) (groupOf a) ≡ true) × Normal a × Normal b
 
-  -- a wiring's group, as a gate joins it or as a single input: inside the side that shares an input with it
+  -- if gate a b joins all that w joins, and w's group has a lower number, it is inside the side that shares an input with it
   side-inside : (x : ℕ) → x < n → (w : Wiring) → member x (groupOf w) ≡ true → (a b : Wiring) → EachOnce n (gate a b) → member x (groupOf a) ≡ true
       → groupOf w < groupOf (gate a b) → ((h : ℕ) → Joins h w → Joins h (gate a b)) → inside n (groupOf w) (groupOf a) ≡ true
   unfolding groupOf
@@ -146,7 +146,7 @@ module _ (n : ℕ) where
           absurd (not-in-both a b once x x< in-a (inside-member x n (groupOf (gate c d)) (groupOf b) (joins-inside _ b (once .2) r .2) x< in-w))
       go (inr (inr same)) = absurd (omega arith)
 
-  -- a group inside one side that a gate joins, it joins in that side
+  -- if a wiring joins a group inside one side, that side joins it
   stays-left : (a b : Wiring) → EachOnce n (gate a b) → (h : ℕ) → h < 2 ^ n → 0 < h → inside n h (groupOf a) ≡ true → Joins h (gate a b) → Joins h a
   unfolding groupOf
   stays-left a b once h h< some in-a is = go (joins-cases h a b is)
@@ -187,7 +187,7 @@ module _ (n : ℕ) where
     unfolding groupOf
     right-same = omega (arith, left-same)
 
-    -- and each side joins the same groups as the other's
+    -- and the left sides join the same groups, as do the right sides
     left-gates : SameGates a c
     left-gates h = (
       λ is. let at = joins-inside h a (once .1) is in stays-left c d once′ h (at .0) (at .1) (rw left-same at (at .2)) (gates h .0 (joins-left h a b is)),
@@ -200,7 +200,7 @@ module _ (n : ℕ) where
       λ is. let at = joins-inside h d (once′ .2) is in stays-right a b once h (at .0) (at .1) (rw right-same (at .2)) (gates h .1 (joins-right h c d is)),
     )
 
-  -- Two normal wirings of the same inputs that join the same groups are one.
+  -- Two normal wirings of the same inputs that join the same groups are equal.
   pub normal-known : (w v : Wiring) → EachOnce n w → EachOnce n v → Normal w → Normal v → groupOf w ≡ groupOf v → SameGates w v → w ≡ v
   unfolding groupOf
   normal-known (input i) (input j) once once′ norm norm′ whole gates =
@@ -216,7 +216,7 @@ module _ (n : ℕ) where
 
 -- ---- the normal form
 
--- each gate's sides, the one with the first-listed input left
+-- puts the side with the first-listed input left at each gate
 unfoldable pub normal : ℕ → Wiring → Wiring
 normal n (input i) = input i
 normal n (gate a b) =
@@ -248,7 +248,7 @@ normal-turned n (gate a b) = go (member (firstInput n (groupOf a + groupOf b)) (
     go true s t = straight s t
     go false s t = crossed s t
 
--- ---- what sides leave as it is: the leaves, ..
+-- ---- exchanging sides keeps the leaves, ..
 
 pub turned-group : {w v : Wiring} → Turned w v → groupOf w ≡ groupOf v
 unfolding groupOf
@@ -256,7 +256,7 @@ turned-group same-input = refl
 turned-group (straight s t) = ap₂ _+_ (turned-group s) (turned-group t)
 turned-group (crossed {c} {d} s t) = ap₂ _+_ (turned-group s) (turned-group t) ∙ add-comm (groupOf d) (groupOf c)
 
--- .. that each is there once, ..
+-- .. keeps each leaf single, ..
 pub turned-once : (n : ℕ) {w v : Wiring} → Turned w v → EachOnce n w → EachOnce n v
 turned-once n same-input once = once
 turned-once n (straight s t) once =
@@ -267,13 +267,13 @@ turned-once n (crossed {a} {b} s t) once = (
   turned-once n s (once .1),
 )
 
--- .. what holds of each gate's group, ..
+-- .. keeps properties of each gate's group, ..
 pub turned-gates : (P : ℕ → Type 0) {w v : Wiring} → Turned w v → EachGate P w → EachGate P v
 turned-gates P same-input each = tt
 turned-gates P (straight s t) each = (subst P (turned-group (straight s t)) (each .0), turned-gates P s (each .1), turned-gates P t (each .2))
 turned-gates P (crossed s t) each = (subst P (turned-group (crossed s t)) (each .0), turned-gates P t (each .2), turned-gates P s (each .1))
 
--- .. and the groups that are joined
+-- .. and keeps the groups that are joined
 joins-on : {w v : Wiring} → Turned w v → (h : ℕ) → Joins h w → Joins h v
 joins-on same-input h is = is
 joins-on (straight {a} {b} {c} {d} s t) h is =
@@ -313,7 +313,7 @@ module _ (n : ℕ) where
           let either = member-join _ n (groupOf a) (groupOf b) (group-below n a (once .1)) (group-below n b (once .2)) (once .0) (first .0) in
           (rw (normal-group a, normal-group b, add-comm (groupOf b) (groupOf a)) (rw e at (sym either ∙ first .1)), of-b, of-a)
 
-  -- Two wirings of the same inputs that join the same groups have one normal form, ..
+  -- Two wirings of the same inputs that join the same groups have the same normal form, ..
   pub normal-one : (w v : Wiring) → EachOnce n w → EachOnce n v → groupOf w ≡ groupOf v → SameGates w v → normal n w ≡ normal n v
   normal-one w v once once′ whole gates =
       normal-known n (normal n w) (normal n v) (normal-once w once) (normal-once v once′) (normal-is w once) (normal-is v once′)

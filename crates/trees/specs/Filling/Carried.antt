@@ -1,5 +1,5 @@
--- What the wire of a group carries: its only input's level, or its class. It is below m where the group has at most m classes,
--- depends on what the group is given alone, and tells the ink.
+-- What the wire of a group carries: its only input's level, or its class. It is below m if the group has at most m classes,
+-- depends only on the levels of the group's members, and determines the ink.
 -- Assumes nothing.
 use Prim.Native.Nat.{ℕ, _^_, _<_}
 use mathlib.Core.Path.{_≡_, refl, sym, _∙_, ap, subst, subst⁻¹}
@@ -22,25 +22,25 @@ use Rattle.trees.specs.Groups.Classes.{Few, class-below, class-alike, al
 -- ---- a group of one input
 
 module _ (m n : ℕ) (pos : 0 < m) where
-  -- what a group of one input is given is that input's level
+  -- a group of one input is given that input's level
   pub single-level : (i p q : ℕ) → i < n → part m n (2 ^ i) p ≡ part m n (2 ^ i) q → level m n p i ≡ level m n q i
   single-level i p q h e = sym (given p) ∙ ap (λ r. level m n r i) e ∙ given q
     where
       given : (r : ℕ) → level m n (part m n (2 ^ i) r) i ≡ level m n r i
       given r = level-part-in m n pos (2 ^ i) r i h (member-single i i ∙ eq-eqb i i refl)
 
-  -- and the level settles it
+  -- and the level determines it
   level-single : (i p q : ℕ) → level m n p i ≡ level m n q i → part m n (2 ^ i) p ≡ part m n (2 ^ i) q
   level-single i p q e =
       part-ext m n pos (2 ^ i) p q (λ j h k. rw (eqb-true j i (sym (member-single j i) ∙ k)) e)
 
-  -- so it has at most m classes
+  -- so the group has at most m classes
   pub single-few : (f : ℕ → ℕ) (i : ℕ) → i < n → Few m n f (2 ^ i)
   single-few f i h =
       few-classes m n pos f (2 ^ i) (single-below i n h) m (λ p. level m n p i) (λ p. level-below m n pos p i)
       (λ p q e. alike-part m n pos f (2 ^ i) p q (level-single i p q e))
 
--- its first-listed input is its only one
+-- the first-listed input of such a group is its only one
 pub first-single : (n i : ℕ) → i < n → firstInput n (2 ^ i) ≡ i
 first-single n i h =
     let first = first-member n (2 ^ i) (single-below i n h) (pow-pos i) .1 in
@@ -71,7 +71,7 @@ module _ (m n : ℕ) (pos : 0 < m) (f : ℕ → ℕ) (g : ℕ) (g< : g < 2 ^ n) 
       go true one = rw (carried-single m n f g (eqb-true (size n g) 1 one) p) (level-below m n pos p (firstInput n g))
       go false several = rw (carried-several m n f g (eqb-false (size n g) 1 several) p) (lt-of-lt-of-le (class-below m n pos f g g< p) few)
 
-  -- it tells the ink
+  -- it determines the ink, given the other inputs
   pub carried-tells : Tells m n f g (carried m n f g)
   carried-tells p q e = go (eqb (size n g) 1) refl
     where
@@ -85,7 +85,7 @@ module _ (m n : ℕ) (pos : 0 < m) (f : ℕ → ℕ) (g : ℕ) (g< : g < 2 ^ n) 
           let several = eqb-false (size n g) 1 is in
           class-alike m n pos f g g< p q (sym (carried-several m n f g several p) ∙ e ∙ carried-several m n f g several q)
 
-  -- it depends on what the group is given alone
+  -- it depends only on what the group is given
   pub carried-part : (p q : ℕ) → part m n g p ≡ part m n g q → carried m n f g p ≡ carried m n f g q
   carried-part p q e = go (eqb (size n g) 1) refl
     where

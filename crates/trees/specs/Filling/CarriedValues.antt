@@ -1,4 +1,4 @@
--- In a wiring that is filled by the class rule, the value of every reference before the last gate's is what its wire carries: an input's level, or the class of
+-- In a wiring filled by the class rule, the value of every reference before the last gate is what its wire carries: an input's level, or the class of
 -- a gate's group.
 -- Assumes nothing.
 use Prim.Native.Nat.{ℕ, _+_, _-_, _<_}
@@ -39,7 +39,7 @@ module _ (m n : ℕ) (pos : 0 < m) (f : ℕ → ℕ) (p : ℕ) where
     pub count : length values ≡ length groups
     pub each : (r : ℕ) → r < length groups → getD values r 0 ≡ carried m n f (getD groups r 0) p
 
-  -- before the first gate it is the inputs' levels
+  -- before the first gate, these are the inputs' levels
   pub inputs-carry : Carries (inputGroups n) (levelsAt m n p)
   unfolding levelsAt
   inputs-carry =
@@ -50,7 +50,7 @@ module _ (m n : ℕ) (pos : 0 < m) (f : ℕ → ℕ) (p : ℕ) where
             map-range-at (level m n p) 0 n r 0 r< ∙ ap (level m n p) (zero-add r) ∙ sym (rw (inputs-grouped n .1 r r<) (carried-input m n f r r< p));
       }
 
-  -- the gate of a line has the value that it has to give
+  -- the gate of a line has the value that it must give
   pub line-value : (groups values : List ℕ) (l : Link) (last : Bool) → Carries groups values → l .left < length groups → l .right < length groups
       → Parts m n f (getD groups (l .left) 0) (getD groups (l .right) 0)
       → gateValue m values (lineGate m n f last groups l) ≡ given m n f last (linkGroup groups l) p
@@ -64,7 +64,7 @@ module _ (m n : ℕ) (pos : 0 < m) (f : ℕ → ℕ) (p : ℕ) where
   unfolding given
   gate-carries a b parts = sym (carried-several m n f (a + b) (join-several m n pos f a b parts) p)
 
-  -- one reference more
+  -- one more reference
   carries-snoc : (groups values : List ℕ) (g v : ℕ) → Carries groups values → v ≡ carried m n f g p → Carries (groups ++ (g ∷ [])) (values ++ (v ∷ []))
   carries-snoc groups values g v carries is =
       record {
@@ -82,7 +82,7 @@ module _ (m n : ℕ) (pos : 0 < m) (f : ℕ → ℕ) (p : ℕ) where
           ap (λ (i : ℕ). getD (values ++ (v ∷ [])) i 0) same ∙ getD-append-seam values v [] 0 ∙ is
           ∙ ap (λ (x : ℕ). carried m n f x p) (sym (ap (λ (i : ℕ). getD (groups ++ (g ∷ [])) i 0) last ∙ getD-append-seam groups g [] 0))
 
-  -- one gate more, below the last
+  -- one more gate, below the last
   pub line-carries : (groups values : List ℕ) (l : Link) → Carries groups values → l .left < length groups → l .right < length groups
       → Parts m n f (getD groups (l .left) 0) (getD groups (l .right) 0)
       → Carries (groups ++ (linkGroup groups l ∷ [])) (values ++ (gateValue m values (lineGate m n f false groups l) ∷ []))

@@ -24,7 +24,7 @@ use Rattle.trees.specs.Groups.Joins.{part-left, part-right}
 use Rattle.trees.specs.Filling.Carried.{carried-below, carried-tells, carried-part}
 use Rattle.trees.specs.Filling.Digits.{Reaches, digits-count, digits-have, digits-below}
 
--- two groups that a gate may join: they share no input, each and both together with at most m classes
+-- two groups that a gate may join: they share no input, and each of them and their union has at most m classes
 pub record Parts (m n : ℕ) (f : ℕ → ℕ) (a b : ℕ) : Type 0 where
   pub some-a : 0 < a
   pub some-b : 0 < b
@@ -57,7 +57,7 @@ module _ (m n : ℕ) (pos : 0 < m) (f : ℕ → ℕ) (a b : ℕ) (parts : Parts 
         size-pos n b (parts .b-below) (parts .some-b),
       )
 
-  -- what it is given settles what both sides carry
+  -- what the joint group is given determines what both sides carry
   left-carries : (p q : ℕ) → part m n (a + b) p ≡ part m n (a + b) q → carried m n f a p ≡ carried m n f a q
   left-carries p q e =
       carried-part m n pos f a (parts .a-below) p q (part-left m n pos a b (parts .a-below) (parts .b-below) (parts .apart) p q e)
@@ -66,7 +66,7 @@ module _ (m n : ℕ) (pos : 0 < m) (f : ℕ → ℕ) (a b : ℕ) (parts : Parts 
   right-carries p q e =
       carried-part m n pos f b (parts .b-below) p q (part-right m n pos a b (parts .a-below) (parts .b-below) (parts .apart) p q e)
 
-  -- where both sides carry the same, what the joint group is given is alike
+  -- if both sides carry the same at p and q, then p and q are alike for the joint group
   sides-alike : (p q : ℕ) → carried m n f a p ≡ carried m n f a q → carried m n f b p ≡ carried m n f b q → Alike m n f (a + b) p q
   sides-alike p q d e =
       alike-join m n pos f a b p q (parts .a-below) (parts .b-below) (parts .apart)
@@ -78,14 +78,14 @@ module _ (m n : ℕ) (pos : 0 < m) (f : ℕ → ℕ) (a b : ℕ) (parts : Parts 
   gate-alike true p q h = sym (ap f (mix-zero m n pos _ p)) ∙ h 0 ∙ ap f (mix-zero m n pos _ q)
   gate-alike false p q h = alike-class m n pos f (a + b) join-small p q h
 
-  -- some assignment of the joint group has both sides carry what p has them carry
+  -- some assignment of the joint group makes both sides carry what they carry at p
   some-reaches : (p : ℕ)
       → Reaches (carried m n f a) (carried m n f b) (carried m n f a p) (carried m n f b p) (points m n (a + b)) (part m n (a + b) p)
   some-reaches p =
       let e = part-part m n pos (a + b) p in
       (part-in-points m n pos (a + b) p, left-carries (part m n (a + b) p) p e, right-carries (part m n (a + b) p) p e)
 
-  -- the digit for what the two sides carry is what the gate has to give
+  -- the digit for what the two sides carry is what the gate must give
   pub gate-digit : (last : Bool) (p : ℕ) → getD (gateDigits m n f last a b) (carried m n f a p * m + carried m n f b p) 0 ≡ given m n f last (a + b) p
   gate-digit last p =
       digits-have m n f last a b (λ x. x ≡ given m n f last (a + b) p) _ _
@@ -107,7 +107,7 @@ module _ (m n : ℕ) (pos : 0 < m) (f : ℕ → ℕ) (a b : ℕ) (parts : Parts 
             (λ _. refl);
       }
 
-  -- and no other digits keep the rule
+  -- and no other digits follow the rule
   pub digit-rule-only : (last : Bool) (digits : List ℕ) → DigitRule m n f last a b digits → digits ≡ gateDigits m n f last a b
   digit-rule-only last digits rule =
       ext-getD 0 digits (gateDigits m n f last a b) (rule .count ∙ sym (digits-count m n f last a b))
@@ -122,13 +122,13 @@ module _ (m n : ℕ) (pos : 0 < m) (f : ℕ → ℕ) (a b : ℕ) (parts : Parts 
           (rule .reached u v)
           (λ none. rule .free u v u< v< (λ p p< d e. let r = some-reaches p in none _ (r .0, r .1 ∙ d, r .2 ∙ e)))
 
-  -- what the gate has to give is below m
+  -- what the gate must give is below m
   gate-below : ((p : ℕ) → p < m ^ n → f p < m) → (last : Bool) (p : ℕ) → given m n f last (a + b) p < m
   unfolding given
   gate-below inks true p = inks _ (part-below m n pos (a + b) p)
   gate-below inks false p = lt-of-lt-of-le (class-below m n pos f (a + b) join-small p) (parts .few)
 
-  -- so its digits are a table
+  -- so its digits form a table
   pub gate-table : ((p : ℕ) → p < m ^ n → f p < m) → (last : Bool) → GateTable m (gateDigits m n f last a b)
   gate-table inks last =
       let count = digits-count m n f last a b in

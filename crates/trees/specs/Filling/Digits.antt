@@ -14,7 +14,7 @@ use Rattle.rules.specs.Nets.Filling.{carried, given, FillingReached, digitAt, g
 use Rattle.laws.specs.Lists.Tests.{both-eqb}
 use Rattle.laws.specs.Lists.Rows.{grid-length, grid-at}
 
--- what an assignment has the two wires carry and the gate give
+-- what the two wires carry and the gate gives at an assignment
 abbrev reach : (ℕ → ℕ) → (ℕ → ℕ) → (ℕ → ℕ) → ℕ → FillingReached
 reach left right own p = record { left = left p; right = right p; gives = own p }
 
@@ -23,7 +23,7 @@ abbrev pub Reaches : (ℕ → ℕ) → (ℕ → ℕ) → ℕ → ℕ → List �
 Reaches left right u v ps q = List·Memᴰ q ps × (left q ≡ u) × (right q ≡ v)
 
 module _ (left right : ℕ → ℕ) (u v : ℕ) where
-  -- where the first does not reach a digit, only the others can
+  -- if the first does not reach a digit, only the others can
   reached-later : (x q : ℕ) (ps : List ℕ) → (eqb (left x) u && eqb (right x) v) ≡ false → Reaches left right u v (x ∷ ps) q
       → Reaches left right u v ps q
   reached-later x q ps e (m, l, r) = step (List·Memᴰ·cases-cons m)
@@ -33,7 +33,7 @@ module _ (left right : ℕ → ℕ) (u v : ℕ) where
       step (inr k) = (k, l, r)
 
   module _ (own : ℕ → ℕ) (P : ℕ → Type 0) (gives : (q : ℕ) → left q ≡ u → right q ≡ v → P (own q)) where
-    -- what holds of all that is given at (u, v), and of 0 where nothing is, holds of the digit there
+    -- what holds for every value given at (u, v), and for 0 if there is none, holds for the digit there
     digit-has : (ps : List ℕ) → (((q : ℕ) → Reaches left right u v ps q → ⊥) → P 0) → P (digitAt (map (reach left right own) ps) u v)
     unfolding digitAt find
     digit-has [] unreached = unreached (λ q r. List·Memᴰ·not-nil (r .0))
@@ -46,12 +46,12 @@ module _ (left right : ℕ → ℕ) (u v : ℕ) where
         step false e rest = rw (e, digitAt, find) (rest (λ none. unreached (λ q r. none q (reached-later x q ps e r))))
 
 module _ (m n : ℕ) (f : ℕ → ℕ) (last : Bool) (a b : ℕ) where
-  -- there are m·m
+  -- there are m·m digits
   pub digits-count : length (gateDigits m n f last a b) ≡ m * m
   unfolding gateDigits
   digits-count = grid-length _ m
 
-  -- what holds of all that the gate has to give at (u, v), and of 0 where that is nothing, holds of its digit there
+  -- what holds for every value that the gate must give at (u, v), and for 0 if there is none, holds for its digit there
   pub digits-have : (P : ℕ → Type 0) (u v : ℕ) → u < m → v < m
       → ((q : ℕ) → carried m n f a q ≡ u → carried m n f b q ≡ v → P (given m n f last (a + b) q))
       → (((q : ℕ) → Reaches (carried m n f a) (carried m n f b) u v (points m n (a + b)) q → ⊥) → P 0)
@@ -60,7 +60,7 @@ module _ (m n : ℕ) (f : ℕ → ℕ) (last : Bool) (a b : ℕ) where
   digits-have P u v u< v< gives unreached =
       subst P (sym (grid-at _ m u v u< v<)) (digit-has _ _ u v _ P gives (points m n (a + b)) unreached)
 
--- the digits are below m where all that the gate has to give is
+-- the digits are below m if every value that the gate must give is
 pub digits-below : (m n : ℕ) → 0 < m → (f : ℕ → ℕ) (last : Bool) (a b : ℕ) → ((p : ℕ) → given m n f last (a + b) p < m)
     → (k : ℕ) → k < m * m → getD (gateDigits m n f last a b) k 0 < m
 digits-below m n pos f last a b small k h =

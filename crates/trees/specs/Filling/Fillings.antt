@@ -1,5 +1,5 @@
--- The links of a wiring, filled by the class rule: the group of each reference is that of the wiring that it refers to, so the filling is
--- the wiring's gate list, which keeps the rules of a net sheet and has the tree's value. What a list of links must have to be filled.
+-- The links of a wiring, filled by the class rule: the group of each reference is that of the wiring it refers to, so the filling is
+-- the wiring's gate list, which follows the rules of a net sheet and has the tree's value. Also, what a list of links needs in order to be filled.
 -- Assumes nothing.
 use Prim.Native.Nat.{ℕ, _+_, _^_, _<_}
 use native.Mathlib.Nat.{add-zero, zero-add}
@@ -49,7 +49,7 @@ module _ (n : ℕ) where
   abbrev pub ownLink : ℕ → Wiring → Wiring → Link
   ownLink before a b = record { left = referenceTo n before a; right = referenceTo n (before + gatesIn a) b }
 
-  -- `groups` has the groups of the references before a wiring's lines: the inputs' first
+  -- `groups` holds the groups of the references before a wiring's lines: the inputs' first
   abbrev pub Grouped : ℕ → List ℕ → Type 0
   Grouped before groups = (length groups ≡ n + before) × ((i : ℕ) → i < n → getD groups i 0 ≡ 2 ^ i)
 
@@ -67,7 +67,7 @@ module _ (n : ℕ) where
   abbrev pub groupsBelow : List ℕ → ℕ → Wiring → Wiring → List ℕ
   groupsBelow groups before a b = groupsAfter (groupsAfter groups before a) (before + gatesIn a) b
 
-  -- before any line there are the inputs' groups
+  -- before any line, these are the inputs' groups
   pub inputs-grouped : Grouped 0 (inputGroups n)
   unfolding inputGroups
   inputs-grouped = (
@@ -75,7 +75,7 @@ module _ (n : ℕ) where
     λ i h. map-range-at (λ j. 2 ^ j) 0 n i 0 h ∙ ap (λ (j : ℕ). 2 ^ j) (zero-add i),
   )
 
-  -- below a gate the lines leave the group at the reference to its left side
+  -- the lines below a gate do not change the group at the reference to its left side
   left-kept : (before : ℕ) (groups : List ℕ) (a b : Wiring) → EachOnce n a → Grouped before groups
       → getD (groupsBelow groups before a b) (referenceTo n before a) 0 ≡ getD (groupsAfter groups before a) (referenceTo n before a) 0
   left-kept before groups a b once grouped =
@@ -97,7 +97,7 @@ module _ (n : ℕ) where
       rw (with-each-append linkGroup groups (linksOf n before a ++ linksOf n mid b) (ownLink before a b ∷ []), with-each-append linkGroup groups (linksOf n before a) (linksOf n mid b), own)
       (getD-append-seam (groupsBelow groups before a b) (linkGroup (groupsBelow groups before a b) (ownLink before a b)) [] 0 ∙ ap₂ (λ (x y : ℕ). x + y) left right)
 
-  -- the same of both sides of a gate
+  -- the same for both sides of a gate
   module _ (before : ℕ) (groups : List ℕ) (a b : Wiring) (once : EachOnce n (gate a b)) (grouped : Grouped before groups) where
     pub left-group : getD (groupsBelow groups before a b) (referenceTo n before a) 0 ≡ groupOf a
     left-group = left-kept before groups a b (once .1) grouped ∙ group-at-reference before groups a (once .1) grouped
@@ -166,7 +166,7 @@ module _ (m n : ℕ) (f : ℕ → ℕ) where
       ∙ filled-links 0 (inputGroups n) w [] once (inputs-grouped n)
       ∙ append-nil (gateList m n f true 0 w)
 
-  -- they keep the rules of a net, and have the tree's value
+  -- they follow the rules of a net, and have the tree's value
   pub filled-net : (w : Wiring) → EachOnce n w → 0 < gatesIn w → Filled m (fill m n f true w) → IsNet m n (filled m n f (linksOf n 0 w))
   filled-net w once some tables = rw (filled-list w once) (gate-list-net m n f w once some tables)
 

@@ -1,5 +1,5 @@
--- The groups of a net's gates are the groups that the gates of its tree join, and those of a wiring's links, filled, are the wiring's. So two nets
--- are one wiring exactly when their trees differ only in which side is left.
+-- The groups of a net's gates are the groups that the gates of its tree join, and the groups of a wiring's filled links are the wiring's. So two nets
+-- are one wiring exactly if their trees differ only in which side is left.
 -- Assumes nothing.
 use Prim.Native.Nat.{ℕ, _+_, _-_, _≤_, _<_}
 use mathlib.Core.Path.{_≡_, refl, sym, ap, ap₂, _∙_, subst}
@@ -42,7 +42,7 @@ unfoldable pub linkGroups : List ℕ → List Link → List ℕ
 linkGroups groups [] = []
 linkGroups groups (l ∷ links) = linkGroup groups l ∷ linkGroups (groups ++ (linkGroup groups l ∷ [])) links
 
--- links filled join what the links do
+-- filling does not change what links join
 filled-groups : (m n : ℕ) (f : ℕ → ℕ) (groups : List ℕ) (links : List Link) → groupsFrom groups (filledFrom m n f groups links) ≡ linkGroups groups links
 unfolding groupsFrom filledFrom linkGroups
 filled-groups m n f groups [] = refl
@@ -55,7 +55,7 @@ link-groups-append groups [] ys = refl
 link-groups-append groups (x ∷ xs) ys =
     ap (λ (gs : List ℕ). linkGroup groups x ∷ gs) (link-groups-append (groups ++ (linkGroup groups x ∷ [])) xs ys)
 
--- a wiring's links join what the wiring does
+-- a wiring's links join what the wiring joins
 wiring-groups : (n before : ℕ) (groups : List ℕ) (w : Wiring) → EachOnce n w → Grouped n before groups → linkGroups groups (linksOf n before w) ≡ groupsJoined w
 unfolding linkGroups linksOf groupsJoined
 wiring-groups n before groups (input i) once grouped = refl
@@ -81,13 +81,13 @@ filled-joins m n f w once =
 
 -- ---- a gate list
 
--- What some gates have joined: all that any tree's gates join, and each group in a tree of a reference that is not used
+-- What some gates have joined: all that any tree's gates join; and each joined group is in the tree of a reference that is not used
 record Housed (used : List ℕ) (forest : List Tree) (done : List ℕ) : Type 0 where
   fresh : (r : ℕ) → length forest ≤ r → NotIn r used
   listed : (r h : ℕ) → r < length forest → Joins h (wiringIn (treeAt forest r)) → List·Memᴰ h done
   home : (h : ℕ) → List·Memᴰ h done → (r : ℕ) × (r < length forest) × NotIn r used × Joins h (wiringIn (treeAt forest r))
 
--- the inputs alone
+-- only the inputs
 housed-inputs : (n : ℕ) → Housed [] (inputTrees n) []
 unfolding any
 housed-inputs n = record {
@@ -96,7 +96,7 @@ housed-inputs n = record {
   home = λ h is. absurd (List·Memᴰ·not-nil is);
 }
 
--- one gate more
+-- one more gate
 module _ (used : List ℕ) (forest : List Tree) (done : List ℕ) (housed : Housed used forest done) (g : Gate)
     (left< : g .left < length forest) (right< : g .right < length forest) where
   abbrev forest⁺ : List Tree
@@ -139,7 +139,7 @@ module _ (used : List ℕ) (forest : List Tree) (done : List ℕ) (housed : Hous
           let last : r ≡ length forest = omega (arith, length-snoc forest (joinedTree forest g)) in
           new (rw (last, gate-at) at is)
 
-  -- the gate is the new home of what it takes
+  -- the gate is the new home of what it uses
   abbrev Home⁺ : ℕ → Type 0
   Home⁺ h = (r : ℕ) × (r < length forest⁺) × NotIn r used⁺ × Joins h (wiringIn (treeAt forest⁺ r))
 
@@ -169,7 +169,7 @@ module _ (used : List ℕ) (forest : List Tree) (done : List ℕ) (housed : Hous
     home = home⁺;
   }
 
--- the group that a gate's line says is its tree's
+-- the group that a gate's line gives is its tree's
 joined-group : (forest : List Tree) (g : Gate) → g .left < length forest → g .right < length forest
     → linkGroup (groupsIn forest) (linkOf g) ≡ treeGroup (joinedTree forest g)
 unfolding groupOf
@@ -210,7 +210,7 @@ module _ (m n : ℕ) (gates : List Gate) (net : IsNet m n gates) where
       subst (λ (groups : List ℕ). Housed (usedBy gates) forest (groupsFrom groups gates)) (inputs-in n)
       (housed-gates gates [] (inputTrees n) [] (housed-inputs n) back)
 
-  -- of the references with a gate in their tree only the last is not used
+  -- among the references with a gate in their tree, only the last is not used
   last-home : (r h : ℕ) → r < length forest → NotIn r (usedBy gates) → Joins h (wiringIn (treeAt forest r)) → r ≡ n + length gates - 1
   last-home r h r< free is = go (decLt r n) (decLt r (n + length gates - 1))
     where
@@ -236,7 +236,7 @@ module _ (m n : ℕ) (gates : List Gate) (net : IsNet m n gates) where
 
 -- ---- one wiring
 
--- two lists that have the same numbers
+-- two lists with the same numbers
 pub same-numbers : (xs ys : List ℕ) → ((h : ℕ) → any (eqb h) xs ≡ any (eqb h) ys) ↔ ((h : ℕ) → List·Memᴰ h xs ↔ List·Memᴰ h ys)
 same-numbers xs ys = (
   λ same h. (
@@ -255,7 +255,7 @@ module _ (m n : ℕ) (gates others : List Gate) (net : IsNet m n gates) (net′ 
   abbrev second : Wiring
   second = netWiring m n others net′
 
-  -- two nets are one wiring exactly when their trees join the same groups, ..
+  -- two nets are one wiring exactly if their trees join the same groups, ..
   pub same-gates : SameWiring n gates others ↔ SameGates first second
   same-gates =
       let numbers = same-numbers (gateGroups n gates) (gateGroups n others) in
@@ -272,7 +272,7 @@ module _ (m n : ℕ) (gates others : List Gate) (net : IsNet m n gates) (net′ 
       joined-leaves n first second (net-tree m n gates net .once) (net-tree m n others net′ .once)
       (omega (arith, net-gates m n gates net, net .some)) (omega (arith, net-gates m n others net′, net′ .some)) (same-gates .0 same)
 
-  -- .. and that is when the trees "differ only in which side is left".
+  -- .. and that holds exactly if the trees "differ only in which side is left".
   pub same-wiring : SameWiring n gates others ↔ Turned first second
   same-wiring = (
     λ same. same-turned n first second (net-tree m n gates net .once) (net-tree m n others net′ .once) (same-leaves same) (same-gates .0 same),

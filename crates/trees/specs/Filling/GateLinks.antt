@@ -1,4 +1,4 @@
--- The links of any gate list that keeps the rules of a net sheet, in its own line order and with its own sides, can be filled where each
+-- The links of any gate list that follows the rules of a net sheet, in its own line order and with its own sides, can be filled if each
 -- gate's group has at most m classes.
 -- Assumes nothing.
 use Prim.Native.Nat.{ℕ, suc, _+_, _-_, _<_}
@@ -39,7 +39,7 @@ groupsIn forest = map treeGroup forest
 pub group-at : (forest : List Tree) (r : ℕ) → r < length forest → getD (groupsIn forest) r 0 ≡ treeGroup (treeAt forest r)
 group-at forest r h = map-at treeGroup forest r (leaf 0) 0 h
 
--- one gate more
+-- one more gate
 pub groups-joined : (forest : List Tree) (g : Gate) → g .left < length forest → g .right < length forest
     → groupsIn forest ++ (linkGroup (groupsIn forest) (linkOf g) ∷ []) ≡ groupsIn (forest ++ (joinedTree forest g ∷ []))
 unfolding groupOf
@@ -57,7 +57,7 @@ module _ (m n : ℕ) (f : ℕ → ℕ) where
   abbrev AllFew : List ℕ → List Link → Type 0
   AllFew groups links = (r : ℕ) → r < length groups + length links → Few m n f (getD (withGroups groups links) r 0)
 
-  -- two references that are not used, and the groups of which have few classes, may be joined
+  -- two unused references whose groups have few classes may be joined
   may-join : (used : List ℕ) (forest : List Tree) → Grown m n used forest → (g : Gate) (l< : g .left < length forest) (r< : g .right < length forest)
       → NotIn (g .left) used → NotIn (g .right) used → (g .left ≡ g .right → ⊥)
       → Few m n f (getD (groupsIn forest) (g .left) 0) → Few m n f (getD (groupsIn forest) (g .right) 0) → Few m n f (linkGroup (groupsIn forest) (linkOf g))

@@ -1,4 +1,4 @@
--- Document 01's sentences on the settled net's choices, as they stand there: "A group of mark 2 with several members is parted as
+-- Document 01's sentences on the settled net's choices, word for word: "A group of mark 2 with several members is parted as
 -- (A, B), both of mark 2, A holding its first-listed input, A of lowest number."; classes are "numbered from 0 in the order in which
 -- they first appear as the group's assignments are counted, first-listed member slowest".
 -- Assumes nothing.
@@ -39,7 +39,7 @@ module _ (m n : ℕ) (pos : 0 < m) (f : ℕ → ℕ) (g : ℕ) (g< : g < 2 ^ n) 
       split-lowest n (marksOf m n f) g _
       (record { some = omega arith; less = omega arith; part = held .0; two = held .1; rest-two = held .2; holds-first = first }) .0
 
-  -- .. "of lowest number": it is the least of all such.
+  -- .. "of lowest number": it is the least such part.
   pub split-least : (a : ℕ) → MayBeA n (marksOf m n f) g a → splitOf n (marksOf m n f) g ≤ a
   split-least a is = split-lowest n (marksOf m n f) g a is .1
 
@@ -49,7 +49,7 @@ module _ (m n : ℕ) (pos : 0 < m) (f : ℕ → ℕ) (g : ℕ) (g< : g < 2 ^ n) 
   abbrev appearance : ℕ → ℕ
   appearance i = firstPlace (alike m n f g (getD (classes m n f g) i 0)) (points m n g)
 
-  -- Classes rise: one of lower number is listed by a lower assignment, ..
+  -- Classes rise: a class of lower number is listed by a lower assignment, ..
   pub classes-rise : (i j : ℕ) → i < j → j < multiplicity m n f g → getD (classes m n f g) i 0 < getD (classes m n f g) j 0
   unfolding multiplicity
   classes-rise i j h k =
@@ -57,7 +57,7 @@ module _ (m n : ℕ) (pos : 0 < m) (f : ℕ → ℕ) (g : ℕ) (g< : g < 2 ^ n) 
       rw (← (by .first i (omega arith)), ← (by .first j k))
       (points-rise m n pos g (appearance i) (appearance j) (by .order i j h k) (by .appears j k))
 
-  -- .. which is the least of its class: every assignment of the group that is alike with it is that one or a later one.
+  -- .. which is the least of its class: every assignment of the group that is alike to it is that one or a later one.
   pub class-least : (i : ℕ) → i < multiplicity m n f g → (q : ℕ) → List·Memᴰ q (points m n g) → Alike m n f g (getD (classes m n f g) i 0) q
       → getD (classes m n f g) i 0 ≤ q
   unfolding multiplicity
@@ -71,7 +71,7 @@ module _ (m n : ℕ) (pos : 0 < m) (f : ℕ → ℕ) (g : ℕ) (g< : g < 2 ^ n) 
           rw (points-are-parts m n pos g _ (classes-are-points m n pos f g g< i h) .0, points-are-parts m n pos g q is .0) at
           (alike-tested m n pos f g (getD (classes m n f g) i 0) q g< alike-q)
 
-      -- q stands where the class appears first, or later
+      -- q is where the class appears first, or later
       go : (k : ℕ) × (k < length (points m n g)) × (getD (points m n g) k 0 ≡ q) → getD (classes m n f g) i 0 ≤ q
       go (k, k<, at) = compared (decLt k (appearance i)) (decLt (appearance i) k)
         where

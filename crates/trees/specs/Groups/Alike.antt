@@ -1,4 +1,4 @@
--- Alike, as a statement and as the test that document 01's definition computes. It is an equivalence.
+-- Alike, as a statement and as the test that document 01's definition computes. It is an equivalence relation.
 -- Assumes nothing.
 use Prim.Native.Nat.{ℕ, _+_, _^_, _<_}
 use mathlib.Core.Path.{_≡_, refl, sym, ap, _∙_, _≡⟨_⟩_, _∎}
@@ -21,12 +21,12 @@ module _ (m n : ℕ) (pos : 0 < m) (f : ℕ → ℕ) where
   pub alike-trans : (g p q r : ℕ) → Alike m n f g p q → Alike m n f g q r → Alike m n f g p r
   alike-trans g p q r h k y = h y ∙ k y
 
-  -- equal levels at the members are alike
+  -- assignments with equal levels at the members are alike
   pub alike-part : (g p q : ℕ) → part m n g p ≡ part m n g q → Alike m n f g p q
   unfolding mix
   alike-part g p q e y = rw e
 
-  -- the test says what the statement says
+  -- the test agrees with the statement
   pub alike-holds : (g p q : ℕ) → g < 2 ^ n → alike m n f g (part m n g p) (part m n g q) ≡ true → Alike m n f g p q
   unfolding mix alike alikeOver
   alike-holds g p q g< h y = eqb-true _ _ (all-mem _ (part-in-points m n pos (others n g) y) h)
@@ -37,7 +37,7 @@ module _ (m n : ℕ) (pos : 0 < m) (f : ℕ → ℕ) where
       mem-all _ (points m n (others n g))
       (λ y i. eq-eqb _ _ (rw (points-are-parts m n pos (others n g) y i .0) at (h y)))
 
-  -- alike in both parts is alike in the whole
+  -- if p and q are alike for both parts, they are alike for the whole
   pub alike-join : (a b p q : ℕ) → a < 2 ^ n → b < 2 ^ n → Apart n a b → Alike m n f a p q → Alike m n f b p q → Alike m n f (a + b) p q
   alike-join a b p q a< b< apart h k y =
       f (mix m n (a + b) p y) ≡⟨ ap f (join p) ⟩

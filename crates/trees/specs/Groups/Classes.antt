@@ -27,7 +27,7 @@ abbrev pub Few : ℕ → ℕ → (ℕ → ℕ) → ℕ → Type 0
 Few m n f g = multiplicity m n f g ≤ m
 
 module _ (m n : ℕ) (pos : 0 < m) (f : ℕ → ℕ) (g : ℕ) (g< : g < 2 ^ n) where
-  -- an assignment passes the test against itself
+  -- an assignment is alike to itself by the test
   own-class : (p : ℕ) → alike m n f g p p ≡ true
   unfolding alike alikeOver
   own-class p = mem-all _ (points m n (others n g)) (λ y i. eq-eqb (f (p + y)) (f (p + y)) refl)
@@ -43,7 +43,7 @@ module _ (m n : ℕ) (pos : 0 < m) (f : ℕ → ℕ) (g : ℕ) (g< : g < 2 ^ n) 
   classes-are-points i h =
       ⊎-elim (λ k. absurd (List·Memᴰ·not-nil k)) (λ k. k) (classes-keep .from _ (mem-getD (classes m n f g) i 0 h))
 
-  -- .. so that it is what it gives the group; ..
+  -- .. so it equals its own part in the group; ..
   listed-part : (i : ℕ) → i < multiplicity m n f g → part m n g (getD (classes m n f g) i 0) ≡ getD (classes m n f g) i 0
   listed-part i h = points-are-parts m n pos g _ (classes-are-points i h) .0
 
@@ -58,7 +58,7 @@ module _ (m n : ℕ) (pos : 0 < m) (f : ℕ → ℕ) (g : ℕ) (g< : g < 2 ^ n) 
           rw (listed-part i (lt-trans h k), listed-part j k) at
           (alike-tested m n pos f g (getD (classes m n f g) j 0) (getD (classes m n f g) i 0) g< (alike-sym m n pos f g _ _ a))
 
-  -- .. so alike ones stand at one place
+  -- .. so two alike ones have the same place
   pub listed-once : (i j : ℕ) → i < multiplicity m n f g → j < multiplicity m n f g
       → Alike m n f g (getD (classes m n f g) i 0) (getD (classes m n f g) j 0) → i ≡ j
   listed-once i j i< j< a = go (decLt i j) (decLt j i)
@@ -68,7 +68,7 @@ module _ (m n : ℕ) (pos : 0 < m) (f : ℕ → ℕ) (g : ℕ) (g< : g < 2 ^ n) 
       go (no h) (yes k) = absurd (classes-differ j i k i< (alike-sym m n pos f g _ _ a))
       go (no h) (no k) = omega arith
 
-  -- the class number of an index is a place in the list, and what stands there passes
+  -- the class number of an index is a place in the list, and the entry there passes the test
   class-place : (p : ℕ) → (classNumber m n f g p < multiplicity m n f g)
       × (alike m n f g (part m n g p) (getD (classes m n f g) (classNumber m n f g p) 0) ≡ true)
   unfolding classNumber multiplicity alike
@@ -80,11 +80,11 @@ module _ (m n : ℕ) (pos : 0 < m) (f : ℕ → ℕ) (g : ℕ) (g< : g < 2 ^ n) 
   pub class-below : (p : ℕ) → classNumber m n f g p < multiplicity m n f g
   class-below p = class-place p .0
 
-  -- .. and every index is alike with the one of its class
+  -- .. and every index is alike to the listed one of its class
   pub class-listed : (p : ℕ) → Alike m n f g p (getD (classes m n f g) (classNumber m n f g p) 0)
   class-listed p = alike-holds m n pos f g p _ g< (rw (listed-part (classNumber m n f g p) (class-below p)) (class-place p .1))
 
-  -- two indices have one class number exactly when what they give the group is alike
+  -- two indices have the same class number exactly if they are alike for the group
   pub class-alike : (p q : ℕ) → classNumber m n f g p ≡ classNumber m n f g q → Alike m n f g p q
   class-alike p q e = alike-trans m n pos f g _ _ _ (class-listed p) (alike-sym m n pos f g _ _ (rw e (class-listed q)))
 
@@ -92,11 +92,11 @@ module _ (m n : ℕ) (pos : 0 < m) (f : ℕ → ℕ) (g : ℕ) (g< : g < 2 ^ n) 
   alike-class p q h = listed-once (classNumber m n f g p) (classNumber m n f g q) (class-below p) (class-below q)
       (λ y. sym (class-listed p y) ∙ h y ∙ class-listed q y)
 
-  -- the class of an index is that of what it gives the group
+  -- the class of an index is that of its part in the group
   pub class-part : (p : ℕ) → classNumber m n f g (part m n g p) ≡ classNumber m n f g p
   class-part p = alike-class (part m n g p) p (alike-part m n pos f g (part m n g p) p (part-part m n pos g p))
 
-  -- a value below k that tells classes apart bounds their number
+  -- a value below k that separates classes bounds their number
   pub few-classes : (k : ℕ) (v : ℕ → ℕ) → ((p : ℕ) → v p < k) → ((p q : ℕ) → v p ≡ v q → Alike m n f g p q) → multiplicity m n f g ≤ k
   few-classes k v small tells =
       pigeonhole k (multiplicity m n f g) (λ i. v (getD (classes m n f g) i 0)) (λ i h. small _)

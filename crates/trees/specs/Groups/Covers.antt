@@ -1,5 +1,5 @@
--- Assignments of a group to which all its assignments are alike. As few of them as there are at hand count its classes, and those
--- of the other inputs tell which of its assignments are alike.
+-- Assignments of a group such that all its assignments are alike to one of them. Any such list bounds its number of classes, and such a list
+-- for the other inputs decides which of its assignments are alike.
 -- Assumes nothing.
 use Prim.Native.Nat.{ℕ, zero, suc, _+_, _-_, _*_, _/_, _%_, _^_, _≤_, _<_}
 use mathlib.Core.Path.{_≡_, refl, sym, ap, ap₂, _∙_, subst, subst⁻¹}
@@ -55,11 +55,11 @@ module _ (m n : ℕ) (pos : 0 < m) (a b : ℕ) (a< : a < 2 ^ n) (b< : b < 2 ^ n)
   pub sum-level : (i : ℕ) → i < n → level m n (x + y) i ≡ cond (member i a) (level m n x i) (level m n y i)
   sum-level i h = ap (λ r. level m n r i) (sym sum-mix) ∙ level-mix m n pos a x y i a< h
 
-  -- what it gives a is x
+  -- its part in a is x
   pub sum-left : part m n a (x + y) ≡ x
   sum-left = ap (part m n a) (sym sum-mix) ∙ part-mix m n pos a x y a< ∙ x-own
 
-  -- it is an assignment of both groups together
+  -- it is an assignment of the union of both groups
   pub sum-own : part m n (a + b) (x + y) ≡ x + y
   sum-own = level-ext m n pos (part m n (a + b) (x + y)) (x + y) (part-below m n pos (a + b) (x + y)) (rw sum-mix at (mix-below m n pos a x y a<))
       (λ i h. at i h (member i (a + b)) refl)
@@ -72,7 +72,7 @@ module _ (m n : ℕ) (pos : 0 < m) (a b : ℕ) (a< : a < 2 ^ n) (b< : b < 2 ^ n)
           ∙ ap (λ t. cond t (level m n (x + y) i) 0) e
           ∙ sym (sum-level i h ∙ ap (λ t. cond t (level m n x i) (level m n y i)) (neither .0) ∙ out i h (neither .1))
 
--- what the sum gives b is y
+-- its part in b is y
 pub sum-right : (m n : ℕ) (pos : 0 < m) (a b : ℕ) (a< : a < 2 ^ n) (b< : b < 2 ^ n) (apart : Apart n a b) (x y : ℕ) (x-own : part m n a x ≡ x)
     (y-own : part m n b y ≡ y)
     → part m n b (x + y) ≡ y
@@ -81,13 +81,13 @@ sum-right m n pos a b a< b< apart x y x-own y-own =
 
 -- ---- one input
 
--- a group with no member among the inputs is given nothing
+-- the part of an index in a group without inputs is 0
 part-none : (m n g p : ℕ) → ((i : ℕ) → i < n → member i g ≡ false) → part m n g p ≡ 0
 unfolding part
 part-none m zero g p none = refl
 part-none m (suc n) g p none = rw (part-none m n g (p / m) (λ i h. none i (le-step h)), none n (le-refl (suc n)), zero-mul)
 
--- an input by itself is given its level, times its weight
+-- the part in a single input is its level times its weight
 pub part-single : (m n i p : ℕ) → i < n → part m n (2 ^ i) p ≡ level m n p i * m ^ (n - 1 - i)
 unfolding part
 part-single m zero i p h = absurd (omega arith)
@@ -129,7 +129,7 @@ factor-some (suc c) d k h = omega arith
 module _ (m n : ℕ) (pos : 0 < m) (f : ℕ → ℕ) where
   -- ---- what covers a group
 
-  -- of the empty group, its one assignment
+  -- the empty group: its one assignment
   pub empty-cover : Covers m n f 0 1 (λ _. 0)
   empty-cover =
       record {
@@ -137,7 +137,7 @@ module _ (m n : ℕ) (pos : 0 < m) (f : ℕ → ℕ) where
         every = λ p. (0, omega arith, alike-part m n pos f 0 p 0 (part-none m n 0 p (λ i _. member-zero i) ∙ sym (part-none m n 0 0 (λ i _. member-zero i))));
       }
 
-  -- of one input, its levels times its weight
+  -- one input: its levels times its weight
   pub input-cover : (i : ℕ) → i < n → Covers m n f (2 ^ i) m (λ l. l * m ^ (n - 1 - i))
   unfolding level
   input-cover i h =
@@ -152,7 +152,7 @@ module _ (m n : ℕ) (pos : 0 < m) (f : ℕ → ℕ) where
         );
       }
 
-  -- of assignments that cover it, some to which the others are alike
+  -- if e covers it, and every e k is alike to some h j, then h covers it
   pub covers-kept : (g c : ℕ) (e : ℕ → ℕ) (d : ℕ) (h : ℕ → ℕ) → Covers m n f g c e → ((k : ℕ) → k < d → part m n g (h k) ≡ h k)
       → ((k : ℕ) → k < c → (j : ℕ) × (j < d) × Alike m n f g (e k) (h j)) → Covers m n f g d h
   covers-kept g c e d h cover own kept =
@@ -164,7 +164,7 @@ module _ (m n : ℕ) (pos : 0 < m) (f : ℕ → ℕ) where
             (j, j<, alike-trans m n pos f g p (e k) (h j) like kept-like);
       }
 
-  -- the same assignments, however they are had
+  -- the same assignments, given by another function
   pub covers-same : (g c : ℕ) (e h : ℕ → ℕ) → ((k : ℕ) → k < c → e k ≡ h k) → Covers m n f g c e → Covers m n f g c h
   covers-same g c e h same cover =
       record {
@@ -174,17 +174,17 @@ module _ (m n : ℕ) (pos : 0 < m) (f : ℕ → ℕ) where
             (k, k<, subst (Alike m n f g p) (same k k<) like);
       }
 
-  -- ---- what they tell
+  -- ---- what follows from a cover
 
-  -- no group has more classes than assignments that cover it
+  -- a group has no more classes than assignments that cover it
   pub covers-few : (g c : ℕ) (e : ℕ → ℕ) → g < 2 ^ n → Covers m n f g c e → multiplicity m n f g ≤ c
   covers-few g c e g< cover =
       few-classes m n pos f g g< c (λ p. cover .every p .0) (λ p. cover .every p .1)
       (λ p q same. alike-trans m n pos f g p (e (cover .every p .0)) q (cover .every p .2)
       (alike-sym m n pos f g q (e (cover .every p .0)) (subst⁻¹ (λ (k : ℕ). Alike m n f g q (e k)) same (cover .every q .2))))
 
-  -- Rows from a group below: "If p and q are alike for G, then p + l·w and q + l·w are alike for G and one input more." For any two groups
-  -- that share no input, the sums of what covers the one and what covers the other cover the two together.
+  -- Rows from a smaller group: "If p and q are alike for G, then p + l·w and q + l·w are alike for G and one input more." For any two groups
+  -- that share no input, the sums of assignments that cover one and assignments that cover the other cover the union.
   pub covers-join : (a b c d : ℕ) (e h : ℕ → ℕ) → a < 2 ^ n → b < 2 ^ n → Apart n a b → Covers m n f a c e → Covers m n f b d h
       → Covers m n f (a + b) (c * d) (λ k. e (k % c) + h (k / c))
   covers-join a b c d e h a< b< apart left right =
@@ -213,7 +213,7 @@ module _ (m n : ℕ) (pos : 0 < m) (f : ℕ → ℕ) where
             (ap (part m n b) (add-comm (e j) (h k)) ∙ sum-left m n pos b a b< a< (apart-sym n a b apart) (h k) (e j) (right .own k k<) (left .own j j<)))))),
       )
 
-  -- .. So with one input more there are m times as many rows, whatever the group has for classes.
+  -- .. So one more input gives m times as many rows, however many classes the group has.
   pub covers-input : (g i c : ℕ) (e : ℕ → ℕ) → g < 2 ^ n → i < n → member i g ≡ false → Covers m n f g c e
       → Covers m n f (g + 2 ^ i) (c * m) (λ k. e (k % c) + k / c * m ^ (n - 1 - i))
   covers-input g i c e g< i< out cover =
@@ -225,7 +225,7 @@ module _ (m n : ℕ) (pos : 0 < m) (f : ℕ → ℕ) where
 
   -- ---- rows and columns
 
-  -- the inputs that the other inputs leave are the group's own, so a row and a column may change places
+  -- the other inputs of the other inputs are the group itself, so a row and a column may change places
   crossed : (g p y : ℕ) → g < 2 ^ n → mix m n (others n g) y p ≡ mix m n g p y
   unfolding mix others wholeGroup
   crossed g p y g< =
@@ -236,7 +236,7 @@ module _ (m n : ℕ) (pos : 0 < m) (f : ℕ → ℕ) where
   unfolding mix
   row-column g r y r-own y-own = ap₂ (λ (u v : ℕ). u + v) r-own y-own
 
-  -- Columns from a disjoint group: rows of g are alike where they agree at columns that cover the other inputs, ..
+  -- Columns from a disjoint group: rows of g are alike if they agree at columns that cover the other inputs, ..
   pub columns-alike : (g d : ℕ) (h : ℕ → ℕ) → g < 2 ^ n → Covers m n f (others n g) d h → (p q : ℕ) → part m n g p ≡ p → part m n g q ≡ q
       → ((k : ℕ) → k < d → f (p + h k) ≡ f (q + h k)) → Alike m n f g p q
   columns-alike g d h g< cover p q p-own q-own same y =
@@ -246,13 +246,13 @@ module _ (m n : ℕ) (pos : 0 < m) (f : ℕ → ℕ) where
       at : (k : ℕ) → k < d → Alike m n f (others n g) y (h k) → (r : ℕ) → part m n g r ≡ r → f (mix m n g r y) ≡ f (r + h k)
       at k k< like r r-own = sym (ap f (crossed g r y g<)) ∙ like r ∙ ap f (crossed g r (h k) g< ∙ row-column g r (h k) r-own (cover .own k k<))
 
-  -- .. and only there
+  -- .. and only then
   pub alike-columns : (g y p q : ℕ) → part m n (others n g) y ≡ y → part m n g p ≡ p → part m n g q ≡ q → Alike m n f g p q → f (p + y) ≡ f (q + y)
   alike-columns g y p q y-own p-own q-own like = sym (ap f (row-column g p y p-own y-own)) ∙ like y ∙ ap f (row-column g q y q-own y-own)
 
   -- ---- the whole group
 
-  -- has as many classes as there are inks: at most k, where every ink is below k
+  -- it has at most k classes if every ink is below k
   pub whole-few : (k : ℕ) → ((p : ℕ) → p < m ^ n → f p < k) → multiplicity m n f (wholeGroup n) ≤ k
   whole-few k small =
       few-classes m n pos f (wholeGroup n) (whole-below n) k (λ p. f (part m n (wholeGroup n) p))

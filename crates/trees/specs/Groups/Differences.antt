@@ -1,5 +1,5 @@
--- Two assignments of a group compared (document 02, K4): none is told exactly when they are alike, a place exactly when it is the least at which the
--- inks differ.
+-- Two assignments of a group compared (document 02, K4): the result is `none` exactly if they are alike, and a place exactly if it is the least
+-- at which the inks differ.
 -- Assumes nothing.
 use Prim.Native.Nat.{ℕ, _+_, _-_, _^_, _≤_, _<_}
 use mathlib.Core.Path.{_≡_, refl, sym, ap, _∙_, subst}
@@ -32,7 +32,7 @@ pub record FirstDiffer (f : ℕ → ℕ) (ys : List ℕ) (p q k : ℕ) : Type 0 
   pub least : (j : ℕ) → Differ f ys p q j → k ≤ j
 
 module _ (f : ℕ → ℕ) (ys : List ℕ) (p q : ℕ) where
-  -- what is told is the first place
+  -- the result is the first place
   told : First (Differ f ys p q) _≤_ (differenceOver f ys p q)
   unfolding differenceOver differAt
   told =
@@ -43,7 +43,7 @@ module _ (f : ℕ → ℕ) (ys : List ℕ) (p q : ℕ) where
       ))
       (λ g h _ _ r. r)
 
-  -- none exactly when the two are alike
+  -- `none` exactly if the two are alike
   pub none-differ : differenceOver f ys p q ≡ none ↔ alikeOver f ys p q ≡ true
   unfolding alikeOver
   none-differ = (alike-of told, none-of told)
@@ -65,7 +65,7 @@ module _ (f : ℕ → ℕ) (ys : List ℕ) (p q : ℕ) where
       none-of (found k d least) h = absurd (d .differ (eqb-true _ _ (all-mem _ (mem-getD ys k 0 (d .there)) h)))
       none-of (missing empty) h = refl
 
-  -- a place exactly when it is the first
+  -- a place exactly if it is the first
   pub some-first : (k : ℕ) → differenceOver f ys p q ≡ some k ↔ FirstDiffer f ys p q k
   some-first k = (first-of told, some-of told)
     where
@@ -77,7 +77,7 @@ module _ (f : ℕ → ℕ) (ys : List ℕ) (p q : ℕ) where
       some-of (found g d least) is = ap some (omega (arith, least k (is .place), is .least g d))
       some-of (missing empty) is = absurd (empty k (is .place))
 
-  -- so the two are not alike where a place is told
+  -- so the two are not alike if the result is a place
   pub some-unlike : (k : ℕ) → differenceOver f ys p q ≡ some k → alikeOver f ys p q ≡ false
   some-unlike k e = go (alikeOver f ys p q) refl
     where
@@ -85,7 +85,7 @@ module _ (f : ℕ → ℕ) (ys : List ℕ) (p q : ℕ) where
       go true h = absurd (Option·none-ne-some k (sym (none-differ .1 h) ∙ e))
       go false h = refl
 
--- The same of a group and all assignments of the other inputs.
+-- The same for a group and all assignments of the other inputs.
 module _ (m n : ℕ) (f : ℕ → ℕ) (g p q : ℕ) where
   pub difference-none : firstDifference m n f g p q ≡ none ↔ alike m n f g p q ≡ true
   unfolding firstDifference alike
@@ -99,7 +99,7 @@ module _ (m n : ℕ) (f : ℕ → ℕ) (g p q : ℕ) where
   pub difference-below : 0 < m → g < 2 ^ n → (k : ℕ) → firstDifference m n f g p q ≡ some k → k < m ^ (n - size n g)
   difference-below pos g< k e = rw (points-length m n pos (others n g), size-others n g g<) at (difference-first k .0 e .place .there)
 
--- What two indices give a group: none is told exactly when the ink is the same whatever the other inputs are.
+-- For the parts of two indices in a group: `none` exactly if the ink is the same whatever the other inputs are.
 pub difference-alike : (m n : ℕ) → 0 < m → (f : ℕ → ℕ) (g p q : ℕ) → g < 2 ^ n
     → firstDifference m n f g (part m n g p) (part m n g q) ≡ none ↔ Alike m n f g p q
 difference-alike m n pos f g p q g< =

@@ -17,7 +17,7 @@ use Rattle.trees.specs.Groups.Points.{points-whole, points-empty}
 unfoldable pub distinctInks : List ℕ → List ℕ
 distinctInks inks = firsts eqb [] inks
 
--- with no other input, alike is having the same ink
+-- if there are no other inputs, alike means the same ink
 alone : (f : ℕ → ℕ) (p q : ℕ) → alikeOver f (0 ∷ []) p q ≡ eqb (f p) (f q)
 unfolding alikeOver all
 alone f p q = simp (all-cons, add-zero, and-true)

@@ -1,5 +1,5 @@
--- What `firsts` keeps of a list, for a test that every element passes against itself: elements of the list, none that passes
--- against an earlier one, and for each element one against which it passes.
+-- What `firsts` keeps of a list, for a test that every element passes against itself: elements of the list; none passes
+-- against an earlier one; and each element passes against one that is kept.
 -- Assumes nothing.
 use Prim.Native.Nat.{ℕ, _<_}
 use mathlib.Core.Path.{_≡_, refl, sym}
@@ -29,7 +29,7 @@ pub record Keeps (same : ℕ → ℕ → Bool) (kept ps l : List ℕ) : Type 0 w
   pub fresh : FreshOf same kept → FreshOf same l
 
 module _ (same : ℕ → ℕ → Bool) (own : (p : ℕ) → same p p ≡ true) where
-  -- an element that passes against a kept one passes against one of those kept in the end
+  -- an element that passes against a kept one passes against one that is kept in the end
   carried : (kept ps l : List ℕ) (p : ℕ) → any (same p) kept ≡ true → Keeps same kept ps l → any (same p) l ≡ true
   carried kept ps l p e k =
       let f = first-passing (same p) 0 kept e in
@@ -54,7 +54,7 @@ module _ (same : ℕ → ℕ → Bool) (own : (p : ℕ) → same p p ≡ true) w
         fresh = k .fresh;
       }
 
-  -- an element that passes against none may join at the end
+  -- an element that passes against none may be appended
   fresh-snoc : (kept : List ℕ) (p : ℕ) → any (same p) kept ≡ false → FreshOf same kept → FreshOf same (kept ++ (p ∷ []))
   fresh-snoc kept p e h i j i<j j< = go (eq-or-lt-of-le (le-of-suc-le-suc (omega (arith, length-append kept (p ∷ []), j<))))
     where
@@ -107,7 +107,7 @@ firsts-append same kept (p ∷ ps) qs = go (any (same p) kept) (firsts-append sa
     go true old new = old
     go false old new = new
 
--- by what a function gives: the firsts' values are the values' firsts
+-- for the values of a function: the firsts' values are the values' firsts
 pub firsts-map : {A B : Type 0} (f : A → B) (same : B → B → Bool) (kept ps : List A)
     → map f (firsts (λ p q. same (f p) (f q)) kept ps) ≡ firsts same (map f kept) (map f ps)
 unfolding firsts

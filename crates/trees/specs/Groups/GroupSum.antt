@@ -22,7 +22,7 @@ powers-cons test i is =
       | false ↦ omega arith
     ]
 
--- one place on, each power is twice what it was
+-- one place further, each power doubles
 pub powers-shift : (test : ℕ → Bool) (is : List ℕ) → powers test (map suc is) ≡ 2 * powers (λ i. test (suc i)) is
 unfolding total those
 powers-shift test [] = refl

@@ -1,5 +1,5 @@
--- Two groups that share no input, and their join: what the join is given settles what each is given, and what tells the ink
--- over the join tells it over each.
+-- Two groups that share no input, and their join: the levels of the join determine the levels of each, and a value that determines the ink
+-- over the join determines it over each.
 -- Assumes nothing.
 use Prim.Native.Nat.{ℕ, _+_, _^_, _<_}
 use mathlib.Core.Path.{_≡_, refl, sym, _∙_, ap}
@@ -13,24 +13,24 @@ use Rattle.rules.specs.Nets.Trees.{Apart}
 use Rattle.trees.specs.Groups.Members.{member-join, join-below}
 use Rattle.trees.specs.Groups.Levels.{level-ext, level-part-in, level-mix-in, level-mix-out, mix-below, part-ext, part-mix}
 
--- sharing no input goes both ways
+-- sharing no input is symmetric
 pub apart-sym : (n a b : ℕ) → Apart n a b → Apart n b a
 apart-sym n a b apart i h = and-comm (member i b) (member i a) ∙ apart i h
 
--- v depends on what group g is given alone
+-- v depends only on what group g is given
 abbrev pub Over : ℕ → ℕ → ℕ → (ℕ → ℕ) → Type 0
 Over m n g v = (p q : ℕ) → part m n g p ≡ part m n g q → v p ≡ v q
 
 module _ (m n : ℕ) (pos : 0 < m) (a b : ℕ) (a< : a < 2 ^ n) (b< : b < 2 ^ n) (apart : Apart n a b) where
-  -- a member of the left group is one of the join
+  -- a member of the left group is a member of the join
   in-join : (i : ℕ) → i < n → member i a ≡ true → member i (a + b) ≡ true
   in-join i h e = rw (member-join i n a b a< b< apart h, e)
 
-  -- and an input outside the join is none of the left group
+  -- and an input outside the join is outside the left group
   out-of-join : (i : ℕ) → i < n → member i (a + b) ≡ false → member i a ≡ false
   out-of-join i h e = or-false-iff (member i a) (member i b) .0 (sym (member-join i n a b a< b< apart h) ∙ e) .0
 
-  -- what a join is given settles what its left group is given
+  -- what a join is given determines what its left group is given
   pub part-left : (p q : ℕ) → part m n (a + b) p ≡ part m n (a + b) q → part m n a p ≡ part m n a q
   part-left p q e = part-ext m n pos a p q (λ i h k. same i h (in-join i h k))
     where
@@ -44,7 +44,7 @@ module _ (m n : ℕ) (pos : 0 < m) (a b : ℕ) (a< : a < 2 ^ n) (b< : b < 2 ^ n)
       out : (i : ℕ) → i < n → member i b ≡ true → member i a ≡ false
       out i h k = sym (and-true (member i a)) ∙ (rw k at (apart i h))
 
-  -- a mix over a, mixed over the join with the same y, is as it was
+  -- a mix over a, mixed over the join with the same y, stays the same
   mix-again : (p y : ℕ) → mix m n (a + b) (mix m n a p y) y ≡ mix m n a p y
   mix-again p y = level-ext m n pos (mix m n (a + b) (mix m n a p y) y) (mix m n a p y)
       (mix-below m n pos (a + b) (mix m n a p y) y g<) (mix-below m n pos a p y a<) (λ i h. same i h (member i (a + b)) refl)
@@ -57,7 +57,7 @@ module _ (m n : ℕ) (pos : 0 < m) (a b : ℕ) (a< : a < 2 ^ n) (b< : b < 2 ^ n)
       same i h false e =
           level-mix-out m n pos (a + b) (mix m n a p y) y i g< h e ∙ sym (level-mix-out m n pos a p y i a< h (out-of-join i h e))
 
-  -- A value v over a and a value w over b settle a value x over the join. Where x tells the ink, v does.
+  -- A value v over a and a value w over b determine a value x over the join. If x determines the ink, v does.
   pub tells-left : (f v w x : ℕ → ℕ) → Over m n a v → Over m n b w → ((p q : ℕ) → v p ≡ v q → w p ≡ w q → x p ≡ x q)
       → Tells m n f (a + b) x → Tells m n f a v
   tells-left f v w x over-a over-b settles tells p q e y =
@@ -69,7 +69,7 @@ module _ (m n : ℕ) (pos : 0 < m) (a b : ℕ) (a< : a < 2 ^ n) (b< : b < 2 ^ n)
       w-same : w (mix m n a p y) ≡ w (mix m n a q y)
       w-same = over-b _ _ (mix-apart p y ∙ sym (mix-apart q y))
 
--- both of the right group
+-- the same for the right group
 module _ (m n : ℕ) (pos : 0 < m) (a b : ℕ) (a< : a < 2 ^ n) (b< : b < 2 ^ n) (apart : Apart n a b) where
   pub part-right : (p q : ℕ) → part m n (a + b) p ≡ part m n (a + b) q → part m n b p ≡ part m n b q
   part-right p q e = part-left m n pos b a b< a< (apart-sym n a b apart) p q (rw (add-comm b a) e)

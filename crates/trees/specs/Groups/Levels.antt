@@ -1,4 +1,4 @@
--- Indices by their levels: an index below m to the n is known by its n levels, and `mix` takes each from one of two indices.
+-- Indices by their levels: an index below m to the n is determined by its n levels, and `mix` takes each level from one of two indices.
 -- Assumes nothing.
 use Prim.Native.Nat.{ℕ, zero, suc, _+_, _*_, _/_, _%_, _^_, _<_}
 use mathlib.Core.Path.{_≡_, refl, sym, ap, _∙_}
@@ -15,17 +15,17 @@ use Rattle.trees.specs.Trees.Trees.{mix}
 use Rattle.rules.specs.Nets.Trees.{Apart}
 use Rattle.trees.specs.Groups.Members.{member-whole, member-others, member-join, join-below}
 
--- ---- levels by the digits of an index
+-- ---- levels as the digits of an index
 
--- an input is the last or stands at the front
+-- an input is the last or one before it
 at-front : {i n : ℕ} → i < suc n → (i ≡ n) ⊎ (i < n)
 at-front h = eq-or-lt-of-le (le-of-suc-le-suc h)
 
--- one digit less
+-- one digit fewer
 front-below : (m n p : ℕ) → 0 < m → p < m ^ suc n → p / m < m ^ n
 front-below m n p pos h = div-lt-iff-lt-mul pos .1 (rw pow-suc at h)
 
--- an index is known by its levels
+-- an index is determined by its levels
 pub level-ext : (m n : ℕ) → 0 < m → (p q : ℕ) → p < m ^ n → q < m ^ n → ((i : ℕ) → i < n → level m n p i ≡ level m n q i) → p ≡ q
 level-ext m zero pos p q p< q< e = lt-one (rw pow-zero at p<) ∙ sym (lt-one (rw pow-zero at q<))
 level-ext m (suc n) pos p q p< q< e =
@@ -40,7 +40,7 @@ level-ext m (suc n) pos p q p< q< e =
     whole : p / m ≡ q / m → p ≡ q
     whole d = cc (div-add-mod' p m, div-add-mod' q m, last)
 
--- ---- a blend of two indices: the level of input i is p's where the test passes, and y's elsewhere
+-- ---- a blend of two indices: the level of input i is p's if the test passes, and y's otherwise
 
 blend : ℕ → ℕ → (ℕ → Bool) → ℕ → ℕ → ℕ
 blend m zero b p y = 0
@@ -70,7 +70,7 @@ module _ (m : ℕ) (pos : 0 < m) where
       go (inl e) _ = rw e (simp (level-last, digits-mod (blend m n b (p / m) (y / m)) (blend-digit (b n) p y)))
       go (inr l) ih = simp (level-front, digits-div (blend m n b (p / m) (y / m)) (blend-digit (b n) p y)) (ih l)
 
--- what an index gives a group is its blend with 0
+-- the part of an index in a group is its blend with 0
 part-blend : (m n g p : ℕ) → part m n g p ≡ blend m n (λ i. member i g) p 0
 unfolding part blend
 part-blend m zero g p = refl
@@ -81,7 +81,7 @@ sum-digit : (c : Bool) (x y : ℕ) → cond c x 0 + cond (not c) y 0 ≡ cond c 
 sum-digit true x y = add-zero x
 sum-digit false x y = zero-add y
 
--- parts of two groups that share out the inputs add up to a blend
+-- parts in two complementary groups add up to a blend
 sum-blend : (m n g h p y : ℕ) → ((i : ℕ) → i < n → member i h ≡ not (member i g))
     → part m n g p + part m n h y ≡ blend m n (λ i. member i g) p y
 unfolding part blend
@@ -89,7 +89,7 @@ sum-blend m zero g h p y e = refl
 sum-blend m (suc n) g h p y e =
     rw (← (sum-blend m n g h (p / m) (y / m) (λ i l. e i (le-step l))), ← (sum-digit (member n g) (p % m) (y % m)), e n (le-refl (suc n))) (omega arith)
 
--- the index 0 gives every group 0
+-- the part of index 0 in every group is 0
 part-zero : (m n g : ℕ) → part m n g 0 ≡ 0
 unfolding part
 part-zero m zero g = refl
@@ -107,7 +107,7 @@ module _ (m n : ℕ) (pos : 0 < m) where
   pub part-below : (g p : ℕ) → part m n g p < m ^ n
   part-below g p = rw part-blend (blend-below m pos n (λ i. member i g) p 0)
 
-  -- every level of the index 0
+  -- every level of index 0 is 0
   level-zero : (i : ℕ) → level m n 0 i ≡ 0
   unfolding level
   level-zero i = simp (zero-div, zero-mod)
@@ -119,7 +119,7 @@ module _ (m n : ℕ) (pos : 0 < m) where
   pub level-part-in : (g p i : ℕ) → i < n → member i g ≡ true → level m n (part m n g p) i ≡ level m n p i
   level-part-in g p i h e = rw (level-part, e)
 
-  -- what two indices give a group and the others is their blend
+  -- a mix of two indices is their blend
   mix-blend : (g p y : ℕ) → g < 2 ^ n → mix m n g p y ≡ blend m n (λ i. member i g) p y
   unfolding mix
   mix-blend g p y g< = sum-blend m n g (others n g) p y (λ i h. member-others i n g h g<)
@@ -150,7 +150,7 @@ module _ (m n : ℕ) (pos : 0 < m) where
   part-whole p p< = level-ext m n pos (part m n (wholeGroup n) p) p (part-below (wholeGroup n) p) p<
       (λ i h. level-part-in (wholeGroup n) p i h (member-whole i n h))
 
-  -- what a group is given depends on the levels of its members alone
+  -- the part in a group depends only on the levels of its members
   pub part-ext : (g p q : ℕ) → ((i : ℕ) → i < n → member i g ≡ true → level m n p i ≡ level m n q i) → part m n g p ≡ part m n g q
   part-ext g p q e = level-ext m n pos (part m n g p) (part m n g q) (part-below g p) (part-below g q) (λ i h. go i h (member i g) refl)
     where
@@ -165,18 +165,18 @@ module _ (m n : ℕ) (pos : 0 < m) where
   pub part-mix : (g p y : ℕ) → g < 2 ^ n → part m n g (mix m n g p y) ≡ part m n g p
   part-mix g p y g< = part-ext g (mix m n g p y) p (λ i h e. level-mix-in g p y i g< h e)
 
-  -- an index with level 0 outside the group is a sum of what it gives the group and nothing else
+  -- a mix with index 0 is the part
   pub mix-zero : (g p : ℕ) → mix m n g p 0 ≡ part m n g p
   unfolding mix
   mix-zero g p = rw (part-zero, add-zero)
 
-  -- two mixes with the same levels are one
+  -- two mixes with the same levels are equal
   mix-ext : (a b p q y z : ℕ) → a < 2 ^ n → b < 2 ^ n → ((i : ℕ) → i < n → level m n (mix m n a p y) i ≡ level m n (mix m n b q z) i)
       → mix m n a p y ≡ mix m n b q z
   mix-ext a b p q y z a< b< = level-ext m n pos (mix m n a p y) (mix m n b q z) (mix-below a p y a<) (mix-below b q z b<)
 
   module _ (a b : ℕ) (a< : a < 2 ^ n) (b< : b < 2 ^ n) (apart : Apart n a b) where
-    -- to set the levels of a joined group is to set those of its two parts, ..
+    -- setting the levels of a joined group is setting those of its two parts, ..
     pub mix-join : (p y : ℕ) → mix m n (a + b) p y ≡ mix m n a p (mix m n b p y)
     mix-join p y = mix-ext (a + b) a p p y (mix m n b p y) (join-below n a b a< b< apart) a< go
       where

@@ -1,4 +1,4 @@
--- The computed list of marks is document 01's three-way rule at every group.
+-- The computed list of marks follows document 01's three-way rule at every group.
 -- Assumes nothing.
 use Prim.Native.Nat.{ℕ, zero, suc, _+_, _-_, _^_, _≤_, _<_}
 use mathlib.Core.Path.{_≡_, refl, sym, _∙_, ap}
@@ -59,7 +59,7 @@ parts-at-holds n marks g a h =
     let first = and-eq-true-iff (inside n a g) (eqb (markIn marks a) 2) .0 (both .0) in
     (first .0, eqb-true _ _ (first .1), eqb-true _ _ (both .1))
 
--- a group that the search finds and its rest are two parts
+-- a group that the search finds and its rest are the two parts
 unfoldable pub parts-of : (n : ℕ) (marks : List ℕ) (g a : ℕ) → g < 2 ^ n → 0 < a → a < g → partsAt n marks g a ≡ true
     → PartsIntoTwos n (markIn marks) g
 parts-of n marks g a g< some less h =
@@ -84,7 +84,7 @@ parts-found n marks g g< parts =
     let rest : g - parts .a ≡ parts .b = omega arith in
     rw (rw (parts .joined) at part, rest, parts .two-a, parts .two-b)
 
--- the two parts, the other first
+-- the two parts, exchanged
 unfoldable pub parts-swap : (n : ℕ) (mark : ℕ → ℕ) (g : ℕ) → PartsIntoTwos n mark g → PartsIntoTwos n mark g
 parts-swap n mark g parts =
     record {
@@ -98,7 +98,7 @@ parts-swap n mark g parts =
       two-b = parts .two-a;
     }
 
--- the rule's search finds something exactly when the group parts into twos
+-- the rule's search finds something exactly if the group parts into twos
 pub search-parts : (n : ℕ) (marks : List ℕ) (g : ℕ) → g < 2 ^ n → any (partsAt n marks g) (range 1 (g - 1)) ≡ true
     → PartsIntoTwos n (markIn marks) g
 search-parts n marks g g< h =
@@ -112,7 +112,7 @@ parts-search n marks g g< parts =
 
 -- ---- the list
 
--- the rule's answer, by its two tests: empty or over m; one member or two parts
+-- the rule's result, by its two tests: empty or over m; one member or two parts
 abbrev outcome : Bool → Bool → ℕ
 outcome true two = 0
 outcome false true = 2
@@ -134,7 +134,7 @@ mark-outcome m n f marks g = go (none-test m n f g) (two-test n marks g)
     go false true = refl
     go false false = refl
 
--- the rule reads the marks below the group alone
+-- the rule reads only the marks below the group
 pub mark-agree : (m n : ℕ) (f : ℕ → ℕ) (xs ys : List ℕ) (g : ℕ) → ((a : ℕ) → a < g → markIn xs a ≡ markIn ys a)
     → markOf m n f xs g ≡ markOf m n f ys g
 unfolding partsAt
@@ -150,7 +150,7 @@ module _ (m n : ℕ) (f : ℕ → ℕ) where
   marks-below-length zero = refl
   marks-below-length (suc k) = rw (length-append, marks-below-length k, add-one)
 
-  -- a mark in the list is the rule's, with the marks below at hand
+  -- a mark in the list follows the rule, given the marks below
   mark-below : (k g : ℕ) → g < k → markIn (marksBelow m n f k) g ≡ markOf m n f (marksBelow m n f g) g
   unfolding marksBelow
   mark-below zero g h = absurd (omega arith)
@@ -162,7 +162,7 @@ module _ (m n : ℕ) (f : ℕ → ℕ) where
       go (no ne) below =
           List·getD-append (marksBelow m n f k) _ 0 g (rw (marks-below-length k) (omega arith)) ∙ below (omega arith)
 
--- which of the three ways a group goes
+-- which of the three cases applies to a group
 pub data Way (m n : ℕ) (f mark : ℕ → ℕ) (g : ℕ) : Type 0 where
   to-none : (0 < g → multiplicity m n f g ≤ m → ⊥) → mark g ≡ 0 → Way m n f mark g
   to-two : 0 < g → multiplicity m n f g ≤ m → (size n g ≡ 1) ⊎ PartsIntoTwos n mark g → mark g ≡ 2 → Way m n f mark g
@@ -176,7 +176,7 @@ module _ (m n : ℕ) (pos : 0 < m) (f : ℕ → ℕ) where
   unfolding marksOf
   marks-length = marks-below-length m n f (2 ^ n)
 
-  -- each mark is the rule's, with all marks at hand
+  -- each mark follows the rule, given all marks
   pub mark-rule : (g : ℕ) → g < 2 ^ n → marked g ≡ markOf m n f (marksOf m n f) g
   unfolding marksOf
   mark-rule g g< =
@@ -188,19 +188,19 @@ module _ (m n : ℕ) (pos : 0 < m) (f : ℕ → ℕ) where
   only-member g i g< one is =
       eqb-true _ _ (sym (ap (member i) (size-one n g g< one .1) ∙ member-single i (firstInput n g)) ∙ is)
 
-  -- and it is not empty
+  -- and the group is not empty
   single-some : (g : ℕ) → size n g ≡ 1 → 0 < g
   single-some zero one = absurd (omega (arith, size-zero n))
   single-some (suc g) one = omega arith
 
-  -- a group of one member has at most m classes: its level tells them
+  -- a group of one member has at most m classes: its level determines the class
   single-few : (g : ℕ) → g < 2 ^ n → size n g ≡ 1 → multiplicity m n f g ≤ m
   single-few g g< one =
       let v : ℕ → ℕ = λ p. level m n p (firstInput n g) in
       let tells : Tells m n f g v = λ p q e. alike-part m n pos f g p q (part-ext m n pos g p q (λ i i< is. rw (only-member g i g< one is) e)) in
       few-classes m n pos f g g< m v (λ p. level-below m n pos p (firstInput n g)) tells
 
-  -- every group goes one of the three ways
+  -- one of the three cases applies to every group
   pub way : (g : ℕ) → g < 2 ^ n → Way m n f marked g
   way g g< = start (eqb g 0) refl (leb (multiplicity m n f g) m) refl
     where

@@ -29,7 +29,7 @@ low-bit g = rw div-one (go (g % 2) (omega arith))
     go (suc zero) h = refl
     go (suc (suc x)) h = omega arith
 
--- and back: input 0 is a member as the lowest bit says
+-- and conversely: input 0 is a member if the lowest bit is 1
 pub low-member : (g : ℕ) (t : Bool) → g % 2 ≡ oneWhere t → member zero g ≡ t
 unfolding member
 low-member g t e = rw (div-one, e) (go t)
@@ -38,12 +38,12 @@ low-member g t e = rw (div-one, e) (go t)
     go true = refl
     go false = refl
 
--- the other members are those of the half, each one place on
+-- the other members are those of the half, shifted by one place
 pub member-suc : (i g : ℕ) → member (suc i) g ≡ member i (g / 2)
 unfolding member
 member-suc i g = rw (pow-succ', ← div-div-eq-div-mul)
 
--- two groups with the same members are one
+-- two groups with the same members are equal
 pub member-ext : (n g h : ℕ) → g < 2 ^ n → h < 2 ^ n → ((i : ℕ) → i < n → member i g ≡ member i h) → g ≡ h
 member-ext zero g h g< h< e = omega arith
 member-ext (suc n) g h g< h< e =
@@ -78,7 +78,7 @@ pub whole-below : (n : ℕ) → wholeGroup n < 2 ^ n
 unfolding wholeGroup
 whole-below n = omega (arith, pow-pos n)
 
--- the whole group, halved, is the whole group of one input less
+-- the whole group, halved, is the whole group of one input fewer
 whole-half : (n : ℕ) → wholeGroup (suc n) / 2 ≡ wholeGroup n
 unfolding wholeGroup
 whole-half n = omega (arith, pow-pos n)
@@ -96,7 +96,7 @@ member-whole (suc i) (suc n) h = rw (member-suc, whole-half) (member-whole i n (
 
 -- ---- two groups that share no input
 
--- so it is with the lowest bits of two such groups
+-- the lowest bits of two such groups
 low-apart : (n a b : ℕ) → Apart (suc n) a b → a % 2 + b % 2 ≡ oneWhere (member 0 a || member 0 b)
 low-apart n a b apart = ap₂ _+_ (low-bit a) (low-bit b) ∙ sym (one-if-or (member 0 a) (member 0 b) (apart 0 (omega arith)))
 
@@ -112,7 +112,7 @@ low-join n a b apart = omega (arith, low-apart n a b apart, one-if-le (member 0 
 half-join : (n a b : ℕ) → Apart (suc n) a b → (a + b) / 2 ≡ a / 2 + b / 2
 half-join n a b apart = omega (arith, low-apart n a b apart, one-if-le (member 0 a || member 0 b))
 
--- they join by a sum
+-- their union is their sum
 pub member-join : (i n a b : ℕ) → a < 2 ^ n → b < 2 ^ n → Apart n a b → i < n → member i (a + b) ≡ (member i a || member i b)
 member-join i zero a b a< b< apart h = absurd (omega arith)
 member-join zero (suc n) a b a< b< apart h = low-member (a + b) (member 0 a || member 0 b) (low-join n a b apart ∙ low-apart n a b apart)
@@ -125,14 +125,14 @@ join-below zero a b a< b< apart = omega arith
 join-below (suc n) a b a< b< apart =
     omega (arith, half-join n a b apart, join-below n (a / 2) (b / 2) (omega arith) (omega arith) (half-apart n a b apart))
 
--- ---- a part of a group, and what it leaves
+-- ---- a part of a group, and the rest
 
 -- `inside` as a statement
 pub inside-member : (i n a g : ℕ) → inside n a g ≡ true → i < n → member i a ≡ true → member i g ≡ true
 unfolding inside
 inside-member i n a g h i< e = rw e at (all-mem (λ j. not (member j a) || member j g) (mem-range 0 n i (omega arith) (omega arith)) h)
 
--- and back
+-- and conversely
 pub member-inside : (n a g : ℕ) → ((i : ℕ) → i < n → member i a ≡ true → member i g ≡ true) → inside n a g ≡ true
 unfolding inside
 member-inside n a g h =
@@ -143,14 +143,14 @@ member-inside n a g h =
     go true t f = f refl
     go false t f = refl
 
--- of a bit that is 1 only where another is, what it leaves of that one
+-- if s implies t, then t is s plus what s leaves of t
 bits-rest : (s t : Bool) → (s ≡ true → t ≡ true) → oneWhere t ≡ oneWhere s + oneWhere (t && not s)
 bits-rest true true f = refl
 bits-rest true false f = absurd (false≢true (f refl))
 bits-rest false true f = refl
 bits-rest false false f = refl
 
--- so it is with the lowest bits of a part and its group
+-- the lowest bits of a part and its group
 low-inside : (n a g : ℕ) → inside (suc n) a g ≡ true → g % 2 ≡ a % 2 + oneWhere (member 0 g && not (member 0 a))
 low-inside n a g h =
     rw (low-bit g, low-bit a) (bits-rest (member 0 a) (member 0 g) (inside-member 0 (suc n) a g h (omega arith)))
@@ -161,13 +161,13 @@ half-inside n a g h =
     member-inside n (a / 2) (g / 2) λ i i< e.
     rw member-suc at (inside-member (suc i) (suc n) a g h (omega arith) (member-suc i a ∙ e))
 
--- a part has no greater number than its group
+-- a part's number is at most its group's
 pub inside-le : (n a g : ℕ) → a < 2 ^ n → g < 2 ^ n → inside n a g ≡ true → a ≤ g
 inside-le zero a g a< g< h = omega arith
 inside-le (suc n) a g a< g< h =
     omega (arith, low-inside n a g h, inside-le n (a / 2) (g / 2) (omega arith) (omega arith) (half-inside n a g h))
 
--- what a part leaves, by subtraction, are the other members
+-- the rest, by subtraction, has the other members
 pub member-rest : (i n a g : ℕ) → a < 2 ^ n → g < 2 ^ n → inside n a g ≡ true → i < n → member i (g - a) ≡ (member i g && not (member i a))
 member-rest i zero a g a< g< h i< = absurd (omega arith)
 member-rest zero (suc n) a g a< g< h i< =
@@ -176,7 +176,7 @@ member-rest (suc i) (suc n) a g a< g< h i< =
     let half : (g - a) / 2 ≡ g / 2 - a / 2 = omega (arith, low-inside n a g h, inside-le (suc n) a g a< g< h) in
     simp (member-suc, half) (member-rest i n (a / 2) (g / 2) (omega arith) (omega arith) (half-inside n a g h) (omega arith))
 
--- a part and what it leaves share no input
+-- a part and the rest share no input
 pub rest-apart : (n a g : ℕ) → a < 2 ^ n → g < 2 ^ n → inside n a g ≡ true → Apart n a (g - a)
 rest-apart n a g a< g< h i i< = ap (λ t. member i a && t) (member-rest i n a g a< g< h i<) ∙ go (member i a) (member i g)
   where
@@ -189,7 +189,7 @@ pub inside-join : (n a b : ℕ) → a < 2 ^ n → b < 2 ^ n → Apart n a b → 
 inside-join n a b a< b< apart =
     member-inside n a (a + b) λ i i< e. member-join i n a b a< b< apart i< ∙ ap (λ t. t || member i b) e
 
--- the other inputs are what a group leaves of all
+-- the other inputs are all those outside the group
 pub member-others : (i n g : ℕ) → i < n → g < 2 ^ n → member i (others n g) ≡ not (member i g)
 unfolding others
 member-others i n g h g< =
@@ -234,7 +234,7 @@ size-join (suc n) a b a< b< apart =
     simp (size-suc, half-join n a b apart)
     (omega (arith, low-join n a b apart, size-join n (a / 2) (b / 2) (omega arith) (omega arith) (half-apart n a b apart)))
 
--- the other inputs are as many as a group leaves
+-- there are n minus the group's size other inputs
 pub size-others : (n g : ℕ) → g < 2 ^ n → size n (others n g) ≡ n - size n g
 unfolding others wholeGroup
 size-others n g g< =
@@ -264,12 +264,12 @@ size-pos n g g< h = go (size n g) (size-empty n g g<)
 
 -- ---- the first-listed member
 
--- input 0 where it is a member
+-- input 0 if it is a member
 pub first-odd : (n g : ℕ) → member 0 g ≡ true → firstInput (suc n) g ≡ 0
 unfolding firstInput range
 first-odd n g e = first-cons (λ i. member i g) 0 (range 1 n) ∙ rw e
 
--- and else the half's, one place on
+-- otherwise the half's, shifted by one place
 pub first-even : (n g : ℕ) → member 0 g ≡ false → firstInput (suc n) g ≡ suc (firstInput n (g / 2))
 unfolding firstInput range
 first-even n g e = first-cons (λ i. member i g) 0 (range 1 n) ∙ simp (e, range-shift 0 n, first-map suc (λ i. member i g), member-suc)

@@ -21,13 +21,13 @@ use Rattle.laws.specs.Lists.Counts.{count-cons, count-append}
 use Rattle.trees.specs.Groups.Levels.{part-below}
 use Rattle.trees.specs.Groups.Members.{member-whole, member-zero}
 
--- ---- one more input: each assignment goes on to a range of them
+-- ---- one more input: each assignment extends to a range of them
 
 -- how many levels one more input takes
 abbrev choices : ℕ → Bool → ℕ
 choices m c = cond c m 1
 
--- the assignments that one goes on to
+-- the extensions of an assignment
 abbrev block : ℕ → Bool → ℕ → List ℕ
 block m c p = range (p * m) (choices m c)
 
@@ -40,7 +40,7 @@ points-suc m n g = ap (λ f. concatMap f (points m n g)) (fun-ext (same (member 
     same true p = map-range (p * m) 0 m ∙ ap (λ a. range a m) (add-zero (p * m))
     same false p = refl
 
--- ---- an assignment of the group is what it gives the group
+-- ---- an assignment of the group equals its own part
 
 -- the last digit of a part is one of the choices, ..
 digit-choice : (m : ℕ) → 0 < m → (c : Bool) (p : ℕ) → cond c (p % m) 0 < choices m c
@@ -62,7 +62,7 @@ block-mem m pos c r q i = go (range-mem (r * m) (choices m c) q i)
     go : (r * m ≤ q) × (q < r * m + choices m c) → (q / m ≡ r) × (cond c (q % m) 0 ≡ q % m)
     go b = digits (q - r * m) (omega arith) (choice-digit m pos c (q - r * m) (omega arith))
 
--- what an index gives the group is one of its assignments
+-- the part of an index in the group is one of its assignments
 pub part-in-points : (m n : ℕ) → 0 < m → (g p : ℕ) → List·Memᴰ (part m n g p) (points m n g)
 unfolding part points
 part-in-points m zero pos g p = List·Memᴰ·head refl
@@ -72,7 +72,7 @@ part-in-points m (suc n) pos g p =
     (mem-range (part m n g (p / m) * m) (choices m (member n g)) _ (le-add-right _ _)
     (add-lt-add-of-le-of-lt (le-refl (part m n g (p / m) * m)) (digit-choice m pos (member n g) p))))
 
--- an assignment of the group is what it gives the group
+-- an assignment of the group equals its own part
 points-fixed : (m n : ℕ) → 0 < m → (g q : ℕ) → List·Memᴰ q (points m n g) → part m n g q ≡ q
 unfolding part points
 points-fixed m zero pos g q h = sym (List·Memᴰ·eq-of-singleton h)
@@ -101,7 +101,7 @@ rising-getD (x ∷ xs) r zero (suc j) h k = r .0 (getD xs j 0) (mem-getD xs j 0 
 rising-getD (x ∷ xs) r (suc i) zero h k = absurd (not-suc-le-zero h)
 rising-getD (x ∷ xs) r (suc i) (suc j) h k = rising-getD xs (r .1) i j (le-of-suc-le-suc h) (le-of-suc-le-suc k)
 
--- two rising lists, the first below the second
+-- two rising lists, with the first below the second
 rising-append : (xs ys : List ℕ) → Rising xs → Rising ys → ((x y : ℕ) → List·Memᴰ x xs → List·Memᴰ y ys → x < y) → Rising (xs ++ ys)
 rising-append [] ys rx ry h = ry
 rising-append (x ∷ xs) ys rx ry h = ((λ y i. go y (List·Memᴰ·append-cases xs i)), rising-append xs ys (rx .1) ry (λ z y i. h z y (List·Memᴰ·tail i)))
@@ -120,7 +120,7 @@ rising-range a (suc k) = ((λ y i. range-mem (suc a) k y i .0), rising-range (su
 lt-of-div-lt : (m a b : ℕ) → 0 < m → a / m < b / m → a < b
 lt-of-div-lt m a b pos h = lt-of-lt-of-le (div-lt-iff-lt-mul pos .0 h) (div-mul-le-self b m)
 
--- blocks over a rising list
+-- the blocks of a rising list rise
 rising-blocks : (m : ℕ) → 0 < m → (c : Bool) (xs : List ℕ) → Rising xs → Rising (concatMap (block m c) xs)
 unfolding concatMap
 rising-blocks m pos c [] r = tt
@@ -149,7 +149,7 @@ pow-choice : (m : ℕ) (c : Bool) → m ^ cond c 1 0 ≡ choices m c
 pow-choice m true = pow-suc m 0 ∙ ap (λ x. x * m) (pow-zero m) ∙ one-mul m
 pow-choice m false = pow-zero m
 
--- m to the number of members
+-- there are m to the number of members
 pub points-length : (m n : ℕ) → 0 < m → (g : ℕ) → length (points m n g) ≡ m ^ size n g
 unfolding points size those range
 points-length m zero pos g = sym (pow-zero m)
@@ -163,7 +163,7 @@ points-length m (suc n) pos g =
       pow-choice,
     )
 
--- ---- the whole group's and the empty group's
+-- ---- the assignments of the whole group and of the empty group
 
 -- the blocks over a range are a range
 blocks-range : (m a k : ℕ) → concatMap (block m true) (range a k) ≡ range (a * m) (k * m)
@@ -171,21 +171,21 @@ unfolding concatMap range
 blocks-range m a zero = rw zero-mul
 blocks-range m a (suc k) = rw (blocks-range m (suc a) k, suc-mul k m, add-comm (k * m) m, range-append, suc-mul a m)
 
--- a group that has every input has every index
+-- the assignments of a group with every input are all indices
 points-full : (m n g : ℕ) → ((i : ℕ) → i < n → member i g ≡ true) → points m n g ≡ range 0 (m ^ n)
 unfolding points range
 points-full m zero g e = rw pow-zero
 points-full m (suc n) g e =
     rw (points-suc, points-full m n g (λ i h. e i (le-step h)), e n (le-refl (suc n)), pow-suc, blocks-range, zero-mul)
 
--- the empty group has one
+-- the empty group has one assignment
 pub points-empty : (m n : ℕ) → 0 < m → points m n 0 ≡ 0 ∷ []
 unfolding points concatMap range
 points-empty m zero pos = refl
 points-empty m (suc n) pos = rw (points-suc, points-empty m n pos, member-zero, zero-mul)
 
 module _ (m n : ℕ) (pos : 0 < m) where
-  -- an assignment of the group is what it gives the group
+  -- an assignment of the group equals its own part
   pub points-are-parts : (g q : ℕ) → List·Memᴰ q (points m n g) → (part m n g q ≡ q) × (q < m ^ n)
   points-are-parts g q h = let e = points-fixed m n pos g q h in (e, rw e at (part-below m n pos g q))
 

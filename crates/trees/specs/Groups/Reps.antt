@@ -1,5 +1,5 @@
--- Assignments that cover a group and of which no two are alike: as many as it has classes. The first of each class among rows that cover the group, told
--- by columns that cover the other inputs, are such.
+-- Representatives: assignments that cover a group, no two of them alike. There are as many as classes. Given rows that cover the group and columns
+-- that cover the other inputs, the first row of each class is such a list.
 -- Assumes nothing.
 use Prim.Native.Nat.{ℕ, _+_, _^_, _<_}
 use mathlib.Core.Path.{_≡_, refl, sym, _∙_}
@@ -32,7 +32,7 @@ pub record Reps (m n : ℕ) (f : ℕ → ℕ) (g c : ℕ) (e : ℕ → ℕ) : Ty
   pub differ : (i j : ℕ) → i < j → j < c → Alike m n f g (e i) (e j) → ⊥
 
 module _ (m n : ℕ) (pos : 0 < m) (f : ℕ → ℕ) (g : ℕ) (g< : g < 2 ^ n) where
-  -- as many as there are classes
+  -- there are as many as classes
   pub reps-count : (c : ℕ) (e : ℕ → ℕ) → Reps m n f g c e → c ≡ multiplicity m n f g
   reps-count c e reps =
       le-antisymm
@@ -47,7 +47,7 @@ module _ (m n : ℕ) (pos : 0 < m) (f : ℕ → ℕ) (g : ℕ) (g< : g < 2 ^ n) 
     agree-alike p q p-own q-own h =
         columns-alike m n pos f g (length ys) (λ k. getD ys k 0) g< columns p q p-own q-own (λ k k<. eqb-true _ _ (all-mem _ (mem-getD ys k 0 k<) h))
 
-    -- and the other way round
+    -- and conversely
     pub alike-agree : (p q : ℕ) → part m n g p ≡ p → part m n g q ≡ q → Alike m n f g p q → alikeOver f ys p q ≡ true
     unfolding alikeOver
     alike-agree p q p-own q-own like = mem-all _ ys at
@@ -58,7 +58,7 @@ module _ (m n : ℕ) (pos : 0 < m) (f : ℕ → ℕ) (g : ℕ) (g< : g < 2 ^ n) 
             own : (k : ℕ) → k < length ys → getD ys k 0 ≡ y → part m n (others n g) y ≡ y
             own k k< here = rw here at (columns .own k k<)
 
-    -- so the test over columns that cover is the test over all
+    -- so the test over covering columns is the test over all
     pub columns-tell : (p q : ℕ) → part m n g p ≡ p → part m n g q ≡ q → alikeOver f ys p q ≡ alike m n f g p q
     columns-tell p q p-own q-own =
         two-ways (alikeOver f ys p q) (alike m n f g p q)

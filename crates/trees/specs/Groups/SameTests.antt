@@ -1,4 +1,4 @@
--- Two tests that agree on a list come to the same over it: whether all pass, where the first stands that passes, and the first of each class.
+-- Two tests that agree on a list give the same results on it: whether all pass, where the first passes, and the first of each class.
 -- Assumes nothing.
 use Prim.Native.Nat.{suc}
 use mathlib.Core.Path.{_≡_, refl, ap, subst⁻¹}
@@ -9,7 +9,7 @@ use Rattle.rules.specs.Lists.{all, any, firstPlace}
 use Rattle.rules.specs.Groups.Groups.{firsts}
 use Rattle.laws.specs.Lists.Tests.{any-same, by-test}
 
--- equal tests choose between equal things
+-- equal tests select equal things
 chosen : {A : Type 0} {s t : Bool} {a b x y : A} → s ≡ t → a ≡ x → b ≡ y
     → _≡_ {A = A} (elim s [ true ↦ a | false ↦ b ]) (elim t [ true ↦ x | false ↦ y ])
 chosen {A} {t} {a} {b} {x} {y} test first second = rw test (by t)
@@ -18,26 +18,26 @@ chosen {A} {t} {a} {b} {x} {y} test first second = rw test (by t)
     by true = first
     by false = second
 
--- something holds of every element
+-- something holds for every element
 abbrev pub Each : {A : Type 0} → (A → Type 0) → List A → Type 0
 Each {A} P xs = (x : A) → List·Memᴰ x xs → P x
 
--- of all but the first
+-- for all but the first
 others-have : {A : Type 0} {P : A → Type 0} {x : A} {xs : List A} → Each P (x ∷ xs) → Each P xs
 others-have each y is = each y (List·Memᴰ·tail is)
 
--- of one more
+-- for one more
 snoc-has : {A : Type 0} {P : A → Type 0} (xs : List A) (x : A) → Each P xs → P x → Each P (xs ++ (x ∷ []))
 snoc-has {P} xs x before own y is =
     ⊎-elim (before y) (λ last. subst⁻¹ P (List·Memᴰ·eq-of-singleton last) own) (List·Memᴰ·append-cases xs is)
 
--- where two tests agree on a list, all of it passes both or neither, ..
+-- if two tests agree on a list, all of it passes both or neither, ..
 pub all-same : {A : Type 0} (s t : A → Bool) (xs : List A) → Each (λ x. s x ≡ t x) xs → all s xs ≡ all t xs
 unfolding all
 all-same s t [] agree = refl
 all-same s t (x ∷ xs) agree = chosen (agree x (List·Memᴰ·head refl)) (all-same s t xs (others-have agree)) refl
 
--- .. and the first that passes has one place
+-- .. and the first that passes has the same place
 pub place-same : {A : Type 0} (s t : A → Bool) (xs : List A) → Each (λ x. s x ≡ t x) xs → firstPlace s xs ≡ firstPlace t xs
 unfolding firstPlace
 place-same s t [] agree = refl
@@ -54,7 +54,7 @@ firsts-same P s t agree kept (p ∷ ps) before later =
     (firsts-same P s t agree kept ps before (others-have later))
     (firsts-same P s t agree (kept ++ (p ∷ [])) ps (snoc-has kept p before own) (others-have later))
 
--- and what they keep of elements that have P has it
+-- and what they keep of elements with P has P
 pub firsts-have : {A : Type 0} (P : A → Type 0) (s : A → A → Bool) (kept ps : List A) → Each P kept → Each P ps → Each P (firsts s kept ps)
 unfolding firsts
 firsts-have P s kept [] before later = before

@@ -1,4 +1,4 @@
--- A group with one of its members taken off.
+-- A group with one of its members removed.
 -- Assumes nothing.
 use Prim.Native.Nat.{ℕ, suc, _+_, _-_, _^_, _≤_, _<_}
 use mathlib.Core.Path.{_≡_, sym, ap, _∙_}
@@ -28,7 +28,7 @@ module _ (n g i : ℕ) (g< : g < 2 ^ n) (i< : i < n) (is : member i g ≡ true) 
   pub off-inside : inside n (g - 2 ^ i) g ≡ true
   off-inside = rest-inside n (2 ^ i) g (single-below i n i<) g< alone-inside
 
-  -- .. and has one member less
+  -- .. and has one member fewer
   pub off-size : size n g ≡ suc (size n (g - 2 ^ i))
   off-size =
       let whole : 2 ^ i + (g - 2 ^ i) ≡ g = omega (arith, alone-le) in

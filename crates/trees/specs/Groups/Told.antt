@@ -1,5 +1,5 @@
--- Rows of a group that differ pairwise at columns which have the same levels at some inputs: the group has at least so many classes, and so has
--- the group with any of these inputs added. So that a group has too many classes is known of larger groups without a look at the cells.
+-- Rows of a group that differ pairwise at columns which have the same levels at some inputs: the group has at least that many classes, and so does
+-- the group with any of these inputs added. So a larger group is known to have too many classes without reading the cells.
 -- Assumes nothing.
 use Prim.Native.Nat.{ℕ, _+_, _^_, _≤_, _<_}
 use mathlib.Core.Path.{_≡_, refl, sym, ap, _∙_}
@@ -38,7 +38,7 @@ module _ (m n : ℕ) (pos : 0 < m) (f : ℕ → ℕ) where
       pigeonhole (multiplicity m n f g) k (λ i. classNumber m n f g (told .row i)) (λ i _. class-below m n pos f g g< (told .row i))
       (later-differ k _ λ i j h j< e. let at = told .apart i j h j< in at .differ (class-alike m n pos f g g< (told .row i) (told .row j) e (at .column)))
 
-  -- Too many, inherited: d shares no input with g, and is inside s. Each row is taken with the levels of the columns at d, and s passes on unchanged.
+  -- Too many, inherited: d shares no input with g, and is inside s. Each row takes the columns' levels at d, and s is passed on unchanged.
   pub told-on : (g d s k : ℕ) → g < 2 ^ n → d < 2 ^ n → Apart n g d → ((i : ℕ) → i < n → member i d ≡ true → member i s ≡ true)
       → Told m n f g s k → Told m n f (g + d) s k
   told-on g d s k g< d< apart inside told =
@@ -60,7 +60,7 @@ module _ (m n : ℕ) (pos : 0 < m) (f : ℕ → ℕ) where
       g+d< : g + d < 2 ^ n
       g+d< = join-below n g d g< d< apart
 
-      -- the row with a column is the index that it was
+      -- the row with a column is the same index as before
       same-index : (y : ℕ) → SameAt m n s y (told .base) → (i : ℕ) → mix m n (g + d) (wide i) y ≡ mix m n g (told .row i) y
       same-index y same i =
           level-ext m n pos (mix m n (g + d) (wide i) y) (mix m n g (told .row i) y) (mix-below m n pos (g + d) (wide i) y g+d<)

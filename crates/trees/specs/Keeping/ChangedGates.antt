@@ -1,5 +1,5 @@
--- "the set of the gates whose table field differs from the old one, as the sum of 2 to the power of each one's number" (document 02, K10): bit k of the sum
--- stands for gate k and no other bit is set, so the sum tells just these gates.
+-- "the set of the gates whose table field differs from the old one, as the sum of 2 to the power of each one's number" (document 02, K10): bit k of
+-- the sum is gate k's and no other bit is set, so the sum determines exactly these gates.
 -- Assumes nothing.
 use Prim.Native.Nat.{ℕ, zero, suc, _+_, _*_, _/_, _^_, _≤_, _<_}
 use mathlib.Core.Path.{_≡_, refl, sym, ap, _∙_, subst}
@@ -24,7 +24,7 @@ use Rattle.trees.specs.Groups.GroupSum.{powers, powers-cons, powers-shif
 
 -- ---- sums of powers
 
--- from 0 on: the lowest bit is the first number's, and the half is the sum for the others, each one place lower
+-- from 0 on: the lowest bit is the first number's, and the half is the sum for the others, each shifted down by one place
 powers-halves : (test : ℕ → Bool) (n : ℕ) → powers test (range 0 (suc n)) ≡ oneWhere (test 0) + 2 * powers (λ i. test (suc i)) (range 0 n)
 unfolding range
 powers-halves test n =
@@ -36,7 +36,7 @@ powers-halves test n =
     one true = refl
     one false = refl
 
--- a number below n has its bit exactly where it passes
+-- a number below n has its bit exactly if it passes
 member-powers : (n : ℕ) (test : ℕ → Bool) (i : ℕ) → i < n → member i (powers test (range 0 n)) ≡ test i
 member-powers zero test i h = absurd (omega arith)
 member-powers (suc n) test zero h =
@@ -53,7 +53,7 @@ unfolding range those total
 powers-below zero test = omega arith
 powers-below (suc n) test = omega (arith, powers-halves test n, powers-below n (λ i. test (suc i)), one-if-le (test 0))
 
--- nothing is left of a number below 2 to the k from place k on
+-- a number below 2 to the k has no bit from place k on
 past : (k g : ℕ) → g < 2 ^ k → member k g ≡ false
 unfolding member
 past k g h = rw (div-eq-of-lt h)
@@ -69,7 +69,7 @@ bit-below k n g g< e = go (decLt k n)
 -- ---- the set
 
 module _ (old new : List Gate) where
-  -- the numbers from 1 on, as those from 0 on of which 0 does not pass
+  -- the numbers from 1 on, as numbers from 0 on where 0 does not pass
   abbrev atLeast : ℕ → Bool
   atLeast zero = false
   atLeast (suc k) = tableDiffers old new (suc k)
@@ -85,7 +85,7 @@ module _ (old new : List Gate) where
   pub changed-below : changedGates old new < 2 ^ suc (length old)
   changed-below = rw from-zero (powers-below (suc (length old)) atLeast)
 
-  -- .. gate k's is set exactly where its table differs, and no gate has number 0
+  -- .. gate k's is set exactly if its table differs, and no gate has number 0
   bit-is : (k : ℕ) → k < suc (length old) → member k (changedGates old new) ≡ atLeast k
   bit-is k h = rw from-zero (member-powers (suc (length old)) atLeast k h)
 
@@ -108,7 +108,7 @@ module _ (old new : List Gate) where
     λ h. bit-is (suc k) (omega (arith, h .1)) ∙ differs (suc k) .1 (h .2),
   )
 
--- a gate list changed into itself: the empty set
+-- a gate list compared with itself: the empty set
 pub none-changed : (gates : List Gate) → changedGates gates gates ≡ 0
 none-changed gates =
     member-ext (suc (length gates)) (changedGates gates gates) 0 (changed-below gates gates) (pow-pos (suc (length gates)))

@@ -1,4 +1,4 @@
--- What depends on a net's wiring alone: its references, the groups of its gates, and so whether gates with other tables are a net. Filling keeps the wiring.
+-- What depends only on a net's wiring: its references, its gates' groups, and so whether gates with other tables are a net. Filling keeps the wiring.
 -- Assumes nothing.
 use Prim.Native.Nat.{ℕ, zero, suc, _+_, _<_}
 use mathlib.Core.Path.{_≡_, refl, sym, ap, ap₂, _∙_, subst⁻¹}
@@ -22,7 +22,7 @@ use Rattle.trees.specs.Filling.GateGroups.{linkGroups}
 
 -- ---- the rules of a net
 
--- references back, said of links; `k` references stand before the list
+-- references back, for links; `k` references come before the list
 abbrev LinksBack : ℕ → List Link → Type 0
 LinksBack k [] = Unit {0}
 LinksBack k (l ∷ links) = (l .left < k) × (l .right < k) × LinksBack (suc k) links
@@ -45,11 +45,11 @@ unfolding usedBy
 used-links [] = refl
 used-links (g ∷ gates) = ap (λ (used : List ℕ). g .left ∷ g .right ∷ used) (used-links gates)
 
--- gates with one wiring use the same references, ..
+-- gates with the same wiring use the same references, ..
 pub same-used : (gates others : List Gate) → gateLinks others ≡ gateLinks gates → usedBy others ≡ usedBy gates
 same-used gates others same = used-links others ∙ ap usedLinks same ∙ sym (used-links gates)
 
--- .. and are as many
+-- .. and there are equally many
 same-length : (gates others : List Gate) → gateLinks others ≡ gateLinks gates → length others ≡ length gates
 same-length gates others same = sym (length-map others linkOf) ∙ ap length same ∙ length-map gates linkOf
 
@@ -77,7 +77,7 @@ from-links groups [] = refl
 from-links groups (g ∷ gates) =
     ap (λ (gs : List ℕ). linkGroup groups (linkOf g) ∷ gs) (from-links (groups ++ (linkGroup groups (linkOf g) ∷ [])) gates)
 
--- they stand behind the groups before
+-- they follow the groups before
 behind : (groups : List ℕ) (links : List Link) → withGroups groups links ≡ groups ++ linkGroups groups links
 unfolding withEach linkGroups
 behind groups [] = sym (append-nil groups)
@@ -106,7 +106,7 @@ module _ (n : ℕ) (gates : List Gate) where
       ∙ getD-append-add (inputGroups n) (linkGroups (inputGroups n) (gateLinks gates)) k 0
       ∙ ap (λ (gs : List ℕ). getD gs k 0) (sym (from-links (inputGroups n) gates))
 
--- a gate's group is the sum of those of its two references, which stand before it
+-- a gate's group is the sum of those of its two references, which come before it
 own-group : (groups : List ℕ) (gates : List Gate) → RefersBack (length groups) gates → (k : ℕ) (d : Gate) → k < length gates
     → getD (withGroups groups (gateLinks gates)) (length groups + k) 0 ≡ linkGroup (withGroups groups (gateLinks gates)) (linkOf (getD gates k d))
 unfolding withEach
@@ -134,7 +134,7 @@ gate-group n gates back k d h =
     ∙ ap (λ (r : ℕ). getD (withGroups (inputGroups n) (gateLinks gates)) (r + k) 0) (sym count)
     ∙ own-group (inputGroups n) gates (rw count back) k d h
 
--- two gate lists with one wiring have the same groups
+-- two gate lists with the same wiring have the same groups
 pub same-groups : (n : ℕ) (gates others : List Gate) → gateLinks others ≡ gateLinks gates → gateGroups n others ≡ gateGroups n gates
 unfolding gateGroups
 same-groups n gates others same =
@@ -156,12 +156,12 @@ pub kept-links : (m n : ℕ) (f : ℕ → ℕ) (gates : List Gate) → gateLinks
 unfolding keptGates
 kept-links m n f gates = filled-keeps m n f (gateLinks gates)
 
--- .. the gates are filled by the wiring alone, ..
+-- .. the filling depends only on the wiring, ..
 pub kept-by-links : (m n : ℕ) (f : ℕ → ℕ) (gates others : List Gate) → gateLinks others ≡ gateLinks gates → keptGates m n f others ≡ keptGates m n f gates
 unfolding keptGates
 kept-by-links m n f gates others same = ap (filled m n f) same
 
--- .. and any wiring's filling is what keeping makes of it
+-- .. and any wiring's filling stays the same when kept
 pub filled-kept : (m n : ℕ) (f : ℕ → ℕ) (links : List Link) → keptGates m n f (filled m n f links) ≡ filled m n f links
 unfolding keptGates
 filled-kept m n f links = ap (filled m n f) (filled-keeps m n f links)

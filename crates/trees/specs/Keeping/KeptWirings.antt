@@ -1,6 +1,6 @@
--- "refused with 23 exactly when no filling of that wiring computes the table" (document 02, K10): for any net, whatever its leaves, its line order and its
--- sides, some digits at its gates compute the table exactly when every input that matters is used (document 02, K12) and each gate's group has at most m
--- classes, and then the class rule's do.
+-- "refused with 23 exactly when no filling of that wiring computes the table" (document 02, K10): for any net, whatever its leaves, its line order
+-- and its sides, some digits at its gates compute the table exactly if every input that matters is used (document 02, K12) and each gate's group has
+-- at most m classes; in that case the class rule's digits do.
 -- Assumes nothing.
 use Prim.Native.Nat.{ℕ, suc, _+_, _-_, _^_, _≤_, _<_}
 use mathlib.Core.Path.{_≡_, refl, sym, ap, _∙_, subst⁻¹}
@@ -47,7 +47,7 @@ use Rattle.trees.specs.Families.NormalWirings.{Joins, joins-cases, joins
 use Rattle.trees.specs.Filling.GateGroups.{net-joins}
 use Rattle.trees.specs.Keeping.KeptLinks.{same-used, same-net, gate-groups-length, gate-group-at, same-groups, filled-keeps, kept-links}
 
--- A filling of a wiring that computes the table: the same left and right at every gate line, with any tables, so that the value is the ink at every assignment.
+-- A filling of a wiring that computes the table: each gate line keeps its left and right, and the tables make the value the ink at every assignment.
 pub record Filling (m n : ℕ) (f : ℕ → ℕ) (gates filling : List Gate) : Type 0 where
   pub wiring : gateLinks filling ≡ gateLinks gates
   pub tables : Tables m filling
@@ -64,7 +64,7 @@ GatesFew m n f gates = (k : ℕ) → k < length gates → Few m n f (getD (gateG
 -- ---- the class rule's filling
 
 module _ (m n : ℕ) (pos : 0 < m) (f : ℕ → ℕ) where
-  -- its tables are tables
+  -- its tables are valid
   filled-tables : (groups : List ℕ) (links : List Link) → Fillable m n f groups links → ((p : ℕ) → p < m ^ n → f p < m)
       → Tables m (filledFrom m n f groups links)
   unfolding filledFrom
@@ -93,7 +93,7 @@ module _ (m n : ℕ) (pos : 0 < m) (f : ℕ → ℕ) where
         rw (more-left m n f groups l k links, on)
         (last-gives (groups ++ (linkGroup groups l ∷ [])) (values ++ (gateValue m values (lineGate m n f false groups l) ∷ [])) k links next (may .3))
 
-    -- the value of a wiring's filling is what its last gate has to give
+    -- the value of a wiring's filling is what its last gate must give
     filled-gives : (links : List Link) → 0 < length links → Fillable m n f (inputGroups n) links
         → value m n (filled m n f links) p ≡ given m n f true (getD (withGroups (inputGroups n) links) (n + length links - 1) 0) p
     unfolding value valueWith filled
@@ -115,7 +115,7 @@ groups-of-trees forest (g ∷ gates) back =
     ap (λ (gs : List ℕ). withGroups gs (gateLinks gates)) (groups-joined forest g (back .0) (back .1))
     ∙ groups-of-trees (forest ++ (joinedTree forest g ∷ [])) gates (rw length-snoc (back .2))
 
--- and groups of inputs below n
+-- and they are groups of inputs below n
 pub group-small : (m n : ℕ) (gates : List Gate) → IsNet m n gates → (r : ℕ) → r < n + length gates
     → getD (withGroups (inputGroups n) (gateLinks gates)) r 0 < 2 ^ n
 group-small m n gates net r h =
@@ -129,7 +129,7 @@ group-small m n gates net r h =
     ∙ group-at forest r r<)
     (group-below n (wiringIn (treeAt forest r)) (grown .once r r<))
 
--- a net's last gate has its leaves below it
+-- a net's leaves are the group of its last gate
 last-leaves : (m n : ℕ) (gates : List Gate) (net : IsNet m n gates)
     → getD (withGroups (inputGroups n) (gateLinks gates)) (n + length gates - 1) 0 ≡ netGroup m n gates net
 last-leaves m n gates net =
@@ -140,7 +140,7 @@ last-leaves m n gates net =
     ∙ group-at forest at (omega (arith, net .some, with-each-length joinedTree (inputTrees n) gates, inputs-length n))
     ∙ ap treeGroup (sym (net-tree m n gates net .last))
 
--- what holds of every gate's group of a wiring holds of each group that it joins
+-- what holds for every gate's group of a wiring holds for each group that it joins
 each-joined : (P : ℕ → Type 0) (w : Wiring) → EachGate P w → (h : ℕ) → Joins h w → P h
 each-joined P (input i) each h is = absurd (joins-none h i is)
 each-joined P (gate a b) each h is =
@@ -152,7 +152,7 @@ each-joined P (gate a b) each h is =
 abbrev leavesOutOf : ℕ → ℕ → (ℕ → ℕ) → List Gate → Bool
 leavesOutOf m n f gates = any (λ i. not (any (eqb i) (usedBy gates)) && matters m n f i) (range 0 n)
 
--- it fails exactly where every input that matters is used
+-- it fails exactly if every input that matters is used
 out-none : (m n : ℕ) (f : ℕ → ℕ) (gates : List Gate) → (leavesOutOf m n f gates ≡ false) ↔ UsesMattering m n f gates
 out-none m n f gates = (
   λ none i i< is. used (any (eqb i) (usedBy gates)) (matters m n f i) is (none-mem test (mem-range 0 n i (omega arith) (omega arith)) none),
@@ -171,7 +171,7 @@ out-none m n f gates = (
     used true t is e = refl
     used false t is e = absurd (true≢false (sym is ∙ e))
 
--- the same of a net sheet and a table sheet
+-- the same for a net sheet and a table sheet
 pub leaves-out-none : (net : Net) (t : Table)
     → (leavesOut net t ≡ false) ↔ UsesMattering (net .header .levels) (net .header .inputs) (inkIn (t .inks)) (net .gates)
 unfolding leavesOut
@@ -180,14 +180,14 @@ leaves-out-none net t = out-none (net .header .levels) (net .header .inputs) (in
 -- ---- both ways
 
 module _ (m n : ℕ) (pos : 0 < m) (f : ℕ → ℕ) (gates : List Gate) (net : IsNet m n gates) where
-  -- the net's leaves have every input that matters exactly where those are used
+  -- the net's leaves include every input that matters exactly if those are used
   pub uses-holding : UsesMattering m n f gates ↔ Holding m n pos f (netGroup m n gates net)
   uses-holding = (
     λ uses i i< is. sym (net-uses m n gates net i i<) ∙ uses i i< is,
     λ holds i i< is. net-uses m n gates net i i< ∙ holds i i< is,
   )
 
-  -- Whatever the digits: where a filling computes the table, every input that matters is used, ..
+  -- Whatever the digits: if a filling computes the table, every input that matters is used, ..
   pub filling-uses : (filling : List Gate) → Filling m n f gates filling → UsesMattering m n f gates
   filling-uses filling fills i i< is =
       let own : IsNet m n filling = same-net m n gates filling (fills .wiring) net (fills .tables) in
@@ -210,7 +210,7 @@ module _ (m n : ℕ) (pos : 0 < m) (f : ℕ → ℕ) (gates : List Gate) (net : 
     pub kept-fillable : Fillable m n f (inputGroups n) (gateLinks gates)
     kept-fillable = gates-fillable m n f pos gates (net .rules) (λ k h. rw (gate-group-at n gates k) (few k h))
 
-    -- and where every input that matters is used the class rule's filling computes the table
+    -- and if every input that matters is used, the class rule's filling computes the table
     kept-value : UsesMattering m n f gates → (p : ℕ) → p < m ^ n → value m n (keptGates m n f gates) p ≡ f p
     unfolding keptGates given
     kept-value uses p p< =
@@ -242,7 +242,7 @@ module _ (m n : ℕ) (pos : 0 < m) (f : ℕ → ℕ) (gates : List Gate) (net : 
   unfolding roomyGates
   crowded-at h = ltb-true m _ (at-first (λ g. ltb m (multiplicity m n f g)) 0 (gateGroups n gates) (omega (arith, gate-groups-length n gates)))
 
-  -- there is none exactly where all have few
+  -- there is no such gate exactly if all have few
   pub all-roomy : (length gates ≤ roomyGates m n f gates) ↔ GatesFew m n f gates
   all-roomy = (
     λ all k h. roomy-before k (omega arith),
@@ -253,7 +253,7 @@ module _ (m n : ℕ) (pos : 0 < m) (f : ℕ → ℕ) (gates : List Gate) (net : 
       go few (yes all) = all
       go few (no some) = let at = crowded-at (lt-of-not-le some) in absurd (omega (arith, few (roomyGates m n f gates) (lt-of-not-le some)))
 
-  -- "refused with 23 exactly when no filling of that wiring computes the table": an input that matters is not used, or a gate's group has too many classes
+  -- "refused with 23 exactly when no filling of that wiring computes the table": an input that matters is unused, or some group has over m classes
   pub no-filling : ((p : ℕ) → p < m ^ n → f p < m)
       → ((UsesMattering m n f gates → ⊥) ⊎ (roomyGates m n f gates < length gates)) ↔ ((filling : List Gate) → Filling m n f gates filling → ⊥)
   no-filling inks = (

@@ -1,5 +1,5 @@
--- Inputs that do not matter may be cut out of a wiring, or hung onto one: a group has as many classes with them as without them. So a group has
--- mark 2 with them exactly when it has without them, and the leaves (document 02, K12) have mark 2 exactly when all inputs together have.
+-- Inputs that do not matter may be cut out of a wiring, or attached to one: they do not change the number of a group's classes. So a group has
+-- mark 2 with them exactly if it has mark 2 without them, and the leaves (document 02, K12) have mark 2 exactly if all inputs together do.
 -- Assumes nothing.
 use Prim.Native.Nat.{ℕ, zero, suc, _+_, _-_, _^_, _≤_, _<_}
 use mathlib.Core.Path.{_≡_, refl, sym, _∙_, ap}
@@ -48,7 +48,7 @@ module _ (m n : ℕ) (pos : 0 < m) (f : ℕ → ℕ) where
   -- ---- classes
 
   module _ (g h : ℕ) (g< : g < 2 ^ n) (h< : h < 2 ^ n) (rest : Idle g h) where
-    -- the levels that h has and g has not do not show
+    -- the levels of h outside g do not affect the ink
     pub idle-mix : (p y : ℕ) → f (mix m n g p y) ≡ f (mix m n h p y)
     idle-mix p y =
         idle-ink m n pos f _ _ (mix-below m n pos g p y g<) (mix-below m n pos h p y h<) (λ j j< is. go j j< is (member j g) refl (member j h) refl)
@@ -61,7 +61,7 @@ module _ (m n : ℕ) (pos : 0 < m) (f : ℕ → ℕ) where
         go j j< is false out-g true in-h = absurd (true≢false (sym is ∙ rest .idle j j< in-h out-g))
         go j j< is false out-g false out-h = level-mix-out m n pos g p y j g< j< out-g ∙ sym (level-mix-out m n pos h p y j h< j< out-h)
 
-    -- so the two groups have as many classes
+    -- so the two groups have equally many classes
     pub idle-few : multiplicity m n f g ≡ multiplicity m n f h
     idle-few =
         le-antisymm
@@ -80,7 +80,7 @@ module _ (m n : ℕ) (pos : 0 < m) (f : ℕ → ℕ) where
     no-deeper : depth v ≤ depth w
     no-more : gatesIn v ≤ gatesIn w
 
-  -- none of the leaves is left, or a wiring is
+  -- either no leaf is left, or a wiring is
   data Left (g : ℕ) (w : Wiring) : Type 0 where
     none-left : ((i : ℕ) → i < n → (member i (groupOf w) && member i g) ≡ false) → Left g w
     some-left : (v : Wiring) → Kept g w v → Left g w
@@ -89,7 +89,7 @@ module _ (m n : ℕ) (pos : 0 < m) (f : ℕ → ℕ) where
   abbrev Outside : ℕ → Wiring → Type 0
   Outside g w = (i : ℕ) → i < n → member i (groupOf w) ≡ true → member i g ≡ false → matters m n f i ≡ false
 
-  -- of a leaf
+  -- for a leaf
   leaf-left : (g i : ℕ) → i < n → Left g (input i)
   unfolding groupOf
   leaf-left g i i< = go (member i g) refl
@@ -110,7 +110,7 @@ module _ (m n : ℕ) (pos : 0 < m) (f : ℕ → ℕ) where
           }
       go false e = none-left (λ j j<. rw (member-single j i) (at false e j (eqb j i) refl ∙ and-false (eqb j i)))
 
-  -- of a gate, by what is left on its two sides
+  -- for a gate, by what is left on its two sides
   module _ (g : ℕ) (a b : Wiring) (once : EachOnce n (gate a b)) where
     -- a gate's leaves in g are those of its sides
     gate-meets : (i : ℕ) → i < n → (member i (groupOf (gate a b)) && member i g)
@@ -120,7 +120,7 @@ module _ (m n : ℕ) (pos : 0 < m) (f : ℕ → ℕ) where
         ap (λ t. t && member i g) (member-join i n (groupOf a) (groupOf b) (group-below n a (once .1)) (group-below n b (once .2)) (once .0) i<)
         ∙ and-or-distrib-right (member i (groupOf a)) (member i (groupOf b)) (member i g)
 
-    -- one side alone is left
+    -- only one side is left
     left-side : (v : Wiring) → Kept g a v → ((i : ℕ) → i < n → (member i (groupOf b) && member i g) ≡ false) → Kept g (gate a b) v
     unfolding depth gatesIn
     left-side v kept none =
@@ -143,7 +143,7 @@ module _ (m n : ℕ) (pos : 0 < m) (f : ℕ → ℕ) where
           no-more = omega (arith, kept .no-more);
         }
 
-    -- both are: a gate joins them, and its group has as many classes as the gate's had
+    -- both are left: a gate joins them, and its group has as many classes as the old gate's
     both-sides : (v u : Wiring) → Few m n f (groupOf (gate a b)) → Outside g (gate a b) → Kept g a v → Kept g b u → Kept g (gate a b) (gate v u)
     unfolding groupOf depth gatesIn
     both-sides v u few outside left right =
@@ -186,7 +186,7 @@ module _ (m n : ℕ) (pos : 0 < m) (f : ℕ → ℕ) where
     gate-left few outside (some-left v kept) (none-left y) = some-left v (left-side v kept y)
     gate-left few outside (some-left v left) (some-left u right) = some-left (gate v u) (both-sides v u few outside left right)
 
-    -- a side's leaves are the gate's
+    -- a side's leaves are among the gate's
     side-outside : Outside g (gate a b) → Outside g a × Outside g b
     unfolding groupOf
     side-outside outside = (
@@ -197,7 +197,7 @@ module _ (m n : ℕ) (pos : 0 < m) (f : ℕ → ℕ) where
         either : (i : ℕ) → i < n → member i (groupOf a + groupOf b) ≡ (member i (groupOf a) || member i (groupOf b))
         either i i< = member-join i n (groupOf a) (groupOf b) (group-below n a (once .1)) (group-below n b (once .2)) (once .0) i<
 
-  -- of any wiring
+  -- for any wiring
   what-is-left : (g : ℕ) (w : Wiring) → EachOnce n w → EachGate (Few m n f) w → Outside g w → Left g w
   what-is-left g (input i) once few outside = leaf-left g i once
   what-is-left g (gate a b) once few outside =
@@ -212,7 +212,7 @@ module _ (m n : ℕ) (pos : 0 < m) (f : ℕ → ℕ) where
     pub no-deeper : depth wiring ≤ depth w
     pub no-more : gatesIn wiring ≤ gatesIn w
 
-  -- what does not matter may be cut out of a wiring
+  -- inputs that do not matter may be cut out of a wiring
   pub cut : (w : Wiring) → EachOnce n w → EachGate (Few m n f) w → (g : ℕ) → 0 < g → g < 2 ^ n → Idle g (groupOf w) → CutWiring g w
   cut w once few g some g< rest = go (what-is-left g w once few (rest .idle))
     where
@@ -237,7 +237,7 @@ module _ (m n : ℕ) (pos : 0 < m) (f : ℕ → ℕ) where
             no-more = kept .no-more;
           }
 
-  -- ---- hung onto one
+  -- ---- attached to one
 
   -- one input that does not matter
   hang-one : (g i : ℕ) → g < 2 ^ n → i < n → member i g ≡ false → matters m n f i ≡ false → marked m n pos f g ≡ 2
@@ -280,7 +280,7 @@ module _ (m n : ℕ) (pos : 0 < m) (f : ℕ → ℕ) where
             two-b = three-way m n pos f (2 ^ i) (single-below i n i<) .single (size-single i n i<);
           }
 
-  -- one after the other
+  -- one after another
   hang : (k g h : ℕ) → h ≤ g + k → g < 2 ^ n → h < 2 ^ n → Idle g h → marked m n pos f g ≡ 2 → marked m n pos f h ≡ 2
   hang zero g h enough g< h< rest two =
       let same : g ≡ h = omega (arith, inside-le n g h g< h< (rest .part)) in
@@ -312,7 +312,7 @@ module _ (m n : ℕ) (pos : 0 < m) (f : ℕ → ℕ) where
 
   -- ---- marks
 
-  -- a group has mark 2 with inputs that do not matter exactly when it has without them
+  -- a group has mark 2 with inputs that do not matter exactly if it has mark 2 without them
   pub idle-marks : (g h : ℕ) → 0 < g → g < 2 ^ n → h < 2 ^ n → Idle g h → (marked m n pos f g ≡ 2) ↔ (marked m n pos f h ≡ 2)
   idle-marks g h some g< h< rest = (
     hung g h g< h< rest,
@@ -323,7 +323,7 @@ module _ (m n : ℕ) (pos : 0 < m) (f : ℕ → ℕ) where
         rw (less .of-group .1) at (wiring-mark m n pos f (less .wiring) (less .of-group .0) (less .few)),
   )
 
-  -- a group that has every input that matters has mark 2 exactly when all inputs together have
+  -- a group with every input that matters has mark 2 exactly if all inputs together do
   pub holding-marked : (g : ℕ) → 0 < g → g < 2 ^ n → Holding m n pos f g → (marked m n pos f g ≡ 2) ↔ (marked m n pos f (wholeGroup n) ≡ 2)
   holding-marked g some g< holds =
       idle-marks g (wholeGroup n) some g< (whole-below n)
@@ -332,7 +332,7 @@ module _ (m n : ℕ) (pos : 0 < m) (f : ℕ → ℕ) where
         idle = λ i i< is out. not-true-false _ (λ matters-i. true≢false (sym (holds i i< matters-i) ∙ out));
       }
 
-  -- and so have the leaves
+  -- and so do the leaves
   pub leaves-marked : 1 < n → (marked m n pos f (leavesOf m n f) ≡ 2) ↔ (marked m n pos f (wholeGroup n) ≡ 2)
   leaves-marked several =
       holding-marked (leavesOf m n f) (leaves-some m n pos f several) (leaves-below m n pos f) (leaves-hold m n pos f)

@@ -1,5 +1,5 @@
--- Document 02, K12: "Panel makers now charge extra for a gate that ignores an input." The settled net has one gate fewer than leaves; every leaf matters
--- where two or more inputs do; and no net that computes the table, whatever its leaves, its wiring and its digits, has fewer gates.
+-- Document 02, K12: "Panel makers now charge extra for a gate that ignores an input." The settled net has one gate fewer than leaves; every leaf
+-- matters if two or more inputs do; and no net that computes the table, whatever its leaves, its wiring and its digits, has fewer gates.
 -- Assumes nothing.
 use Prim.Native.Nat.{ℕ, suc, _^_, _≤_, _<_}
 use mathlib.Core.Path.{_≡_, sym, ap, _∙_}
@@ -29,7 +29,7 @@ use Rattle.trees.specs.Leaves.CutWirings.{Idle, cut}
 use Rattle.trees.specs.Trees.Existence.{tree-few, computes-holds, net-few, net-holds, net-marks, settled-net, settled-leaves}
 
 module _ (m n : ℕ) (pos : 0 < m) (several : 1 < n) (f : ℕ → ℕ) where
-  -- where two or more inputs matter, the leaves are those of every group that has all that matter, less what does not
+  -- if two or more inputs matter and g holds all that matter, the leaves are inside g and the rest of g does not matter
   pub leaves-idle : 1 < length (mattering m n f) → (g : ℕ) → Holding m n pos f g → Idle m n pos f (leavesOf m n f) g
   leaves-idle enough g holds =
       record {
@@ -37,7 +37,7 @@ module _ (m n : ℕ) (pos : 0 < m) (several : 1 < n) (f : ℕ → ℕ) where
         idle = λ i i< is out. sym (leaves-matter m n pos f enough i i<) ∙ out;
       }
 
-  -- a wiring with a gate, with few classes at each gate and with every input that matters, has at least as many leaves
+  -- a wiring with a gate, with few classes at each gate and with every input that matters, has at least as many leaves as the table
   pub wiring-gates-least : (w : Wiring) → EachOnce n w → 0 < gatesIn w → EachGate (Few m n f) w → Holding m n pos f (groupOf w)
       → size n (leavesOf m n f) ≤ suc (gatesIn w)
   wiring-gates-least w once some few holds =
@@ -47,7 +47,7 @@ module _ (m n : ℕ) (pos : 0 < m) (several : 1 < n) (f : ℕ → ℕ) where
       omega (arith, less .no-more, gates-in-size n (less .wiring) (less .of-group .0), ap (size n) (less .of-group .1)))
       (λ scarce. omega (arith, leaves-size m n pos f several))
 
-  -- so has every tree that computes the table, ..
+  -- so does every tree that computes the table, ..
   pub tree-gates-least : (t : Tree) → GateTree m n t → ((p : ℕ) → p < m ^ n → treeValue m n t p ≡ f p)
       → size n (leavesOf m n f) ≤ suc (gatesIn (wiringIn t))
   tree-gates-least t is has =

@@ -1,5 +1,5 @@
--- Idle inputs (document 02, K12) and marks: a group has the mark of its members that matter, and mark 2 if none of them does. So only groups of inputs
--- that matter need to be marked by document 01's rule.
+-- Idle inputs (document 02, K12) and marks: a group has the mark of the group of its members that matter, and mark 2 if none of them does. So only
+-- groups of inputs that matter need to be marked by document 01's rule.
 -- Assumes nothing.
 use Prim.Native.Nat.{ℕ, _^_, _≤_, _<_}
 use mathlib.Core.Path.{_≡_, refl, sym, _∙_, ap}
@@ -37,7 +37,7 @@ module _ (m n : ℕ) (pos : 0 < m) (f : ℕ → ℕ) where
       ∙ ap f (mix-is m n pos f g (two .one) (two .other) g< (two .other-below)
       (λ j j< out. two .elsewhere j j< (λ same. true≢false (sym is ∙ ap (λ (k : ℕ). member k g) (sym same) ∙ out)))))
 
-  -- assignments that cover a group cover it with idle inputs too
+  -- assignments that cover a group also cover it with idle inputs added
   pub idle-covers : (g h : ℕ) → g < 2 ^ n → h < 2 ^ n → Idle m n pos f g h → (c : ℕ) (e : ℕ → ℕ) → Covers m n f g c e → Covers m n f h c e
   idle-covers g h g< h< rest c e cover =
       record {
@@ -88,7 +88,7 @@ module _ (m n : ℕ) (pos : 0 < m) (f : ℕ → ℕ) where
       (record { part = alone-inside n h (firstInput n h) h< i< is; idle = λ j j< in-h _. idle j j< in-h })
       (three-way m n pos f (2 ^ firstInput n h) (single-below (firstInput n h) n i<) .single (size-single (firstInput n h) n i<))
 
-  -- the mark of a group h that is not empty, from any group g inside it that has its members that matter
+  -- the mark of a non-empty group h, from any group g inside it that has all its members that matter
   pub mattering-mark : (g h : ℕ) → 0 < h → g < 2 ^ n → h < 2 ^ n → Idle m n pos f g h → marked m n pos f h ≡ cond (eqb g 0) 2 (marked m n pos f g)
   mattering-mark g h some g< h< rest =
       by-cases (decLt 0 g)

@@ -1,5 +1,5 @@
 -- The leaves of a table (document 02, K12) as a group: "A settled tree now has just the inputs that matter as leaves; if fewer than two do, the
--- first-listed others make up two." They are distinct inputs, so the sum of their powers is the group of just them.
+-- first-listed others make up two." They are distinct inputs, so the sum of their powers is the group of exactly these inputs.
 -- Assumes nothing.
 use Prim.Native.Nat.{ℕ, zero, suc, _+_, _-_, _^_, _<_, max}
 use mathlib.Core.Path.{_≡_, refl, sym, _∙_, ap, subst}
@@ -32,7 +32,7 @@ use Rattle.trees.specs.Leaves.Mattering.{Holding}
 abbrev powersOf : List ℕ → ℕ
 powersOf xs = total (map (λ i. 2 ^ i) xs)
 
--- it is the group of just the listed inputs
+-- it is the group of exactly the listed inputs
 pub record ListGroup (n : ℕ) (xs : List ℕ) : Type 0 where
   pub below : powersOf xs < 2 ^ n
   pub members : (i : ℕ) → i < n → member i (powersOf xs) ≡ any (eqb i) xs
@@ -57,7 +57,7 @@ list-group n (x ∷ xs) distinct inputs =
     other i true e = rw (eqb-true i x e) (distinct .0)
     other i false e = refl
 
--- the front of a list without repetition is without, ..
+-- the front of a list without repetition is without repetition, ..
 distinct-take : (k : ℕ) (xs : List ℕ) → Distinct xs → Distinct (take k xs)
 distinct-take zero xs distinct = tt
 distinct-take (suc k) [] distinct = tt
@@ -66,11 +66,11 @@ distinct-take (suc k) (x ∷ xs) distinct = (
   distinct-take k xs (distinct .1),
 )
 
--- .. what stands there stands in the list, ..
+-- .. its elements are in the list, ..
 mem-take : (k x : ℕ) (xs : List ℕ) → List·Memᴰ x (take k xs) → List·Memᴰ x xs
 mem-take k x xs is = subst (λ (l : List ℕ). List·Memᴰ x l) (take-append-drop k xs) (Memᴰ·append-left (drop k xs) is)
 
--- .. and two such lists that share nothing make one
+-- .. and two such lists that share nothing can be joined
 distinct-append : (xs ys : List ℕ) → Distinct xs → Distinct ys → ((x : ℕ) → List·Memᴰ x xs → NotIn x ys) → Distinct (xs ++ ys)
 distinct-append [] ys dx dy apart = dy
 distinct-append (x ∷ xs) ys dx dy apart = (
@@ -78,7 +78,7 @@ distinct-append (x ∷ xs) ys dx dy apart = (
   distinct-append xs ys (dx .1) dy (λ y is. apart y (List·Memᴰ·tail is)),
 )
 
--- those that pass and those that fail are all
+-- each element passes or fails
 count-both : (test : ℕ → Bool) (xs : List ℕ) → count test xs + count (λ x. not (test x)) xs ≡ length xs
 unfolding those
 count-both test [] = refl
@@ -99,11 +99,11 @@ module _ (m n : ℕ) (pos : 0 < m) (f : ℕ → ℕ) where
   abbrev idles : List ℕ
   idles = those idleTest (range 0 n)
 
-  -- how many of them are leaves, if there are as many
+  -- how many of them are leaves, if there are enough
   abbrev spare : ℕ
   spare = 2 - length (mattering m n f)
 
-  -- those listed are those that matter
+  -- an input is listed exactly if it matters
   pub mattering-is : (i : ℕ) → i < n → any (eqb i) (mattering m n f) ≡ matters m n f i
   unfolding mattering
   mattering-is i i< =
@@ -125,7 +125,7 @@ module _ (m n : ℕ) (pos : 0 < m) (f : ℕ → ℕ) where
       (λ later. omega (arith, range-mem 0 n x (those-mem idleTest (range 0 n) x (mem-take spare x idles later)) .1))
       (List·Memᴰ·append-cases (mattering m n f) is)
 
-  -- none stands twice: one that matters is none of those that do not
+  -- none occurs twice: no input both matters and does not
   leaf-inputs-distinct : Distinct (leafInputs m n f)
   unfolding leafInputs mattering
   leaf-inputs-distinct =
@@ -154,20 +154,20 @@ module _ (m n : ℕ) (pos : 0 < m) (f : ℕ → ℕ) where
   leaves-hold i i< is =
       leaf-is i i< ∙ rw leaf-inputs-are (mem-any (eqb i) (Memᴰ·append-left _ (any-mem i _ (mattering-is i i< ∙ is))) (eq-eqb i i refl))
 
-  -- and every leaf matters where two or more inputs do
+  -- and every leaf matters if two or more inputs do
   pub leaves-matter : 1 < length (mattering m n f) → (i : ℕ) → i < n → member i (leavesOf m n f) ≡ matters m n f i
   leaves-matter enough i i< =
       let none : spare ≡ 0 = omega arith in
       leaf-is i i< ∙ rw (leaf-inputs-are, none, append-nil) (mattering-is i i<)
 
-  -- the leaves are the inputs that matter, and at least two
+  -- there are as many leaves as inputs that matter, but at least two
   pub leaves-size : 1 < n → size n (leavesOf m n f) ≡ max 2 (length (mattering m n f))
   unfolding leavesOf mattering
   leaves-size several =
       leaves-are .many
       ∙ rw (leaf-inputs-are, length-append, length-take) (omega (arith, count-both (matters m n f) (range 0 n), range-length 0 n))
 
-  -- so there are two of them at least, ..
+  -- so there are at least two of them, ..
   pub leaves-several : 1 < n → 1 < size n (leavesOf m n f)
   leaves-several several = omega (arith, leaves-size several)
 

@@ -1,5 +1,5 @@
--- What it is that an input matters (document 02, K12): "An input matters when some two assignments differing only there differ in ink." So two
--- assignments that agree at every input that matters have one ink, and a group that holds those inputs tells the ink.
+-- What it means that an input matters (document 02, K12): "An input matters when some two assignments differing only there differ in ink." So two
+-- assignments that agree at every input that matters have the same ink, and a group that holds those inputs determines the ink.
 -- Assumes nothing.
 use Prim.Native.Nat.{ℕ, zero, suc, _^_, _≤_, _<_}
 use mathlib.Core.Path.{_≡_, refl, sym, _∙_, ap}
@@ -27,7 +27,7 @@ use Rattle.trees.specs.Groups.Classes.{class-below, class-alike, few-cla
 
 -- ---- elements of lists
 
--- what is not false is true, by the test
+-- if the negation is false, the test is true
 not-false : (b : Bool) → not b ≡ false → b ≡ true
 not-false true e = refl
 not-false false e = absurd (true≢false e)
@@ -38,19 +38,19 @@ some-passes test xs h =
     let found = first-passing test 0 xs h in
     (getD xs (firstPlace test xs) 0, mem-getD xs _ 0 (found .0), found .1)
 
--- an element that fails, where not all pass
+-- an element that fails, if not all pass
 some-fails : (test : ℕ → Bool) (xs : List ℕ) → all test xs ≡ false → (x : ℕ) × List·Memᴰ x xs × (not (test x) ≡ true)
 some-fails test xs h =
     some-passes (λ x. not (test x)) xs
     (not-false-true _ (λ none. true≢false (sym (mem-all test xs (λ x is. not-false (test x) (none-mem (λ z. not (test z)) is none))) ∙ h)))
 
--- what is not true is false
+-- if the negation is true, the test is false
 not-true : (b : Bool) → not b ≡ true → b ≡ false
 not-true true e = absurd (true≢false (sym e))
 not-true false e = refl
 
 module _ (m n : ℕ) (pos : 0 < m) (f : ℕ → ℕ) where
-  -- an index that has q's levels at g, and p's elsewhere, is q where p and q agree elsewhere
+  -- an index with q's levels at g and p's elsewhere is q, if p and q agree elsewhere
   pub mix-is : (g p q : ℕ) → g < 2 ^ n → q < m ^ n → ((j : ℕ) → j < n → member j g ≡ false → level m n p j ≡ level m n q j) → mix m n g q p ≡ q
   mix-is g p q g< q< agree =
       level-ext m n pos (mix m n g q p) q (mix-below m n pos g q p g<) q< (λ j j<. go j j< (member j g) refl)
@@ -59,24 +59,24 @@ module _ (m n : ℕ) (pos : 0 < m) (f : ℕ → ℕ) where
       go j j< true e = level-mix-in m n pos g q p j g< j< e
       go j j< false e = level-mix-out m n pos g q p j g< j< e ∙ agree j j< e
 
-  -- ---- what it says
+  -- ---- the meaning
 
-  -- another input is none of the group of input i alone
+  -- another input is not in the group of input i alone
   other-out : (i j : ℕ) → j ≢ i → member j (2 ^ i) ≡ false
   other-out i j ne = member-single j i ∙ ne-eqb j i ne
 
-  -- and what is none of it is another input
+  -- and an input outside it is another input
   out-other : (i j : ℕ) → member j (2 ^ i) ≡ false → j ≢ i
   out-other i j e = eqb-false j i (sym (member-single j i) ∙ e)
 
-  -- whatever levels an input has that does not matter, they are alike
+  -- all levels of an input that does not matter are alike
   pub idle-alike : (i : ℕ) → i < n → matters m n f i ≡ false → (p q : ℕ) → Alike m n f (2 ^ i) p q
   unfolding matters
   idle-alike i i< idle p q =
       alike-holds m n pos f (2 ^ i) p q (single-below i n i<)
       (not-false _ (none-mem _ (part-in-points m n pos (2 ^ i) q) (none-mem _ (part-in-points m n pos (2 ^ i) p) idle)))
 
-  -- two assignments that differ only at an input where their levels are alike have one ink
+  -- two assignments that differ only at an input where their levels are alike have the same ink
   alike-same : (i : ℕ) → i < n → (p q : ℕ) → p < m ^ n → q < m ^ n → ((j : ℕ) → j < n → j ≢ i → level m n p j ≡ level m n q j)
       → Alike m n f (2 ^ i) p q → f p ≡ f q
   alike-same i i< p q p< q< agree same =
@@ -84,7 +84,7 @@ module _ (m n : ℕ) (pos : 0 < m) (f : ℕ → ℕ) where
       ∙ same p
       ∙ ap f (mix-is (2 ^ i) p q (single-below i n i<) q< (λ j j< out. agree j j< (out-other i j out)))
 
-  -- two assignments that differ only at an input that does not matter have one ink
+  -- two assignments that differ only at an input that does not matter have the same ink
   pub idle-same : (i : ℕ) → i < n → matters m n f i ≡ false → (p q : ℕ) → p < m ^ n → q < m ^ n
       → ((j : ℕ) → j < n → j ≢ i → level m n p j ≡ level m n q j) → f p ≡ f q
   idle-same i i< idle p q p< q< agree = alike-same i i< p q p< q< agree (idle-alike i i< idle p q)
@@ -98,7 +98,7 @@ module _ (m n : ℕ) (pos : 0 < m) (f : ℕ → ℕ) where
     pub elsewhere : (j : ℕ) → j < n → j ≢ i → level m n one j ≡ level m n other j
     pub inks : f one ≢ f other
 
-  -- two assignments of the input alone that are not alike, with levels of the other inputs at which they show it
+  -- two assignments of the input alone that are not alike, with levels of the other inputs at which the inks differ
   pub matters-differ : (i : ℕ) → i < n → matters m n f i ≡ true → Differing i
   unfolding matters alike alikeOver mix
   matters-differ i i< is =
@@ -119,7 +119,7 @@ module _ (m n : ℕ) (pos : 0 < m) (f : ℕ → ℕ) where
         inks = λ same. eqb-false _ _ (not-true _ apart) (rw (p-is, q-is, y-is) at same);
       }
 
-  -- so an input matters exactly when there are two such assignments
+  -- so an input matters exactly if there are two such assignments
   pub matters-exactly : (i : ℕ) → i < n → (matters m n f i ≡ true) ↔ Differing i
   matters-exactly i i< = (
     matters-differ i i<,
@@ -128,12 +128,12 @@ module _ (m n : ℕ) (pos : 0 < m) (f : ℕ → ℕ) where
 
   -- ---- what follows
 
-  -- two assignments that agree from input k on, and at every input that matters, have one ink
+  -- two assignments that agree from input k on, and at every input that matters, have the same ink
   abbrev OneInkFrom : ℕ → Type 0
   OneInkFrom k = (p q : ℕ) → p < m ^ n → q < m ^ n → ((j : ℕ) → j < n → k ≤ j → level m n p j ≡ level m n q j)
       → ((j : ℕ) → j < n → matters m n f j ≡ true → level m n p j ≡ level m n q j) → f p ≡ f q
 
-  -- one input more: where it matters they agree there too, and where it does not p may take q's level there
+  -- one more input: if it matters, they agree there too; if not, p may take q's level there
   one-more : (k : ℕ) → k < n → OneInkFrom k → OneInkFrom (suc k)
   one-more k k< before p q p< q< later agree = go (matters m n f k) refl
     where
@@ -149,7 +149,7 @@ module _ (m n : ℕ) (pos : 0 < m) (f : ℕ → ℕ) where
       at-other : (j : ℕ) → j < n → j ≢ k → level m n r j ≡ level m n p j
       at-other j j< ne = level-mix-out m n pos (2 ^ k) q p j k-below j< (other-out k j ne)
 
-      -- r agrees with q where p does, and at k
+      -- r agrees with q wherever p does, and at k
       as-p : (j : ℕ) → j < n → (j ≢ k → level m n p j ≡ level m n q j) → level m n r j ≡ level m n q j
       as-p j j< same = by-cases (ℕ-discrete j k) (λ e. rw e at-k) (λ ne. at-other j j< ne ∙ same ne)
 
@@ -166,7 +166,7 @@ module _ (m n : ℕ) (pos : 0 < m) (f : ℕ → ℕ) where
   one-ink zero k≤ p q p< q< later agree = ap f (level-ext m n pos p q p< q< (λ j j<. later j j< (omega arith)))
   one-ink (suc k) k≤ p q p< q< later agree = one-more k k≤ (one-ink k (omega arith)) p q p< q< later agree
 
-  -- two assignments that agree at every input that matters have one ink
+  -- two assignments that agree at every input that matters have the same ink
   pub idle-ink : (p q : ℕ) → p < m ^ n → q < m ^ n → ((j : ℕ) → j < n → matters m n f j ≡ true → level m n p j ≡ level m n q j) → f p ≡ f q
   idle-ink p q p< q< agree = one-ink n (omega arith) p q p< q< (λ j j< n≤j. absurd (omega arith)) agree
 
@@ -174,17 +174,17 @@ module _ (m n : ℕ) (pos : 0 < m) (f : ℕ → ℕ) where
   abbrev pub Holding : ℕ → Type 0
   Holding g = (i : ℕ) → i < n → matters m n f i ≡ true → member i g ≡ true
 
-  -- what such a group is given tells the ink, ..
+  -- the part in such a group determines the ink, ..
   pub holding-ink : (g p q : ℕ) → g < 2 ^ n → Holding g → p < m ^ n → q < m ^ n → part m n g p ≡ part m n g q → f p ≡ f q
   holding-ink g p q g< holds p< q< e =
       idle-ink p q p< q< λ j j< is.
       sym (level-part-in m n pos g p j j< (holds j j< is)) ∙ ap (λ r. level m n r j) e ∙ level-part-in m n pos g q j j< (holds j j< is)
 
-  -- .. and has it
+  -- .. and has the same ink
   pub holding-part : (g p : ℕ) → g < 2 ^ n → Holding g → p < m ^ n → f (part m n g p) ≡ f p
   holding-part g p g< holds p< = holding-ink g (part m n g p) p g< holds (part-below m n pos g p) p< (part-part m n pos g p)
 
-  -- an input matters exactly when its group has several classes
+  -- an input matters exactly if its group has several classes
   pub matters-classes : (i : ℕ) → i < n → (matters m n f i ≡ true) ↔ (1 < multiplicity m n f (2 ^ i))
   matters-classes i i< = (λ is. several (matters-differ i i< is), λ many. not-false-true _ (λ idle. omega (arith, one-class idle)))
     where

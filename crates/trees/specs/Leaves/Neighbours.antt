@@ -1,5 +1,5 @@
--- One input of a table: its assignments, and whether it matters, told by neighbours. Two indices are neighbours at an input when they differ there alone,
--- and there by one level: they stand the input's weight apart.
+-- One input of a table: its assignments, and how neighbours decide whether it matters. Two indices are neighbours at an input if they differ only
+-- there, and by one level: their difference is the input's weight.
 -- Assumes nothing.
 use Prim.Native.Nat.{ℕ, zero, suc, _+_, _-_, _*_, _/_, _%_, _^_, _<_}
 use mathlib.Core.Path.{_≡_, refl, sym, ap, _∙_}
@@ -26,7 +26,7 @@ use Rattle.trees.specs.Groups.Points.{part-in-points, points-are-parts}
 
 -- ---- the assignments of one input
 
--- no member among the inputs
+-- a group without inputs has one assignment
 points-none : (m n g : ℕ) → ((i : ℕ) → i < n → member i g ≡ false) → points m n g ≡ 0 ∷ []
 unfolding points concatMap
 points-none m zero g none = refl
@@ -59,7 +59,7 @@ points-single m (suc n) i h = go (decLt i n) (points-single m n i)
 -- ---- neighbours
 
 module _ (m n : ℕ) (pos : 0 < m) (i : ℕ) (i< : i < n) where
-  -- some levels up at the input: as many weights on
+  -- moving up some levels at the input adds that many weights
   level-up : (l p : ℕ) → level m n p i + l < m → level m n (l * m ^ (n - 1 - i) + p) i ≡ level m n p i + l
   unfolding level
   level-up l p h =
@@ -67,7 +67,7 @@ module _ (m n : ℕ) (pos : 0 < m) (i : ℕ) (i< : i < n) where
       let digits : l + p / w ≡ p / w / m * m + (p / w % m + l) = omega (arith, div-add-mod' (p / w) m) in
       ap (λ (k : ℕ). k % m) (mul-add-div-right (one-le-pow (n - 1 - i) m pos) l p ∙ digits) ∙ digits-mod (p / w / m) h
 
-  -- an assignment of the input has its level there times the weight
+  -- that many weights have that level at the input
   level-times : (l : ℕ) → l < m → level m n (l * m ^ (n - 1 - i)) i ≡ l
   unfolding level
   level-times l h =
@@ -83,13 +83,13 @@ module _ (m n : ℕ) (pos : 0 < m) (i : ℕ) (i< : i < n) where
           let between = range-mem 0 m l in-range in
           ap (λ (k : ℕ). level m n k i * m ^ (n - 1 - i)) (sym is) ∙ ap (λ (k : ℕ). k * m ^ (n - 1 - i)) (level-times l (omega arith)) ∙ is
 
-  -- what an index gives the input is its level there, times the weight, ..
+  -- the part of an index in the input is its level there, times the weight, ..
   own-part : (p : ℕ) → part m n (2 ^ i) p ≡ level m n p i * m ^ (n - 1 - i)
   own-part p =
       sym (own-level (part m n (2 ^ i) p) (part-in-points m n pos (2 ^ i) p))
       ∙ ap (λ (k : ℕ). k * m ^ (n - 1 - i)) (level-part-in m n pos (2 ^ i) p i i< (member-single i i ∙ eq-eqb i i refl))
 
-  -- .. and with what it gives the others it is whole
+  -- .. and together with its part in the others it is the index
   own-rest : (p : ℕ) → p < m ^ n → level m n p i * m ^ (n - 1 - i) + part m n (others n (2 ^ i)) p ≡ p
   unfolding mix
   own-rest p p< = ap (λ (k : ℕ). k + part m n (others n (2 ^ i)) p) (sym (own-part p)) ∙ mix-self m n pos (2 ^ i) p (single-below i n i<) p<
@@ -112,7 +112,7 @@ module _ (m n : ℕ) (pos : 0 < m) (i : ℕ) (i< : i < n) where
       omega (arith, mix-below m n pos (2 ^ i) (l * m ^ (n - 1 - i)) y (single-below i n i<))
 
   module _ (f : ℕ → ℕ) where
-    -- where neighbours have the same ink, so has every level of the input, whatever the others are ..
+    -- if neighbours have the same ink, so do all levels of the input, whatever the others are ..
     level-same : ((p : ℕ) → p < m ^ n → level m n p i + 1 < m → f p ≡ f (p + m ^ (n - 1 - i)))
         → (l y : ℕ) → l < m → List·Memᴰ y (points m n (others n (2 ^ i))) → f (l * m ^ (n - 1 - i) + y) ≡ f y
     level-same same zero y l< listed = ap f (ap (λ (k : ℕ). k + y) (zero-mul (m ^ (n - 1 - i))) ∙ zero-add y)
@@ -138,7 +138,7 @@ module _ (m n : ℕ) (pos : 0 < m) (i : ℕ) (i< : i < n) where
         at p p-listed y y-listed =
             ap (λ (k : ℕ). f (k + y)) (sym (own-level p p-listed)) ∙ level-same same (level m n p i) y (level-below m n pos p i) y-listed
 
-    -- and an input matters at which two neighbours differ in ink
+    -- and an input matters if two neighbours at it differ in ink
     pub differ-matters : (p : ℕ) → p < m ^ n → level m n p i + 1 < m → (f p ≡ f (p + m ^ (n - 1 - i)) → ⊥) → matters m n f i ≡ true
     unfolding matters alike alikeOver
     differ-matters p p< up differ =

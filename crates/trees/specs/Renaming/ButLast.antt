@@ -1,5 +1,5 @@
--- Two gate lists that agree "in left and right throughout and in every table but the last" (document 02, K14), and what follows: they are one wiring, every
--- gate but the last has changed in both or in neither, and their sheets are the same bytes but for the last line's table field.
+-- Two gate lists that agree "in left and right throughout and in every table but the last" (document 02, K14), and what follows: they are one wiring,
+-- every gate but the last has changed in both or in neither, and their sheets are the same bytes except for the last line's table field.
 -- Assumes nothing.
 use Prim.Native.Nat.{ℕ, _+_, _-_, _<_}
 use mathlib.Core.Path.{_≡_, sym, _∙_, ap}
@@ -22,7 +22,7 @@ use Rattle.trees.specs.Keeping.ChangedGates.{changed-exactly}
 abbrev pub withTable : Gate → List ℕ → Gate
 withTable g digits = record { left = g .left; right = g .right; digits = digits }
 
--- the gates but the last, and the last with its two tables
+-- the gates before the last, and the last with its two tables
 pub record ButLast (gates others : List Gate) : Type 0 where
   pub before : List Gate
   pub last : Gate
@@ -46,7 +46,7 @@ module _ (gates others : List Gate) (but : ButLast gates others) where
       let early' : k - 1 < length tables = rw length-map (omega (arith, ap length (but .ours), length-snoc (but .before) (but .last))) in
       by-last (λ l. tableAt l k) (simp map-append (List·getD-append tables _ [] (k - 1) early' ∙ sym (List·getD-append tables _ [] (k - 1) early')))
 
-  -- "the gates whose table field differs from the old one": every gate but the last is one in both or in neither
+  -- "the gates whose table field differs from the old one": every gate but the last has changed in both or in neither
   pub but-last-changed : (old : List Gate) → length old ≡ length gates → (k : ℕ) → k ≢ length gates
       → member k (changedGates old others) ≡ member k (changedGates old gates)
   but-last-changed old count k not-last =
@@ -58,13 +58,13 @@ module _ (gates others : List Gate) (but : ButLast gates others) where
 
 -- ---- the sheets
 
--- two sheets that differ in the last field alone
+-- two sheets that differ only in the last field
 pub record ButLastField (sheet other field their-field : List ℕ) : Type 0 where
   pub front : List ℕ
   pub ours : sheet ≡ front ++ (field ++ (newline ∷ []))
   pub theirs : other ≡ front ++ (their-field ++ (newline ∷ []))
 
--- a gate line, as what stands before its table and the table
+-- a gate line up to its table
 lineFront : List (List ℕ) → Gate → List ℕ
 lineFront names g = referenceText names (g .left) ++ (space ∷ (referenceText names (g .right) ++ (space ∷ [])))
 
@@ -72,7 +72,7 @@ gate-line : (names : List (List ℕ)) (g : Gate) → printedGate names g ≡ lin
 unfolding printedGate line lineFront
 gate-line names g = simp append-assoc
 
--- what stands before the last line's table
+-- everything before the last line's table
 module _ (header : Header) (before : List Gate) (g : Gate) where
   sheetFront : List ℕ
   sheetFront =

@@ -1,5 +1,5 @@
--- "When made, their gate lines agree in left and right throughout and in every table but the last. The last tables differ by that renaming at each digit that
--- some assignment reaches." (document 02, K14): for any wiring that can be filled.
+-- "When made, their gate lines agree in left and right throughout and in every table but the last. The last tables differ by that renaming at each
+-- digit that some assignment reaches." (document 02, K14): for any wiring that can be filled.
 -- Assumes nothing.
 use Prim.Native.Nat.{ℕ, _+_, _-_, _*_, _/_, _%_, _^_, _<_}
 use mathlib.Core.Path.{_≡_, refl, sym, _∙_, ap, ap₂, subst, fun-ext}
@@ -30,7 +30,7 @@ use Rattle.trees.specs.Filling.CarriedValues.{lineGate, more-left, Carri
 -- ---- what a wire carries
 
 module _ (m n : ℕ) (pos : 0 < m) (f h : ℕ → ℕ) (same : SameInks m n f h) where
-  -- an assignment is in the class of one number in both, ..
+  -- an assignment has the same class number in both, ..
   pub class-renamed : (g p : ℕ) → classNumber m n f g p ≡ classNumber m n h g p
   unfolding classNumber
   class-renamed g p =
@@ -59,7 +59,7 @@ module _ (m n : ℕ) (pos : 0 < m) (r f h : ℕ → ℕ) (below : (p : ℕ) → 
   abbrev same : SameInks m n f h
   same = renamed-same m n r f h below renamed
 
-  -- two groups that a gate may join for one table, it may for the other
+  -- two groups that a gate may join for one table, it may join for the other
   parts-renamed : (a b : ℕ) → Parts m n f a b → Parts m n h a b
   parts-renamed a b parts =
       let few : (g : ℕ) → Few m n f g → Few m n h g = λ g is. rw (multiplicity-renamed m n pos f h same g) at is in
@@ -75,7 +75,7 @@ module _ (m n : ℕ) (pos : 0 < m) (r f h : ℕ → ℕ) (below : (p : ℕ) → 
       }
 
   module _ (a b : ℕ) (parts : Parts m n f a b) where
-    -- the two tables of the gate that joins a and b, where it is the last
+    -- the two tables of the gate that joins a and b, if it is the last
     abbrev ours : List ℕ
     ours = gateDigits m n f true a b
 
@@ -107,12 +107,12 @@ module _ (m n : ℕ) (pos : 0 < m) (r f h : ℕ → ℕ) (below : (p : ℕ) → 
 
 -- ---- all gates
 
--- The place in a gate's table of the digit that is reached where the references have the values given: "left's value · m + right's value"
+-- The place in a gate's table of the digit reached if the references have these values: "left's value · m + right's value"
 abbrev pub reachedPlace : ℕ → List ℕ → Gate → ℕ
 reachedPlace m values g = getD values (g .left) 0 * m + getD values (g .right) 0
 
--- Two gate lists that agree in all but the last table, of which the last "differ by that renaming at each digit that some assignment reaches" and are 0
--- elsewhere. `values` has the values of the references before the first gate, at each assignment.
+-- Two gate lists that agree in all but the last table. The last tables "differ by that renaming at each digit that some assignment reaches" and are 0
+-- elsewhere. `values` holds the values of the references before the first gate, at each assignment.
 pub record RenamedFrom (m n : ℕ) (r : ℕ → ℕ) (values : ℕ → List ℕ) (gates others : List Gate) : Type 0 where
   pub lines : ButLast gates others
   pub count : length (lines .last .digits) ≡ m * m
@@ -122,12 +122,12 @@ pub record RenamedFrom (m n : ℕ) (r : ℕ → ℕ) (values : ℕ → List ℕ)
   pub free : (k : ℕ) → k < m * m → ((p : ℕ) → p < m ^ n → reachedPlace m (withGates m (values p) (lines .before)) (lines .last) ≢ k)
       → (getD (lines .last .digits) k 0 ≡ 0) × (getD (lines .digits) k 0 ≡ 0)
 
--- of nets: before the first gate there are the inputs' levels
+-- for nets: before the first gate these are the inputs' levels
 abbrev pub RenamedGates : ℕ → ℕ → (ℕ → ℕ) → List Gate → List Gate → Type 0
 RenamedGates m n r gates others = RenamedFrom m n r (levelsAt m n) gates others
 
 module _ (m n : ℕ) (pos : 0 < m) (r f h : ℕ → ℕ) (below : (p : ℕ) → p < m ^ n → f p < m) (renamed : Renamed m n r f h) where
-  -- the last gate alone
+  -- only the last gate
   last-renamed : (groups : List ℕ) (values : ℕ → List ℕ) (l : Link) → ((p : ℕ) → Carries m n pos f p groups (values p)) → Fillable m n f groups (l ∷ [])
       → RenamedFrom m n r values (filledFrom m n f groups (l ∷ [])) (filledFrom m n h groups (l ∷ []))
   unfolding filledFrom withEach

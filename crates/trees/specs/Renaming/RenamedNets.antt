@@ -1,5 +1,5 @@
--- The nets that are made of two tables of which one is a renaming of the other's inks: settled, shallow, of each number of the family, and a kept wiring filled
--- anew. Each is the other's but for the last table, which is renamed (document 02, K14).
+-- The nets made of two tables, one a renaming of the other's inks: settled, shallow, of each number of the family, and a kept wiring filled
+-- anew. The two nets are the same except for the last table, which is renamed (document 02, K14).
 -- Assumes nothing.
 use Prim.Native.Nat.{ℕ, _^_, _<_}
 use mathlib.Core.Path.{_≡_, refl, subst}
@@ -31,13 +31,13 @@ use Rattle.trees.specs.Renaming.RenamedGates.{RenamedGates, filled-renam
 module _ (m n : ℕ) (pos : 0 < m) (r f h : ℕ → ℕ) (below : (p : ℕ) → p < m ^ n → f p < m) (renamed : Renamed m n r f h) where
   -- ---- any wiring
 
-  -- where the gates can be filled for the one table, their fillings for the two are each other's but for the last table
+  -- if the gates can be filled for one table, their fillings for the two are the same except for the last table
   pub kept-renamed : (gates : List Gate) → IsNet m n gates → GatesFew m n f gates → RenamedGates m n r (keptGates m n f gates) (keptGates m n h gates)
   unfolding keptGates
   kept-renamed gates net few =
       filled-renamed m n pos r f h below renamed (gateLinks gates) (omega (arith, net .some, length-map gates linkOf)) (kept-fillable m n pos f gates net few)
 
-  -- the same of a wiring whose filling is a net with the table
+  -- the same for a wiring whose filling is a net with the table
   computing-renamed : (links : List Link) → IsNet m n (filled m n f links) × Computes m n (filled m n f links) f
       → RenamedGates m n r (filled m n f links) (filled m n h links)
   unfolding keptGates
@@ -46,12 +46,12 @@ module _ (m n : ℕ) (pos : 0 < m) (r f h : ℕ → ℕ) (below : (p : ℕ) → 
       (kept-renamed (filled m n f links) net
       (filling-few m n pos f (filled m n f links) net (filled m n f links) (record { wiring = refl; tables = net .rules .tables; computes = has })))
 
-  -- and where the other table has an equal wiring
+  -- and if the other table has an equal wiring
   wiring-renamed : (w v : Wiring) → w ≡ v → IsNet m n (filled m n f (linksOf n 0 w)) × Computes m n (filled m n f (linksOf n 0 w)) f
       → RenamedGates m n r (filled m n f (linksOf n 0 w)) (filled m n h (linksOf n 0 v))
   wiring-renamed w v same makes = rw (← same) (computing-renamed (linksOf n 0 w) makes)
 
-  -- ---- wirings that are chosen
+  -- ---- chosen wirings
 
   module _ (several : 1 < n) where
     abbrev same : SameInks m n f h
@@ -68,7 +68,7 @@ module _ (m n : ℕ) (pos : 0 < m) (r f h : ℕ → ℕ) (below : (p : ℕ) → 
     unfolding shallowGates
     shallow-renamed two = wiring-renamed _ _ (shallow-wiring-renamed m n pos f h same) (shallow-net m n pos several f two below)
 
-    -- and so does the net of each number
+    -- so does the net of each number
     pub family-renamed : (number : ℕ) → number < treeCount n (marksOf m n f) (leavesOf m n f)
         → RenamedGates m n r (familyGates m n f (marksOf m n f) number) (familyGates m n h (marksOf m n h) number)
     unfolding familyGates

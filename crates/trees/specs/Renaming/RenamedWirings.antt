@@ -1,5 +1,5 @@
--- Two tables of which one is a renaming of the other's inks have the same wirings, since these are chosen by marks and leaves: the settled one, the
--- shallow one, and each of the family, which has as many. A given wiring fits both or neither, at the same gate.
+-- Two tables, one a renaming of the other's inks, have the same wirings, since these are chosen by marks and leaves: the settled one, the
+-- shallow one, and each of the family, and equally many of these. A given wiring fits both or neither, at the same gate.
 -- Assumes nothing.
 use Prim.Native.Nat.{ℕ, suc, _+_, _-_, _<_}
 use mathlib.Core.Path.{_≡_, refl, sym, _∙_, ap, ap₂}
@@ -30,7 +30,7 @@ module _ (m n : ℕ) (pos : 0 < m) (f h : ℕ → ℕ) (same : SameInks m n f h)
   by-marks : {A : Type 0} (make : List ℕ → ℕ → A) → make (marksOf m n f) (leavesOf m n f) ≡ make (marksOf m n h) (leavesOf m n h)
   by-marks make = ap₂ make (marks-renamed m n pos f h same) (leaves-renamed m n pos f h same)
 
-  -- ---- wirings that are chosen
+  -- ---- chosen wirings
 
   pub settled-wiring-renamed : settledWiring n (marksOf m n f) (leavesOf m n f) ≡ settledWiring n (marksOf m n h) (leavesOf m n h)
   settled-wiring-renamed = by-marks (settledWiring n)
@@ -39,17 +39,17 @@ module _ (m n : ℕ) (pos : 0 < m) (f h : ℕ → ℕ) (same : SameInks m n f h)
   pub shallow-wiring-renamed : shallowWiring n (marksOf m n f) (leavesOf m n f) ≡ shallowWiring n (marksOf m n h) (leavesOf m n h)
   shallow-wiring-renamed = by-marks (shallowWiring n)
 
-  -- as many trees, ..
+  -- equally many trees, ..
   pub count-renamed : treeCount n (marksOf m n f) (leavesOf m n f) ≡ treeCount n (marksOf m n h) (leavesOf m n h)
   count-renamed = by-marks (treeCount n)
 
-  -- .. and one wiring under each number
+  -- .. and the same wiring under each number
   pub family-wiring-renamed : (number : ℕ)
       → familyWiring n (marksOf m n f) (countsOf n (marksOf m n f)) n (leavesOf m n f) number
       ≡ familyWiring n (marksOf m n h) (countsOf n (marksOf m n h)) n (leavesOf m n h) number
   family-wiring-renamed number = by-marks (λ marks leaves. familyWiring n marks (countsOf n marks) n leaves number)
 
-  -- ---- a wiring that is given
+  -- ---- a given wiring
 
   -- the first gate with too many classes is the same
   pub roomy-renamed : (gates : List Gate) → roomyGates m n f gates ≡ roomyGates m n h gates
@@ -84,7 +84,7 @@ shallow-layers-renamed m n pos f h same =
     layers-filled m n f h (linksOf n 0 (shallowWiring n (marksOf m n f) (leavesOf m n f)))
     ∙ ap (λ (w : Wiring). layers n (filled m n h (linksOf n 0 w))) (shallow-wiring-renamed m n pos f h same)
 
--- ---- of a net sheet and two table sheets
+-- ---- for a net sheet and two table sheets
 
 module _ (net : Net) (t u : Table) (pos : 0 < net .header .levels)
     (same : SameInks (net .header .levels) (net .header .inputs) (inkIn (t .inks)) (inkIn (u .inks))) where
@@ -98,7 +98,7 @@ module _ (net : Net) (t u : Table) (pos : 0 < net .header .levels)
   unfolding roomyBefore
   roomy-before-renamed = roomy-renamed m n pos (inkIn (t .inks)) (inkIn (u .inks)) same (net .gates)
 
-  -- it leaves out an input that matters to one exactly when it leaves out one that matters to the other
+  -- it leaves out an input that matters to one exactly if it leaves out one that matters to the other
   pub leaves-out-renamed : leavesOut net t ≡ leavesOut net u
   unfolding leavesOut
   leaves-out-renamed =

@@ -1,5 +1,5 @@
--- "two full table sheets with the same first three lines, one got from the other by a one-to-one renaming of the ink levels" (document 02, K14). Alike asks
--- for equal inks alone, so all that is made of it is the same for both tables: classes, marks, the inputs that matter.
+-- "two full table sheets with the same first three lines, one got from the other by a one-to-one renaming of the ink levels" (document 02, K14).
+-- Alike compares inks only for equality, so everything derived from it is the same for both tables: classes, marks, the inputs that matter.
 -- Assumes nothing.
 use Prim.Native.Nat.{ℕ, zero, suc, _+_, _^_, _<_}
 use mathlib.Core.Path.{_≡_, refl, sym, _∙_, ap}
@@ -23,24 +23,24 @@ use Rattle.trees.specs.Groups.Points.{points-are-parts, points-empty}
 
 -- ---- the notion
 
--- "one got from the other by a one-to-one renaming of the ink levels": where f has ink v, h has r v, and no two levels get one name
+-- "one got from the other by a one-to-one renaming of the ink levels": if f has ink v, h has r v, and different levels get different names
 pub record Renamed (m n : ℕ) (r f h : ℕ → ℕ) : Type 0 where
   pub levels : (v : ℕ) → v < m → r v < m
   pub one-to-one : (u v : ℕ) → u < m → v < m → r u ≡ r v → u ≡ v
   pub inks : (p : ℕ) → p < m ^ n → h p ≡ r (f p)
 
--- two cells have one ink in the one table exactly when they have one in the other
+-- two cells have the same ink in one table exactly if they do in the other
 abbrev pub SameInks : ℕ → ℕ → (ℕ → ℕ) → (ℕ → ℕ) → Type 0
 SameInks m n f h = (p q : ℕ) → p < m ^ n → q < m ^ n → eqb (f p) (f q) ≡ eqb (h p) (h q)
 
--- renaming keeps that
+-- this holds for a renaming
 pub renamed-same : (m n : ℕ) (r f h : ℕ → ℕ) → ((p : ℕ) → p < m ^ n → f p < m) → Renamed m n r f h → SameInks m n f h
 renamed-same m n r f h below renamed p q p< q< =
     two-ways (eqb (f p) (f q)) (eqb (h p) (h q))
     (λ e. eq-eqb _ _ (renamed .inks p p< ∙ ap r (eqb-true _ _ e) ∙ sym (renamed .inks q q<)))
     (λ e. eq-eqb _ _ (renamed .one-to-one (f p) (f q) (below p p<) (below q q<) (sym (renamed .inks p p<) ∙ eqb-true _ _ e ∙ renamed .inks q q<)))
 
--- ---- an assignment of a group and one of the other inputs are an index
+-- ---- an assignment of a group plus one of the other inputs is an index
 
 module _ (m n : ℕ) (pos : 0 < m) where
   -- a number that is no group leaves no other input
@@ -77,13 +77,13 @@ module _ (m n : ℕ) (pos : 0 < m) (f h : ℕ → ℕ) (same : SameInks m n f h)
   alike-renamed g p q p-in q-in =
       all-same _ _ (points m n (others n g)) (λ y y-in. same (p + y) (q + y) (sum-below m n pos g p y p-in y-in) (sum-below m n pos g q y q-in y-in))
 
-  -- .. so that they have the same classes, each by its first assignment, ..
+  -- .. so they have the same classes, each by its first assignment, ..
   pub classes-renamed : (g : ℕ) → classes m n f g ≡ classes m n h g
   unfolding classes
   classes-renamed g =
       firsts-same (λ p. List·Memᴰ p (points m n g)) _ _ (alike-renamed g) [] (points m n g) (λ x is. absurd (List·Memᴰ·not-nil is)) (λ x is. is)
 
-  -- .. and as many
+  -- .. and equally many
   pub multiplicity-renamed : (g : ℕ) → multiplicity m n f g ≡ multiplicity m n h g
   unfolding multiplicity
   multiplicity-renamed g = ap length (classes-renamed g)
@@ -99,7 +99,7 @@ module _ (m n : ℕ) (pos : 0 < m) (f h : ℕ → ℕ) (same : SameInks m n f h)
   marks-below-renamed zero = refl
   marks-below-renamed (suc count) = rw (marks-below-renamed count, mark-renamed)
 
-  -- every group has one mark in both
+  -- every group has the same mark in both
   pub marks-renamed : marksOf m n f ≡ marksOf m n h
   unfolding marksOf
   marks-renamed = marks-below-renamed (2 ^ n)

@@ -1,4 +1,4 @@
--- What a wiring by a choice of parts takes at each gate: the part that the choice says.
+-- At each gate, a wiring by a choice of parts takes the part that the choice gives.
 -- Assumes nothing.
 use Prim.Native.Nat.{ℕ, zero, suc, _+_, _-_, _^_, _≤_, _<_}
 use mathlib.Core.Path.{_≡_, refl}
@@ -13,19 +13,19 @@ use Rattle.rules.specs.Nets.Wirings.{Wiring, input, gate, groupOf, firstInput, 
 use Rattle.trees.specs.Groups.Members.{size-pos}
 use Rattle.trees.specs.Trees.MarkTwo.{Splits, two-some, parted, a-below, b-below, a-inside, b-inside, parted-sizes, wiring-of}
 
--- something holds of every gate's group and its left part
+-- something holds for every gate's group and its left part
 abbrev pub EachSplit : (ℕ → ℕ → Type 0) → Wiring → Type 0
 EachSplit P (input i) = Unit {0}
 EachSplit P (gate a b) = P (groupOf (gate a b)) (groupOf a) × EachSplit P a × EachSplit P b
 
--- something holds of a wiring and of every wiring in it
+-- something holds for a wiring and for every wiring in it
 abbrev pub EachWithin : (Wiring → Type 0) → Wiring → Type 0
 EachWithin P (input i) = P (input i)
 EachWithin P (gate a b) = P (gate a b) × EachWithin P a × EachWithin P b
 
 module _ (n : ℕ) (mark : ℕ → ℕ) (leaves : ℕ) (split : ℕ → ℕ) (splits : Splits n mark leaves split) (P : ℕ → ℕ → Type 0)
     (chosen : (g : ℕ) → g < 2 ^ n → inside n g leaves ≡ true → mark g ≡ 2 → size n g ≢ 1 → P g (split g)) where
-  -- what holds of each group and its chosen part holds at each gate
+  -- what holds for each group and its chosen part holds at each gate
   pub takes-chosen : (fuel g : ℕ) → g < 2 ^ n → inside n g leaves ≡ true → size n g ≤ fuel → mark g ≡ 2 → EachSplit P (wiringBy n split fuel g)
   unfolding wiringBy groupOf
   takes-chosen zero g g< g-in enough two = absurd (omega (arith, size-pos n g g< (two-some n mark leaves split splits g g< g-in two)))

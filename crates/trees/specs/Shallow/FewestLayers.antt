@@ -1,5 +1,5 @@
--- The computed list of fewest layers: a group that parts into two groups of mark 2 has one layer more than the deeper part of its shallowest
--- two, and no other two are shallower; any other group has none. Whatever the marks are.
+-- The computed list of fewest layers: a group that splits into two groups of mark 2 has one layer more than the deeper part of its shallowest
+-- split; any other group has none. This holds for any marks.
 -- Assumes nothing.
 use Prim.Native.Nat.{ℕ, zero, suc, _+_, _-_, _^_, _≤_, _<_, max}
 use mathlib.Core.Path.{_≡_, refl, sym, _∙_, ap}
@@ -24,7 +24,7 @@ use Rattle.trees.specs.Groups.Members.{first-member, size-join, size-pos
 use Rattle.trees.specs.Groups.MarkRule.{PartsIntoTwos, parts-of, parts-found, parts-swap}
 use Rattle.trees.specs.Trees.MarkTwo.{in-other-part}
 
--- the members of two parts are the group's
+-- the sizes of the two parts add up to the group's
 parts-sizes : (n : ℕ) (mark : ℕ → ℕ) (g : ℕ) → g < 2 ^ n → (parts : PartsIntoTwos n mark g)
     → (size n g ≡ size n (parts .a) + size n (parts .b)) × (0 < size n (parts .a)) × (0 < size n (parts .b))
 parts-sizes n mark g g< parts = (
@@ -36,7 +36,7 @@ parts-sizes n mark g g< parts = (
 module _ (n : ℕ) (marks : List ℕ) where
   -- ---- the list
 
-  -- the rule reads the entries below the group alone
+  -- the rule reads only the entries below the group
   fewest-agree : (xs ys : List ℕ) (g : ℕ) → ((a : ℕ) → a < g → getD xs a 0 ≡ getD ys a 0) → fewestOf n marks xs g ≡ fewestOf n marks ys g
   unfolding fewestOf splitLayers
   fewest-agree xs ys g e =
@@ -50,7 +50,7 @@ module _ (n : ℕ) (marks : List ℕ) where
   below-length zero = refl
   below-length (suc k) = rw (length-append, below-length k, add-one)
 
-  -- an entry is the rule's, with the entries below at hand
+  -- an entry follows the rule, given the entries below
   entry-below : (k g : ℕ) → g < k → getD (fewestBelow n marks k) g 0 ≡ fewestOf n marks (fewestBelow n marks g) g
   unfolding fewestBelow
   entry-below zero g h = absurd (omega arith)
@@ -66,7 +66,7 @@ module _ (n : ℕ) (marks : List ℕ) where
   abbrev pub fewest : ℕ → ℕ
   fewest g = getD (fewestLayers n marks) g 0
 
-  -- each entry is the rule's, with all entries at hand
+  -- each entry follows the rule, given all entries
   pub fewest-rule : (g : ℕ) → g < 2 ^ n → fewest g ≡ fewestOf n marks (fewestLayers n marks) g
   unfolding fewestLayers
   fewest-rule g g< =
@@ -74,9 +74,9 @@ module _ (n : ℕ) (marks : List ℕ) where
       ∙ fewest-agree _ _ g (λ a h. entry-below g a h ∙ sym (entry-below (2 ^ n) a (omega arith)))
 
   module _ (g : ℕ) (g< : g < 2 ^ n) where
-    -- ---- no two parts are shallower
+    -- ---- no split is shallower
 
-    -- the first parts of the ways to part g
+    -- the first parts of g's splits
     abbrev firstParts : List ℕ
     firstParts = those (partsAt n marks g) (range 1 (g - 1))
 
@@ -96,15 +96,15 @@ module _ (n : ℕ) (marks : List ℕ) where
         least-bounds (layersBy (parts .a)) (map layersBy firstParts) (Memᴰ·map layersBy (part-listed parts)) in
         rw (fewest-rule g g<, ← rest) bound
 
-    -- ---- some two parts are as shallow
+    -- ---- some split is as shallow
 
-    -- two parts that keep g shallowest, the first of them holding the first-listed input
+    -- two parts that keep g shallowest; the first holds the first-listed input
     pub record Shallowest : Type 0 where
       pub parts : PartsIntoTwos n (markIn marks) g
       pub holds-first : member (firstInput n g) (parts .a) ≡ true
       pub attained : 1 + max (fewest (parts .a)) (fewest (parts .b)) ≡ fewest g
 
-    -- of two parts one holds the first-listed input
+    -- one of two parts holds the first-listed input
     first-side : (parts : PartsIntoTwos n (markIn marks) g) → 1 + max (fewest (parts .a)) (fewest (parts .b)) ≡ fewest g → Shallowest
     unfolding parts-swap
     first-side parts attained = go (member (firstInput n g) (parts .a)) refl (first-member n g g< (omega arith))
@@ -118,8 +118,8 @@ module _ (n : ℕ) (marks : List ℕ) where
               attained = omega arith;
             }
 
-    -- a group that no two parts make up has none, ..
-    -- .. and for any other some two attain the least
+    -- a group without a split has none, ..
+    -- .. and for any other some split attains the least
     pub fewest-cases : ((PartsIntoTwos n (markIn marks) g → ⊥) × (fewest g ≡ 0)) ⊎ Shallowest
     unfolding fewestOf splitLayers least parts-of
     fewest-cases = go firstParts refl
@@ -135,11 +135,11 @@ module _ (n : ℕ) (marks : List ℕ) where
             let found = Memᴰ·of-map layersBy firstParts (least-listed (map layersBy firstParts) (rw e (omega arith))) in
             inr (listed (found .0) (found .1) (found .2 ∙ sym (fewest-rule g g<)))
 
-    -- none for a single input, which no two parts make up
+    -- none for a single input, which has no split
     pub fewest-single : size n g ≡ 1 → fewest g ≡ 0
     fewest-single one = ⊎-elim (λ none. none .1) (λ best. omega (arith, parts-sizes n (markIn marks) g g< (best .parts))) fewest-cases
 
-    -- for a group that parts into two: two parts attain the least
+    -- for a group that splits: two parts attain the least
     pub fewest-attained : PartsIntoTwos n (markIn marks) g → Shallowest
     fewest-attained parts = ⊎-elim (λ none. absurd (none .0 parts)) (λ best. best) fewest-cases
 
@@ -156,6 +156,6 @@ module _ (n : ℕ) (marks : List ℕ) where
       omega (arith, best .attained))
       (fewest-cases g g<)
 
-  -- .. in every group that has one
+  -- .. in every non-empty group
   pub fewest-small : (g : ℕ) → g < 2 ^ n → 0 < g → fewest g < size n g
   fewest-small g g< some = small-below (suc g) g (omega arith) g< some

@@ -1,4 +1,4 @@
--- "The layers of a net are the most gates on a way from an input to the output.": they are the depth of the tree that the net is.
+-- "The layers of a net are the most gates on a way from an input to the output.": they are the depth of the net's tree.
 -- Assumes nothing.
 use Prim.Native.Nat.{ℕ, suc, _+_, _-_, _<_, _≤_}
 use native.Mathlib.Nat.{add-zero}
@@ -38,7 +38,7 @@ unfolding waysIn
 some-way (input i) = omega arith
 some-way (gate a b) = rw (length-map, length-append) (omega (arith, some-way a))
 
--- the depth is the most of them
+-- the depth is the largest of them
 pub depth-most : (w : Wiring) → most (waysIn w) ≡ depth w
 unfolding waysIn depth most
 depth-most (input i) = omega arith
@@ -48,7 +48,7 @@ depth-most (gate a b) =
 
 -- ---- the ways to a reference are those of its tree
 
--- for ways of any kind: those at a gate are the ways at its two sides, each with one gate more
+-- for ways of any kind: those at a gate are the ways at its two sides, each with one more gate
 module _ (ways : Tree → List ℕ) (joins : (digits : List ℕ) (a b : Tree) → ways (node digits a b) ≡ map suc (ways a ++ ways b)) where
   gate-ways : (forest : List Tree) (g : Gate) → g .left < length forest → g .right < length forest
       → gateWays (map ways forest) g ≡ ways (joinedTree forest g)
@@ -68,7 +68,7 @@ ways-join : (digits : List ℕ) (a b : Tree) → waysTo (node digits a b) ≡ ma
 unfolding waysIn
 ways-join digits a b = refl
 
--- to an input there is one way
+-- there is one way to an input
 inputs-ways : (n : ℕ) → map waysTo (inputTrees n) ≡ map (λ _. 0 ∷ []) (range 0 n)
 unfolding inputTrees waysIn
 inputs-ways n = map-map waysTo leaf (range 0 n)
@@ -107,7 +107,7 @@ pub net-layers : (m n : ℕ) (gates : List Gate) (net : IsNet m n gates) → lay
 net-layers m n gates net =
     last-layers n gates (net .some) (net .rules .back) ∙ ap (λ (t : Tree). depth (wiringIn t)) (sym (net-tree m n gates net .last))
 
--- of a tree's own lines
+-- for a tree's own lines
 pub lines-layers : (n : ℕ) (digits : List ℕ) (a b : Tree) → EachOnce n (wiringIn (node digits a b))
     → layers n (treeGates n 0 (node digits a b)) ≡ depth (wiringIn (node digits a b))
 unfolding gatesIn
@@ -115,7 +115,7 @@ lines-layers n digits a b once =
     last-layers n (treeGates n 0 (node digits a b)) (omega (arith, lines-length n 0 (node digits a b))) (rw add-zero at (lines-back n 0 (node digits a b) once))
     ∙ ap (λ (t : Tree). depth (wiringIn t)) (lines-tree n digits a b once)
 
--- of a wiring's links, filled
+-- for a wiring's links, filled
 pub filled-layers : (m n : ℕ) (f : ℕ → ℕ) (a b : Wiring) → EachOnce n (gate a b)
     → layers n (filled m n f (linksOf n 0 (gate a b))) ≡ depth (gate a b)
 unfolding fill

@@ -1,5 +1,5 @@
 -- The shallow wiring of a group of mark 2. "Among equally shallow trees each group takes the part A of lowest number that keeps its own group
--- shallowest": at each gate it does; it is a wiring of the group, as deep as the group's fewest layers; and no wiring of the group with few
+-- shallowest": this holds at each gate; it is a wiring of the group, as deep as the group's fewest layers; and no wiring of the group with few
 -- classes at each gate has fewer.
 -- Assumes nothing.
 use Prim.Native.Nat.{ℕ, _+_, _-_, _^_, _≤_, _<_, max}
@@ -54,7 +54,7 @@ module _ (n : ℕ) (marks : List ℕ) (g : ℕ) where
       let (may, keeps) = and-eq-true-iff (mayBeA n marks g a) _ .0 e in
       record { may = may-be n marks g a some less may; keeps = eqb-true _ _ keeps }
 
-  -- where there is such a part, the shallow wiring takes one, and that of lowest number
+  -- if there is such a part, the shallow wiring takes one, namely that of lowest number
   pub shallow-lowest : (a : ℕ) → MayBeShallowA n marks g a → MayBeShallowA n marks g (shallowPart n marks g) × (shallowPart n marks g ≤ a)
   unfolding shallowSplit
   shallow-lowest a is =
@@ -104,7 +104,7 @@ module _ (m n : ℕ) (pos : 0 < m) (f : ℕ → ℕ) where
         keeps = rw rest (best .attained);
       }) .0
 
-  -- .. of lowest number: it is the least of all such
+  -- .. of lowest number: it is the least such part
   pub shallow-least : (g a : ℕ) → MayBeShallowA n (marksOf m n f) g a → shallowPart n (marksOf m n f) g ≤ a
   shallow-least g a is = shallow-lowest n (marksOf m n f) g a is .1
 
@@ -114,11 +114,11 @@ module _ (m n : ℕ) (pos : 0 < m) (f : ℕ → ℕ) where
       let may = shallow-parts g g< two several .may in
       record { part = may .part; some = may .some; less = may .less; two-a = may .two; two-b = may .rest-two }
 
-  -- what a gate of the shallow wiring takes: of the parts that may be A and keep their group shallowest the one of lowest number
+  -- what a gate of the shallow wiring takes: among the parts that may be A and keep their group shallowest, the one of lowest number
   abbrev pub TakesLowest : ℕ → ℕ → Type 0
   TakesLowest g a = MayBeShallowA n (marksOf m n f) g a × ((c : ℕ) → MayBeShallowA n (marksOf m n f) g c → a ≤ c)
 
-  -- a wiring that takes, at each gate, parts that keep their group shallowest is as deep as its group's fewest layers
+  -- a wiring that takes parts that keep their group shallowest at each gate is as deep as its group's fewest layers
   depth-kept : (w : Wiring) → EachOnce n w → EachSplit TakesLowest w → depth w ≡ fewestOfGroup (groupOf w)
   unfolding groupOf depth
   depth-kept (input i) once takes =

@@ -1,5 +1,5 @@
--- The shallow net: where the whole group has mark 2 it is a net with the table, on the same leaves as the settled net, and "Every other tree computing that
--- table has at least as many layers", whatever its leaves.
+-- The shallow net: if the whole group has mark 2, it is a net with the table, on the same leaves as the settled net, and "Every other tree computing
+-- that table has at least as many layers", whatever its leaves.
 -- Assumes nothing.
 use Prim.Native.Nat.{ℕ, _^_, _≤_, _<_}
 use mathlib.Core.Path.{_≡_, sym, _∙_}
@@ -46,8 +46,8 @@ module _ (m n : ℕ) (pos : 0 < m) (several : 1 < n) (f : ℕ → ℕ) where
 
   -- ---- no tree has fewer layers
 
-  -- With few classes at each gate and with every input that matters: what does not matter may be cut out, and where fewer than two inputs matter one layer is
-  -- the least there is.
+  -- With few classes at each gate and with every input that matters: inputs that do not matter may be cut out, and if fewer than two inputs
+  -- matter, one layer is the least possible.
   wiring-at-least : (w : Wiring) → EachOnce n w → 0 < gatesIn w → EachGate (Few m n f) w → Holding m n pos f (groupOf w) → fewestLeaves ≤ depth w
   wiring-at-least w once some few holds =
       by-cases (decLt 1 (length (mattering m n f)))

@@ -1,4 +1,4 @@
--- The shallow net of a table under its header. Where the whole group has mark 2 it keeps a net sheet's rules, has exactly the table, and "Every
+-- The shallow net of a table under its header. If the whole group has mark 2, it follows a net sheet's rules, has exactly the table, and "Every
 -- other tree computing that table has at least as many layers"; its sheet is as long as the settled net's.
 -- Assumes nothing.
 use Prim.Native.Nat.{ℕ, _^_, _≤_, _<_}
@@ -54,7 +54,7 @@ module _ (t : Table) (kept : TableRules t) (full : FullTable t) (two : WholeTwo 
   unfolding shallowNet netLayers
   shallow-least-gates = shallowest-net (t .header .levels) (t .header .inputs) pos several (inkIn (t .inks)) two
 
-  -- .. and no tree
+  -- .. and no tree has
   pub shallow-least-tree : (tree : Tree) → GateTree (t .header .levels) (t .header .inputs) tree
       → ((p : ℕ) → p < t .header .levels ^ t .header .inputs → treeValue (t .header .levels) (t .header .inputs) tree p ≡ inkIn (t .inks) p)
       → netLayers (shallowNet t) ≤ depth (wiringIn tree)

@@ -1,4 +1,4 @@
--- All net sheets of one header that use the same inputs are equally long: each has the same references and as many digits.
+-- All net sheets with one header that use the same inputs have the same length: each has the same references and equally many digits.
 -- Assumes nothing.
 use Prim.Native.Nat.{ℕ, _+_, _-_, _*_}
 use mathlib.Core.Path.{_≡_, sym, ap, ap₂, _∙_, subst⁻¹}
@@ -40,7 +40,7 @@ module _ (m : ℕ) (names : List (List ℕ)) where
       ∙ ap (λ (s : ℕ). s + length h * (m * m + 3)) (sym (used-sum referenceLength m n h net-h))
       ∙ sym (gates-length h (net-h .rules .tables))
 
--- under one header
+-- for one header
 under-header : (h : Header) (g g' : List Gate) → IsNet (h .levels) (h .inputs) g → IsNet (h .levels) (h .inputs) g'
     → usedInputs (h .inputs) g ≡ usedInputs (h .inputs) g'
     → length (printedNet (record { header = h; gates = g })) ≡ length (printedNet (record { header = h; gates = g' }))

@@ -1,6 +1,6 @@
 -- "A tree exists exactly when the whole group has mark 2." A tree is any net with the same m and n, whatever its leaves, its wiring and its
--- gates' digits. A net that has the table has every input that matters among its leaves; and where the whole group has mark 2, the settled net, which
--- stands on the table's leaves, has the table.
+-- gates' digits. A net with the table has every input that matters among its leaves; and if the whole group has mark 2, the settled net, which
+-- is on the table's leaves, has the table.
 -- Assumes nothing.
 use Prim.Native.Nat.{ℕ, _^_, _<_}
 use mathlib.Core.Path.{_≡_, sym, ap, _∙_}
@@ -35,14 +35,14 @@ pub several-gates : (n g : ℕ) (w : Wiring) → WiringOf n g w → 1 < size n g
 several-gates n g w of several = omega (arith, gates-in-size n w (of .0), ap (size n) (of .1))
 
 module _ (m n : ℕ) (pos : 0 < m) (f : ℕ → ℕ) where
-  -- ---- what a tree with the table must have
+  -- ---- what is necessary for a tree with the table
 
   -- a tree that has the table
   module _ (t : Tree) (once : EachOnce n (wiringIn t)) (has : (p : ℕ) → p < m ^ n → treeValue m n t p ≡ f p) where
     abbrev own : ℕ
     own = groupOf (wiringIn t)
 
-    -- its value tells the ink over its own leaves
+    -- its value over its own leaves determines the ink
     tells-own : Tells m n f own (treeValue m n t)
     tells-own p q e y = sym (ink p) ∙ e ∙ ink q
       where
@@ -58,7 +58,7 @@ module _ (m n : ℕ) (pos : 0 < m) (f : ℕ → ℕ) where
     pub tree-few : Filled m t → EachGate (Few m n f) (wiringIn t)
     tree-few filled = necessity m n pos f t once filled tells-own
 
-    -- .. and every input that matters is one of its leaves: an input that is none changes no value
+    -- .. and every input that matters is one of its leaves: an input that is not a leaf changes no value
     pub computes-holds : Holding m n pos f own
     computes-holds i i< is =
         not-false-true _ λ out.
@@ -67,7 +67,7 @@ module _ (m n : ℕ) (pos : 0 < m) (f : ℕ → ℕ) where
         part-ext m n pos own (two .one) (two .other) (λ j j< within. two .elsewhere j j< (λ e. true≢false (sym (rw e at within) ∙ out))) in
         two .inks (sym (has _ (two .one-below)) ∙ tree-part m n pos f t once _ _ same ∙ has _ (two .other-below))
 
-  -- the same of a net
+  -- the same for a net
   module _ (gates : List Gate) (net : IsNet m n gates) (has : Computes m n gates f) where
     has-tree : (p : ℕ) → p < m ^ n → treeValue m n (net-tree m n gates net .tree) p ≡ f p
     has-tree p h = sym (net-tree m n gates net .same p) ∙ has p h
@@ -78,13 +78,13 @@ module _ (m n : ℕ) (pos : 0 < m) (f : ℕ → ℕ) where
     pub net-holds : Holding m n pos f (netGroup m n gates net)
     net-holds = let t = net-tree m n gates net in computes-holds (t .tree) (t .once) has-tree
 
-    -- its leaves have mark 2, and so have all inputs together
+    -- its leaves have mark 2, and so do all inputs together
     pub net-marks : marked m n pos f (wholeGroup n) ≡ 2
     net-marks =
         holding-marked m n pos f (netGroup m n gates net) (group-some (netWiring m n gates net)) (net-group-below m n gates net) net-holds .0
         (wiring-mark m n pos f (netWiring m n gates net) (net-tree m n gates net .once) net-few)
 
-  -- ---- what suffices
+  -- ---- what is sufficient
 
   -- a wiring of a group with two or more members that has every input that matters, with few classes at each gate: its filling is a net, ..
   module _ (g : ℕ) (several : 1 < size n g) (w : Wiring) (of : WiringOf n g w) where
@@ -108,13 +108,13 @@ module _ (m n : ℕ) (pos : 0 < m) (f : ℕ → ℕ) where
 -- ---- the settled net
 
 module _ (m n : ℕ) (pos : 0 < m) (several : 1 < n) (f : ℕ → ℕ) where
-  -- the leaves' settled wiring, where the whole group has mark 2
+  -- the leaves' settled wiring, if the whole group has mark 2
   settled-of : marked m n pos f (wholeGroup n) ≡ 2 →
       let w = settledWiring n (marksOf m n f) (leavesOf m n f) in
       WiringOf n (leavesOf m n f) w × EachGate (Few m n f) w
   settled-of two = settled-wiring-of m n pos f (leavesOf m n f) (leaves-below m n pos f) (leaves-marked m n pos f several .1 two)
 
-  -- Mark 2 at the whole group: the settled net is a net, and has the table, ..
+  -- If the whole group has mark 2, the settled net is a net, and has the table, ..
   pub settled-net : ((p : ℕ) → p < m ^ n → f p < m) → marked m n pos f (wholeGroup n) ≡ 2
       → IsNet m n (settledGates m n f (marksOf m n f)) × Computes m n (settledGates m n f (marksOf m n f)) f
   unfolding settledGates
@@ -136,7 +136,7 @@ module _ (m n : ℕ) (pos : 0 < m) (several : 1 < n) (f : ℕ → ℕ) where
     λ two. (settledGates m n f (marksOf m n f), settled-net inks two .0, settled-net inks two .1),
   )
 
-  -- .. and exactly when one stands on just the leaves (document 02, K12)
+  -- .. and exactly if there is one on just the leaves (document 02, K12)
   pub leaf-tree-exists : ((p : ℕ) → p < m ^ n → f p < m) → TreeExists m n f ↔ LeafTree m n f
   leaf-tree-exists inks = (
     λ t.

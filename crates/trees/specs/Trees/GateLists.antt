@@ -1,5 +1,5 @@
--- A wiring's gate list by the class rule ("A's, then B's, then the group's own"): the lines of its filling, so it keeps every rule of a net
--- sheet and has the tree's value. That it is the filling of the wiring's links is in `Fillings`.
+-- A wiring's gate list by the class rule ("A's, then B's, then the group's own"): the lines of its filling. So it follows every rule of a net
+-- sheet and has the tree's value. `Fillings` proves that it is the filling of the wiring's links.
 -- Assumes nothing.
 use Prim.Native.Nat.{ℕ, _+_, _<_}
 use native.Mathlib.Omega.{arith}
@@ -48,7 +48,7 @@ module _ (m n : ℕ) (f : ℕ → ℕ) where
   list-lines last before (gate a b) =
       rw (fill-wiring false a, fill-wiring false b, list-lines false before a, list-lines false (before + gatesIn a) b)
 
-  -- each input stands at one leaf of the filling too
+  -- each input is at one leaf of the filling too
   fill-once : (last : Bool) (w : Wiring) → EachOnce n w → EachOnce n (wiringIn (fill m n f last w))
   fill-once last w once = subst⁻¹ (EachOnce n) (fill-wiring last w) once
 

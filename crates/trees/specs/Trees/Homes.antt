@@ -1,5 +1,5 @@
--- An input's home: while gates take references, each input stays below exactly one reference that is not yet used. So the trees
--- of two references that are not used share no input, and a gate that joins them has each of its inputs once.
+-- An input's home: while gates use references, each input stays below exactly one reference that is not yet used. So the trees
+-- of two unused references share no input, and a gate that joins them has each of its inputs once.
 -- Assumes nothing.
 use Prim.Native.Nat.{ℕ, _^_, _≤_, _<_}
 use mathlib.Core.Path.{_≡_, refl, sym, _∙_}
@@ -28,14 +28,14 @@ use Rattle.trees.specs.Trees.Forest.{treeAt, joinedTree, withTrees, inpu
 abbrev pub groupAt : List Tree → ℕ → ℕ
 groupAt forest r = groupOf (wiringIn (treeAt forest r))
 
--- of the references that are not used, input i is below this one and no other
+-- among the references that are not used, input i is below this one and no other
 pub record Home (used : List ℕ) (forest : List Tree) (i : ℕ) : Type 0 where
   pub at : ℕ
   pub below : at < length forest
   pub unused : NotIn at used
   pub sole : (r : ℕ) → r < length forest → NotIn r used → member i (groupAt forest r) ≡ eqb at r
 
--- what some gates have made of the inputs
+-- the state after some gates
 pub record Grown (m n : ℕ) (used : List ℕ) (forest : List Tree) : Type 0 where
   pub enough : n ≤ length forest
   pub inputs : (i : ℕ) → i < n → treeAt forest i ≡ leaf i
@@ -44,7 +44,7 @@ pub record Grown (m n : ℕ) (used : List ℕ) (forest : List Tree) : Type 0 whe
   pub fresh : (r : ℕ) → length forest ≤ r → NotIn r used
   pub home : (i : ℕ) → i < n → Home used forest i
 
--- ---- the inputs alone
+-- ---- only the inputs
 
 -- each input is its own home
 pub grown-inputs : (m n : ℕ) → Grown m n [] (inputTrees n)
@@ -67,7 +67,7 @@ grown-inputs m n =
     leaf-at : (r : ℕ) → r < length (inputTrees n) → treeAt (inputTrees n) r ≡ leaf r
     leaf-at r h = input-at n r (omega (arith, inputs-length n))
 
--- ---- one gate more
+-- ---- one more gate
 
 -- a number that is one of two is no other
 neither : (c a b s : ℕ) → (eqb c a || eqb c b) ≡ true → (s ≡ a → ⊥) → (s ≡ b → ⊥) → eqb c s ≡ false
@@ -94,7 +94,7 @@ module _ (m n : ℕ) (used : List ℕ) (forest : List Tree) (grown : Grown m n u
       rw (home .sole (g .left) left< left-unused, home .sole (g .right) right< right-unused)
       (not-both (home .at) (g .left) (g .right) differ)
 
-  -- a reference past those that there are is not used
+  -- a reference past the last is not used
   fresh-snoc : (r : ℕ) → length forest ≤ r → NotIn r used⁺
   fresh-snoc r h = not-in-two r used (g .left) (g .right) .1 (grown .fresh r h, λ e. omega arith, λ e. omega arith)
 
@@ -117,7 +117,7 @@ module _ (m n : ℕ) (used : List ℕ) (forest : List Tree) (grown : Grown m n u
         small : (r : ℕ) → r < length forest → groupAt forest r < 2 ^ n
         small r h = group-below n (wiringIn (treeAt forest r)) (grown .once r h)
 
-    -- `a` is the sole home if it is so of the old references and of the gate
+    -- `a` is the only home if this holds for the old references and for the gate
     sole-snoc : (a : ℕ) → ((s : ℕ) → s < length forest → (s ≡ g .left → ⊥) → (s ≡ g .right → ⊥) → eqb (home .at) s ≡ eqb a s)
         → taken ≡ eqb a (length forest)
         → (s : ℕ) → s < length forest⁺ → NotIn s used⁺ → member i (groupAt forest⁺ s) ≡ eqb a s
@@ -154,7 +154,7 @@ module _ (m n : ℕ) (used : List ℕ) (forest : List Tree) (grown : Grown m n u
               (e ∙ sym (ne-eqb (home .at) (length forest) (λ q. omega (arith, home .below))));
         }
 
-  -- the gate keeps all that `Grown` says
+  -- the gate preserves `Grown`
   pub grown-snoc : GateTable m (g .digits) → Grown m n used⁺ forest⁺
   grown-snoc table = record {
     enough = omega (arith, length-snoc forest (joinedTree forest g), grown .enough);
@@ -169,14 +169,14 @@ module _ (m n : ℕ) (used : List ℕ) (forest : List Tree) (grown : Grown m n u
 
 -- ---- all gates
 
--- in a list without repetition two neighbours differ, and neither stands before them
+-- in a list without repetition two neighbours differ, and neither occurs before them
 pub heads-unused : (used : List ℕ) (a b : ℕ) (rest : List ℕ) → Distinct (used ++ (a ∷ b ∷ rest)) → NotIn a used × NotIn b used × (a ≡ b → ⊥)
 heads-unused used a b rest distinct =
     let second = none-append (eqb b) used (a ∷ []) .0 (distinct-before (used ++ (a ∷ [])) b rest (rw append-assoc distinct)) in
     (distinct-before used a (b ∷ rest) distinct, second .0, λ e. not-in-cons b a [] .0 (second .1) .0 (sym e))
 
 module _ (m n : ℕ) where
-  -- gates that keep the rules keep all that `Grown` says
+  -- gates that follow the rules preserve `Grown`
   pub grown-gates : (gates : List Gate) (used : List ℕ) (forest : List Tree) → Grown m n used forest
       → RefersBack (length forest) gates → Distinct (used ++ usedBy gates) → Tables m gates
       → Grown m n (used ++ usedBy gates) (withTrees forest gates)

@@ -15,7 +15,7 @@ unfolding usedBy
 used-append [] ys = refl
 used-append (x ∷ xs) ys = rw (used-append xs ys)
 
--- references back; `j` references stand before the second list
+-- references back; `j` references come before the second list
 pub refers-append : (k j : ℕ) (xs ys : List Gate) → j ≡ k + length xs → RefersBack k xs → RefersBack j ys → RefersBack k (xs ++ ys)
 refers-append k j [] ys e back next = rw (e, add-zero) at next
 refers-append k j (x ∷ xs) ys e back next = (back .0, back .1, refers-append (suc k) j xs ys (omega arith) (back .2) next)

@@ -1,4 +1,4 @@
--- The tree that a tree's own gate lines are is that tree; so a wiring's links, filled, are the lines of the class rule's tree.
+-- A tree's own gate lines give that tree back; so a wiring's links, filled, are the lines of the class rule's tree.
 -- Assumes nothing.
 use Prim.Native.Nat.{ℕ, _+_, _-_, _<_}
 use native.Mathlib.Omega.{arith}
@@ -21,7 +21,7 @@ use Rattle.trees.specs.Filling.Fillings.{filled-list}
 -- ---- a tree's own lines
 
 module _ (n : ℕ) where
-  -- `forest` has the trees of the references before a tree's lines: the inputs' first
+  -- `forest` holds the trees of the references before a tree's lines: the inputs' first
   abbrev Planted : ℕ → List Tree → Type 0
   Planted before forest = (length forest ≡ n + before) × ((i : ℕ) → i < n → treeAt forest i ≡ leaf i)
 
@@ -53,7 +53,7 @@ module _ (n : ℕ) where
       omega (arith, length-append (treeGates n before a) (treeGates n mid b), lines-length n before a, lines-length n mid b, planted .0) in
       with-each-last joinedTree (leaf 0) forest below _ _ own ∙ rw (with-each-append, left, right)
 
-  -- the tree that a tree's own lines are
+  -- the tree of a tree's own lines
   pub lines-tree : (digits : List ℕ) (a b : Tree) → EachOnce n (wiringIn (node digits a b)) →
       let gates = treeGates n 0 (node digits a b) in
       treeAt (withTrees (inputTrees n) gates) (n + length gates - 1) ≡ node digits a b
@@ -63,7 +63,7 @@ module _ (n : ℕ) where
       let last : n + length (treeGates n 0 whole) - 1 ≡ referenceTo n 0 (wiringIn whole) = omega (arith, lines-length n 0 whole) in
       rw last (tree-at-reference 0 (inputTrees n) whole once (omega (arith, inputs-length n), input-at n))
 
--- ---- the class rule's
+-- ---- the class rule's tree
 
 module _ (m n : ℕ) (f : ℕ → ℕ) where
   -- a wiring's links filled are the lines of its filling

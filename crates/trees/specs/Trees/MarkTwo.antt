@@ -1,4 +1,4 @@
--- A group has mark 2 exactly when it has a wiring all of whose gates' groups have at most m classes. Any choice of parts that both have
+-- A group has mark 2 exactly if it has a wiring all of whose gates' groups have at most m classes. Any choice of parts that both have
 -- mark 2 gives such a wiring; document 01's choice of A is one.
 -- Assumes nothing.
 use Prim.Native.Nat.{ℕ, zero, suc, _+_, _-_, _^_, _≤_, _<_}
@@ -25,11 +25,11 @@ use Rattle.trees.specs.Groups.Members.{member-join, member-rest, inside-
 use Rattle.trees.specs.Groups.Members.{size-join, size-pos, size-le, rest-apart}
 use Rattle.trees.specs.Groups.MarkRule.{PartsIntoTwos, parts-at-holds, parts-found, parts-swap, Way, to-none, to-two, to-one, marked, way, three-way}
 
--- the test for document 01's A: a part of mark 2 with a rest of mark 2, that holds the first-listed input
+-- the test for document 01's A: a part of mark 2 that holds the first-listed input, with a rest of mark 2
 abbrev pub isA : ℕ → List ℕ → ℕ → ℕ → Bool
 isA n marks g a = partsAt n marks g a && member (firstInput n g) a
 
--- of two parts with mark 2 the one that holds the first-listed input passes
+-- of two parts with mark 2, the one that holds the first-listed input passes
 part-is-A : (n : ℕ) (marks : List ℕ) (g : ℕ) → g < 2 ^ n → (parts : PartsIntoTwos n (markIn marks) g)
     → member (firstInput n g) (parts .a) ≡ true → any (isA n marks g) (range 1 (g - 1)) ≡ true
 part-is-A n marks g g< parts holds =
@@ -68,7 +68,7 @@ pub record Split (n : ℕ) (mark : ℕ → ℕ) (g a : ℕ) : Type 0 where
 abbrev pub Splits : ℕ → (ℕ → ℕ) → ℕ → (ℕ → ℕ) → Type 0
 Splits n mark leaves split = (g : ℕ) → g < 2 ^ n → inside n g leaves ≡ true → mark g ≡ 2 → size n g ≢ 1 → Split n mark g (split g)
 
--- a part of a part, and the rest of a part, is a part
+-- a part of a part is a part, and so is the rest of a part
 pub inside-trans : (n a g h : ℕ) → inside n a g ≡ true → inside n g h ≡ true → inside n a h ≡ true
 inside-trans n a g h a-in g-in = member-inside n a h (λ i i< is. inside-member i n g h g-in i< (inside-member i n a g a-in i< is))
 
@@ -77,7 +77,7 @@ rest-inside n a g a< g< a-in =
     member-inside n (g - a) g (λ i i< is. and-eq-true-iff _ _ .0 (sym (member-rest i n a g a< g< a-in i<) ∙ is) .0)
 
 module _ (n : ℕ) (mark : ℕ → ℕ) (leaves : ℕ) (split : ℕ → ℕ) (splits : Splits n mark leaves split) where
-  -- a group of mark 2 has a member: the empty one cannot be parted
+  -- a group of mark 2 has a member: the empty one cannot be split
   pub two-some : (g : ℕ) → g < 2 ^ n → inside n g leaves ≡ true → mark g ≡ 2 → 0 < g
   two-some zero g< g-in two = absurd (omega (arith, splits 0 g< g-in two (λ one. omega (arith, size-zero n)) .less))
   two-some (suc g) g< g-in two = omega arith
@@ -117,7 +117,7 @@ module _ (n : ℕ) (mark : ℕ → ℕ) (leaves : ℕ) (split : ℕ → ℕ) (sp
   abbrev MarkedWiring : ℕ → Wiring → Type 0
   MarkedWiring g w = WiringOf n g w × EachGate (λ h. mark h ≡ 2) w
 
-  -- a part's wiring and its rest's make the group's
+  -- the wirings of a part and of its rest give one of the group
   join-wirings : (g a : ℕ) (left right : Wiring) → g < 2 ^ n → mark g ≡ 2 → inside n a g ≡ true → a < g
       → MarkedWiring a left → MarkedWiring (g - a) right → MarkedWiring g (gate left right)
   unfolding groupOf
@@ -133,7 +133,7 @@ module _ (n : ℕ) (mark : ℕ → ℕ) (leaves : ℕ) (split : ℕ → ℕ) (sp
       let is = size-one n g g< one in
       ((is .0, sym (is .1)), tt)
 
-  -- the wiring by the choice is one of the group, with mark 2 at each gate's group
+  -- the wiring by the choice is a wiring of the group, with mark 2 at each gate's group
   pub wiring-of : (fuel g : ℕ) → g < 2 ^ n → inside n g leaves ≡ true → size n g ≤ fuel → mark g ≡ 2
       → WiringOf n g (wiringBy n split fuel g) × EachGate (λ h. mark h ≡ 2) (wiringBy n split fuel g)
   unfolding wiringBy
@@ -169,7 +169,7 @@ module _ (n : ℕ) (mark : ℕ → ℕ) (leaves : ℕ) (split : ℕ → ℕ) (sp
       go true one rest = refl
       go false several rest = rest (eqb-false _ _ several)
 
--- what holds of each gate's group goes over to what follows from it
+-- a property of each gate's group implies what follows from it
 pub each-gate : {P Q : ℕ → Type 0} (n : ℕ) (w : Wiring) → ((g : ℕ) → g < 2 ^ n → P g → Q g) → EachOnce n w → EachGate P w → EachGate Q w
 each-gate n (input i) map once each = tt
 each-gate n (gate a b) map once each =
@@ -178,7 +178,7 @@ each-gate n (gate a b) map once each =
 -- ---- mark 2
 
 module _ (m n : ℕ) (pos : 0 < m) (f : ℕ → ℕ) where
-  -- what mark 2 says of a group
+  -- what mark 2 means for a group
   pub record Two (g : ℕ) : Type 0 where
     pub some : 0 < g
     pub few : Few m n f g
@@ -192,7 +192,7 @@ module _ (m n : ℕ) (pos : 0 < m) (f : ℕ → ℕ) where
       go (to-two some few why e) = record { some = some; few = few; why = why }
       go (to-one _ _ _ _ e) = absurd (omega arith)
 
-  -- a gate that joins two wirings of mark 2 parts its group into twos
+  -- a gate that joins two wirings of mark 2 splits its group into twos
   unfoldable pub gate-twos : (a b : Wiring) → EachOnce n (gate a b) → marked m n pos f (groupOf a) ≡ 2 → marked m n pos f (groupOf b) ≡ 2
       → PartsIntoTwos n (marked m n pos f) (groupOf a + groupOf b)
   gate-twos a b once two-a two-b =

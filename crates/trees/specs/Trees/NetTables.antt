@@ -1,4 +1,4 @@
--- A net's table keeps a table sheet's rules and has a tree; its settled net keeps a net sheet's rules and has that table.
+-- A net's table follows a table sheet's rules and has a tree; its settled net follows a net sheet's rules and has that table.
 -- Assumes nothing.
 use Prim.Native.Nat.{ℕ, _<_}
 use mathlib.Core.Path.{_≡_, subst}
@@ -30,7 +30,7 @@ module _ (net : Net) (kept : NetRules net) where
       let count = net-table-length (net .header .levels) (net .header .inputs) (net .gates) in
       net-inks (net .header .levels) (net .header .inputs) pos (net .gates) (kept .gates) k (subst (λ (l : ℕ). k < l) count h)
 
-  -- .. it keeps a table's rules, and its whole group has mark 2
+  -- .. it follows a table's rules, and its whole group has mark 2
   pub kept-table : TableRules (tableOfNet net)
   unfolding tableOfNet
   kept-table =
@@ -44,7 +44,7 @@ module _ (net : Net) (kept : NetRules net) where
   unfolding tableOfNet
   net-whole-two = net-two (net .header .levels) (net .header .inputs) pos (net .gates) (kept .gates)
 
-  -- its settled net keeps a net's rules, and has its table
+  -- its settled net follows a net's rules, and has its table
   pub settled-kept : NetRules (settledNet (tableOfNet net))
   unfolding settledNet tableOfNet settledOf
   settled-kept = record { header = kept .header; gates = settled-is-net (net .header .levels) (net .header .inputs) pos (net .gates) (kept .gates) }

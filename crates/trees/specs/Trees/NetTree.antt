@@ -25,7 +25,7 @@ use Rattle.trees.specs.Trees.Wirings.{group-below}
 use Rattle.trees.specs.Trees.Forest.{treeAt, joinedTree, withTrees, inputTrees, inputs-length, last-value}
 use Rattle.trees.specs.Trees.Homes.{Home, Grown, groupAt, grown-inputs, grown-gates}
 
--- the tree that a gate list is
+-- the tree of a gate list
 pub record TreeOf (m n : ℕ) (gates : List Gate) : Type 0 where
   pub tree : Tree
   -- it is the last gate's
@@ -38,7 +38,7 @@ pub record TreeOf (m n : ℕ) (gates : List Gate) : Type 0 where
 
 -- ---- the references
 
--- the last gate's reference, and what is past it, is not used; `k` references stand before the gates
+-- the last gate's reference, and everything past it, is not used; `k` references come before the gates
 pub past-unused : (k : ℕ) (gates : List Gate) → RefersBack k gates → (r : ℕ) → k + length gates ≤ suc r → NotIn r (usedBy gates)
 unfolding usedBy any
 past-unused k [] back r h = refl
@@ -81,7 +81,7 @@ module _ (m n : ℕ) (gates : List Gate) (rules : GateRules m n gates) where
         eqb-true (home .at) i (sym (home .sole i (omega (arith, forest-length)) free)
         ∙ rw (grown .inputs i i<) (member-single i i ∙ eq-eqb i i refl))
 
-    -- and an input that is a home is its own
+    -- and if a home is an input, it is that input's own
     home-input : home .at < n → home .at ≡ i
     unfolding groupOf
     home-input low =
@@ -131,7 +131,7 @@ net-several m n gates net = omega (arith, net .some, net .count)
 pub net-tree : (m n : ℕ) (gates : List Gate) → IsNet m n gates → TreeOf m n gates
 net-tree m n gates net = net-is-tree m n gates (net .some) (net .rules) (net .used)
 
--- the wiring that a net is
+-- the wiring of a net
 abbrev pub netWiring : (m n : ℕ) (gates : List Gate) → IsNet m n gates → Wiring
 netWiring m n gates net = wiringIn (net-tree m n gates net .tree)
 
@@ -142,11 +142,11 @@ netGroup m n gates net = groupOf (netWiring m n gates net)
 pub net-group-below : (m n : ℕ) (gates : List Gate) (net : IsNet m n gates) → netGroup m n gates net < 2 ^ n
 net-group-below m n gates net = group-below n (netWiring m n gates net) (net-tree m n gates net .once)
 
--- "inputs may stay unused": the leaves are just the inputs that the gates use, ..
+-- "inputs may stay unused": the leaves are exactly the inputs that the gates use, ..
 pub net-uses : (m n : ℕ) (gates : List Gate) (net : IsNet m n gates) → UsesJust n gates (netGroup m n gates net)
 net-uses m n gates net i i< = sym (net-tree m n gates net .leaves i i<)
 
--- .. and no other group is
+-- .. and no other group has this property
 pub net-group : (m n : ℕ) (gates : List Gate) (net : IsNet m n gates) (g : ℕ) → g < 2 ^ n → UsesJust n gates g → netGroup m n gates net ≡ g
 net-group m n gates net g g< uses =
     member-ext n (netGroup m n gates net) g (net-group-below m n gates net) g< (λ i i<. sym (net-uses m n gates net i i<) ∙ uses i i<)

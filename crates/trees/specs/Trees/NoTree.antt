@@ -23,7 +23,7 @@ use Rattle.trees.specs.Groups.MarkRule.{Way, to-none, to-two, to-one, ma
 -- ---- the groups in the order of their sizes
 
 module _ (n : ℕ) (t : ℕ → Bool) where
-  -- fewer members, or as many and no higher number
+  -- fewer members, or equally many and no higher number
   abbrev Before : ℕ → ℕ → Type 0
   Before g h = (size n g < size n h) ⊎ ((size n g ≡ size n h) × (g ≤ h))
 
@@ -70,20 +70,20 @@ module _ (n : ℕ) (t : ℕ → Bool) where
 -- ---- the place
 
 module _ (m n : ℕ) (pos : 0 < m) (f : ℕ → ℕ) where
-  -- what an index gives the whole group leaves nothing to the others
+  -- for the whole group, a mix does not depend on the others
   whole-mix : (p y : ℕ) → mix m n (wholeGroup n) p y ≡ part m n (wholeGroup n) p
   whole-mix p y =
       let below = mix-below m n pos (wholeGroup n) p y (whole-below n) in
       sym (part-whole m n pos _ below) ∙ part-mix m n pos (wholeGroup n) p y (whole-below n)
 
-  -- where every ink is below m, the whole group has at most m classes: the inks
+  -- if every ink is below m, the whole group has at most m classes: the inks
   whole-few : ((p : ℕ) → p < m ^ n → f p < m) → multiplicity m n f (wholeGroup n) ≤ m
   whole-few inks =
       let ink : ℕ → ℕ = λ p. f (part m n (wholeGroup n) p) in
       let tells : Tells m n f (wholeGroup n) ink = λ p q e y. rw (whole-mix p y, whole-mix q y) e in
       few-classes m n pos f (wholeGroup n) (whole-below n) m ink (λ p. inks _ (part-below m n pos _ p)) tells
 
-  -- where every ink is below m, the whole group's mark is 1 or 2
+  -- if every ink is below m, the whole group's mark is 1 or 2
   pub whole-mark : 0 < n → ((p : ℕ) → p < m ^ n → f p < m) → marked m n pos f (wholeGroup n) ≢ 2 → marked m n pos f (wholeGroup n) ≡ 1
   unfolding wholeGroup
   whole-mark some inks not-two = go (way m n pos f (wholeGroup n) (whole-below n))
@@ -93,7 +93,7 @@ module _ (m n : ℕ) (pos : 0 < m) (f : ℕ → ℕ) where
       go (to-two _ _ _ e) = absurd (not-two e)
       go (to-one _ _ _ _ e) = e
 
-  -- and then refusal 16 has its place: a group of mark 1, of fewest members and then of lowest number
+  -- and then refusal 16 has a place: the group of mark 1 with fewest members, then of lowest number
   pub no-tree-place : 0 < n → ((p : ℕ) → p < m ^ n → f p < m) → marked m n pos f (wholeGroup n) ≢ 2 →
       let g = noTreePlace n (marksOf m n f) in
       (g < 2 ^ n) × (marked m n pos f g ≡ 1)

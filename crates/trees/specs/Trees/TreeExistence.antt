@@ -1,5 +1,5 @@
 -- Section I's trees themselves, with any wiring and any digits: each is some net, and each net is one. So a tree computes a table exactly
--- when a net does.
+-- if a net does.
 -- Assumes nothing.
 use Prim.Native.Nat.{ℕ, _+_, _*_}
 use mathlib.Core.Path.{_≡_, sym, _∙_}
@@ -40,7 +40,7 @@ module _ (m n : ℕ) where
     lines-use n (node digits a b) (is .once) (is .gates),
   )
 
-  -- the tree that a net is
+  -- the tree of a net
   pub net-gate-tree : (gates : List Gate) (net : IsNet m n gates) → GateTree m n (net-tree m n gates net .tree)
   net-gate-tree gates net =
       let t : TreeOf m n gates = net-tree m n gates net in
@@ -53,7 +53,7 @@ module _ (m n : ℕ) where
       let t : TreeOf m n gates = net-tree m n gates net in
       (t .tree, net-gate-tree gates net, t .same, net-uses m n gates net)
 
-  -- so one computes the table exactly when the other does
+  -- so one computes the table exactly if the other does
   pub trees-are-nets : (f : ℕ → ℕ) → SomeTree m n f ↔ TreeExists m n f
   trees-are-nets f = (
     λ some. let net = tree-is-net (some .0) (some .1) in (net .0, net .1, λ p h. net .2 p ∙ some .2 p h),

@@ -1,5 +1,5 @@
--- A tree is a net: its gates written out ("A's, then B's, then the group's own") with its own digits, whatever they are, keep every
--- rule of a net sheet and have the tree's value. `NetTree` has the other way: a net is a tree.
+-- A tree is a net: its gates written out ("A's, then B's, then the group's own") with its own digits, whatever they are, follow every
+-- rule of a net sheet and have the tree's value. `NetTree` proves the converse: a net is a tree.
 -- Assumes nothing.
 use Prim.Native.Nat.{ℕ, suc, _+_, _-_, _*_, _≤_, _<_}
 use native.Mathlib.Nat.{add-zero, zero-add, add-assoc}
@@ -34,19 +34,19 @@ use Rattle.trees.specs.Trees.JoinedLists.{used-append, refers-append, ta
 
 -- ---- a number in a list
 
--- what stands there is counted, ..
+-- a listed number is counted, ..
 times-listed : (r : ℕ) (xs : List ℕ) → List·Memᴰ r xs → 0 < times r xs
 times-listed r xs is =
     let (j, j<, at) = mem-place r (those (eqb r) xs) (mem-those (eqb r) r xs is (eq-eqb r r refl)) in
     omega arith
 
--- .. what is counted stands there, ..
+-- .. a counted number is listed, ..
 some-listed : (r : ℕ) (xs : List ℕ) → 0 < times r xs → any (eqb r) xs ≡ true
 some-listed r xs h =
     let is = mem-getD (those (eqb r) xs) 0 0 h in
     mem-any (eqb r) (those-mem (eqb r) xs _ is) (those-pass (eqb r) _ xs is)
 
--- .. and it stands there as it is counted
+-- .. and a count of 1 or 0 says whether the number is listed
 stands : (r : ℕ) (xs : List ℕ) (t : Bool) → times r xs ≡ oneWhere t → any (eqb r) xs ≡ t
 stands r xs true e = some-listed r xs (omega arith)
 stands r xs false e = count-none (eqb r) xs e
@@ -119,7 +119,7 @@ module _ (n : ℕ) where
   unfolding uses treeGates referenceTo usedBy those
   uses-node r before digits a b = simp (used-append, count-append, count-cons) (omega arith)
 
-  -- an input is used once where it is a member of the tree's group, and else not at all
+  -- an input is used once if it is a member of the tree's group, and otherwise not at all
   uses-input : (r before : ℕ) (t : Tree) → EachOnce n (wiringIn t) → r < n → uses r before t ≡ oneWhere (member r (groupOf (wiringIn t)))
   unfolding uses treeGates referenceTo usedBy those groupOf
   uses-input r before (leaf i) once h = rw (member-single, zero-add)
@@ -133,7 +133,7 @@ module _ (n : ℕ) where
       let own = not-one r (n + before + gatesOf a + gatesOf b) (omega arith) in
       rw (join, one-if-or (member r ga) (member r gb) (once .0 r h)) (omega arith)
 
-  -- a gate is used once where it is one of the tree's, and else not at all
+  -- a gate is used once if it is one of the tree's, and otherwise not at all
   uses-of-gate : (r before : ℕ) (t : Tree) → EachOnce n (wiringIn t) → n ≤ r → uses r before t ≡ times r (range (n + before) (gatesOf t))
   unfolding uses treeGates referenceTo usedBy those gatesIn range
   uses-of-gate r before (leaf i) once h = rw (not-one r i (omega arith))
@@ -160,7 +160,7 @@ module _ (n : ℕ) where
   last-line (leaf i) some = absurd (omega arith)
   last-line (node digits a b) some = omega arith
 
-  -- so its lines use just its leaves, ..
+  -- so its lines use exactly its leaves, ..
   pub lines-use : (t : Tree) → EachOnce n (wiringIn t) → 0 < gatesOf t → UsesJust n (treeGates n 0 t) (groupOf (wiringIn t))
   unfolding uses
   lines-use t once some r h =
@@ -203,7 +203,7 @@ module _ (n : ℕ) where
 
     -- ---- the value
 
-    -- `vs` has the values of the references before a tree's lines: the inputs' first
+    -- `vs` holds the values of the references before a tree's lines: the inputs' first
     abbrev pub Valued : ℕ → ℕ → List ℕ → Type 0
     Valued p before vs = (length vs ≡ n + before) × ((i : ℕ) → i < n → getD vs i 0 ≡ level m n p i)
 
@@ -214,7 +214,7 @@ module _ (n : ℕ) where
       λ i h. with-each-earlier (gateValue m) 0 vs (treeGates n before t) i (omega arith) ∙ valued .1 i h,
     )
 
-    -- the lines after a tree's leave the value at the reference to it
+    -- the lines after a tree's do not change the value at the reference to it
     value-kept : (p before : ℕ) (vs : List ℕ) (t : Tree) (gates : List Gate) → EachOnce n (wiringIn t) → Valued p before vs
         → getD (withGates m (withGates m vs (treeGates n before t)) gates) (refTo n before t) 0
         ≡ getD (withGates m vs (treeGates n before t)) (refTo n before t) 0
@@ -247,7 +247,7 @@ module _ (n : ℕ) where
         let right = value-at-reference p mid (withGates m vs (treeGates n before a)) b (once .2) after in
         value-of-gate before vs digits a b (treeValue m n a p) (treeValue m n b p) (valued .0) left right
 
-    -- before any line there are the inputs' levels
+    -- before any line these are the inputs' levels
     pub levels-valued : (p : ℕ) → Valued p 0 (levelsAt m n p)
     unfolding levelsAt
     levels-valued p = (
@@ -255,7 +255,7 @@ module _ (n : ℕ) where
       λ i h. map-range-at (level m n p) 0 n i 0 h ∙ ap (level m n p) (zero-add i),
     )
 
-    -- the reference to the whole is to the last line
+    -- the reference to the whole tree is to the last line
     last-reference : (digits : List ℕ) (a b : Tree) → n + length (treeGates n 0 (node digits a b)) - 1 ≡ refTo n 0 (node digits a b)
     unfolding referenceTo gatesIn
     last-reference digits a b = rw (lines-length 0 (node digits a b)) (omega arith)

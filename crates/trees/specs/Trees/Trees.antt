@@ -1,4 +1,4 @@
--- What the theorems speak of: wirings of a group, the class rule's tree, alike as a statement. (Trees are in `rules`, `Nets/Trees`; a net sheet's
+-- What the theorems are about: wirings of a group, the class rule's tree, alike as a statement. (Trees are in `rules`, `Nets/Trees`; a net sheet's
 -- rules in `Sheets/SheetRules`.)
 -- Assumes nothing.
 use Prim.Native.Nat.{ℕ, _+_}
@@ -15,7 +15,7 @@ use Rattle.rules.specs.Nets.Trees.{Tree, leaf, node, EachOnce}
 abbrev pub WiringOf : ℕ → ℕ → Wiring → Type 0
 WiringOf n g w = EachOnce n w × (groupOf w ≡ g)
 
--- something holds of every gate's group
+-- something holds for every gate's group
 abbrev pub EachGate : (ℕ → Type 0) → Wiring → Type 0
 EachGate P (input i) = Unit {0}
 EachGate P (gate a b) = P (groupOf (gate a b)) × EachGate P a × EachGate P b
@@ -33,10 +33,10 @@ fill m n f last (gate a b) = node (gateDigits m n f last (groupOf a) (groupOf b)
 unfoldable pub mix : ℕ → ℕ → ℕ → ℕ → ℕ → ℕ
 mix m n g p y = part m n g p + part m n (others n g) y
 
--- what p and q give group g is alike: whatever the other inputs are, the ink is the same
+-- p and q are alike for group g: whatever the other inputs are, the ink is the same
 abbrev pub Alike : ℕ → ℕ → (ℕ → ℕ) → ℕ → ℕ → ℕ → Type 0
 Alike m n f g p q = (y : ℕ) → f (mix m n g p y) ≡ f (mix m n g q y)
 
--- the ink can be told from v and the other inputs
+-- v and the other inputs determine the ink
 abbrev pub Tells : ℕ → ℕ → (ℕ → ℕ) → ℕ → (ℕ → ℕ) → Type 0
 Tells m n f g v = (p q : ℕ) → v p ≡ v q → Alike m n f g p q

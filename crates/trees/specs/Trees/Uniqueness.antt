@@ -1,4 +1,4 @@
--- The settled net depends on the table alone: two nets have the same settled net exactly when they compute the same table, "unused inputs included"
+-- The settled net depends only on the table: two nets have the same settled net exactly if they compute the same table, "unused inputs included"
 -- (document 02, K12): a net's table is over all inputs, whichever it uses.
 -- Assumes nothing.
 use Prim.Native.Nat.{ℕ, _^_, _<_}
@@ -66,7 +66,7 @@ module _ (m n : ℕ) (pos : 0 < m) where
       table-is m n (settledOf m n gates) (tableOf m n gates) (net-table-length m n gates)
       (settled-net m n pos (net-several m n gates net) (inkIn (tableOf m n gates)) (net-inks gates net) (net-two gates net) .1)
 
-  -- Two nets have the same settled net exactly when they compute the same table.
+  -- Two nets have the same settled net exactly if they compute the same table.
   pub settled-unique : (g h : List Gate) → IsNet m n g → IsNet m n h
       → (settledOf m n g ≡ settledOf m n h) ↔ (tableOf m n g ≡ tableOf m n h)
   unfolding settledOf

@@ -1,4 +1,4 @@
--- "No input or gate is referred to twice.": what is summed over the references that a net uses is the sum over its used inputs and over every gate but the
+-- "No input or gate is referred to twice.": a sum over the references that a net uses is the sum over its used inputs and over every gate but the
 -- last. So a net has one gate fewer than it uses inputs.
 -- Assumes nothing.
 use Prim.Native.Nat.{ℕ, zero, suc, _+_, _-_, _≤_, _<_}
@@ -35,7 +35,7 @@ but : ℕ → List ℕ → List ℕ
 but r [] = []
 but r (x ∷ xs) = elim (eqb r x) [ true ↦ xs | false ↦ x ∷ but r xs ]
 
--- what does not stand in the list does not stand in what is left
+-- a number that is not in the list is not in what is left
 but-not : (r z : ℕ) (xs : List ℕ) → NotIn z xs → NotIn z (but r xs)
 unfolding but
 but-not r z [] free = free
@@ -43,7 +43,7 @@ but-not r z (x ∷ xs) free =
     let (first, rest) = not-in-cons z x xs .0 free in
     by-test (NotIn z) (eqb r x) xs (x ∷ but r xs) rest (not-in-cons z x (but r xs) .1 (first, but-not r z xs rest))
 
--- of a list without repetition none is left of it, ..
+-- after that, a list without repetition no longer has it, ..
 but-gone : (r : ℕ) (xs : List ℕ) → Distinct xs → NotIn r (but r xs)
 unfolding but any
 but-gone r [] d = refl
@@ -53,14 +53,14 @@ but-gone r (x ∷ xs) d = go (eqb r x) refl (but-gone r xs (d .1))
     go true e later = rw (eqb-true r x e) (d .0)
     go false e later = not-in-cons r x (but r xs) .1 (eqb-false r x e, later)
 
--- .. and what is left is one
+-- .. and stays without repetition
 but-distinct : (r : ℕ) (xs : List ℕ) → Distinct xs → Distinct (but r xs)
 unfolding but
 but-distinct r [] d = tt
 but-distinct r (x ∷ xs) d =
     by-test Distinct (eqb r x) xs (x ∷ but r xs) (d .1) (but-not r x xs (d .0), but-distinct r xs (d .1))
 
--- and every other number stands in it as before
+-- and every other number is in it as before
 but-same : (r z : ℕ) (xs : List ℕ) → (z ≡ r → ⊥) → any (eqb z) (but r xs) ≡ any (eqb z) xs
 unfolding but
 but-same r z [] ne = refl
@@ -73,14 +73,14 @@ but-same r z (x ∷ xs) ne = go (eqb r x) refl (but-same r z xs ne)
 
 -- ---- sums
 
--- of a list that passes a test all are left
+-- if all of a list pass a test, all are kept
 those-every : (test : ℕ → Bool) (xs : List ℕ) → ((x : ℕ) → List·Memᴰ x xs → test x ≡ true) → those test xs ≡ xs
 unfolding those
 those-every test [] each = refl
 those-every test (x ∷ xs) each = those-cons test x xs ∙ rw (each x (List·Memᴰ·head refl), those-every test xs (λ y is. each y (List·Memᴰ·tail is)))
 
 module _ (f : ℕ → ℕ) where
-  -- the sum over a list is that over what is left, and one value
+  -- the sum over a list is the sum over what is left, plus one value
   sum-but : (r : ℕ) (xs : List ℕ) → In r xs → total (map f xs) ≡ total (map f (but r xs)) + f r
   unfolding total but any
   sum-but r [] is = absurd (true≢false (sym is))
@@ -91,7 +91,7 @@ module _ (f : ℕ → ℕ) where
       go true e is later = rw (eqb-true r x e) (omega arith)
       go false e is later = omega (arith, later is)
 
-  -- one number more that may pass a test
+  -- one more number, which may pass a test
   sum-last : (test : ℕ → Bool) (k : ℕ) → total (map f (those test (range 0 (suc k)))) ≡ total (map f (those test (range 0 k))) + cond (test k) (f k) 0
   unfolding total those
   sum-last test k =
@@ -105,7 +105,7 @@ module _ (f : ℕ → ℕ) where
       go true = omega arith
       go false = omega arith
 
-  -- over numbers below k of which none stands twice it is that over the numbers below k that stand there, in their order
+  -- the sum over distinct numbers below k is the sum over the numbers below k that are in the list, in order
   sum-those : (k : ℕ) (xs : List ℕ) → Distinct xs → ((z : ℕ) → k ≤ z → NotIn z xs)
       → total (map f xs) ≡ total (map f (those (λ i. any (eqb i) xs) (range 0 k)))
   unfolding total range those
@@ -172,7 +172,7 @@ unfolding total
 sum-ones [] = refl
 sum-ones (x ∷ xs) = omega (arith, sum-ones xs)
 
--- one more than it has gates
+-- there is one more than gates
 pub used-inputs-length : (m n : ℕ) (gates : List Gate) → IsNet m n gates → length (usedInputs n gates) ≡ suc (length gates)
 used-inputs-length m n gates net =
     omega (
@@ -186,7 +186,7 @@ used-inputs-length m n gates net =
       used-length gates,
     )
 
--- so many members has the group of a net's leaves
+-- the group of a net's leaves has that many members
 pub net-size : (m n : ℕ) (gates : List Gate) (net : IsNet m n gates) → size n (netGroup m n gates net) ≡ suc (length gates)
 unfolding size usedInputs
 net-size m n gates net =

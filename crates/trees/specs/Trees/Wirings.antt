@@ -1,4 +1,4 @@
--- For any group and any wiring of it: some filling lets the ink be told exactly when every gate's group has at most m classes,
+-- For any group and any wiring of it: some filling determines the ink exactly if every gate's group has at most m classes,
 -- and then the class rule's filling does.
 -- Assumes nothing.
 use Prim.Native.Nat.{ℕ, suc, _+_, _*_, _^_, _<_}
@@ -29,7 +29,7 @@ group-below n (input i) h = single-below i n h
 group-below n (gate a b) (apart, a-once, b-once) =
     join-below n (groupOf a) (groupOf b) (group-below n a a-once) (group-below n b b-once) apart
 
--- and of some input
+-- and the group is not empty
 pub group-some : (w : Wiring) → 0 < groupOf w
 unfolding groupOf
 group-some (input i) = pow-pos i
@@ -49,18 +49,18 @@ gates-in-size n (gate a b) once =
 
 module _ (m n : ℕ) (pos : 0 < m) where
   module _ (a b : Wiring) (once : EachOnce n (gate a b)) (p q : ℕ) (e : part m n (groupOf (gate a b)) p ≡ part m n (groupOf (gate a b)) q) where
-    -- what a gate's group is given settles what its left side's group is given
+    -- what a gate's group is given determines what its left side's group is given
     left-given : part m n (groupOf a) p ≡ part m n (groupOf a) q
     unfolding groupOf
     left-given = part-left m n pos (groupOf a) (groupOf b) (group-below n a (once .1)) (group-below n b (once .2)) (once .0) p q e
 
-    -- and what its right side's is
+    -- and what its right side's group is given
     right-given : part m n (groupOf b) p ≡ part m n (groupOf b) q
     unfolding groupOf
     right-given = part-right m n pos (groupOf a) (groupOf b) (group-below n a (once .1)) (group-below n b (once .2)) (once .0) p q e
 
 module _ (m n : ℕ) (pos : 0 < m) (f : ℕ → ℕ) where
-  -- a tree's value is below m, and depends on the levels at its leaves alone
+  -- a tree's value is below m, and depends only on the levels at its leaves
   pub tree-below : (t : Tree) → Filled m t → (p : ℕ) → treeValue m n t p < m
   unfolding treeValue
   tree-below (leaf i) filled p = level-below m n pos p i
@@ -76,7 +76,7 @@ module _ (m n : ℕ) (pos : 0 < m) (f : ℕ → ℕ) where
       (tree-part a (once .1) p q (left-given m n pos (wiringIn a) (wiringIn b) once p q e))
       (tree-part b (once .2) p q (right-given m n pos (wiringIn a) (wiringIn b) once p q e))
 
-  -- where the ink can be told from a gate's value, it can be told from the values of both sides
+  -- if a gate's value determines the ink, so does the value of each side
   sides-tell : (digits : List ℕ) (a b : Tree) → EachOnce n (wiringIn (node digits a b))
       → Tells m n f (groupOf (wiringIn (node digits a b))) (treeValue m n (node digits a b))
       → Tells m n f (groupOf (wiringIn a)) (treeValue m n a) × Tells m n f (groupOf (wiringIn b)) (treeValue m n b)
@@ -96,7 +96,7 @@ module _ (m n : ℕ) (pos : 0 < m) (f : ℕ → ℕ) where
           → treeValue m n (node digits a b) p ≡ treeValue m n (node digits a b) q
       settled p q = ap₂ (λ u v. getD digits (u * m + v) 0)
 
-  -- Necessity: whatever the digits, if the ink can be told from the root's value and the other inputs, then every gate's group
+  -- Necessity: whatever the digits, if the root's value and the other inputs determine the ink, then every gate's group
   -- has at most m classes.
   pub necessity : (t : Tree) → EachOnce n (wiringIn t) → Filled m t → Tells m n f (groupOf (wiringIn t)) (treeValue m n t)
       → EachGate (Few m n f) (wiringIn t)
@@ -110,14 +110,14 @@ module _ (m n : ℕ) (pos : 0 < m) (f : ℕ → ℕ) where
 
   -- ---- the class rule's filling
 
-  -- a wiring's group, and that of an input, has at most m classes
+  -- the group of a wiring, also of an input, has at most m classes
   wiring-few : (w : Wiring) → EachOnce n w → EachGate (Few m n f) w → Few m n f (groupOf w)
   unfolding groupOf
   wiring-few (input i) once few = single-few m n pos f i once
   wiring-few (gate a b) once few = few .0
 
   module _ (a b : Wiring) (once : EachOnce n (gate a b)) (few : EachGate (Few m n f) (gate a b)) where
-    -- what a gate joins are two groups that it may join
+    -- a gate joins two groups that it may join
     pub gate-parts : Parts m n f (groupOf a) (groupOf b)
     unfolding groupOf
     gate-parts =
@@ -132,7 +132,7 @@ module _ (m n : ℕ) (pos : 0 < m) (f : ℕ → ℕ) where
           few = few .0;
         }
 
-    -- where both sides have what their wires carry, the gate gives what it has to
+    -- if both sides have the values that their wires carry, the gate gives what it must
     gate-gives : (p : ℕ) → treeValue m n (fill m n f false a) p ≡ carried m n f (groupOf a) p
         → treeValue m n (fill m n f false b) p ≡ carried m n f (groupOf b) p
         → (last : Bool) → treeValue m n (fill m n f last (gate a b)) p ≡ given m n f last (groupOf (gate a b)) p
@@ -144,7 +144,7 @@ module _ (m n : ℕ) (pos : 0 < m) (f : ℕ → ℕ) where
     unfolding given groupOf
     gate-carries p = sym (carried-several m n f (groupOf a + groupOf b) (join-several m n pos f (groupOf a) (groupOf b) gate-parts) p)
 
-  -- Sufficiency: where every gate's group has at most m classes, the class rule's filling has each wire carry its input's level or
+  -- Sufficiency: if every gate's group has at most m classes, then in the class rule's filling each wire carries its input's level or
   -- its group's class, ..
   pub sufficiency : (w : Wiring) → EachOnce n w → EachGate (Few m n f) w → (p : ℕ)
       → treeValue m n (fill m n f false w) p ≡ carried m n f (groupOf w) p
@@ -153,13 +153,13 @@ module _ (m n : ℕ) (pos : 0 < m) (f : ℕ → ℕ) where
   sufficiency (gate a b) once few p =
       gate-gives a b once few p (sufficiency a (once .1) (few .1) p) (sufficiency b (once .2) (few .2) p) false ∙ gate-carries a b once few p
 
-  -- .. and the last gate give the ink
+  -- .. and the last gate gives the ink
   pub gate-sufficiency : (a b : Wiring) → EachOnce n (gate a b) → EachGate (Few m n f) (gate a b) → (last : Bool) (p : ℕ)
       → treeValue m n (fill m n f last (gate a b)) p ≡ given m n f last (groupOf (gate a b)) p
   gate-sufficiency a b once few last p =
       gate-gives a b once few p (sufficiency a (once .1) (few .1) p) (sufficiency b (once .2) (few .2) p) last
 
-  -- the class rule's tables are tables of m·m digits below m, where the inks are below m
+  -- the class rule's tables are tables of m·m digits below m, if the inks are below m
   pub fill-filled : (w : Wiring) → EachOnce n w → EachGate (Few m n f) w → ((p : ℕ) → p < m ^ n → f p < m) → (last : Bool)
       → Filled m (fill m n f last w)
   unfolding fill
@@ -170,7 +170,7 @@ module _ (m n : ℕ) (pos : 0 < m) (f : ℕ → ℕ) where
     fill-filled b (once .2) (few .2) inks false,
   )
 
-  -- a wiring of a group that has every input that matters: the class rule's filling has the table
+  -- for a wiring of a group with every input that matters, the class rule's filling has the table
   pub fill-computes : (a b : Wiring) → EachOnce n (gate a b) → Holding m n pos f (groupOf (gate a b)) → EachGate (Few m n f) (gate a b)
       → (p : ℕ) → p < m ^ n → treeValue m n (fill m n f true (gate a b)) p ≡ f p
   unfolding given

@@ -1,6 +1,6 @@
--- The fewest layers that the number of its members leaves a group: r layers have room for 2 ^ r inputs, since two parts that have room for their
--- members have room for all of them in one layer more. Marks that no table has may leave a group without room; the search then goes by no floor
--- but that of any split.
+-- A lower bound on a group's layers, from its number of members: r layers have room for 2 ^ r inputs, because if two parts have room for their
+-- members, one more layer has room for all of them. With marks that no table has, a group may lack room; then the search uses only the floor of any
+-- split.
 -- Assumes nothing.
 use Prim.Native.Nat.{ℕ, zero, suc, _+_, _-_, _*_, _^_, _≤_, _<_, max}
 use mathlib.Core.Path.{_≡_, sym, ap, _∙_, subst}
@@ -22,24 +22,24 @@ use Rattle.trees.specs.Groups.MarkRule.{parts-of}
 
 -- ---- a number of members
 
--- r layers have room for so many members, and fewer layers do not
+-- r layers have room for this many members, and fewer layers do not
 pub record Floor (members r : ℕ) : Type 0 where
   pub room : members ≤ 2 ^ r
   pub least : (d : ℕ) → members ≤ 2 ^ d → r ≤ d
 
--- more members than one ask for a layer
+-- more than one member needs a layer
 some-layer : (r : ℕ) → 1 < 2 ^ r → 0 < r
 some-layer zero more = absurd (omega arith)
 some-layer (suc r) more = omega arith
 
--- one layer more has room for twice as many
+-- one more layer has room for twice as many
 twice : (r : ℕ) → 2 ^ (1 + r) ≡ 2 ^ r + 2 ^ r
 twice r = let next : 1 + r ≡ suc r = omega arith in ap (λ (k : ℕ). 2 ^ k) next ∙ double
   where
     double : 2 ^ suc r ≡ 2 ^ r + 2 ^ r
     double = omega arith
 
--- the floor is the length in bits of the number of the other members
+-- the floor is the length of members - 1 in bits, ..
 floor-length : (members r : ℕ) → 0 < members → members - 1 < 2 ^ r → 2 ^ r ≤ 2 * (members - 1) + 1 → Floor members r
 floor-length members r some room tight = record { room = omega arith; least = λ d enough. go d enough (decLt d r) }
   where
@@ -47,7 +47,7 @@ floor-length members r some room tight = record { room = omega arith; least = λ
     go d enough (yes less) = absurd (omega (arith, pow-mono {i = suc d} {j = r} less))
     go d enough (no more) = omega arith
 
--- .. which the zeros above its highest bit leave of 64
+-- .. which is 64 less the zeros above its highest bit
 pub floor-zeros : (members : ℕ) → 0 < members → members < 2 ^ 64 → Floor members (64 - leadingZeros 64 (members - 1))
 floor-zeros members some fits =
     let bits = leading-length 64 (members - 1) (omega arith) in
@@ -56,20 +56,20 @@ floor-zeros members some fits =
 
 -- ---- the groups below g
 
--- those of mark 2 have room for their members in the layers that stand at their numbers
+-- the layers recorded for those of mark 2 have room for their members
 abbrev pub RoomInLayers : List ℕ → List ℕ → ℕ → Type 0
 RoomInLayers marks layers g = (n h : ℕ) → h < 2 ^ n → h < g → markIn marks h ≡ 2 → size n h ≤ 2 ^ getD layers h 0
 
--- no split of g has fewer layers than `floor`, which is not 0 where g has a split
+-- no split of g has fewer layers than `floor`, which is not 0 if g has a split
 abbrev pub Under : List ℕ → List ℕ → ℕ → ℕ → Type 0
 Under marks layers g floor = (n a : ℕ) → g < 2 ^ n → 0 < a → a < g → partsAt n marks g a ≡ true → (0 < floor) × (floor ≤ splitLayers layers g a)
 
--- the floor of a group of mark 2 by its members, or that of any split where nothing is known of the groups below it
+-- the floor of a group of mark 2 by its members, or the floor of any split if nothing is known about the groups below it
 abbrev pub FloorAt : List ℕ → ℕ → Bool → ℕ → Type 0
 FloorAt marks g sized r = markIn marks g ≡ 2 → ((sized ≡ false) × (r ≡ 1)) ⊎ ((sized ≡ true) × ((n : ℕ) → g < 2 ^ n → Floor (size n g) r))
 
 module _ (marks layers : List ℕ) (g : ℕ) where
-  -- two parts have room for their members in the layers of the gate that joins them
+  -- the layers of the gate that joins two parts have room for their members
   split-room : RoomInLayers marks layers g → (n a : ℕ) → g < 2 ^ n → 0 < a → a < g → partsAt n marks g a ≡ true
       → (1 < size n g) × (size n g ≤ 2 ^ splitLayers layers g a)
   unfolding parts-of splitLayers
@@ -84,7 +84,7 @@ module _ (marks layers : List ℕ) (g : ℕ) where
       let some-b = size-pos n (g - a) (omega arith) (omega arith) in
       (omega arith, omega (arith, twice deeper))
 
-  -- so the search of g may go by its floor
+  -- so the search of g may use its floor
   pub floor-under : (sized : Bool) → (sized ≡ true → RoomInLayers marks layers g) → (r : ℕ) → FloorAt marks g sized r → markIn marks g ≡ 2
       → Under marks layers g r
   unfolding splitLayers
@@ -96,7 +96,7 @@ module _ (marks layers : List ℕ) (g : ℕ) where
       (some-layer r (le-trans (room .0) (f .room)), f .least (splitLayers layers g a) (room .1)))
       (floor two)
 
-  -- g has room too, once layers from its floor on stand at its number
+  -- g has room too, once at least its floor is written at its number
   pub sized-next : (sized : Bool) → (sized ≡ true → RoomInLayers marks layers g) → (floor : ℕ) → FloorAt marks g sized floor → g < length layers
       → (r : ℕ) → floor ≤ r → sized ≡ true → RoomInLayers marks (set layers g r) (g + 1)
   sized-next sized is floor at room r enough yes-sized n h h< h<g two = go (ℕ-discrete h g)

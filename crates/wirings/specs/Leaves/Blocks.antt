@@ -1,5 +1,5 @@
--- The cells in blocks: those that have the same levels at the inputs before input i stand in a row, one run of its weight for each level. So two neighbours at
--- the input stand in one block, and the first of them not in its last run.
+-- The cells in blocks. The cells with the same levels at the inputs before input i are contiguous, with one run of its weight for each level. So two
+-- neighbours at the input are in one block, and the first of them is not in its last run.
 -- Assumes nothing.
 use Prim.Native.Nat.{ℕ, suc, _+_, _-_, _*_, _/_, _%_, _^_, _≤_, _<_}
 use mathlib.Core.Path.{_≡_, refl, sym, ap, _∙_}
@@ -14,17 +14,17 @@ use Rattle.rules.specs.Nets.Leaves.{matters}
 use Rattle.trees.specs.Leaves.Neighbours.{same-idle, differ-matters}
 use Rattle.wirings.specs.Leaves.Runs.{WiringSameRuns, WiringCompared}
 
--- in block k, each cell but those of the last run has the ink of the cell one weight on
+-- in block k, each cell except those in the last run has the ink of the cell one weight later
 abbrev pub SameBlock : (ℕ → ℕ) → ℕ → ℕ → ℕ → Type 0
 SameBlock f block weight k = WiringSameRuns f (k * block) (k * block + weight) (block - weight)
 
--- `same` says whether it is so in each of so many blocks
+-- `same` says whether this holds for each of the blocks
 pub record AllBlocks (f : ℕ → ℕ) (blocks block weight : ℕ) (same : Bool) : Type 0 where
   pub all : same ≡ true → (k : ℕ) → k < blocks → SameBlock f block weight k
   pub one : same ≡ false → (k : ℕ) × (k < blocks) × (j : ℕ) × (j < block - weight) × (f (k * block + j) ≡ f (k * block + weight + j) → ⊥)
 
 module _ (f : ℕ → ℕ) (blocks block weight : ℕ) where
-  -- a block that is not so, ..
+  -- a block for which it does not hold, ..
   pub blocks-differ : (k : ℕ) → k < blocks → {same : Bool} → WiringCompared f (k * block) (k * block + weight) (block - weight) same → same ≡ false
       → AllBlocks f blocks block weight false
   blocks-differ k k< differ e = let (j, j<, at) = differ .one e in record { all = λ e. absurd (false≢true e); one = λ e. (k, k<, j, j<, at) }
@@ -33,7 +33,7 @@ module _ (f : ℕ → ℕ) (blocks block weight : ℕ) where
   pub blocks-same : ((k : ℕ) → k < blocks → SameBlock f block weight k) → AllBlocks f blocks block weight true
   blocks-same same = record { all = λ e. same; one = λ e. absurd (true≢false e) }
 
--- a block within the cells
+-- a block is within the cells
 pub block-within : (k blocks block : ℕ) → k < blocks → k * block + block ≤ blocks * block
 block-within k blocks block h = rw (← suc-mul k block) (mul-le-mul-right block h)
 
@@ -58,7 +58,7 @@ module _ (m n : ℕ) (pos : 0 < m) (i : ℕ) (i< : i < n) where
       ap (λ (x : ℕ). x % m) (ap (λ (x : ℕ). (x + j) / w) (sym (mul-assoc k m w)) ∙ mul-add-div-right some-weight (k * m) j)
       ∙ digits-mod k (div-lt-iff-lt-mul some-weight .1 h)
 
-  -- a place before the last run
+  -- a place is before the last run
   run-inner : (j : ℕ) → j / m ^ (n - 1 - i) + 1 < m → j < m * m ^ (n - 1 - i) - m ^ (n - 1 - i)
   run-inner j up =
       let w = m ^ (n - 1 - i) in
@@ -71,7 +71,7 @@ module _ (m n : ℕ) (pos : 0 < m) (i : ℕ) (i< : i < n) where
       rw (← add-div-right j some-weight) (div-lt-iff-lt-mul some-weight .1 (omega arith))
 
   module _ (f : ℕ → ℕ) where
-    -- an input at which every block is so does not matter, ..
+    -- if this holds for every block, the input does not matter, ..
     blocks-idle : ((k : ℕ) → k < m ^ i → SameBlock f (m * m ^ (n - 1 - i)) (m ^ (n - 1 - i)) k) → matters m n f i ≡ false
     blocks-idle each = same-idle m n pos i i< f λ p p< up.
         let w = m ^ (n - 1 - i) in
@@ -84,7 +84,7 @@ module _ (m n : ℕ) (pos : 0 < m) (i : ℕ) (i< : i < n) where
         let inner : j < m * w - w = run-inner j (rw run at up) in
         ap f (sym digits) ∙ each k k-below j inner ∙ ap f (omega arith)
 
-    -- .. and one at which a block is not so matters
+    -- .. and if it fails for a block, the input matters
     block-matters : (k j : ℕ) → k < m ^ i → j < m * m ^ (n - 1 - i) - m ^ (n - 1 - i)
         → (f (k * (m * m ^ (n - 1 - i)) + j) ≡ f (k * (m * m ^ (n - 1 - i)) + m ^ (n - 1 - i) + j) → ⊥) → matters m n f i ≡ true
     block-matters k j k< j< differ =
@@ -97,13 +97,13 @@ module _ (m n : ℕ) (pos : 0 < m) (i : ℕ) (i< : i < n) where
     blocks-tell true told = sym (blocks-idle (told .all refl))
     blocks-tell false told = let (k, k<, j, j<, differ) = told .one refl in sym (block-matters k j k< j< differ)
 
-  -- for numbers that are the weight and the number of blocks
+  -- for numbers equal to the weight and the number of blocks
   module _ (weight blocks : ℕ) (weight-is : weight ≡ m ^ (n - 1 - i)) (blocks-are : blocks ≡ m ^ i) where
     -- the first run is within the block, ..
     pub run-within : weight ≤ m * weight
     run-within = rw (one-mul weight) at (mul-le-mul-right weight pos)
 
-    -- .. and the blocks are all cells
+    -- .. and the blocks together are all cells
     pub all-cells : blocks * (m * weight) ≡ m ^ n
     all-cells = rw (weight-is, blocks-are) (sym (blocks-all m n i i<))
 
@@ -112,6 +112,6 @@ module _ (m n : ℕ) (pos : 0 < m) (i : ℕ) (i< : i < n) where
         let some-blocks : 0 < blocks = rw blocks-are (one-le-pow i m pos) in
         omega (arith, block-within 0 blocks (m * weight) some-blocks, all-cells, zero-mul (m * weight))
 
-    -- so they tell whether the input matters
+    -- so they show whether the input matters
     pub tell : (f : ℕ → ℕ) (same : Bool) → AllBlocks f blocks (m * weight) weight same → not same ≡ matters m n f i
     tell f same = rw (weight-is, blocks-are) (blocks-tell f same)

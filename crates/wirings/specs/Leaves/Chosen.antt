@@ -1,5 +1,5 @@
--- The leaves in two parts: the inputs that matter, and the first-listed others that make up two. Each is gathered in the inputs' order, and the inputs that are
--- left decide.
+-- The leaves in two parts: the inputs that matter, and the first-listed others that bring the number up to two. Each part is collected in the inputs'
+-- order, and the remaining inputs decide the result.
 -- Assumes nothing.
 use Prim.Native.Nat.{ℕ, suc, _+_, _-_, _^_, _≤_, _<_}
 use mathlib.Core.Path.{_≡_, sym, ap, ap₂, _∙_}
@@ -30,7 +30,7 @@ double i = rw add-one (omega arith)
 pub power-small : (n i : ℕ) → n ≤ mostInputs → i < n → 2 ^ i ≤ 4_096
 power-small n i few h = pow-mono {j = mostInputs} (omega arith)
 
--- ---- those of a range that pass, from input i on
+-- the inputs of a range that pass, from input i on
 
 module _ (test : ℕ → Bool) (i n : ℕ) where
   pub those-with : i < n → test i ≡ true → those test (range i (n - i)) ≡ i ∷ those test (range (i + 1) (n - (i + 1)))
@@ -45,13 +45,13 @@ module _ (test : ℕ → Bool) (i n : ℕ) where
 
 -- ---- the inputs that matter
 
--- as a group, and how many they are
+-- as a group, and their number
 pub record Mattering (m n : ℕ) (f : ℕ → ℕ) (group count : ℕ) : Type 0 where
   pub is : group ≡ groupWith (mattering m n f)
   pub counted : count ≡ length (mattering m n f)
   pub below : group < 2 ^ n
 
--- those before input i are gathered
+-- those before input i are collected
 pub record Gathered (m n : ℕ) (f : ℕ → ℕ) (group count i : ℕ) : Type 0 where
   pub upto : i ≤ n
   pub is : group + groupWith (those (matters m n f) (range i (n - i))) ≡ groupWith (mattering m n f)
@@ -112,12 +112,12 @@ module _ (m n : ℕ) (f : ℕ → ℕ) where
 abbrev pub idleFrom : ℕ → ℕ → (ℕ → ℕ) → ℕ → List ℕ
 idleFrom m n f i = those (λ j. not (matters m n f j)) (range i (n - i))
 
--- the group of the first-listed of them, `count` at most
+-- the group of the first-listed of them, at most `count`
 pub record WiringIdle (m n : ℕ) (f : ℕ → ℕ) (count group : ℕ) : Type 0 where
   pub is : group ≡ groupWith (take count (idleFrom m n f 0))
   pub below : group < 2 ^ n
 
--- those before input i are gathered, and `left` more may be
+-- those before input i are collected, and `left` more may be
 pub record IdleGathered (m n : ℕ) (f : ℕ → ℕ) (count group left i : ℕ) : Type 0 where
   pub upto : i ≤ n
   pub is : group + groupWith (take left (idleFrom m n f i)) ≡ groupWith (take count (idleFrom m n f 0))
@@ -150,7 +150,7 @@ module _ (m n : ℕ) (f : ℕ → ℕ) (count : ℕ) where
           below = omega (arith, before .below, double i);
         }
 
-  -- nothing more may be gathered, ..
+  -- no more may be collected, ..
   pub idle-full : (group left i : ℕ) → left ≡ 0 → IdleGathered m n f count group left i → WiringIdle m n f count group
   unfolding total
   idle-full group left i none before =
@@ -159,7 +159,7 @@ module _ (m n : ℕ) (f : ℕ → ℕ) (count : ℕ) where
         below = omega (arith, before .below, pow-mono (before .upto));
       }
 
-  -- .. or is there
+  -- .. or none are left
   pub idle-end : (group left i : ℕ) → n ≤ i → IdleGathered m n f count group left i → WiringIdle m n f count group
   unfolding total
   idle-end group left i h before =

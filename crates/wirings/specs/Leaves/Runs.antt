@@ -1,4 +1,4 @@
--- Two runs of a table's inks, compared.
+-- Comparing two runs of a table's inks.
 -- Assumes nothing.
 use Prim.Native.Nat.{ℕ, _+_, _<_}
 use mathlib.Core.Path.{_≡_}
@@ -7,16 +7,16 @@ use mathlib.Core.Bool.{Bool, true, false, true≢false, false≢true}
 use native.Mathlib.Nat.{eq-or-lt-of-le}
 use native.Mathlib.Omega.{arith}
 
--- the `count` inks from a on are those from b on
+-- the `count` inks from a on equal those from b on
 abbrev pub WiringSameRuns : (ℕ → ℕ) → ℕ → ℕ → ℕ → Type 0
 WiringSameRuns f a b count = (j : ℕ) → j < count → f (a + j) ≡ f (b + j)
 
--- `same` says whether they are
+-- `same` says whether they are equal
 pub record WiringCompared (f : ℕ → ℕ) (a b count : ℕ) (same : Bool) : Type 0 where
   pub all : same ≡ true → WiringSameRuns f a b count
   pub one : same ≡ false → (j : ℕ) × (j < count) × (f (a + j) ≡ f (b + j) → ⊥)
 
--- what holds below k, and at k
+-- what holds below k and at k holds below k + 1
 pub each-next : (P : ℕ → Type 0) (k : ℕ) → ((j : ℕ) → j < k → P j) → P k → (j : ℕ) → j < k + 1 → P j
 each-next P k before here j h = go (eq-or-lt-of-le (omega arith))
   where

@@ -10,7 +10,7 @@ ghost use Rattle.wirings.specs.Leaves.Chosen.{Mattering, WiringIdle};
 use crate::leaves::matters;
 use radix::powers;
 
-// Some inputs: as a group, and how many they are.
+// A group of inputs, and their number.
 struct Inputs {
     group: usize,
     count: usize,
@@ -36,7 +36,7 @@ fn mattering(m: usize, n: usize, cells: &[u8]) -> Inputs
     Inputs { group, count }
 }
 
-// Returns the group of the first-listed inputs that do not matter, `count` of them at most.
+// Returns the group of the first-listed inputs that do not matter, at most `count` of them.
 fn idle_group(m: usize, n: usize, cells: &[u8], count: usize) -> usize
     requires { ⌜ (sizeFits m n ≡ true) × (m ^ n ≤ length (now cells)) ⌝ }
     ensures { λ r. ⌜ WiringIdle m n (inkIn (now (cells .entry))) count r ⌝ }
@@ -59,7 +59,7 @@ fn idle_group(m: usize, n: usize, cells: &[u8], count: usize) -> usize
     group
 }
 
-// Returns the group of the inputs that matter, and if fewer than two do also the first-listed others, up to two.
+// Returns the group of the inputs that matter. If fewer than two do, adds the first-listed others, up to two.
 pub fn leaves(m: usize, n: usize, cells: &[u8]) -> usize
     requires { ⌜ (sizeFits m n ≡ true) × (m ^ n ≤ length (now cells)) ⌝ }
     ensures { λ r. ⌜ r ≡ leavesOf m n (inkIn (now (cells .entry))) ⌝ }

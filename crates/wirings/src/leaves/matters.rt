@@ -1,4 +1,4 @@
-// Whether an input matters. Neighbours at an input stand its weight apart, so an idle input shows in runs of cells that are the same.
+// Whether an input matters. Neighbours at an input are its weight apart, so an input is idle if certain runs of cells are equal.
 ghost use mathlib.Core.Path.{_≡_};
 ghost use mathlib.Core.Bool.{true};
 ghost use Prim.Native.Nat.{_+_, _*_, _^_, _≤_, _<_};
@@ -10,7 +10,7 @@ ghost use Rattle.wirings.specs.Leaves.Blocks.{AllBlocks};
 ghost use Rattle.wirings.specs.Leaves.Runs.{WiringCompared};
 use radix::powers;
 
-// Returns whether the `count` cells from a on equal those from b on. Ends at the first that differ.
+// Returns whether the `count` cells from a on equal those from b on. Stops at the first pair that differs.
 fn same_runs(cells: &[u8], a: usize, b: usize, count: usize) -> bool
     requires { ⌜ (a + count ≤ length (now cells)) × (b + count ≤ length (now cells)) ⌝ }
     ensures { λ r. ⌜ WiringCompared (inkIn (now (cells .entry))) a b count r ⌝ }
@@ -25,7 +25,7 @@ fn same_runs(cells: &[u8], a: usize, b: usize, count: usize) -> bool
     true
 }
 
-// Returns whether in each block every cell but those of the last run equals the cell one weight on. Ends at the first block where one differs.
+// Returns whether in each block every cell except those in the last run equals the cell one weight later. Stops at the first block where one differs.
 fn same_blocks(cells: &[u8], blocks: usize, block: usize, weight: usize) -> bool
     requires { ⌜ (weight ≤ block) × (blocks * block ≤ length (now cells)) ⌝ }
     ensures { λ r. ⌜ AllBlocks (inkIn (now (cells .entry))) blocks block weight r ⌝ }
@@ -41,7 +41,7 @@ fn same_blocks(cells: &[u8], blocks: usize, block: usize, weight: usize) -> bool
     true
 }
 
-// Returns whether input i matters. A block has the cells of the same levels at the inputs before it.
+// Returns whether input i matters. The inputs before it have the same levels at all cells of a block.
 pub fn matters(m: usize, n: usize, cells: &[u8], i: usize) -> bool
     requires { ⌜ (sizeFits m n ≡ true) × (m ^ n ≤ length (now cells)) × (i < n) ⌝ }
     ensures { λ r. ⌜ r ≡ matters m n (inkIn (now (cells .entry))) i ⌝ }

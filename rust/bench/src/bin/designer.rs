@@ -8,7 +8,7 @@ use search::{fill, nearest, Filling, Wish};
 use sitgurp::Table;
 use std::process::ExitCode;
 
-/// How many of a hundred cells are opened.
+/// How many cells in a hundred are opened.
 const OPENED: [usize; 3] = [10, 33, 50];
 /// How many rows of a tree's table are changed; 0 for a table of random inks.
 const CHANGED: [usize; 5] = [1, 2, 4, 8, 0];
@@ -69,7 +69,7 @@ fn sheet(generator: &mut Generator, table: &reference::net::Table) -> Table {
     Table::read(&print_table_sheet(&header, table)).expect("a table")
 }
 
-/// Random trees of every size with some cells opened: of how many a filling is found, and how fast.
+/// Prints for random trees of every size, with some cells opened, how often a filling is found, and how fast.
 fn fillings(count: u64, seed: u64) {
     let head: Vec<String> = OPENED
         .iter()
@@ -122,7 +122,7 @@ fn filled(
     (found, times)
 }
 
-/// Tables without a tree: how many rows are changed, of how many fewer are ruled out, and how fast.
+/// Prints for tables without a tree how many rows are changed, how often fewer are ruled out, and how fast.
 fn changes(count: u64, seed: u64) {
     let head = CHANGED.map(|rows| match rows {
         0 => "random inks".to_string(),
@@ -144,7 +144,7 @@ fn changes(count: u64, seed: u64) {
     }
 }
 
-/// Returns the cells of the report on tables of one size with so many rows changed.
+/// Returns the report's cells for tables of one size with this many rows changed.
 fn near(generator: &mut Generator, (m, n): (usize, usize), rows: usize, count: u64) -> String {
     let (mut tables, mut least, mut sum, mut times) = (0, 0, 0, Vec::new());
     while tables < count {

@@ -5,7 +5,7 @@ use std::collections::{BTreeMap, BTreeSet};
 use std::fs;
 use std::path::{Path, PathBuf};
 
-/// One source file: its module path from the crate on, what it imports, and the body of each of its functions.
+/// One source file: its module path starting with the crate, its imports, and the body of each of its functions.
 struct Module {
     path: Vec<String>,
     imports: BTreeMap<String, Vec<String>>,
@@ -26,7 +26,7 @@ fn sources(folder: &Path, found: &mut Vec<PathBuf>) {
     }
 }
 
-/// The name that a line defines as a function, if it does.
+/// Returns the name of the function that a line defines, if it defines one.
 fn defined(line: &str) -> Option<String> {
     let (front, rest) = line.split_once("fn ")?;
     let modifiers = front
@@ -88,7 +88,7 @@ fn read_module(krate: &str, root: &Path, file: &Path) -> Module {
     module
 }
 
-/// The paths that a body calls: the words before each `(`, split at `::`.
+/// Returns the paths that a body calls: the words before each `(`, split at `::`.
 fn calls(body: &str) -> Vec<Vec<String>> {
     let mut found = Vec::new();
     for (at, _) in body.match_indices('(') {

@@ -1,7 +1,7 @@
-//! The stack that each call of the C interface takes: `cargo run --offline --release -q -p bench --bin stack`. It is no test.
+//! Measures the stack that each call of the C interface uses: `cargo run --offline --release -q -p bench --bin stack`. It is not a test.
 //!
-//! A thread's stack is painted below where it stands, a call is made, and the lowest place where the paint is gone says how deep the
-//! call went. So what is measured is the deepest byte written; the frames of the measuring are in it, some hundred bytes.
+//! The program paints a thread's stack below the current frame and makes a call. The lowest place where the paint is gone shows how deep the
+//! call went. So it measures the deepest byte written, including a few hundred bytes for the frames of the measurement itself.
 
 // the C interface itself, without the safe functions over it
 #[allow(dead_code)]
@@ -26,11 +26,11 @@ const SIZES: [(usize, usize); 8] = [
 ];
 const STACK: usize = 8 << 20;
 const PAINTED: usize = 6 << 20;
-/// Left unpainted below the painter's own place, for its own frame.
+/// Bytes left unpainted below the painter's own place, for its own frame.
 const GAP: usize = 512;
 const PAINT: u64 = 0xa5c3_965a_3c69_e187;
 
-/// What a call is lent: a table, the sheets of it, and buffers that suffice.
+/// What is passed to a call: a table, its sheets, and large enough buffers.
 struct Lent {
     m: usize,
     n: usize,
@@ -44,7 +44,7 @@ struct Lent {
     job: JobParts,
 }
 
-/// A job on the table, by its parts.
+/// The parts of a job on the table.
 struct JobParts {
     lines: Vec<u8>,
     cells: Vec<u8>,
@@ -53,7 +53,7 @@ struct JobParts {
 }
 
 impl Lent {
-    /// A table of a kind, and beside it its own net or, where it has none, another under the same header.
+    /// Returns a table of a kind with its own net or, if it has none, another net with the same header.
     fn new(m: usize, n: usize, kind: TableKind) -> Lent {
         let mut generator = Generator::new(17);
         let header = generator.header(m, n);
@@ -83,7 +83,7 @@ impl Lent {
         lent
     }
 
-    /// A call on the table sheet or on the net sheet, with all three buffers.
+    /// Makes a call on the table sheet or on the net sheet, with all three buffers.
     fn sheet_call<A>(&mut self, call: ffi::SheetCall<A>, of_net: bool) {
         let sheet = if of_net { &self.net } else { &self.table };
         let (cells, marks, output) = (&mut self.cells, &mut self.marks, &mut self.output);
@@ -137,7 +137,7 @@ const CALLS: [(&str, Call); 20] = [
     ("sitgurp_job_finish_parts", job_finish),
 ];
 
-/// Of half the inputs and of all of them.
+/// Counts the classes of half the inputs and of all of them.
 fn multiplicity(lent: &mut Lent) {
     let bare = &lent.bare;
     for members in [lent.n / 2, lent.n] {
@@ -185,7 +185,7 @@ fn family_count(lent: &mut Lent) {
     });
 }
 
-/// The settled net, and a number that few families have.
+/// Asks for the settled net, and for a number that few families have.
 fn family_tree(lent: &mut Lent) {
     let (table, cells, marks) = (&lent.table, &mut lent.cells, &mut lent.marks);
     for number in [0, 654_729_074] {
@@ -282,7 +282,7 @@ fn keep(lent: &mut Lent) {
     });
 }
 
-/// The largest picture, every input at its own cell.
+/// Prints the largest picture, with every input at its own cell.
 fn glyph(lent: &mut Lent) {
     let (net, picture) = (&lent.net, vec![0; 64 * 64]);
     let offsets = vec![0; 2 * lent.n];
@@ -318,7 +318,7 @@ fn job_open(lent: &mut Lent) {
     });
 }
 
-/// Every step.
+/// Makes every step.
 fn job_step(lent: &mut Lent) {
     let job = &mut lent.job;
     // SAFETY: the parts of the job have the lengths that the call takes; each other pointer is that of a vector of `lent`, with its length.
@@ -341,7 +341,7 @@ fn job_mark(lent: &mut Lent) {
     });
 }
 
-/// As if all groups had been passed.
+/// Finishes as if all groups had been passed.
 fn job_finish(lent: &mut Lent) {
     let (job, cells, marks) = (&lent.job, &mut lent.cells, &mut lent.marks);
     // SAFETY: the parts of the job have the lengths that the call takes; each other pointer is that of a vector of `lent`, with its length.
@@ -360,16 +360,16 @@ fn job_finish(lent: &mut Lent) {
     });
 }
 
-/// Words of paint from an address on.
+/// Writes words of paint, starting at an address.
 #[inline(never)]
 fn paint(from: usize, words: usize) {
     for word in 0..words {
-        // SAFETY: the words lie on this thread's own stack, below every live frame but this one.
+        // SAFETY: the words are on this thread's own stack, below every live frame except this one.
         unsafe { ((from + 8 * word) as *mut u64).write_volatile(PAINT) };
     }
 }
 
-/// How many words of paint are left from an address on.
+/// Returns how many words of paint are left, starting at an address.
 #[inline(never)]
 fn left(from: usize, words: usize) -> usize {
     // SAFETY: as in `paint`, which has written these words.
@@ -378,7 +378,7 @@ fn left(from: usize, words: usize) -> usize {
     (0..words).take_while(painted).count()
 }
 
-/// The bytes of stack below this function's own place that a call writes. The thread's stack must be far longer than what is painted.
+/// Returns how many bytes of stack below this function's own place a call writes. The thread's stack must be far longer than the painted part.
 #[inline(never)]
 fn depth(call: Call, lent: &mut Lent) -> usize {
     let here = 0u8;
@@ -391,7 +391,7 @@ fn depth(call: Call, lent: &mut Lent) -> usize {
     GAP + top - (bottom + 8 * left)
 }
 
-/// A thread of its own for each call, so that its whole stack is there to be painted.
+/// Measures each call on a thread of its own, so that the whole stack can be painted.
 fn on_a_thread(call: Call, lent: &mut Lent) -> usize {
     thread::scope(|scope| {
         let thread = thread::Builder::new().stack_size(STACK);

@@ -1,4 +1,4 @@
-//! `making FOLDER`: table sheets of three large sizes, one of each kind, a file each, and on standard output for each file its name and the least time, in
+//! `making FOLDER`: writes table sheets of three large sizes, one of each kind, a file each. Prints for each file its name and the least time, in
 //! nanoseconds, in which the library makes its net. `web/speed` compares these with the module's times.
 
 use reference::generate::{Generator, TableKind};
@@ -46,7 +46,7 @@ fn least(sheet: &[u8]) -> Duration {
     let mut output = [0; sitgurp::MOST_NET_SHEET];
     let once = |_| {
         let start = Instant::now();
-        // a table without a tree is refused, which takes its time too
+        // refusing a table without a tree takes time too
         let made = sitgurp::make(sheet, &mut cells, &mut marks, &mut output);
         let took = start.elapsed();
         black_box(made).ok();

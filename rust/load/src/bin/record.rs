@@ -1,4 +1,4 @@
-//! `record CALLS SEED [FIRST]`: makes that many calls by the library and writes each with its answer and its buffers to standard output, for
+//! `record CALLS SEED [FIRST]`: makes that many calls with the library and writes each with its answer and its buffers to standard output, for
 //! web/tests/replay.mjs to replay.
 
 use load::asked::recorded;
@@ -18,7 +18,7 @@ fn main() -> ExitCode {
     };
     match written {
         Ok(()) => ExitCode::SUCCESS,
-        // the reader has ended, and says why itself
+        // the reading program has ended, and reports why itself
         Err(error) if error.kind() == ErrorKind::BrokenPipe => ExitCode::FAILURE,
         Err(error) => {
             eprintln!("record: {error}");
@@ -27,7 +27,7 @@ fn main() -> ExitCode {
     }
 }
 
-/// Writes the records of so many calls, from one number on.
+/// Writes the records of this many calls, starting at one number.
 fn write(calls: u64, seed: u64, first: u64) -> io::Result<()> {
     let mut out = BufWriter::with_capacity(1 << 20, io::stdout().lock());
     for call in first..first + calls {

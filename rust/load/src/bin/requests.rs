@@ -1,5 +1,5 @@
-//! `requests write COUNT SEED CELLS`: that many lines for `sitgurp stream`, each with a table of at most so many cells to be made.
-//! `requests check COUNT SEED CELLS < ANSWERS`: whether line k answers request k as the second implementation does.
+//! `requests write COUNT SEED CELLS`: writes that many lines for `sitgurp stream`, each asking to make a table of at most that many cells.
+//! `requests check COUNT SEED CELLS < ANSWERS`: checks that line k answers request k as the second implementation does.
 
 use reference::generate::{Generator, TableKind};
 use reference::limits::allowed_sizes;
@@ -25,7 +25,7 @@ fn main() -> ExitCode {
     }
 }
 
-/// Tables by a seed.
+/// Tables determined by a seed.
 struct Requests {
     count: u64,
     seed: u64,
@@ -33,7 +33,7 @@ struct Requests {
     sizes: Vec<(usize, usize)>,
 }
 
-/// Returns whether to write, and what; none where the command is wrong.
+/// Returns whether to write, and the requests, or None if the command is wrong.
 fn parsed(arguments: &[String]) -> Option<(bool, Requests)> {
     let [what, count, seed, cells] = arguments else {
         return None;
@@ -101,7 +101,7 @@ impl Requests {
         Ok(())
     }
 
-    /// Returns what the answer to request k has to begin with, and to contain.
+    /// Returns what the answer to request k must begin with, and what it must contain.
     fn due(&self, k: u64) -> [String; 2] {
         let (mut cells, mut marks) = ([0; sitgurp::MOST_CELLS], [0; sitgurp::MOST_MARKS]);
         let mut output = [0; sitgurp::MOST_NET_SHEET];
@@ -125,7 +125,7 @@ impl Requests {
     }
 }
 
-/// Returns a sheet as a text of JSON; it has no letters that need another sign.
+/// Returns a sheet as a JSON string. Line feeds are the only characters that need escaping.
 fn in_json(sheet: &str) -> String {
     format!("\"{}\"", sheet.replace('\n', "\\n"))
 }

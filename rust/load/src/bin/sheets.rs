@@ -1,4 +1,4 @@
-//! `sheets net|table|loose COUNT SEED FOLDER`: that many sheets, good and damaged, one a file.
+//! `sheets net|table|loose COUNT SEED FOLDER`: writes that many sheets, good and damaged, one per file.
 
 use load::inputs::Inputs;
 use std::path::Path;
@@ -21,7 +21,7 @@ fn main() -> ExitCode {
     }
 }
 
-/// None where the command is wrong.
+/// Returns None if the command is wrong.
 fn written(arguments: &[String]) -> Option<std::io::Result<()>> {
     let [kind, count, seed, folder] = arguments else {
         return None;

@@ -1,4 +1,4 @@
-//! What the tests share: nets of every allowed size, and a reader of drawings that knows nothing of how they are made.
+//! Shared by the tests: nets of every allowed size, and a reader of drawings that does not know how they are made.
 #![allow(dead_code)]
 
 use reference::generate::Generator;
@@ -8,7 +8,7 @@ use reference::sheet::print_net_sheet;
 pub const SEED: u64 = 1_971;
 const NETS_OF_A_SIZE: usize = 20;
 
-/// Net sheets of every allowed size: random ones, some of which leave inputs out, and the two chains, which are the deepest trees.
+/// Returns net sheets of every allowed size: random ones, some of which leave inputs out, and the two chains, which are the deepest trees.
 pub fn net_sheets() -> Vec<Vec<u8>> {
     println!("seed {SEED}");
     let mut generator = Generator::new(SEED);
@@ -27,7 +27,7 @@ pub fn net_sheets() -> Vec<Vec<u8>> {
     sheets
 }
 
-/// The same gates wired as a chain: every gate takes the one before it, as left or as right.
+/// Returns the same gates wired as a chain: every gate takes the one before it, as left or as right.
 fn chain(net: Net, left: bool) -> Net {
     let gates = net.gates.iter().enumerate().map(|(k, gate)| {
         let before = if k == 0 {
@@ -63,7 +63,7 @@ impl Rect {
     }
 }
 
-/// A text of a drawing, at its middle (at its left end under the tree).
+/// A text of a drawing, with the place of its middle (of its left end for texts under the tree).
 #[derive(Clone, Debug, PartialEq)]
 pub struct Text {
     pub class: String,
@@ -72,7 +72,7 @@ pub struct Text {
     pub text: String,
 }
 
-/// A drawing as its elements; a wire is its corners.
+/// The elements of a drawing; a wire is given by its corners.
 pub struct Drawn {
     pub rects: Vec<Rect>,
     pub texts: Vec<Text>,
@@ -89,13 +89,13 @@ impl Drawn {
         }
     }
 
-    /// The boxes of inputs, used and unused, and gates.
+    /// Returns the boxes of inputs, used and unused, and of gates.
     pub fn boxes(&self) -> Vec<&Rect> {
         let is_box = |rect: &&Rect| ["input", "unused", "gate"].contains(&rect.class.as_str());
         self.rects.iter().filter(is_box).collect()
     }
 
-    /// The texts of a class inside a rectangle, by rows.
+    /// Returns the texts of a class inside a rectangle, by rows.
     pub fn inside(&self, rect: &Rect, class: &str) -> Vec<&str> {
         let mut texts: Vec<&Text> = self
             .texts
@@ -143,7 +143,7 @@ fn text(element: &str) -> Text {
     }
 }
 
-/// The corners of a path of the commands M, H and V.
+/// Returns the corners of a path with the commands M, H and V.
 fn wire(element: &str) -> Vec<(i32, i32)> {
     let mut words = attribute(element, "d").expect("a path").split(' ');
     let mut corners: Vec<(i32, i32)> = Vec::new();

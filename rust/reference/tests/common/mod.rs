@@ -1,5 +1,5 @@
-//! Sheets spelled out, and the calls with buffers that are long enough. The
-//! sheets are spelled here without the library's printers, so that those are
+//! Sheets written out, and the calls with buffers that are long enough. The
+//! sheets are written here without the library's printers, so that those are
 //! tested too.
 #![allow(dead_code)] // every test file uses its own part of this one
 
@@ -19,12 +19,12 @@ pub const MARKS: usize = (1 << MOST_INPUTS) / 4 + 20;
 pub const NET_SHEET: usize = MOST_NET_SHEET_BYTES + 20;
 pub const TABLE_SHEET: usize = 150_000;
 
-/// Document 01 parts lines by `/`.
+/// Document 01 separates lines by `/`.
 pub fn lines(text: &str) -> Vec<u8> {
     text.replace('/', "\n").into_bytes()
 }
 
-/// A net sheet from m, the names parted by spaces, and gate lines parted by `/`.
+/// Returns a net sheet from m, the names separated by spaces, and gate lines separated by `/`.
 pub fn net_sheet(m: usize, names: &str, gates: &str) -> Vec<u8> {
     let n = names.split(' ').count();
     lines(&format!(
@@ -32,7 +32,7 @@ pub fn net_sheet(m: usize, names: &str, gates: &str) -> Vec<u8> {
     ))
 }
 
-/// The levels of the cell with this index.
+/// Returns the levels of the cell with this index.
 pub fn levels_of(index: usize, m: usize, n: usize) -> Vec<usize> {
     let mut rest = index;
     let mut levels = vec![0; n];
@@ -43,14 +43,14 @@ pub fn levels_of(index: usize, m: usize, n: usize) -> Vec<usize> {
     levels
 }
 
-/// The inks of a rule, in index order.
+/// Returns the inks of a rule, in index order.
 pub fn inks_of(m: usize, n: usize, rule: impl Fn(&[usize]) -> usize) -> Vec<u8> {
     (0..m.pow(n as u32))
         .map(|index| rule(&levels_of(index, m, n)) as u8)
         .collect()
 }
 
-/// The number of different columns: the cells parted by the levels of the
+/// Returns the number of different columns: the cells are grouped by the levels of the
 /// group's members.
 pub fn count_of_columns(m: usize, n: usize, inks: &[u8], group: usize) -> usize {
     let mut columns: HashMap<Vec<usize>, Vec<u8>> = HashMap::new();
@@ -63,8 +63,8 @@ pub fn count_of_columns(m: usize, n: usize, inks: &[u8], group: usize) -> usize 
     columns.into_values().collect::<HashSet<_>>().len()
 }
 
-/// The inputs that matter, as a group: some two cells that differ at this input
-/// alone differ in ink.
+/// Returns the inputs that matter, as a group: some two cells that differ only at this
+/// input differ in ink.
 pub fn mattering(m: usize, n: usize, inks: &[u8]) -> usize {
     let matters = |input: &usize| {
         let weight = m.pow((n - 1 - input) as u32);
@@ -73,7 +73,7 @@ pub fn mattering(m: usize, n: usize, inks: &[u8]) -> usize {
     (0..n).filter(matters).map(|input| 1 << input).sum()
 }
 
-/// The leaves, as a group: "the inputs that matter [..]; if fewer than two do, the
+/// Returns the leaves, as a group: "the inputs that matter [..]; if fewer than two do, the
 /// first-listed others make up two".
 pub fn leaves(m: usize, n: usize, inks: &[u8]) -> usize {
     let mut leaves = mattering(m, n, inks);
@@ -85,7 +85,7 @@ pub fn leaves(m: usize, n: usize, inks: &[u8]) -> usize {
     leaves
 }
 
-/// A table sheet from m, the names parted by spaces, and the inks; m is the ink of
+/// Returns a table sheet from m, the names separated by spaces, and the inks; m is the ink of
 /// an open cell.
 pub fn table_sheet(m: usize, names: &str, inks: &[u8]) -> Vec<u8> {
     let n = names.split(' ').count();
@@ -102,20 +102,20 @@ pub fn table_sheet(m: usize, names: &str, inks: &[u8]) -> Vec<u8> {
     text.into_bytes()
 }
 
-/// A table sheet from a rule.
+/// Returns a table sheet from a rule.
 pub fn rule_sheet(m: usize, names: &str, rule: impl Fn(&[usize]) -> usize) -> Vec<u8> {
     let n = names.split(' ').count();
     table_sheet(m, names, &inks_of(m, n, rule))
 }
 
-/// Marks as a call writes them, from the mark of every group: four digits of base
-/// four to a byte, the lowest first.
+/// Returns marks as a call writes them, from the mark of every group: four digits of base
+/// four per byte, the lowest first.
 pub fn packed(of_groups: &[u8]) -> Vec<u8> {
     let byte = |four: &[u8]| four.iter().rev().fold(0, |byte, mark| 4 * byte + mark);
     of_groups.chunks(4).map(byte).collect()
 }
 
-/// The mark of every group, from the bytes that a call has written.
+/// Returns the mark of every group, from the bytes that a call wrote.
 pub fn unpacked(marks: &[u8]) -> Vec<u8> {
     let four = |&byte: &u8| [0, 2, 4, 6].map(|low| (byte >> low) & 3);
     marks.iter().flat_map(four).collect()
@@ -133,41 +133,41 @@ pub fn made(sheet: &[u8]) -> Result<Vec<u8>, Refusal> {
     Ok(out[..length].to_vec())
 }
 
-/// The shallow net sheet of a net sheet, and its layers.
+/// Returns the shallow net sheet of a net sheet, and its layers.
 pub fn settled_shallow(sheet: &[u8]) -> Result<(Vec<u8>, usize), Refusal> {
     let (mut cells, mut marks, mut out) = ([7; CELLS], [7; MARKS], [7; NET_SHEET]);
     let answer = settle_shallow(sheet, &mut cells, &mut marks, &mut out)?;
     Ok((out[..answer.length].to_vec(), answer.layers))
 }
 
-/// The shallow net sheet of a table sheet, and its layers.
+/// Returns the shallow net sheet of a table sheet, and its layers.
 pub fn made_shallow(sheet: &[u8]) -> Result<(Vec<u8>, usize), Refusal> {
     let (mut cells, mut marks, mut out) = ([7; CELLS], [7; MARKS], [7; NET_SHEET]);
     let answer = make_shallow(sheet, &mut cells, &mut marks, &mut out)?;
     Ok((out[..answer.length].to_vec(), answer.layers))
 }
 
-/// The number of a table sheet's trees.
+/// Returns the number of a table sheet's trees.
 pub fn counted(sheet: &[u8]) -> Result<u64, Refusal> {
     family_count(sheet, &mut [7; CELLS], &mut [7; MARKS])
 }
 
-/// The net sheet of a table sheet's tree of this number.
+/// Returns the net sheet of a table sheet's tree with this number.
 pub fn numbered(sheet: &[u8], number: u64) -> Result<Vec<u8>, Refusal> {
     let (mut cells, mut marks, mut out) = ([7; CELLS], [7; MARKS], [7; NET_SHEET]);
     let length = family_tree(sheet, number, &mut cells, &mut marks, &mut out)?;
     Ok(out[..length].to_vec())
 }
 
-/// The net sheet with its wiring kept and its gates filled for a table sheet, and
-/// the set of the gates that changed.
+/// Returns the net sheet with its wiring kept and its gates filled for a table sheet, and
+/// the set of the changed gates.
 pub fn kept(net: &[u8], table: &[u8]) -> Result<(Vec<u8>, u64), Refusal> {
     let (mut cells, mut out) = ([7; CELLS], [7; NET_SHEET]);
     let answer = keep(net, table, &mut cells, &mut out)?;
     Ok((out[..answer.length].to_vec(), answer.changed))
 }
 
-/// The table sheet that a loose sheet tidies to.
+/// Returns the table sheet that tidying a loose sheet gives.
 pub fn tidied(sheet: &[u8]) -> Result<Vec<u8>, Refusal> {
     let (mut cells, mut out) = ([7; CELLS], vec![7; TABLE_SHEET]);
     let length = tidy(sheet, &mut cells, &mut out)?;

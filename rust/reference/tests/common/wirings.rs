@@ -1,6 +1,6 @@
-//! Wirings as trees without digits, and which of them compute a table: told by
-//! every filling of their gates, or by the columns of the table. Nothing of the
-//! library's groups and marks is used.
+//! Wirings as trees without digits, and which of them compute a table, decided by
+//! every filling of their gates, or by the columns of the table. The library's
+//! groups and marks are not used.
 
 use super::{count_of_columns, levels_of};
 use std::collections::HashSet;
@@ -12,8 +12,8 @@ pub enum Wiring {
     Node(Box<Wiring>, Box<Wiring>),
 }
 
-/// A gate of a wiring: its group, the part that goes left, and the gates on the
-/// longest way to it from an input, its own counted.
+/// A gate of a wiring: its group, the part that goes left, and the number of gates on the
+/// longest way to it from an input, including its own.
 #[derive(Clone, Copy, Debug)]
 pub struct Joint {
     pub group: usize,
@@ -40,7 +40,7 @@ impl Wiring {
         }
     }
 
-    /// Left's gates, then right's, then the own one.
+    /// Returns left's gates, then right's, then its own.
     pub fn joints(&self) -> Vec<Joint> {
         let Wiring::Node(left, right) = self else {
             return Vec::new();
@@ -53,7 +53,7 @@ impl Wiring {
         [left.joints(), right.joints(), vec![own]].concat()
     }
 
-    /// The wiring of a net sheet whose inputs are `a`, `b` and so on.
+    /// Returns the wiring of a net sheet whose inputs are `a`, `b` and so on.
     pub fn of_sheet(sheet: &[u8]) -> Wiring {
         let text = std::str::from_utf8(sheet).expect("ASCII");
         let mut gates: Vec<Wiring> = Vec::new();
@@ -71,8 +71,8 @@ impl Wiring {
     }
 }
 
-/// Every wiring over a group, sides and gate numbers aside: the part with the
-/// first-listed input stands on the left.
+/// Returns every wiring over a group, ignoring sides and gate numbers: the part with the
+/// first-listed input is on the left.
 pub fn wirings(group: usize) -> Vec<Wiring> {
     if group.is_power_of_two() {
         return vec![Wiring::Leaf(group.trailing_zeros() as usize)];
@@ -90,19 +90,19 @@ pub fn wirings(group: usize) -> Vec<Wiring> {
     all
 }
 
-/// The groups of n inputs that a net may have as leaves: two inputs at least.
+/// Returns the groups of n inputs that a net may have as leaves: at least two inputs.
 pub fn all_leaves(n: usize) -> impl Iterator<Item = usize> {
     (1..1_usize << n).filter(|group| group.count_ones() >= 2)
 }
 
-/// The names `a`, `b` and so on of n inputs.
+/// Returns the names `a`, `b` and so on of n inputs.
 pub fn names(n: usize) -> &'static str {
     &"a b c d e f g h i j k l"[..2 * n - 1]
 }
 
 // ---- two levels: every filling of every wiring
 
-/// A table of two levels, its bit p the ink at index p.
+/// A table with two levels; bit p is the ink at index p.
 pub type Bits = u32;
 
 pub fn mask(n: usize) -> Bits {
@@ -113,7 +113,7 @@ pub fn inks_of_bits(n: usize, table: Bits) -> Vec<u8> {
     (0..1 << n).map(|p| (table >> p & 1) as u8).collect()
 }
 
-/// The tables of a wiring under every filling of its gates.
+/// Returns the tables of a wiring for every filling of its gates.
 pub fn tables_of(wiring: &Wiring, n: usize) -> HashSet<Bits> {
     match wiring {
         Wiring::Leaf(input) => {
@@ -138,9 +138,9 @@ pub fn tables_of(wiring: &Wiring, n: usize) -> HashSet<Bits> {
     }
 }
 
-// ---- any levels: a wiring computes a table when its wires can carry it
+// ---- any levels: a wiring computes a table if its wires can carry it
 
-/// For every group, whether one wire can carry it: it has at most m columns.
+/// Returns for every group whether one wire can carry it: it has at most m columns.
 pub fn carried(m: usize, n: usize, inks: &[u8]) -> Vec<bool> {
     (0..1 << n)
         .map(|group| count_of_columns(m, n, inks, group) <= m)

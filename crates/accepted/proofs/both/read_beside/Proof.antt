@@ -1,4 +1,4 @@
--- `accepted::both::read_beside` meets its contract: what the table sheet is refused for, then the headers compared.
+-- `accepted::both::read_beside` meets its contract: the refusals of the table sheet, then the comparison of the headers.
 -- Assumes nothing.
 use borrow.Author.Needs.{needs}
 use Rattle.accepted.specs.Taken.{read-table-refused, table-taken}
@@ -6,7 +6,7 @@ use Rattle.accepted.specs.Both.{both-table-refused, both-differ, both-ac
 use Rattle.accepted.proofs.both.read_beside.Statement.{statement}
 use Rattle.accepted.proofs.both.read_beside.Tie as tie
 
--- the start from the table's read, that read from the match on it, and from the headers compared
+-- gets the start from the table's read, and that read from the match on it or from the comparison of the headers
 abbrev at-start : tie.After-read-table → tie.Start
 at-start c = c .before .before .before .before .before
 

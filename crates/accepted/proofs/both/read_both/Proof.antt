@@ -1,4 +1,4 @@
--- `accepted::both::read_both` meets its contract: what the net sheet is refused for, or what reading the table sheet answers.
+-- `accepted::both::read_both` meets its contract: the refusals of the net sheet, or the result of reading the table sheet.
 -- Assumes nothing.
 use borrow.Author.Needs.{needs}
 use Rattle.accepted.specs.Taken.{net-refused, net-taken}

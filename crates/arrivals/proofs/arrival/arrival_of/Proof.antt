@@ -1,4 +1,4 @@
--- `arrivals::arrival::arrival_of` meets its contract: the test tells the two cases apart.
+-- `arrivals::arrival::arrival_of` meets its contract: the test distinguishes the two cases.
 -- Assumes nothing.
 use mathlib.Core.Path.{ap, ap₂}
 use borrow.Author.Needs.{needs}

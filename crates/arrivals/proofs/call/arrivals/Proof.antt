@@ -1,4 +1,4 @@
--- `arrivals::call::arrivals` meets its contract: what the net sheet is refused for, or what the arrival sheet comes to.
+-- `arrivals::call::arrivals` meets its contract: the refusals of the net sheet, or the result for the arrival sheet.
 -- Assumes nothing.
 use mathlib.Core.Path.{sym}
 use borrow.Author.Needs.{needs}

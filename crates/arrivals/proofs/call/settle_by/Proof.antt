@@ -1,4 +1,4 @@
--- `arrivals::call::settle_by` meets its contract: what the arrival sheet is refused for, or when the output settles.
+-- `arrivals::call::settle_by` meets its contract: the refusals of the arrival sheet, or when the output settles.
 -- Assumes nothing.
 use borrow.Author.Needs.{needs}
 use Rattle.accepted.specs.Taken.{sound}
@@ -6,7 +6,7 @@ use Rattle.arrivals.specs.ArrivalAnswers.{sheet-refused, sheet-held, she
 use Rattle.arrivals.proofs.call.settle_by.Statement.{statement}
 use Rattle.arrivals.proofs.call.settle_by.Tie as tie
 
--- the start from the sheet's read, and that read from the match on it
+-- gets the start from the sheet's read, and that read from the match on it
 abbrev at-start : tie.After-read-arrivals → tie.Start
 at-start c = c .before .before .before
 

@@ -21,7 +21,7 @@ loop-holds c =
     let times = c .before .before .args .times in
     (arrival-inputs-none (times .from) (times .to) _ refl, omega arith)
 
--- the start from the loop's head, and that head from a turn's end
+-- gets the start from the loop's head, and that head from a turn's end
 abbrev at-start : tie.At-loop Inv-loop μ-loop → tie.Start Inv-loop μ-loop
 at-start c = c .before .before .before
 

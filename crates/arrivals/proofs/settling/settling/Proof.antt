@@ -20,7 +20,7 @@ Inv-loop net delay left right step ends₀ k₀ ends k = ArrivalTurned net delay
 abbrev μ-loop : tie.MeasureT-loop
 μ-loop net delay left right step ends₀ k₀ ends k = net .gates - k
 
--- the start from the loop's head, that head from the turn's test, and that test from the turn's end; the head from the loop's end
+-- gets the start from the loop's head, that head from the turn's test or from the loop's end, and that test from the turn's end
 abbrev at-start : tie.At-loop Inv-loop μ-loop → tie.Start Inv-loop μ-loop
 at-start c = c .before .before .before .before .before
 
@@ -71,7 +71,7 @@ loop-again c =
       inv .1,
     )
 
--- ---- the last gate's
+-- ---- the last gate
 
 wires : (c : tie.At-loop Inv-loop μ-loop) → let net = at-start c .args .net in (net .inputs + net .gates ≤ mostWires) × (0 < net .gates)
 wires c = let s = at-start c in (wires-room (s .args .net) (s .pre .0), gates-pos (s .args .net) (s .pre .0))

@@ -1,4 +1,4 @@
--- `capi::job_finish::sitgurp_job_finish_parts` meets its contract: it is the finishing, its answer as two numbers. Assumes nothing.
+-- `capi::job_finish::sitgurp_job_finish_parts` meets its contract: it finishes the job, its answer as two numbers. Assumes nothing.
 use Rattle.capi.specs.Made.{flat-made}
 use borrow.Author.Needs.{needs}
 use Rattle.capi.proofs.job_finish.sitgurp_job_finish_parts.Statement.{statement}

@@ -1,4 +1,4 @@
--- `capi::job_mark::sitgurp_job_mark_parts` meets its contract: it is the asking, as a kind and a number. Assumes nothing.
+-- `capi::job_mark::sitgurp_job_mark_parts` meets its contract: it is the job's answer as a kind and a number. Assumes nothing.
 use mathlib.Core.Path.{ap, _∙_}
 use Rattle.capi.specs.Numbers.Reached.{flatReached}
 use borrow.Author.Needs.{needs}

@@ -1,4 +1,4 @@
--- `capi::job_open::sitgurp_job_open_parts` meets its contract: every part of the job that is opened. Assumes nothing.
+-- `capi::job_open::sitgurp_job_open_parts` meets its contract: every part of the opened job. Assumes nothing.
 use Rattle.capi.specs.JobOpen.{flat-opened}
 use borrow.Author.Needs.{needs}
 use Rattle.capi.proofs.job_open.sitgurp_job_open_parts.Statement.{statement}

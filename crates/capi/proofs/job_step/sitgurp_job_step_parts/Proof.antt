@@ -1,4 +1,4 @@
--- `capi::job_step::sitgurp_job_step_parts` meets its contract: the parts as they are, or with the next group's mark. Assumes nothing.
+-- `capi::job_step::sitgurp_job_step_parts` meets its contract: the parts unchanged, or with the next group's mark. Assumes nothing.
 use mathlib.Core.Path.{subst}
 use native.Mathlib.Omega.{arith}
 use Rattle.jobs.specs.Forms.{jobIn}

@@ -12,7 +12,7 @@ use Rattle.capi.proofs.shallower_sheet.sitgurp_shallower.Tie as tie
 abbrev at-start : tie.After-which-of → tie.Start
 at-start c = c .before .before .before
 
--- the numbers for the answer are those that are due
+-- the numbers for the answer are right
 due : (c : tie.After-which-of) (w : Which) → c .which-of .result ≡ w → let a = at-start c .args in
     flatWhich (whichAs w) (a .first .now) (a .second .now) ≡ flatWhich (rules.whichOf (a .first .now) (a .second .now)) (a .first .now) (a .second .now)
 due c w e =

@@ -20,7 +20,7 @@ at-start c = c .before .before .before
 abbrev at-size : tie.After-first-at-least → tie.Else1
 at-size c = c .before .before .before
 
--- the size fits, and the cells are as many
+-- the size fits, and there are as many cells
 fits : (c : tie.Else1) → sizeFits (at-start c .args .m) (at-start c .args .n) ≡ true
 fits c = sym (c .before .size-fits .ensures) ∙ not-false _ (c .if1 .left)
 

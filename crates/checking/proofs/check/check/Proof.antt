@@ -1,4 +1,4 @@
--- `checking::check::check` meets its contract: what reading both sheets refuses, then 13, then the net's table and the inks.
+-- `checking::check::check` meets its contract: the refusals of reading both sheets, then 13, then the net's table and the inks.
 -- Assumes nothing.
 use native.Mathlib.Omega.{arith}
 use Rattle.accepted.specs.Taken.{held-size, cells-some, sound, own-most, front-length}

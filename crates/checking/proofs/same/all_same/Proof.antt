@@ -1,4 +1,4 @@
--- `checking::same::all_same` meets its contract. The loop's invariant: where nothing else was met the two are the same below `i`. Assumes nothing.
+-- `checking::same::all_same` meets its contract. The loop's invariant: if no difference was found, the two are the same below `i`. Assumes nothing.
 use Prim.Native.Nat.{ℕ, _-_, _<_}
 use mathlib.Core.Path.{_≡_, sym, _∙_}
 use mathlib.Core.Bool.{true}

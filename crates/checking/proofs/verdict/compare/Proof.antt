@@ -1,4 +1,4 @@
--- `checking::verdict::compare` meets its contract. The loop's invariant: the two agree below `i`, where the table is not open.
+-- `checking::verdict::compare` meets its contract. The loop's invariant: the two agree at each index below `i` at which the table is not open.
 -- Assumes nothing.
 use Prim.Native.Nat.{_-_, _≤_}
 use native.Mathlib.Omega.{arith}

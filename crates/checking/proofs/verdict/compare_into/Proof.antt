@@ -1,4 +1,4 @@
--- `checking::verdict::compare_into` meets its contract: the inks copied, then the comparison, quick or cell by cell.
+-- `checking::verdict::compare_into` meets its contract: the inks are copied, then compared, by a quick test or cell by cell.
 -- Assumes nothing.
 use Rattle.checking.specs.Comparing.{agree-all, inks-compared}
 use borrow.Author.Needs.{needs}

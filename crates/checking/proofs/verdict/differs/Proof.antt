@@ -1,4 +1,4 @@
--- `checking::verdict::differs` meets its contract: equal inks, or whether the table's is open. Assumes nothing.
+-- `checking::verdict::differs` meets its contract: equal inks, or whether the table's cell is open. Assumes nothing.
 use mathlib.Core.Bool.{false≢true}
 use borrow.Author.Tests.{eqb-true, eqb-false, not-true, not-false}
 use Rattle.checking.proofs.verdict.differs.Statement.{statement}

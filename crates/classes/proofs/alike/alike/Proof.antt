@@ -1,4 +1,4 @@
--- `classes::alike::alike` meets its contract: alike where no difference is told. Assumes nothing.
+-- `classes::alike::alike` meets its contract: the two are alike if no difference is found. Assumes nothing.
 use mathlib.Core.Path.{sym, ap, _∙_}
 use Rattle.trees.specs.Groups.Differences.{none-differ, some-unlike}
 use Rattle.classes.specs.Differences.{differenceAs}

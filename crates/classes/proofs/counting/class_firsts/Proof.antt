@@ -1,5 +1,5 @@
--- `classes::counting::class_firsts` meets its contract. The loop's invariant: what is kept, and the assignments that are left, give the classes of all; each
--- that is kept is in the chain of its key.
+-- `classes::counting::class_firsts` meets its contract. The loop's invariant: what is kept and the assignments not yet visited give the classes of
+-- all; each that is kept is in the chain of its key.
 -- Assumes nothing.
 use Prim.Native.Nat.{ℕ, _-_, _<_}
 use mathlib.Core.Path.{_≡_, refl, _∙_}
@@ -85,7 +85,7 @@ in-chain-requires c κs =
 returns : tie.Need-returns Inv-loop μ-loop
 returns c = kept-enough (c .before .before .loop .inv .3) (c .if1 .taken)
 
--- a search, and what it says of the assignment's class
+-- a search, and what it says about the assignment's class
 module _ (c : tie.After-in-chain Inv-loop μ-loop) where
   abbrev l : tie.At-loop Inv-loop μ-loop
   l = turn-of (at-key c) .before

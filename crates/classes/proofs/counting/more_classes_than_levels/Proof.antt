@@ -1,4 +1,4 @@
--- `classes::counting::more_classes_than_levels` meets its contract: the count goes past m exactly where there are more classes. Assumes nothing.
+-- `classes::counting::more_classes_than_levels` meets its contract: the count is above m exactly if there are more classes. Assumes nothing.
 use native.Mathlib.Omega.{arith}
 use borrow.Author.Needs.{needs}
 use Rattle.rules.specs.Groups.Groups.{classes, multiplicity}

@@ -1,5 +1,5 @@
--- `classes::differences::first_difference` meets its contract. The loop begins where the inks are no longer known to be the same, and its invariant
--- is that the places that are left decide. Assumes nothing.
+-- `classes::differences::first_difference` meets its contract. The loop begins where the inks are no longer known to be the same. Its invariant: the
+-- remaining places decide. Assumes nothing.
 use Prim.Native.Nat.{ℕ, _+_, _-_, _≤_, _<_}
 use mathlib.Core.Path.{_≡_, sym, ap, _∙_}
 use mathlib.Core.Bool.{not}
@@ -43,7 +43,7 @@ loop-holds c =
 cast-y : tie.Need-cast-y Inv-loop μ-loop
 cast-y c = omega (arith, c .shared-slice-known3 .given (at-turn c .before .loop .k))
 
--- the two cells that a turn looks at are there
+-- the two cells that a turn reads exist
 in-cells : (c : tie.In-loop Inv-loop μ-loop) →
     let a = at-start (c .before) .args in
     let y = getD (a .ys .now) (c .before .loop .k) 0 in

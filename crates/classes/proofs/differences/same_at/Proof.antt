@@ -8,7 +8,7 @@ use Rattle.rules.specs.Groups.Differences.{differAt}
 use Rattle.classes.proofs.differences.same_at.Statement.{statement}
 use Rattle.classes.proofs.differences.same_at.Tie as tie
 
--- the two cells are there
+-- the two cells exist
 in-cells : (c : tie.Start) →
     let a = c .args in
     let y = getD (a .ys .now) (a .k) 0 in

@@ -1,4 +1,4 @@
--- `classes::keys::in_chain` meets its contract. The loop's invariant: what is alike to p and in the chain is in the rest of it. Assumes nothing.
+-- `classes::keys::in_chain` meets its contract. The loop's invariant: if one in the chain is alike to p, it is in the rest. Assumes nothing.
 use Prim.Native.Nat.{_-_, _≤_, _<_}
 use mathlib.Core.Path.{sym, _∙_}
 use native.Mathlib.Omega.{arith}

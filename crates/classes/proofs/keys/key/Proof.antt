@@ -1,4 +1,4 @@
--- `classes::keys::key` meets its contract. The loop's invariant: the key so far and the columns that are left give the key. Assumes nothing.
+-- `classes::keys::key` meets its contract. The loop's invariant: the key so far and the remaining columns give the key. Assumes nothing.
 use Prim.Native.Nat.{ℕ, _+_, _-_, _*_, _%_, _≤_, _<_}
 use mathlib.Core.Path.{_≡_, refl, sym, ap, _∙_}
 use native.Mathlib.Nat.{mul-le-mul}
@@ -29,7 +29,7 @@ loop-holds c = (omega arith, refl, omega arith)
 cast-y : tie.Need-cast-y Inv-loop μ-loop
 cast-y c = omega (arith, c .shared-slice-known .given (c .before .before .loop .k))
 
--- the cell that a turn looks at is there
+-- the cell that a turn reads exists
 in-cells : (c : tie.In-loop Inv-loop μ-loop) → let a = c .before .before .args in a .p + getD (a .ys .now) (c .before .loop .k) 0 < length (a .cells .now)
 in-cells c = c .before .before .pre .2 (c .before .loop .k) (omega arith)
 
@@ -40,7 +40,7 @@ mul-made c =
     let small : l .loop .made * l .before .args .m ≤ 255 * 9 = mul-le-mul low (l .before .pre .0) in
     omega (arith, small)
 
--- the ink that a turn adds is a byte, and the columns that are left still give the key
+-- the ink that a turn adds is a byte, and the remaining columns still give the key
 module _ (c : tie.After-shared-slice-known2 Inv-loop μ-loop) where
   abbrev start : tie.Start Inv-loop μ-loop
   start = at-turn c .before .before

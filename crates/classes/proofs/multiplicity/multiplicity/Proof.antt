@@ -1,4 +1,4 @@
--- `classes::multiplicity::multiplicity` meets its contract: what bare cells are refused for, or what the group's answer is.
+-- `classes::multiplicity::multiplicity` meets its contract: the refusal of the bare cells, or the group's answer.
 -- Assumes nothing.
 use mathlib.Core.Path.{sym, ap, _∙_}
 use Rattle.answers.specs.AnswerMaps.{outcomeAs}

@@ -1,4 +1,4 @@
--- `evaluation::gate::gate_values` meets its contract: one of its two ways does. Assumes nothing.
+-- `evaluation::gate::gate_values` meets its contract: both of its branches do. Assumes nothing.
 use borrow.Author.Needs.{needs}
 use Rattle.evaluation.proofs.gate.gate_values.Statement.{statement}
 use Rattle.evaluation.proofs.gate.gate_values.Tie as tie

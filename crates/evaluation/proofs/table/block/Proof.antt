@@ -1,4 +1,4 @@
--- `evaluation::table::block` meets its contract: the first inputs' columns, the net's values, and these to the cells. Assumes nothing.
+-- `evaluation::table::block` meets its contract: the first inputs' columns, the net's values, and their copy to the cells. Assumes nothing.
 use Prim.Native.Nat.{_+_, _*_, _≤_}
 use native.Mathlib.Omega.{arith}
 use borrow.Author.Needs.{needs}
@@ -28,7 +28,7 @@ values-requires c κs =
     let high = c .before .before .before in
     values-ready _ _ _ _ _ _ _ _ (high-start high .pre) _ (high .lay-high .ensures)
 
--- the values that `copy` is lent lie within the wires, and the cells have room for them
+-- the values lent to `copy` are within the wires, and the cells have room for them
 module _ (c : tie.After-values) where
   there : c .values .result + values-start c .args .count ≤ length (values-start c .args .wires .now)
   there = omega (arith, c .values .ensures .there, c .values .ensures .same, values-high c .lay-high .ensures .same)

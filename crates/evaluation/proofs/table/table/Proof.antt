@@ -1,5 +1,5 @@
--- `evaluation::table::table` meets its contract. The loop's invariant: the first q blocks have their values, and `levels` has the first inputs' levels in the
--- next one. Assumes nothing.
+-- `evaluation::table::table` meets its contract. The loop's invariant: the first q blocks have their values, and `levels` has the first inputs'
+-- levels in the next one. Assumes nothing.
 use Prim.Native.Nat.{ℕ, _-_, _^_, _≤_, _<_}
 use mathlib.Core.Path.{_≡_, refl, sym, ap, _∙_}
 use native.Mathlib.Nat.{pow-le-pow-right}

@@ -41,7 +41,7 @@ at-turn c = call-turn (at-call c)
 abbrev at-end : tie.After-struct-known4 Inv-loop μ-loop → tie.At-loop Inv-loop μ-loop
 at-end c = c .before .before .before
 
--- the digits of a gate are few
+-- a gate has few digits
 square : (net : Net) → Sound net → net .levels * net .levels ≤ 81
 square net sound = mul-le-mul (sound-size net sound .levels-most) (sound-size net sound .levels-most)
 
@@ -95,7 +95,7 @@ loop-again c =
           (head .loop .from) (head .loop .inv .1),
     )
 
--- ---- the last gate's
+-- the last gate
 
 wires : (c : tie.At-loop Inv-loop μ-loop) → let net = head-start c .args .net in (net .inputs + net .gates ≤ mostWires) × (0 < net .gates)
 wires c = let s = head-start c in (wires-room (s .args .net) (s .pre .sound), gates-pos (s .args .net) (s .pre .sound))

@@ -37,7 +37,7 @@ at-count c = c .before .before
 abbrev marks-start : tie.After-mark-and-store → tie.Start
 marks-start c = at-start (at-copy c)
 
--- ---- the marks that are counted by
+-- the marks that the count uses
 
 module _ (c : tie.After-power) where
   abbrev start : tie.Start
@@ -46,7 +46,7 @@ module _ (c : tie.After-power) where
   abbrev f : ℕ → ℕ
   f = inkIn (start .args .inks .now)
 
-  -- the front of the call's own
+  -- the front of the call's own marks
   abbrev own : List ℕ
   own = take (c .power .result - 0) (at-marks c .mark-and-store .last .1 .1 .1 .0)
 

@@ -1,4 +1,4 @@
--- `families::net::family_net` meets its contract: the wiring of the number can be filled, and filled it is the number's net. Assumes nothing.
+-- `families::net::family_net` meets its contract: the wiring of the number can be filled, and filled, it is the number's net. Assumes nothing.
 use Prim.Native.Nat.{ℕ}
 use mathlib.Core.Path.{subst, subst⁻¹}
 use borrow.Author.Needs.{needs}
@@ -34,7 +34,7 @@ wiring-of-requires c κs =
           (leaves-in (a .m) (a .n) (s .pre .0) (inkIn (a .cells .now)) (a .marks .now) (s .pre .3) (a .r) (s .pre .5)),
     )
 
--- so the wiring is that of the leaves
+-- so the wiring is the wiring of the leaves
 found : (c : tie.After-wiring-of) →
     let a = start (gathered c) .args in
     WiringFound (a .n) (a .marks .now) (leavesOf (a .m) (a .n) (inkIn (a .cells .now))) (a .r) (c .wiring-of .result)

@@ -9,7 +9,7 @@ use Rattle.fields.specs.Judging.{after-empty, after-bad, after-good}
 use Rattle.fields.proofs.ends.after_field_in.Statement.{statement}
 use Rattle.fields.proofs.ends.after_field_in.Tie as tie
 
--- the start from the test of the field's end, and that test from the call of `separated_in`
+-- gets the start from the test of the field's end, and that test from the call of `separated_in`
 abbrev at-start : tie.After-shared-slice-known2 → tie.Start
 at-start c = c .before .before
 

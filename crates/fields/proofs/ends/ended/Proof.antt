@@ -1,4 +1,4 @@
--- `fields::ends::ended` meets its contract: a refusal, or bytes or none after the last line.
+-- `fields::ends::ended` meets its contract: a refusal, or bytes or no bytes after the last line.
 -- Assumes nothing.
 use borrow.Author.Needs.{needs}
 use Rattle.fields.specs.Chained.{end-back, end-over, end-closed}

@@ -7,7 +7,7 @@ use Rattle.fields.proofs.ends.loosely_separated.Tie as tie
 use Rattle.fields.proofs.ends.separated.Reads as separated-reads
 use Rattle.fields.proofs.runs.spaces_end.Reads as spaces-end-reads
 
--- the start from the call of `separated`, and that call from where its step is taken apart
+-- gets the start from the call of `separated`, and that call from where its step is taken apart
 abbrev at-start : tie.After-separated2 → tie.Start
 at-start c = c .before .before .before
 

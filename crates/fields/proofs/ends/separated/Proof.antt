@@ -1,4 +1,4 @@
--- `fields::ends::separated` meets its contract: the byte is due, another one, or missing.
+-- `fields::ends::separated` meets its contract: the byte is the required one, another one, or missing.
 -- Assumes nothing.
 use borrow.Author.Needs.{needs}
 use Rattle.fields.specs.Judging.{separator-due, separator-other, separator-missing}

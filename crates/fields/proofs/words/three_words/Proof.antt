@@ -6,7 +6,7 @@ use Rattle.fields.specs.Words.{twoWordsIn, threeWords, word-back, word-o
 use Rattle.fields.proofs.words.three_words.Statement.{statement}
 use Rattle.fields.proofs.words.three_words.Tie as tie
 
--- the start from the first word's read
+-- gets the start from the first word's read
 abbrev at-start : tie.After-word-field → tie.Start
 at-start c = c .before .before .before .before .before
 

@@ -5,7 +5,7 @@ use Rattle.fields.specs.Words.{twoWordsIn, word-back, word-on}
 use Rattle.fields.proofs.words.two_words_in.Statement.{statement}
 use Rattle.fields.proofs.words.two_words_in.Tie as tie
 
--- the start from the first word's read
+-- gets the start from the first word's read
 abbrev at-start : tie.After-word-field-in → tie.Start
 at-start c = c .before .before .before .before
 

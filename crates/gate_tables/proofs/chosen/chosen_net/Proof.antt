@@ -1,4 +1,4 @@
--- `gate_tables::chosen::chosen_net` meets its contract: the wiring that is chosen can be filled, and filled it is the net that the choice makes.
+-- `gate_tables::chosen::chosen_net` meets its contract: the chosen wiring can be filled, and filled, it is the net that the choice makes.
 -- Assumes nothing.
 use Prim.Native.Nat.{ℕ}
 use mathlib.Core.Path.{subst, subst⁻¹}
@@ -40,7 +40,7 @@ choose-requires c κs =
           (layers-room (a .choice) (a .n) (a .marks .now) (a .fewest .now) (s .pre .5) leaves (leaves-below (a .m) (a .n) pos f)),
     )
 
--- so the wiring is that of the leaves
+-- so the wiring is the wiring of the leaves
 chosen : (c : tie.After-choose) →
     let s = start (gathered c) in
     Chosen (s .args .n) (found s) (leavesOf (s .args .m) (s .args .n) (inkIn (s .args .cells .now))) (c .choose .result)

@@ -11,7 +11,7 @@ use Rattle.gate_tables.specs.SampledDigits.{givenFrom, given-at-most}
 use Rattle.gate_tables.proofs.digits.given.Statement.{statement}
 use Rattle.gate_tables.proofs.digits.given.Tie as tie
 
--- what the call says is the class's number
+-- the call returns the class's number
 class : (c : tie.After-class-of) →
     let a = c .before .before .before .before .before .args in
     c .class-of .result ≡ givenFrom (inkIn (a .cells .now)) (a .ys .now) (a .firsts .now) false (a .p)

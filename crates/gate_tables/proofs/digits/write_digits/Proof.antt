@@ -28,7 +28,7 @@ next-digit m left right own digits₀ digits at k v k< room e d =
     ∙ paste-suc digits₀ at all k 0 (omega arith) (omega (arith, sampled-length m left right own))
     ∙ ap (paste digits₀ at all) (sym (add-one k))
 
--- the function's entry, from what is known of the digits; that place, from the loop
+-- the function's entry, from what is known about the digits; that place, from the loop
 abbrev start : tie.After-slice-known Inv-loop μ-loop → tie.Start Inv-loop μ-loop
 start c = c .before .before .before .before .before .before
 

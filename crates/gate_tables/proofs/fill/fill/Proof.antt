@@ -20,7 +20,7 @@ use Rattle.gate_tables.specs.Filled.{Going, going-start, no-gates, earli
 use Rattle.gate_tables.proofs.fill.fill.Statement.{statement}
 use Rattle.gate_tables.proofs.fill.fill.Tie as tie
 
--- the wiring whose parts the code has copied
+-- the wiring whose parts the code copied
 abbrev wiringOf : ℕ → List ℕ → List ℕ → Wiring
 wiringOf count lefts rights = record { gates = count; left = lefts; right = rights }
 
@@ -31,7 +31,7 @@ Inv-loop m n cells lefts rights count groups₀ net₀ k₀ groups net k =
 abbrev μ-loop : tie.MeasureT-loop
 μ-loop m n cells lefts rights count groups₀ net₀ k₀ groups net k = count - k
 
--- the function's entry, from the room for the groups; that place, from a net with no gate, which stands before the loop
+-- the function's entry, from the room for the groups; that place, from a net with no gate, before the loop
 abbrev start : tie.After-groups Inv-loop μ-loop → tie.Start Inv-loop μ-loop
 start c = c .before .before .before .before
 
@@ -83,7 +83,7 @@ module _ (c : tie.In-loop Inv-loop μ-loop) where
   k< : k < length (linksIn wiring)
   k< = rw links-count (c .loop-test .taken)
 
-  -- the link at this turn
+  -- the link of this turn
   abbrev next : Link
   next = record { left = getD (wiring .left) k 0; right = getD (wiring .right) k 0 }
 

@@ -1,5 +1,5 @@
--- `gate_tables::gate_digits::side_digits` meets its contract: what the last gate gives does not depend on the lists; for any other gate these are the
--- other inputs' assignments and the group's classes. Assumes nothing.
+-- `gate_tables::gate_digits::side_digits` meets its contract: what the last gate gives does not depend on the lists; for any other gate they are the
+-- assignments of the other inputs and the group's classes. Assumes nothing.
 use mathlib.Core.Path.{refl}
 use borrow.Author.Needs.{needs}
 use Rattle.rules.specs.Calls.Answers.{inkIn}
@@ -9,7 +9,7 @@ use Rattle.gate_tables.specs.GateReady.{ready, last-ready}
 use Rattle.gate_tables.proofs.gate_digits.side_digits.Statement.{statement}
 use Rattle.gate_tables.proofs.gate_digits.side_digits.Tie as tie
 
--- the function's entry, from the last gate's branch and from the other inputs' assignments; that place, from the classes; that one, from both lists lent
+-- the function's entry, from the last gate's branch and the other inputs' assignments; that place, from the classes; that one, from both lists lent
 abbrev branch-start : tie.Then1 → tie.Start
 branch-start c = c .before .before .before .before .before
 

@@ -1,4 +1,4 @@
--- `gate_tables::made::made_net` meets its contract: each choice by its own net. Assumes nothing.
+-- `gate_tables::made::made_net` meets its contract: each choice has its own net. Assumes nothing.
 use mathlib.Core.Path.{subst⁻¹}
 use borrow.Author.Needs.{needs}
 use Rattle.rules.specs.Calls.Answers.{inkIn}

@@ -1,4 +1,4 @@
--- `gate_tables::samples::class_list` meets its contract: the call finds all classes, since there are at most m. Assumes nothing.
+-- `gate_tables::samples::class_list` meets its contract: the call finds all classes, because there are at most m. Assumes nothing.
 use native.Mathlib.Omega.{arith}
 use borrow.Author.Needs.{needs}
 use Rattle.rules.specs.Groups.Groups.{classes, multiplicity}

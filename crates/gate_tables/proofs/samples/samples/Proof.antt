@@ -1,4 +1,4 @@
--- `gate_tables::samples::samples` meets its contract: the test tells a single input from several. Assumes nothing.
+-- `gate_tables::samples::samples` meets its contract: the test distinguishes a single input from several. Assumes nothing.
 use Prim.Native.Nat.{ℕ, _*_, _<_}
 use mathlib.Core.Path.{sym, ap, _∙_, subst}
 use native.Mathlib.Nat.{mul-comm}

@@ -1,4 +1,4 @@
--- `glyphs::call::glyph` meets its contract: what the net sheet is refused for, or what printing its glyph does.
+-- `glyphs::call::glyph` meets its contract: the refusal of the net sheet, or the result of printing its glyph.
 -- Assumes nothing.
 use mathlib.Core.Path.{sym}
 use Rattle.laws.specs.Calls.Glyphs as outcomes

@@ -1,4 +1,4 @@
--- `glyphs::call::print_accepted` meets its contract: the picture, the offsets and the output are judged, then the glyph is printed.
+-- `glyphs::call::print_accepted` meets its contract: it tests the picture, the offsets and the output, then prints the glyph.
 -- Assumes nothing.
 use mathlib.Core.Path.{_≡_, sym, _∙_}
 use mathlib.Core.Bool.{true}

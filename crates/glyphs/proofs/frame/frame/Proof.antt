@@ -30,7 +30,7 @@ at-copy c = c .before .before
 loop-holds : tie.Need-loop-holds Inv-loop μ-loop
 loop-holds c = (omega arith, sym (zero-mul _), framed-none _ _ _ (c .before .before .pre .3))
 
--- a turn: row y lies in the picture, and has room in the frame
+-- a turn: row y is within the picture, and has room in the frame
 module _ (c : tie.In-loop Inv-loop μ-loop) where
   abbrev start : tie.Start Inv-loop μ-loop
   start = at-start (c .before)

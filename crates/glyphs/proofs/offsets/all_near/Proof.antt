@@ -19,7 +19,7 @@ abbrev μ-loop : tie.MeasureT-loop
 abbrev at-turn : tie.After-reach-of Inv-loop μ-loop → tie.In-loop Inv-loop μ-loop
 at-turn c = c .before .before
 
--- what the call gives
+-- what the call returns
 reached : (c : tie.After-reach-of Inv-loop μ-loop) → c .reach-of .result ≡ reach (getD (at-turn c .before .before .args .offsets .now) (at-turn c .before .loop .k) (pos 0))
 reached c = c .reach-of .ensures ∙ ap reach (element _ (c .before .offset .given))
 

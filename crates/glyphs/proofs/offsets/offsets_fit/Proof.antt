@@ -1,4 +1,4 @@
--- `glyphs::offsets::offsets_fit` meets its contract: as many as are due, and each near. Assumes nothing.
+-- `glyphs::offsets::offsets_fit` meets its contract: the right number of offsets, and each near. Assumes nothing.
 use mathlib.Core.Path.{_∙_}
 use borrow.Author.Needs.{needs}
 use borrow.Author.Tests.{eq-eqb, ne-eqb}

@@ -44,7 +44,7 @@ module _ (c : tie.In-loop Inv-loop μ-loop) where
   near : (reach (across (start .args .offsets .now) (c .before .loop .i)) ≤ 4) × (reach (down (start .args .offsets .now) (c .before .loop .i)) ≤ 4)
   near = (across-near _ _ (start .pre .1) _ (c .loop-test .taken), down-near _ _ (start .pre .1) _ (c .loop-test .taken))
 
--- what the two calls give
+-- what the two calls return
 first : (c : tie.After-reach-of Inv-loop μ-loop) → c .reach-of .result ≡ reach (down (start (at-turn (c .before)) .args .offsets .now) (at-turn (c .before) .before .loop .i))
 unfolding down
 first c = c .reach-of .ensures ∙ ap reach (element _ (c .before .down .given))

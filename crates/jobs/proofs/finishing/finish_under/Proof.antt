@@ -1,4 +1,4 @@
--- `jobs::finishing::finish_under` meets its contract: a refusal, or what making from the job's table comes to. Assumes nothing.
+-- `jobs::finishing::finish_under` meets its contract: a refusal, or what making returns for the job's table. Assumes nothing.
 use mathlib.Core.Path.{_≡_, sym, ap, _∙_}
 use mathlib.Core.List.{List, []}
 use Prim.Native.Nat.{ℕ}
@@ -10,7 +10,7 @@ use borrow.Author.Needs.{needs}
 use Rattle.jobs.proofs.finishing.finish_under.Statement.{statement}
 use Rattle.jobs.proofs.finishing.finish_under.Tie as tie
 
--- the start, the judgement, the match on it and the making, each from the next
+-- the start, the test, the match on it and the making, each from the next
 abbrev at-start : tie.After-may-finish → tie.Start
 at-start c = c .before .before .before .before .before .before
 

@@ -12,7 +12,7 @@ use borrow.Author.Needs.{needs}
 use Rattle.jobs.proofs.finishing.may_finish.Statement.{statement}
 use Rattle.jobs.proofs.finishing.may_finish.Tie as tie
 
--- the start, the cells' judgement and the power, each from the next
+-- the start, the test of the cells and the power, each from the next
 abbrev at-start : tie.After-full-cells → tie.Start
 at-start c = c .before .before .before
 

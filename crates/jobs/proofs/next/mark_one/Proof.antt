@@ -1,4 +1,4 @@
--- `jobs::next::mark_one` meets its contract: the whole group of a full table has few classes, any other is counted; the work arrays have room. Assumes nothing.
+-- `jobs::next::mark_one` meets its contract: the whole group of a full table has few classes, others are counted; arrays have room. Assumes nothing.
 use mathlib.Core.Path.{_∙_}
 use native.Mathlib.Omega.{arith}
 use lib.Pow.{pow-mono}

@@ -1,4 +1,4 @@
--- `jobs::opening::open` meets its contract: the empty job beside a refusal, or a new one on the table. Assumes nothing.
+-- `jobs::opening::open` meets its contract: the empty job if the sheet is refused, else a new job on the table. Assumes nothing.
 use mathlib.Core.Path.{sym, ap, _∙_}
 use native.Mathlib.Omega.{arith}
 use Rattle.rules.specs.Calls.Answers.{accepted}

@@ -1,4 +1,4 @@
--- `jobs::opening::own_lines` meets its contract: after each call, what is left to write. Assumes nothing.
+-- `jobs::opening::own_lines` meets its contract: what remains to be written after each call. Assumes nothing.
 use Prim.Native.Nat.{ℕ}
 use mathlib.Core.List.{List, [], _∷_, _++_}
 use native.Mathlib.Omega.{arith}

@@ -1,4 +1,4 @@
--- `keeping::changed::changed_gates` meets its contract. The loop's invariant: the set of those of the first k gates that changed. Assumes nothing.
+-- `keeping::changed::changed_gates` meets its contract. The loop's invariant: `set` has the changed gates among the first k. Assumes nothing.
 use Prim.Native.Nat.{ℕ, _+_, _-_, _^_, _≤_, _<_}
 use mathlib.Core.Path.{_≡_, sym, ap, _∙_, subst⁻¹}
 use native.Mathlib.Omega.{arith}

@@ -1,4 +1,4 @@
--- `keeping::changed::same_table` meets its contract: the parts of the forms' digits that it compares are the gate's. Assumes nothing.
+-- `keeping::changed::same_table` meets its contract: the slices of the forms' digits that it compares are the gate's. Assumes nothing.
 use Prim.Native.Nat.{ℕ, _+_, _-_, _*_, _≤_}
 use mathlib.Core.Path.{_≡_, refl, ap₂, _∙_}
 use native.Mathlib.Nat.{add-mul, one-mul}

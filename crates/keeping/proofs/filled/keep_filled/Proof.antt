@@ -1,4 +1,4 @@
--- `keeping::filled::keep_filled` meets its contract: the inks copied, then 23 at 0 or at a gate, or what is written anew. Assumes nothing.
+-- `keeping::filled::keep_filled` meets its contract: the inks are copied, then 23 at 0 or at a gate, or the new sheet. Assumes nothing.
 use mathlib.Core.Path.{_≡_, sym, _∙_}
 use mathlib.Core.Bool.{false}
 use native.Mathlib.Omega.{arith}
@@ -12,7 +12,7 @@ use Rattle.keeping.specs.Rewriting.{table-sized, left-told, first-told, 
 use Rattle.keeping.proofs.filled.keep_filled.Statement.{statement}
 use Rattle.keeping.proofs.filled.keep_filled.Tie as tie
 
--- the start from the inks copied, these from the inputs looked at, those from the gates looked at, and these from the sheet
+-- the start from the inks copied, these from the inputs tested, those from the gates tested, and these from the sheet
 abbrev start : tie.After-copy → tie.Start
 start c = c .before .before .before .before .before .before
 
@@ -30,7 +30,7 @@ leaves-out-requires c κs =
     let s = start (c .before .before) in
     (sound _ _ _ (s .pre .taken), table-sized _ _ _ _ (s .pre .taken) (s .pre .given))
 
--- the cells buffer then
+-- the cells buffer at that point
 cells-then : (c : tie.After-copy) → c .copy .last .1 .0 ≡ written (start c .args .cells .now) (start c .args .inks .now)
 cells-then c = put-wrote (start c .pre .long) (c .copy .ensures) .text
 
@@ -45,7 +45,7 @@ roomy-gates-requires c κs =
     let s = start (copied (c .before)) in
     (sound _ _ _ (s .pre .taken), table-sized _ _ _ _ (s .pre .taken) (s .pre .given))
 
--- no input that matters is left out then
+-- at that point, no input that matters is left out
 takes : (c : tie.Else1) →
     let a = start (copied (c .before)) .args in
     leavesOutOf (a .net .levels) (a .net .inputs) (inkIn (a .inks .now)) (gatesOf (a .net)) ≡ false

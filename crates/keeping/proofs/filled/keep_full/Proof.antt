@@ -1,4 +1,4 @@
--- `keeping::filled::keep_full` meets its contract: 13, or what the wiring comes to. Assumes nothing.
+-- `keeping::filled::keep_full` meets its contract: 13, or the result of filling the wiring. Assumes nothing.
 use mathlib.Core.Path.{_∙_}
 use borrow.Author.Needs.{needs}
 use Rattle.keeping.specs.Rewriting.{full-short, full-long}

@@ -1,4 +1,4 @@
--- `keeping::keep::keep` meets its contract: what reading both sheets refuses, then 27, then what a full table gives. Assumes nothing.
+-- `keeping::keep::keep` meets its contract: the refusals of reading both sheets, then 27, then the result for a full table. Assumes nothing.
 use mathlib.Core.Path.{sym, ap, _∙_}
 use native.Mathlib.Omega.{arith}
 use borrow.Author.Needs.{needs}

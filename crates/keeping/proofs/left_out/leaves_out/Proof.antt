@@ -1,4 +1,4 @@
--- `keeping::left_out::leaves_out` meets its contract. The loop's invariant: the inputs that are left decide. Assumes nothing.
+-- `keeping::left_out::leaves_out` meets its contract. The loop's invariant: the remaining inputs decide. Assumes nothing.
 use Prim.Native.Nat.{_-_, _≤_}
 use mathlib.Core.Path.{_≡_, sym, _∙_}
 use native.Mathlib.Omega.{arith}

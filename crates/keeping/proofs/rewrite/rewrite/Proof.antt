@@ -1,4 +1,4 @@
--- `keeping::rewrite::rewrite` meets its contract: the wiring filled, the gates that changed, the sheet. Assumes nothing.
+-- `keeping::rewrite::rewrite` meets its contract: the filled wiring, the gates that changed, the sheet. Assumes nothing.
 use mathlib.Core.Path.{_∙_}
 use native.Mathlib.Omega.{arith}
 use borrow.Author.Needs.{needs}

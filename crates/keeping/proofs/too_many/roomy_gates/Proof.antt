@@ -1,4 +1,4 @@
--- `keeping::too_many::roomy_gates` meets its contract. The loop's invariant: the groups of the first k gates are known, and have step classes. Assumes nothing.
+-- `keeping::too_many::roomy_gates` meets its contract. Loop invariant: the first k gates' groups are known and have few classes. Assumes nothing.
 use Prim.Native.Nat.{ℕ, _+_, _-_, _^_, _<_}
 use mathlib.Core.Path.{_≡_, sym, ap, _∙_, subst⁻¹}
 use mathlib.Core.Bool.{Bool}
@@ -83,7 +83,7 @@ module _ (c : tie.Then1 Inv-loop μ-loop) where
   step : GateStep net k
   step = gate-step net sound k (c .if1 .taken)
 
-  -- the sum that the code makes is the gate's group
+  -- the sum that the code computes is the gate's group
   abbrev own : ℕ
   own = getD groups (getD (net .left) k 0) 0 + getD groups (getD (net .right) k 0) 0
 
@@ -96,7 +96,7 @@ module _ (c : tie.Then1 Inv-loop μ-loop) where
   small : own < 2 ^ 15
   small = lt-of-lt-of-le below (pow-mono {i = net .inputs} {j = 15} (omega (arith, sound-size net sound .inputs-most)))
 
-  -- what the test says of that group
+  -- what the test says about that group
   here : (told : Bool) → told ≡ ltb (net .levels) (multiplicity (net .levels) (net .inputs) f own)
       → (t : Bool) → told ≡ t → ltb (net .levels) (multiplicity (net .levels) (net .inputs) f (gateGroupAt net k)) ≡ t
   here told is t e = ap (λ (g : ℕ). ltb (net .levels) (multiplicity (net .levels) (net .inputs) f g)) (sym is-own) ∙ sym is ∙ e

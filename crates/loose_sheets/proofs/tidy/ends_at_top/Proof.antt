@@ -1,4 +1,4 @@
--- `loose_sheets::tidy::ends_at_top` ends, and reads no byte outside the sheet. The loop's invariant: the level that is looked at stands before the ink.
+-- `loose_sheets::tidy::ends_at_top` terminates and reads no byte outside the sheet. The loop's invariant: the level compared is before the ink.
 -- Assumes nothing.
 use Prim.Native.Nat.{_+_, _≤_}
 use native.Mathlib.Omega.{arith}

@@ -7,7 +7,7 @@ use borrow.Author.Needs.{needs}
 use Rattle.loose_sheets.proofs.tidy.tidy_accepted.Statement.{statement}
 use Rattle.loose_sheets.proofs.tidy.tidy_accepted.Tie as tie
 
--- the start, the test of the cells' length and the copy, each from the next
+-- gets the start, the test of the cells' length and the copy, each from the next
 abbrev at-start : tie.After-power → tie.Start
 at-start c = c .before .before .before .before .before
 

@@ -1,4 +1,4 @@
--- `loose_sheets::tidy::tidy_either` meets its contract: the sheet read strictly, or else loosely.
+-- `loose_sheets::tidy::tidy_either` meets its contract: the sheet is read as strict, or else as loose.
 -- Assumes nothing.
 use Prim.Native.Nat.{ℕ}
 use native.Mathlib.Omega.{arith}
@@ -9,7 +9,7 @@ use borrow.Author.Needs.{needs}
 use Rattle.loose_sheets.proofs.tidy.tidy_either.Statement.{statement}
 use Rattle.loose_sheets.proofs.tidy.tidy_either.Tie as tie
 
--- the sheet's read, from where its outcome is told
+-- gets the sheet's read from the match on its outcome
 abbrev at-read : tie.After-enum-told2 → tie.After-read-table
 at-read c = c .before .before .before .before
 

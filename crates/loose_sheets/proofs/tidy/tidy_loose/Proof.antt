@@ -1,4 +1,4 @@
--- `loose_sheets::tidy::tidy_loose` meets its contract: the sheet read, then tidied.
+-- `loose_sheets::tidy::tidy_loose` meets its contract: the sheet is read, then tidied.
 -- Assumes nothing.
 use Prim.Native.Nat.{ℕ}
 use mathlib.Core.Path.{sym}
@@ -12,7 +12,7 @@ use borrow.Author.Needs.{needs}
 use Rattle.loose_sheets.proofs.tidy.tidy_loose.Statement.{statement}
 use Rattle.loose_sheets.proofs.tidy.tidy_loose.Tie as tie
 
--- the sheet's read, from where its outcome is told
+-- gets the sheet's read from the match on its outcome
 abbrev at-read : tie.After-header → tie.After-read-loose
 at-read c = c .before .before
 

@@ -6,7 +6,7 @@ use borrow.Author.Needs.{needs}
 use Rattle.loose_sheets.proofs.tidy.write_sheet.Statement.{statement}
 use Rattle.loose_sheets.proofs.tidy.write_sheet.Tie as tie
 
--- the start from the length, and the length from where the sheet is copied or printed
+-- gets the start from the length, and the length from where the sheet is copied or printed
 abbrev at-start : tie.After-table-length → tie.Start
 at-start c = c .before .before .before .before
 

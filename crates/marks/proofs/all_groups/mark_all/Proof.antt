@@ -1,4 +1,4 @@
--- `marks::all_groups::mark_all` meets its contract: either way of marking does. Assumes nothing.
+-- `marks::all_groups::mark_all` meets its contract: both ways of marking do. Assumes nothing.
 use native.Mathlib.Omega.{arith}
 use Rattle.laws.specs.Numbers.Sizes.{sized}
 use borrow.Author.Needs.{needs}

@@ -1,4 +1,4 @@
--- `marks::all_groups::mark_with` meets its contract: the marks below the whole group's, and then that. Assumes nothing.
+-- `marks::all_groups::mark_with` meets its contract: first the marks below the whole group, then its own. Assumes nothing.
 use Prim.Native.Nat.{_-_, _^_, _≤_, _<_}
 use mathlib.Core.Path.{_≡_, _∙_}
 use native.Mathlib.Omega.{arith}

@@ -1,4 +1,4 @@
--- `marks::group_mark::mark_group` meets its contract: an empty group, one of too many classes, or the mark of one of few.
+-- `marks::group_mark::mark_group` meets its contract: the empty group, a group with too many classes, or the mark of a group with few.
 -- Assumes nothing.
 use mathlib.Core.Path.{sym, _∙_}
 use native.Mathlib.Nat.{lt-of-lt-of-le}

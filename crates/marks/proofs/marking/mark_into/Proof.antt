@@ -1,4 +1,4 @@
--- `marks::marking::mark_into` meets its contract: refusal 14, or what is stored and answered. Assumes nothing.
+-- `marks::marking::mark_into` meets its contract: refusal 14, or the stored marks and the answer. Assumes nothing.
 use native.Mathlib.Omega.{arith}
 use Rattle.laws.specs.Numbers.Sizes.{sized}
 use Rattle.marks.specs.Marked.{marks-short, marks-written}

@@ -1,4 +1,4 @@
--- `marks::marking::marking` meets its contract: what bare cells are refused for, or what marking does. Assumes nothing.
+-- `marks::marking::marking` meets its contract: the refusal of the bare cells, or the result of marking. Assumes nothing.
 use mathlib.Core.Path.{sym, ap, _∙_}
 use Rattle.answers.specs.AnswerMaps.{outcomeAs}
 use Rattle.cells.specs.Full.{accepted-full}

@@ -1,4 +1,4 @@
--- `marks::marking::store_large` meets its contract: its marks are enough. Assumes nothing.
+-- `marks::marking::store_large` meets its contract: its marks array is long enough. Assumes nothing.
 use native.Mathlib.Omega.{arith}
 use lib.Pow.{pow-mono}
 use Rattle.laws.specs.Numbers.Sizes.{sized}

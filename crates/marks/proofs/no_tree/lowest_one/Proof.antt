@@ -1,5 +1,5 @@
--- `marks::no_tree::lowest_one` meets its contract. The loop's invariant: the search from the group that is looked at on is the
--- search. Assumes nothing.
+-- `marks::no_tree::lowest_one` meets its contract. The loop's invariant: the search from the current group on gives the same
+-- result. Assumes nothing.
 use Prim.Native.Nat.{_-_, _≤_}
 use mathlib.Core.Path.{_≡_, refl, sym, _∙_}
 use native.Mathlib.Omega.{arith}

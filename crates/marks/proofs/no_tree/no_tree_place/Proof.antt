@@ -1,5 +1,5 @@
--- `marks::no_tree::no_tree_place` meets its contract. The loop's invariant: the search from the size that is looked at on is the
--- search. Assumes nothing.
+-- `marks::no_tree::no_tree_place` meets its contract. The loop's invariant: the search from the current size on gives the same
+-- result. Assumes nothing.
 use Prim.Native.Nat.{_+_, _-_, _≤_}
 use mathlib.Core.Path.{_≡_, refl, sym, _∙_}
 use native.Mathlib.Omega.{arith}

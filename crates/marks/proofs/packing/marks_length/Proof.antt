@@ -1,4 +1,4 @@
--- `marks::packing::marks_length` meets its contract: a byte for every four groups. Assumes nothing.
+-- `marks::packing::marks_length` meets its contract: one byte for every four groups. Assumes nothing.
 use Prim.Native.Nat.{ℕ, _/_}
 use mathlib.Core.Path.{ap}
 use Rattle.rules.specs.Groups.Marks.{marksLength}

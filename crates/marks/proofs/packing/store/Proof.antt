@@ -27,7 +27,7 @@ at-start c = c .before .before .before .before .before
 abbrev at-turn : tie.After-four Inv-loop μ-loop → tie.In-loop Inv-loop μ-loop
 at-turn c = c .before
 
--- the four marks of a turn are there, and so is their byte
+-- the four marks of a turn exist, and so does their byte
 four-there : (c : tie.In-loop Inv-loop μ-loop) → c .before .loop .g + 3 < 2 ^ at-start c .args .n
 four-there c = omega (arith, c .loop-test .taken, c .before .before .power .ensures)
 

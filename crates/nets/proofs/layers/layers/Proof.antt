@@ -1,4 +1,4 @@
--- `nets::layers::layers` meets its contract. The loop's invariant: the layers down to the first k gates are known. Assumes nothing.
+-- `nets::layers::layers` meets its contract. The loop's invariant: the layers of the first k gates are known. Assumes nothing.
 use Prim.Native.Nat.{ℕ, _-_, _+_, _≤_, _<_}
 use mathlib.Core.Path.{refl}
 use mathlib.Core.List.{List}
@@ -64,7 +64,7 @@ loop-again c =
     let t = at-turn c in
     depths-more (net t) (sound t) (k t) (depths t) (at-loop t .loop .inv) (t .if1 .taken) (c .before .deeper .result) (c .before .deeper .ensures)
 
--- ---- the last gate's
+-- the last gate
 
 wires : (c : tie.At-loop Inv-loop μ-loop) → let net = at-start c .args .net in (net .inputs + net .gates ≤ mostWires) × (0 < net .gates)
 wires c = let s = at-start c in (wires-room (s .args .net) (s .pre), gates-pos (s .args .net) (s .pre))

@@ -1,4 +1,4 @@
--- `nets::names::name_of` meets its contract: the part of the sheet is the name.
+-- `nets::names::name_of` meets its contract: the slice of the sheet is the name.
 -- Assumes nothing.
 use borrow.Author.Needs.{needs}
 use native.Mathlib.Nat.{add-sub-cancel-left}

@@ -5,7 +5,7 @@ use Rattle.programs.specs.Prints.{front-room, sheet-prints, refusal-prin
 use Rattle.programs.proofs.output.output_of.Statement.{statement}
 use Rattle.programs.proofs.output.output_of.Tie as tie
 
--- the start, from the call of `front`
+-- gets the start from the call of `front`
 abbrev at-start : tie.After-front → tie.Start
 at-start c = c .before .before .before .before .before
 

@@ -12,7 +12,7 @@ use Rattle.programs.specs.Refusals.{refusal-length}
 use Rattle.programs.proofs.refusal.print_refusal.Statement.{statement}
 use Rattle.programs.proofs.refusal.print_refusal.Tie as tie
 
--- the start, from the call of `print_pair`
+-- gets the start from the call of `print_pair`
 abbrev at-start : tie.After-print-pair-arg2 → tie.Start
 at-start c = c .before .before .before
 

@@ -1,5 +1,5 @@
--- `radix::members::members` meets its contract. The loop's invariant: the members so far, and those among the inputs that are
--- left. Assumes nothing.
+-- `radix::members::members` meets its contract. The loop's invariant: the members so far, plus those among the inputs that are
+-- left, are all members. Assumes nothing.
 use Prim.Native.Nat.{suc, _+_, _-_, _≤_}
 use mathlib.Core.Path.{_≡_, ap}
 use native.Mathlib.Nat.{sub-zero}

@@ -1,4 +1,4 @@
--- `radix::members::single` meets its contract: a group of one member is nothing without its first-listed. Assumes nothing.
+-- `radix::members::single` meets its contract: a group has one member if nothing is left without its first-listed one. Assumes nothing.
 use borrow.Author.Needs.{needs}
 use Rattle.radix.specs.Members.{single-test}
 use Rattle.radix.proofs.members.single.Statement.{statement}

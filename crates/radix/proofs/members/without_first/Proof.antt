@@ -1,4 +1,4 @@
--- `radix::members::without_first` meets its contract, by the law of one less. Assumes nothing.
+-- `radix::members::without_first` meets its contract, by the law of subtracting one. Assumes nothing.
 use Rattle.radix.specs.Parts.{without-first}
 use borrow.Author.Needs.{needs}
 use Rattle.radix.proofs.members.without_first.Statement.{statement}

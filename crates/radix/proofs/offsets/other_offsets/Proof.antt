@@ -1,4 +1,4 @@
--- `radix::offsets::other_offsets` meets its contract: the number that is passed is that of the other inputs' group. Assumes nothing.
+-- `radix::offsets::other_offsets` meets its contract: the number passed on is that of the other inputs' group. Assumes nothing.
 use Prim.Native.Nat.{ℕ}
 use mathlib.Core.Path.{subst}
 use borrow.Author.Needs.{needs}

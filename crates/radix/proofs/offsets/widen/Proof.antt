@@ -1,4 +1,4 @@
--- `radix::offsets::widen` meets its contract. The loop's invariant: the front `j` entries are those of the widened list.
+-- `radix::offsets::widen` meets its contract. The loop's invariant: the first `j` entries are those of the widened list.
 -- Assumes nothing.
 use Prim.Native.Nat.{ℕ, _≤_, _<_, _*_, _-_, _^_}
 use mathlib.Core.Path.{_≡_, refl, _∙_, subst, subst⁻¹}

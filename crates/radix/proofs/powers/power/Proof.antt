@@ -16,7 +16,7 @@ Inv-loop m n p₀ i₀ p i = (i ≤ n) × (p ≡ m ^ i)
 abbrev μ-loop : tie.MeasureT-loop
 μ-loop m n p₀ i₀ p i = n - i
 
--- a power of a digit, small enough, fits
+-- a power of a digit fits if its exponent is small enough
 small : (m i : ℕ) → m ≤ mostLevels → i ≤ mostMembers → m ^ i < 2 ^ 64
 small m i h k = lt-of-le-of-lt (le-trans (pow-le-pow-left h i) (pow-le-pow-right (zero-lt-suc 8) k)) (lit< tt)
 

@@ -27,7 +27,7 @@ one-more m n i w some low e =
 weight-below : (m n i w : ℕ) → 0 < m → w ≡ m ^ (n - i) → w ≤ m ^ n
 weight-below m n i w some e = subst⁻¹ (λ (k : ℕ). k ≤ m ^ n) e (pow-le-pow-right some (omega arith))
 
--- one input more has its weight
+-- one more input has its weight
 turn : (m n i w : ℕ) (out : List ℕ) → 0 < i → i ≤ length out → w ≡ m ^ (n - i) → ((j : ℕ) → i ≤ j → j < n → getD out j 0 ≡ m ^ (n - 1 - j))
     → (j : ℕ) → i - 1 ≤ j → j < n → Dec (j ≡ i - 1) → getD (set out (i - 1) w) j 0 ≡ m ^ (n - 1 - j)
 turn m n i w out some room e known j low high (yes here) =

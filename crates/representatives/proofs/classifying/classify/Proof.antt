@@ -1,4 +1,4 @@
--- `representatives::classifying::classify` meets its contract: too many classes, which are told apart, or few, which are kept. Assumes nothing.
+-- `representatives::classifying::classify` meets its contract: too many classes, with witness columns, or few, which are recorded. Assumes nothing.
 use Prim.Native.Nat.{_<_}
 use native.Mathlib.Omega.{arith}
 use lib.ListN.{length}
@@ -20,7 +20,7 @@ at-count c = c .before .before
 some-level : (c : tie.Start) → 0 < c .args .m
 some-level c = omega (arith, c .pre .levels)
 
--- the first of each class are as many as they were places for
+-- the array still has room for the first of m + 1 classes
 firsts-room : (c : tie.After-row-firsts) → at-start c .args .m < length (c .row-firsts .last .1 .1 .1 .1 .1 .0)
 firsts-room c = omega (arith, c .row-firsts .kept .1 .1 .1 .1 .1 .0, at-start c .pre .for-firsts)
 

@@ -1,4 +1,4 @@
--- `representatives::extension::copy` meets its contract. The loop's invariant: `k` numbers are copied, and all below `b` is as it was. Assumes nothing.
+-- `representatives::extension::copy` meets its contract. The loop's invariant: `k` numbers are copied; below `b` nothing changed. Assumes nothing.
 use Prim.Native.Nat.{ℕ, _+_, _-_, _≤_, _<_}
 use mathlib.Core.Path.{_≡_, refl, sym, ap, _∙_, subst}
 use mathlib.Core.List.{List}
@@ -16,7 +16,7 @@ Inv-loop from a to₀ b count k₀ to k = (k ≤ count) × (length to ≡ length
 abbrev μ-loop : tie.MeasureT-loop
 μ-loop from a to₀ b count k₀ to k = count - k
 
--- one number more
+-- one more number
 turn : (from : List ℕ) (a : ℕ) (to₀ : List ℕ) (b k : ℕ) (to : List ℕ) → b + k < length to → Copied from a to₀ b k to → Copied from a to₀ b (k + 1) (set to (b + k) (getD from (a + k) 0))
 turn from a to₀ b k to room so-far =
     record {

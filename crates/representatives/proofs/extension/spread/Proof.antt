@@ -1,4 +1,4 @@
--- `representatives::extension::spread` meets its contract. The loop's invariant: the assignments so far cover the group without the members that are left.
+-- `representatives::extension::spread` meets its contract. Loop invariant: the assignments so far cover the group without the remaining members.
 -- Assumes nothing.
 use Prim.Native.Nat.{_-_, _^_}
 use mathlib.Core.Path.{_≡_}
@@ -28,7 +28,7 @@ at-widen c = c .before .before
 loop-holds : tie.Need-loop-holds Inv-loop μ-loop
 loop-holds c = spreads-none (c .before .before .pre)
 
--- the first-listed of the members that are left
+-- the first-listed of the remaining members
 is-first : (c : tie.After-first-of Inv-loop μ-loop) → c .first-of .result ≡ firstInput (at-start (c .before .before) .args .n) (c .before .before .loop .rest)
 is-first c = c .first-of .ensures (at-start (c .before .before) .args .n) (spreads-group (at-start (c .before .before) .pre) (c .before .before .loop .inv))
 
@@ -51,7 +51,7 @@ widen-requires c κs =
       spreads-small pre inv (turn .loop-test .taken) (is-first (at-first c)),
     )
 
--- what is left without it
+-- the remaining members without it
 is-rest : (c : tie.After-without-first Inv-loop μ-loop) →
     let turn = at-first (at-widen (c .before) .before) .before in
     c .without-first .result ≡ turn .before .loop .rest - 2 ^ firstInput (at-start (turn .before) .args .n) (turn .before .loop .rest)

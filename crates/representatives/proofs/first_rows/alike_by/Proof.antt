@@ -1,4 +1,4 @@
--- `representatives::first_rows::alike_by` meets its contract: rows that one column tells apart are not alike. Assumes nothing.
+-- `representatives::first_rows::alike_by` meets its contract: if a column distinguishes two rows, they are not alike. Assumes nothing.
 use Prim.Native.Nat.{_+_, _<_}
 use mathlib.Core.Path.{sym, subst}
 use native.Mathlib.Omega.{arith}

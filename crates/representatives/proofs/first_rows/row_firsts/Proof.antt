@@ -1,4 +1,4 @@
--- `representatives::first_rows::row_firsts` meets its contract. The loop's invariant: what is kept, and the rows that are left, give the classes of all.
+-- `representatives::first_rows::row_firsts` meets its contract. The loop's invariant: what is kept and the remaining rows give the classes of all.
 -- Assumes nothing.
 use Prim.Native.Nat.{_+_, _-_, _≤_, _<_}
 use mathlib.Core.Path.{_≡_, refl, _∙_, subst}

@@ -1,4 +1,4 @@
--- `representatives::group::keep_group` meets its contract: the empty group, too many classes that pass on, or the classes counted. Assumes nothing.
+-- `representatives::group::keep_group` meets its contract: the empty group, too many classes that pass on, or a count. Assumes nothing.
 use Prim.Native.Nat.{_+_, _-_, _*_, _≤_, _<_}
 use mathlib.Core.Path.{_≡_, subst}
 use native.Mathlib.Omega.{arith}
@@ -11,7 +11,7 @@ use borrow.Author.Needs.{needs}
 use Rattle.representatives.proofs.group.keep_group.Statement.{statement}
 use Rattle.representatives.proofs.group.keep_group.Tie as tie
 
--- the start, from the test of the group and from the member that is taken off; that member, from what is kept where too many pass on
+-- the start, from the test of the group and from the removed member; that member, from what is recorded if too many classes pass on
 abbrev at-start : tie.After-slice-known4 → tie.Start
 at-start c = c .before .before .before .before .before .before .before
 
@@ -28,7 +28,7 @@ one c = c .source .ensures (source-start c .args .n) (source-start c .pre .1 .gr
 off : (c : tie.After-source) → (c .source .result ≤ source-start c .args .g) × (source-start c .args .g - c .source .result < source-start c .args .g)
 off c = let pre = source-start c .pre in step-off-lower (pre .0) (pre .1) (one c)
 
--- what is kept of the rest
+-- what is recorded for the rest
 rest-counted : (c : tie.After-source) →
     let a = source-start c .args in
     let h = a .g - c .source .result in

@@ -1,4 +1,4 @@
--- `representatives::group::past_of` meets its contract: twice the power where it is reached. Assumes nothing.
+-- `representatives::group::past_of` meets its contract: twice the power if it is reached. Assumes nothing.
 use native.Mathlib.Omega.{arith}
 use lib.Pow.{pow-pos}
 use Rattle.representatives.specs.Steps.{near-twice}

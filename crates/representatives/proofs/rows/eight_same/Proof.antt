@@ -1,4 +1,4 @@
--- `representatives::rows::eight_same` meets its contract. The loop's invariant: where none differs so far, every cell so far is the same. Assumes nothing.
+-- `representatives::rows::eight_same` meets its contract. Loop invariant: if none differs so far, all cells so far are the same. Assumes nothing.
 use Prim.Native.Nat.{_-_, _≤_}
 use mathlib.Core.Path.{_≡_}
 use mathlib.Core.Logic.{⊎-elim}

@@ -1,4 +1,4 @@
--- `representatives::rows::heads_apart` meets its contract: the first place that differs is one of a column. Assumes nothing.
+-- `representatives::rows::heads_apart` meets its contract: the first place that differs is a column. Assumes nothing.
 use mathlib.Core.Path.{refl, sym, ap, _∙_}
 use native.Mathlib.Omega.{arith}
 use Rattle.rules.specs.Calls.Answers.{inkIn}
@@ -14,7 +14,7 @@ enum-told c = search needs
 returns : tie.Need-returns
 returns c = none-differ _ _ _ _ .0 (sym (c .before .before .first-difference .ensures) ∙ ap differenceAs (c .enum-told .given .1))
 
--- the place that is told
+-- the place that is found
 placed : (c : tie.After-known-told) →
     let a = c .before .before .before .before .before .before .args in
     Differ (inkIn (a .cells .now)) (a .heads .now) (a .p) (a .q) (c .before .found .given .0 .0)

@@ -1,4 +1,4 @@
--- `representatives::rows::place_apart` meets its contract: what is told is one of the columns. Assumes nothing.
+-- `representatives::rows::place_apart` meets its contract: the result is one of the columns. Assumes nothing.
 use mathlib.Core.Path.{sym, _∙_, subst}
 use mathlib.Core.Bool.{true≢false}
 use Rattle.rules.specs.Calls.Answers.{inkIn}

@@ -1,4 +1,4 @@
--- `representatives::rows::runs_apart` meets its contract. The loop's invariant: the cells are the same in the runs of the heads so far. Assumes nothing.
+-- `representatives::rows::runs_apart` meets its contract. Loop invariant: the cells are the same in the runs of the heads so far. Assumes nothing.
 use Prim.Native.Nat.{_+_, _-_, _≤_, _<_}
 use native.Mathlib.Omega.{arith}
 use lib.ListN.{length, getD}
@@ -23,7 +23,7 @@ loop-holds c = (omega arith, λ j z h. absurd (omega arith))
 cast-h : tie.Need-cast-h Inv-loop μ-loop
 cast-h c = omega (arith, c .shared-slice-known3 .given (c .before .before .loop .k))
 
--- the run of a turn's head is there, in both rows
+-- the run of a turn's head exists in both rows
 in-cells : (c : tie.In-loop Inv-loop μ-loop) →
     let a = at-start (c .before) .args in
     let h = getD (a .heads .now) (c .before .loop .k) 0 in

@@ -1,4 +1,4 @@
--- `representatives::source::source` meets its contract. The loop's invariant: the members that are left are members, and the best so far is one.
+-- `representatives::source::source` meets its contract. Loop invariant: the members still to be tried are members of g, and so is the best so far.
 -- Assumes nothing.
 use Prim.Native.Nat.{_-_, _^_, _≤_, _<_}
 use native.Mathlib.Omega.{arith}
@@ -23,7 +23,7 @@ at-off c = c .before
 fits : (c : tie.At-loop Inv-loop μ-loop) → at-start c .args .g < 2 ^ 64
 fits c = omega arith
 
--- it is there, and taken off
+-- it is not 0, and is removed
 less : (c : tie.After-without-first2 Inv-loop μ-loop) →
     let rest = c .before .before .loop .rest in
     (0 < rest - c .without-first2 .result) × (c .without-first2 .result ≤ rest) × (c .without-first2 .result < rest)

@@ -1,5 +1,5 @@
--- `representatives::witnesses::agreeing_in_all` meets its contract. The loop's invariant: the rows after the first `k` are told apart from those
--- before them. Assumes nothing.
+-- `representatives::witnesses::agreeing_in_all` meets its contract. The loop's invariant: columns distinguish each row after row `k` from all rows
+-- before it. Assumes nothing.
 use Prim.Native.Nat.{_-_, _<_}
 use mathlib.Core.Path.{subst}
 use native.Mathlib.Nat.{add-zero}

@@ -1,4 +1,4 @@
--- `representatives::witnesses::agreeing_in_row` meets its contract. The loop's invariant: the row is told apart from the first `j`. Assumes nothing.
+-- `representatives::witnesses::agreeing_in_row` meets its contract. Loop invariant: columns distinguish the row from the first `j`. Assumes nothing.
 use Prim.Native.Nat.{ℕ, _-_, _≤_}
 use mathlib.Core.Path.{_≡_, subst}
 use native.Mathlib.Omega.{arith}

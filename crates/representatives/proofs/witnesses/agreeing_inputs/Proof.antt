@@ -1,5 +1,5 @@
--- `representatives::witnesses::agreeing_inputs` meets its contract: of no input any column will do; the column `base` tells the two apart, or the
--- first that does is compared with it. Assumes nothing.
+-- `representatives::witnesses::agreeing_inputs` meets its contract: with no inputs any column will do; the column `base` distinguishes the two rows,
+-- or the first that does is compared with it. Assumes nothing.
 use Prim.Native.Nat.{_+_, _<_}
 use native.Mathlib.Omega.{arith}
 use lib.ListN.{length}

@@ -6,7 +6,7 @@ use Rattle.settling.specs.Calls.{makes-turned, makes-marked}
 use Rattle.settling.proofs.chosen.make_by.Statement.{statement}
 use Rattle.settling.proofs.chosen.make_by.Tie as tie
 
--- the start, the input's read, the match on it and the call, each from the next
+-- gets the start, the input's read, the match on it and the call, each from the next
 abbrev at-start : tie.After-read-input → tie.Start
 at-start c = c .before .before .before .before .before .before .before .before
 

@@ -6,7 +6,7 @@ use borrow.Author.Needs.{needs}
 use Rattle.settling.proofs.chosen.settle_by.Statement.{statement}
 use Rattle.settling.proofs.chosen.settle_by.Tie as tie
 
--- the sheet's read from the match on it, that match and the call of `settle_net`, each from the next
+-- gets the sheet's read, the match on it and the call of `settle_net`, each from the next
 abbrev at-read : tie.After-enum-told → tie.After-read-net
 at-read c = c .before .before .before .before
 

@@ -7,7 +7,7 @@ use borrow.Author.Needs.{needs}
 use Rattle.settling.proofs.chosen.settle_net.Statement.{statement}
 use Rattle.settling.proofs.chosen.settle_net.Tie as tie
 
--- the start and each call, from the next
+-- gets the start and each call from the next
 abbrev at-start : tie.After-inks → tie.Start
 at-start c = c .before .before .before .before .before
 

@@ -10,7 +10,7 @@ use Rattle.settling.specs.Input.{settling-sheet-refused, room-judged}
 use Rattle.settling.proofs.input.read_input.Statement.{statement}
 use Rattle.settling.proofs.input.read_input.Tie as tie
 
--- the table's read, from the match on it
+-- gets the table's read from the match on it
 abbrev at-read : tie.After-enum-told → tie.After-read-full
 at-read c = c .before .before .before .before .before
 

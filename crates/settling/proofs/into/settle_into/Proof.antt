@@ -10,7 +10,7 @@ use borrow.Author.Needs.{needs}
 use Rattle.settling.proofs.into.settle_into.Statement.{statement}
 use Rattle.settling.proofs.into.settle_into.Tie as tie
 
--- the start, the arguments of `room`, what it judged, the match on that, and the call of `settle_marked`, each from the next
+-- gets the start, the arguments of `room`, its result, the match on that, and the call of `settle_marked`, each from the next
 abbrev at-args : tie.After-room-arg2 → tie.Start
 at-args c = c .before .before .before .before .before .before .before
 

@@ -14,7 +14,7 @@ use borrow.Author.Needs.{needs}
 use Rattle.settling.proofs.marked.settle_marked.Statement.{statement}
 use Rattle.settling.proofs.marked.settle_marked.Tie as tie
 
--- the start, each call and the test of the whole group's mark, each from the next
+-- gets the start, each call and the test of the whole group's mark, each from the next
 abbrev at-start : tie.After-copy-arg → tie.Start
 at-start c = c .before .before .before .before .before .before
 
@@ -39,7 +39,7 @@ marks-start c = at-start (at-copy (c .before) .before)
 abbrev net-start : tie.After-made-net → tie.Start
 net-start c = marks-start (at-marks (at-tree c))
 
--- the call's own marks have room for every group's
+-- the call's local marks have room for the marks of all groups
 room : (c : tie.Start) → 2 ^ c .args .header .inputs ≤ 2 ^ mostInputs
 room c =
     let h = c .args .header in

@@ -5,7 +5,7 @@ use Rattle.settling.specs.Room.{settling-cells-short, settling-marks-sho
 use Rattle.settling.proofs.room.room.Statement.{statement}
 use Rattle.settling.proofs.room.room.Tie as tie
 
--- the start, from the first test; that test, from the second
+-- gets the start from the first test, and that test from the second
 abbrev at-start : tie.After-shared-slice-known3 → tie.Start
 at-start c = c .before .before .before
 

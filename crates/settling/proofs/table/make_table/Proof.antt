@@ -6,7 +6,7 @@ use borrow.Author.Needs.{needs}
 use Rattle.settling.proofs.table.make_table.Statement.{statement}
 use Rattle.settling.proofs.table.make_table.Tie as tie
 
--- the call from its answer
+-- gets the call from its answer
 abbrev at-settled : tie.After-slice-known6 → tie.After-settle-into
 at-settled c = c .before .before .before .before .before .before
 

@@ -13,7 +13,7 @@ use Rattle.shallower.proofs.sheet.shallower.Tie as tie
 abbrev at-start : tie.After-which-of → tie.Start
 at-start c = c .before .before .before
 
--- what is handed back for the answer is what is due
+-- what is returned for the answer is right
 due : (c : tie.After-which-of) (w : Which) → c .which-of .result ≡ w → let a = at-start c .args in
     handed (whichAs w) (a .first) (a .second) ≡ handed (rules.whichOf (a .first .now) (a .second .now)) (a .first) (a .second)
 due c w e =

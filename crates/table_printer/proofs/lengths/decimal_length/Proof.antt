@@ -1,5 +1,5 @@
--- `table_printer::lengths::decimal_length` meets its contract. The loop's invariant: the digits counted and those of `rest` are one more
--- than k's, since rest's last digit is in both.
+-- `table_printer::lengths::decimal_length` meets its contract. The loop's invariant: the digits counted plus those of `rest` are one more
+-- than those of k, since the last digit of `rest` is in both.
 -- Assumes nothing.
 use Prim.Native.Nat.{ℕ, _+_, _/_, _%_, _≤_}
 use mathlib.Core.Path.{_≡_, ap, _∙_}

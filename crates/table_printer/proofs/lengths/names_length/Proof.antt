@@ -16,7 +16,7 @@ Inv-loop inputs lens total₀ i₀ total i = (i ≤ inputs) × (total ≡ lensTo
 abbrev μ-loop : tie.MeasureT-loop
 μ-loop inputs lens total₀ i₀ total i = inputs - i
 
--- the start, from a turn's start
+-- gets the start from a turn's start
 abbrev at-start : tie.In-loop Inv-loop μ-loop → tie.Start Inv-loop μ-loop
 at-start c = c .before .before .before
 

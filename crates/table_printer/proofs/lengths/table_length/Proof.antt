@@ -9,7 +9,7 @@ use Rattle.table_printer.specs.Lengths.{names-total, printed-table-lengt
 use Rattle.table_printer.proofs.lengths.table_length.Statement.{statement}
 use Rattle.table_printer.proofs.lengths.table_length.Tie as tie
 
--- bounds far above the limits, which suffice for the sums
+-- bounds far above the limits, sufficient for the sums
 inputs : (c : tie.Start) → c .args .h .inputs ≤ 64
 inputs c = omega (arith, c .pre .0)
 

@@ -1,4 +1,4 @@
--- `table_printer::rows::next_four` meets its contract: which of the four levels p, q, r and s moves up.
+-- `table_printer::rows::next_four` meets its contract: which of the four levels p, q, r and s is incremented.
 -- Assumes nothing.
 use mathlib.Core.Path.{refl}
 use Rattle.table_printer.specs.Rows.Next.{last-moves, last-top, third-moves, third-top, second-moves, second-top, first-moves, none-moves}

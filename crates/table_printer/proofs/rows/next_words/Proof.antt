@@ -1,4 +1,4 @@
--- `table_printer::rows::next_words` meets its contract: the last four move, and where they turn those before them.
+-- `table_printer::rows::next_words` meets its contract: the last four change and, if they become zeros, those before them too.
 -- Assumes nothing.
 use native.Mathlib.Omega.{arith}
 use Rattle.table_printer.specs.Rows.Next.{for-four, row-stays, row-turns}

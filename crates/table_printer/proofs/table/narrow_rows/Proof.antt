@@ -23,7 +23,7 @@ Inv-loop m n inks out₀ at levels₀ k₀ p₀ out levels k p =
 abbrev μ-loop : tie.MeasureT-loop
 μ-loop m n inks out₀ at levels₀ k₀ p₀ out levels k p = length inks - k
 
--- the start from a turn's start; in a turn, its start and the row's call from the next call
+-- gets the start from a turn's start; in a turn, its start and the row's call from the next call
 abbrev at-start : tie.In-loop Inv-loop μ-loop → tie.Start Inv-loop μ-loop
 at-start c = c .before .before .before .before
 
@@ -33,7 +33,7 @@ at-turn c = c .before .before .before .before .before
 abbrev at-row : tie.After-levels2 Inv-loop μ-loop → tie.After-print-row Inv-loop μ-loop
 at-row c = c .before .before .before
 
--- the front of the levels, as `print_row` is lent it
+-- the front of the levels, as passed to `print_row`
 module _ (m n k : ℕ) (levels : List ℕ) (front : take n levels ≡ levelsAt m n k) where
   lent : take (n - 0) levels ≡ levelsAt m n k
   lent = ap (λ (j : ℕ). take j levels) (sub-zero n) ∙ front
@@ -41,7 +41,7 @@ module _ (m n k : ℕ) (levels : List ℕ) (front : take n levels ≡ levelsAt m
   digits : 0 < m → m ≤ mostLevels → (i : ℕ) → i < length (take (n - 0) levels) → getD (take (n - 0) levels) i 0 < 10
   digits pos few i h = rw lent (omega (arith, levels-below m n k i pos (omega (arith, levels-length m n k, ap length lent))))
 
-  -- the row of index k, by the byte b that `ink_byte` gave
+  -- the row of index k, by the byte b that `ink_byte` returned
   module _ (inks : List ℕ) (h : k < length inks) {b : ℕ} (byte : b ≡ inkByte m (getD inks k 0))
       {out : List ℕ} {p : ℕ} {out₀ : List ℕ} {at : ℕ} {t : List ℕ} (l : NetLeft out p (printedRows m n k (drop k inks)) out₀ at t) where
     first-row : NetLeft out p (rowText (take (n - 0) levels) b ++ printedRows m n (k + 1) (drop (k + 1) inks)) out₀ at t

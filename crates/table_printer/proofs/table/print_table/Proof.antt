@@ -13,7 +13,7 @@ use Rattle.table_printer.specs.Rows.Parts.{table-parts}
 use Rattle.table_printer.proofs.table.print_table.Statement.{statement}
 use Rattle.table_printer.proofs.table.print_table.Tie as tie
 
--- the start and each call, from the next
+-- gets the start and each call from the next
 abbrev at-start : tie.After-print-pair-arg2 → tie.Start
 at-start c = c .before .before .before .before .before
 
@@ -26,7 +26,7 @@ at-names c = c .before .before .before .before
 abbrev at-copy : tie.After-print-rows-arg → tie.After-copy
 at-copy c = c .before .before .before
 
--- the start from each call
+-- gets the start from each call
 abbrev pair-start : tie.After-print-pair → tie.Start
 pair-start c = at-start (c .before)
 

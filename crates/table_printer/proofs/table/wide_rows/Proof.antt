@@ -25,7 +25,7 @@ Inv-loop m n inks out₀ at levels₀ words₀ k₀ p₀ out levels words k p =
 abbrev μ-loop : tie.MeasureT-loop
 μ-loop m n inks out₀ at levels₀ words₀ k₀ p₀ out levels words k p = length inks - k
 
--- the start from a turn's start, and a turn's start from its calls
+-- gets the start from a turn's start, and a turn's start from its calls
 abbrev at-start : tie.In-loop Inv-loop μ-loop → tie.Start Inv-loop μ-loop
 at-start c = c .before .before .before .before
 
@@ -38,7 +38,7 @@ at-ink c = c .before .before
 abbrev at-row : tie.After-levels Inv-loop μ-loop → tie.After-wide-row Inv-loop μ-loop
 at-row c = c .before .before .before
 
--- the row of index k, by the byte b that `ink_byte` gave
+-- the row of index k, by the byte b that `ink_byte` returned
 module _ (m n k : ℕ) (inks : List ℕ) (h : k < length inks) {b : ℕ} (byte : b ≡ inkByte m (getD inks k 0))
     {out : List ℕ} {p : ℕ} {out₀ : List ℕ} {at : ℕ} {t : List ℕ} (l : NetLeft out p (printedRows m n k (drop k inks)) out₀ at t) where
   first-row : NetLeft out p (rowText (levelsAt m n k) b ++ printedRows m n (k + 1) (drop (k + 1) inks)) out₀ at t

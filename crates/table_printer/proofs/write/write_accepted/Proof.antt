@@ -8,7 +8,7 @@ use borrow.Author.Needs.{needs}
 use Rattle.table_printer.proofs.write.write_accepted.Statement.{statement}
 use Rattle.table_printer.proofs.write.write_accepted.Tie as tie
 
--- the start, the test of the output's length and each call, from the next
+-- gets the start, the test of the output's length and each call from the next
 abbrev at-start : tie.After-power → tie.Start
 at-start c = c .before .before .before
 

@@ -1,4 +1,4 @@
--- `table_printer::write::write_table` meets its contract: what the net sheet is refused for, or what writing its table does.
+-- `table_printer::write::write_table` meets its contract: the refusals of the net sheet, or the result of writing its table.
 -- Assumes nothing.
 use mathlib.Core.Path.{sym}
 use Rattle.laws.specs.Calls.TableWriting as outcomes

@@ -1,4 +1,4 @@
--- `table_reader::full::read_full` meets its contract: turned back as any table sheet is, or read and its cells judged.
+-- `table_reader::full::read_full` meets its contract: the sheet is refused like any table sheet, or read and its cells judged.
 -- Assumes nothing.
 use native.Mathlib.Omega.{arith}
 use borrow.Author.Needs.{needs}
@@ -7,7 +7,7 @@ use Rattle.table_reader.specs.Full.{full-refused, full-judged, table-fro
 use Rattle.table_reader.proofs.full.read_full.Statement.{statement}
 use Rattle.table_reader.proofs.full.read_full.Tie as tie
 
--- the read from the match on it, and the match from the part of the cells
+-- gets the read from the match on it, and the match from the part of the cells
 abbrev at-read : tie.After-header → tie.After-read-table
 at-read c = c .before .before .before
 

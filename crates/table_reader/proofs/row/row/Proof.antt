@@ -13,7 +13,7 @@ Inv-loop s at levels n m place₀ i₀ place i = InRow s levels at n place i
 abbrev μ-loop : tie.MeasureT-loop
 μ-loop s at levels n m place₀ i₀ place i = n - i
 
--- a turn's start from the level's read, and that read from the turn's end
+-- gets a turn's start from the level's read, and that read from the turn's end
 abbrev at-turn : tie.After-level-field Inv-loop μ-loop → tie.In-loop Inv-loop μ-loop
 at-turn c = c .before .before
 

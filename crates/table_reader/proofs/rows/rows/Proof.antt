@@ -19,7 +19,7 @@ Inv-loop s at m n cells₀ levels₀ count place₀ p₀ cells levels place p =
 abbrev μ-loop : tie.MeasureT-loop
 μ-loop s at m n cells₀ levels₀ count place₀ p₀ cells levels place p = m ^ n - p
 
--- the start from the call of `power`, that call from the rows that stand as they are due, and those from the loop's head
+-- gets the start from the call of `power`, that call from the call of `due_rows`, and that from the loop's head
 abbrev at-start : tie.After-power Inv-loop μ-loop → tie.Start Inv-loop μ-loop
 at-start c = c .before .before .before
 
@@ -29,7 +29,7 @@ at-power c = c .before .before .before
 abbrev at-due : tie.At-loop Inv-loop μ-loop → tie.After-due-rows Inv-loop μ-loop
 at-due c = c .before .before .before .before
 
--- a turn's start from the row's read, that read from the ink's place, and that place from the turn's end
+-- gets a turn's start from the row's read, that read from the ink's place, and that place from the turn's end
 abbrev at-turn : tie.After-row Inv-loop μ-loop → tie.In-loop Inv-loop μ-loop
 at-turn c = c .before .before
 
@@ -39,7 +39,7 @@ at-row c = c .before .before .before
 abbrev at-ink : tie.After-levels5 Inv-loop μ-loop → tie.After-known-told Inv-loop μ-loop
 at-ink c = c .before .before .before
 
--- the function's entry and the number of cells, seen from the loop's head
+-- gets the function's entry and the number of cells from the loop's head
 abbrev start : tie.At-loop Inv-loop μ-loop → tie.Start Inv-loop μ-loop
 start c = at-start (at-power (at-due c))
 
@@ -57,7 +57,7 @@ room c = omega (arith, c .loop .inv .1, size (start c) .inputs-most)
 kept : (c : tie.At-loop Inv-loop μ-loop) → length (c .loop .cells) ≡ length (start c .args .cells .now)
 kept c = c .loop .inv .0 ∙ at-due c .due-rows .kept .1 .1 .1 .1 .1 .0
 
--- a turn's index is a cell's
+-- a turn's index is that of a cell
 more : (c : tie.In-loop Inv-loop μ-loop) → c .before .loop .p < start (c .before) .args .m ^ start (c .before) .args .n
 more c = omega (arith, c .loop-test .taken, counted (c .before) .power .ensures)
 
@@ -83,7 +83,7 @@ cast-cells c =
     let small = ink-within _ _ _ _ _ _ _ (rows .reached) (more turn) _ (row-due rows (at-row c .row .result) (at-row c .row .ensures)) _ _ (c .before .step .given .1) in
     omega (arith, small, size (start (turn .before)) .levels-most)
 
--- a turn's cell lies in the buffer
+-- a turn's cell is inside the buffer
 cell : (c : tie.In-loop Inv-loop μ-loop) → c .before .loop .p < length (c .before .loop .cells)
 cell c = omega (arith, more c, kept (c .before), start (c .before) .pre .1)
 

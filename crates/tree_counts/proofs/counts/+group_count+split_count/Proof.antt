@@ -1,6 +1,6 @@
 -- `tree_counts::counts::group_count` and `split_count`, which call each other, meet their contracts. The measure is twice the number of members, and
--- one less for a split: "the number of members, with a split position, falls". The loop's invariant: what is kept is right, and the sum is that of
--- the splits passed. Assumes nothing.
+-- one less for a split: "the number of members, with a split position, falls". The loop's invariant: the recorded counts are right, and the sum is
+-- that of the splits passed. Assumes nothing.
 use Prim.Native.Nat.{ℕ, _+_, _-_, _*_, _^_, _<_}
 use mathlib.Core.Path.{_≡_, refl, sym, ap₂, _∙_}
 use mathlib.Core.Logic.{_≢_, ⊎-elim}
@@ -56,7 +56,7 @@ split-count-at t = and 2 split-count-kinds.ps (is 2 split-count-kinds.ps μ-spli
 abbrev split-count-below : ℕ → In 2 split-count-kinds.ps
 split-count-below t = and 2 split-count-kinds.ps (falls 2 split-count-kinds.ps _<_ μ-split-count t) split-count.Pre
 
--- what the callees ask and tell
+-- what the callees require and ensure
 abbrev called : ℕ → group-count-lts.Claims
 called t = (
   mark-at-reads.Asked,
@@ -153,7 +153,7 @@ module _ (t : ℕ) where
   mark-at-requires : group-count-lts.Need-mark-at-requires (called t) (group-count-at t) group-count.Post Inv-loop μ-loop
   mark-at-requires c κs = group (c .before .before) .marked
 
-  -- another mark than 2
+  -- a mark other than 2
   returns : group-count-lts.Need-returns (called t) (group-count-at t) group-count.Post Inv-loop μ-loop
   returns c =
       let s = start (c .before) in
@@ -274,14 +274,14 @@ module _ (t : ℕ) where
     goes-on : (rest f < groupsEnd) × (part < rest f) × PartOf part (rest f)
     goes-on = (omega (arith, is-rest f mostInputs (group s .below), group s .below), c .loop-test .taken, c .before .loop .inv .2 .is-part)
 
-  -- what is kept of the two groups
+  -- the recorded counts of the two groups
   add-kept-product : group-count-lts.Need-add-kept-product (called t) (group-count-at t) group-count.Post Inv-loop μ-loop
   add-kept-product c = omega (arith, here (c .before) .less, here (c .before) .group .below)
 
   kept-product-requires : group-count-lts.Need-kept-product-requires (called t) (group-count-at t) group-count.Post Inv-loop μ-loop
   kept-product-requires c κs = (here (c .before) .less, here (c .before) .group .room, product-fits _ _ _ _ (here (c .before)))
 
-  -- one of the two is not known: the split's count is found
+  -- one of the two is not known: the split's count is computed
   add-split-count : group-count-lts.Need-add-split-count (called t) (group-count-at t) group-count.Post Inv-loop μ-loop
   add-split-count c = let at = turn (c .before .before) in omega (arith, here at .less, here at .group .below)
 
@@ -341,7 +341,7 @@ module _ (t : ℕ) where
         summed at _ _ (is-split (c .before)) (c .next-part2 .ensures),
       )
 
-  -- ---- the sum is kept
+  -- the sum is recorded
 
   module _ (c : group-count-lts.After-loop (called t) (group-count-at t) group-count.Post Inv-loop μ-loop) where
     abbrev from : After-first
@@ -415,7 +415,7 @@ module _ (t : ℕ) where
       let is : Splittable ((e .args .marks .now)) (e .args .counts .now) (e .args .g) (e .args .a) = e .pre .1 in
       (is .some, is .less, omega (arith, is .group .marked))
 
-  -- a part has another mark than 2
+  -- a part has a mark other than 2
   returns-none : split-count-lts.Need-returns asked (split-count-at t) split-count.Post
   returns-none c =
       let e = came (c .before) in
@@ -447,7 +447,7 @@ module _ (t : ℕ) where
         smaller _ _ _ _ _ (is .group) some less (l .group-count .kept .1 .0) (l .group-count .ensures .kept),
       )
 
-  -- the product of what was found is the split's count
+  -- the product of the two counts is the split's count
   is-product : (c : After-right) →
       let e = entered (left c) in
       (n : ℕ) → e .args .g < 2 ^ n → left c .group-count .result * c .group-count2 .result ≡ splitCounted n (e .args .marks .now) (e .args .g) (e .args .a)

@@ -36,7 +36,7 @@ at t = and 2 wire-numbered-kinds.ps (is 2 wire-numbered-kinds.ps μ-wire-numbere
 abbrev below : ℕ → In 2 wire-numbered-kinds.ps
 below t = and 2 wire-numbered-kinds.ps (falls 2 wire-numbered-kinds.ps _<_ μ-wire-numbered t) wire-numbered.Pre
 
--- what the callees ask and tell
+-- what the callees require and ensure
 abbrev called : ℕ → lts.Claims
 called t = (
   single-reads.Asked,
@@ -200,7 +200,7 @@ module _ (t : ℕ) where
     some : 0 < count
     some = count-some (n (s p)) (marks (s p)) (g (s p)) (r (s p)) (in-count (s p)) (several p) (a p) (number p) (fallen p) count is-count
 
-    -- the memo is as long as at the entry
+    -- `counts` is as long as at the entry
     long : length (c .group-count .last .1 .0) ≡ length (counts (s p))
     long = c .group-count .kept .1 .0 ∙ p .numbered-split .kept .1 .0
 
@@ -264,7 +264,7 @@ module _ (t : ℕ) where
 
   -- ---- its own
 
-  -- how many gates stand before the group's own
+  -- how many gates come before the group's own
   two-more : (c : After-right) → c .wire-numbered2 .result .wiring .gates + 2 ≤ n (e (left c))
   two-more c =
       let l = left c in

@@ -1,4 +1,4 @@
--- `tree_counts::numbered::known_split` meets its contract: a product of kept counts that is not 0 is the split's count. Assumes nothing.
+-- `tree_counts::numbered::known_split` meets its contract: a product of recorded counts that is not 0 is the split's count. Assumes nothing.
 use mathlib.Core.Path.{_∙_}
 use borrow.Author.Needs.{needs}
 use Rattle.tree_counts.specs.Counts.{product-fits, product-split}

@@ -1,5 +1,5 @@
--- `tree_counts::numbered::numbered_split` meets its contract. The loop's invariant: what is kept is right, and what is left of the number falls, of
--- the splits that are left, where the number falls of all. Assumes nothing.
+-- `tree_counts::numbered::numbered_split` meets its contract. The loop's invariant: the recorded counts are right, and among the remaining splits the
+-- rest of the number falls where the number falls among all. Assumes nothing.
 use Prim.Native.Nat.{ℕ, _+_, _-_, _^_, _<_}
 use mathlib.Core.Path.{_≡_, refl, _∙_}
 use mathlib.Core.List.{List}

@@ -1,4 +1,4 @@
--- `wirings::choice::part_of` meets its contract: each choice by its own search. Assumes nothing.
+-- `wirings::choice::part_of` meets its contract: each choice has its own search. Assumes nothing.
 use mathlib.Core.Path.{subst}
 use borrow.Author.Needs.{needs}
 use Rattle.wirings.specs.declared.choice.Choice.{Choice}

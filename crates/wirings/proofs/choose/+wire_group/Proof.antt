@@ -35,7 +35,7 @@ wire-group-at t = and 2 wire-group-kinds.ps (is 2 wire-group-kinds.ps μ-wire-gr
 abbrev wire-group-below : ℕ → In 2 wire-group-kinds.ps
 wire-group-below t = and 2 wire-group-kinds.ps (falls 2 wire-group-kinds.ps _<_ μ-wire-group t) wire-group.Pre
 
--- what the callees ask and tell
+-- what the callees require and ensure
 abbrev called : ℕ → wire-group-lts.Claims
 called t = (
   single-reads.Asked,
@@ -204,7 +204,7 @@ module _ (t : ℕ) where
         ),
       )
 
-  -- how many gates stand before the group's own
+  -- how many gates come before the group's own
   two-more : (c : After-right) → c .wire-group2 .result .wiring .gates + 2 ≤ n (s (split (left c)))
   two-more c =
       let p = split (left c) in

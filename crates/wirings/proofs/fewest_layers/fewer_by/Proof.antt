@@ -9,7 +9,7 @@ use Rattle.rules.specs.Nets.Shallow.{splitLayers}
 use Rattle.wirings.proofs.fewest_layers.fewer_by.Statement.{statement}
 use Rattle.wirings.proofs.fewest_layers.fewer_by.Tie as tie
 
--- the layers that are found are one at least
+-- there is at least one layer
 some-layers : (c : tie.After-split-layers) → 0 < c .split-layers .result
 unfolding splitLayers
 some-layers c = omega (arith, c .split-layers .ensures)

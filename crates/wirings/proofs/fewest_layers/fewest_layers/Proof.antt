@@ -1,5 +1,5 @@
 -- `wirings::fewest_layers::fewest_layers` meets its contract. The loop's invariant: the groups below g are known, and have room for their members
--- where `sized` says so. Assumes nothing.
+-- if `sized` says so. Assumes nothing.
 use Prim.Native.Nat.{ℕ, _-_, _^_, _≤_, _<_}
 use mathlib.Core.Path.{_≡_, refl, sym, _∙_, subst}
 use mathlib.Core.Logic.{⊎-elim}

@@ -38,7 +38,7 @@ module _ (c : tie.In-loop Inv-loop μ-loop) where
   abbrev rest : ℕ
   rest = at-first (c .before) .without-first .result
 
-  -- the part that is looked at is neither empty nor all of g
+  -- the current part is neither empty nor all of g
   here : (0 < (start .args .g - rest) + c .before .loop .part) × ((start .args .g - rest) + c .before .loop .part < start .args .g)
   here =
       let at = part-at (start .args .g) rest (start .pre .0) (at-first (c .before) .without-first .ensures) mostMembers (start .pre .1)

@@ -19,7 +19,7 @@ Inv-loop net header s at from₀ to₀ place₀ i₀ from to place i = ArrivalRe
 abbrev μ-loop : tie.MeasureT-loop
 μ-loop net header s at from₀ to₀ place₀ i₀ from to place i = header .inputs - i
 
--- the start from the loop's head, that from the turn's test, the test from the line's read, and that from the turn's end
+-- gets the start from the loop's head, that from the turn's test, the test from the line's read, and that from the turn's end
 abbrev at-start : tie.At-loop Inv-loop μ-loop → tie.Start Inv-loop μ-loop
 at-start c = c .before .before .before
 
@@ -47,7 +47,7 @@ module _ (c : tie.Then1 Inv-loop μ-loop) where
 name-of-requires : tie.Need-name-of-requires Inv-loop μ-loop
 name-of-requires c κs = (few c, at-start (at-loop c) .pre .names (at-loop c .loop .i) (c .if1 .taken))
 
--- the name that was lent to the line's read is the input's
+-- the name passed to the line's read is the input's
 name-is : (c : tie.After-name-of Inv-loop μ-loop) → let start = at-start (at-loop (c .before)) in
     c .name-of .result .now ≡ getD (namesIn (start .args .net .now) (start .args .header)) (at-loop (c .before) .loop .i) []
 name-is c = c .name-of .ensures ∙ sym (name-at _ _ _ (c .before .if1 .taken))

@@ -9,7 +9,7 @@ use Rattle.arrivals.specs.Sheet.Line.{fromFrom, fromTo, line-back, line-
 use Rattle.arrivals.proofs.sheet.lines.from_from.Statement.{statement}
 use Rattle.arrivals.proofs.sheet.lines.from_from.Tie as tie
 
--- the time's read, from the call after it
+-- gets the time's read from the call after it
 abbrev at-time : tie.After-known-told2 → tie.After-time-field
 at-time c = c .before .before .before
 

@@ -9,7 +9,7 @@ use Rattle.arrivals.specs.Sheet.Line.{fromTo, line-back, to-on}
 use Rattle.arrivals.proofs.sheet.lines.from_to.Statement.{statement}
 use Rattle.arrivals.proofs.sheet.lines.from_to.Tie as tie
 
--- the time's read, from the match on it
+-- gets the time's read from the match on it
 abbrev at-time : tie.After-number → tie.After-time-field
 at-time c = c .before .before
 

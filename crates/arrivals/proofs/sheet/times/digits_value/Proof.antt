@@ -22,7 +22,7 @@ returns c = count-stop _ _ _ (c .before .before .before .loop .inv) (c .before .
 returns-2 : tie.Need-returns-2 Inv-loop μ-loop
 returns-2 c = count-stop _ _ _ (c .before .before .before .before .loop .inv) (c .before .before .before .loop-test .taken) (above-digits _ (c .if2 .taken))
 
--- a turn's room
+-- the value has room for one more digit in a turn
 room : (c : tie.Else2 Inv-loop μ-loop) → c .before .before .before .before .loop .value ≤ 9_999
 room c =
     let head = c .before .before .before .before in

@@ -1,4 +1,4 @@
--- `arrivals::sheet::times::judge_time` meets its contract, by the tests and what the digits write.
+-- `arrivals::sheet::times::judge_time` meets its contract, by the tests and the value of the digits.
 -- Assumes nothing.
 use mathlib.Core.Path.{sym, ap, _∙_}
 use borrow.Author.Needs.{needs}
@@ -8,7 +8,7 @@ use Rattle.arrivals.specs.Sheet.Times.{leads-short, time-lead, time-digi
 use Rattle.arrivals.proofs.sheet.times.judge_time.Statement.{statement}
 use Rattle.arrivals.proofs.sheet.times.judge_time.Tie as tie
 
--- the first test from the digits' value, and that from the tests of it
+-- gets the first test from the digits' value, and that from the tests of it
 abbrev at-lead : tie.After-digits-value → tie.Else1
 at-lead c = c .before
 

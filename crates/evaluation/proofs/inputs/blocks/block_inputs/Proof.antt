@@ -1,5 +1,5 @@
--- `evaluation::inputs::blocks::block_inputs` meets its contract. The loop's invariant: the last `low` inputs have `size` assignments, which a block
--- has room for.
+-- `evaluation::inputs::blocks::block_inputs` meets its contract. The loop's invariant: the last `low` inputs have `size` assignments, and a block has
+-- room for them.
 -- Assumes nothing.
 use Prim.Native.Nat.{_-_, _*_, _^_, _≤_}
 use mathlib.Core.Path.{_≡_, sym}
@@ -19,7 +19,7 @@ abbrev μ-loop : tie.MeasureT-loop
 loop-holds : tie.Need-loop-holds Inv-loop μ-loop
 loop-holds c = (omega arith, sym (pow-zero _), omega arith)
 
--- one input more has few assignments
+-- with one more input there are few assignments
 few : (c : tie.In-loop Inv-loop μ-loop) → c .before .loop .size * c .before .before .args .m ≤ mostBlock * 9
 few c = mul-le-mul (c .before .loop .inv .2) (c .before .before .pre .0)
 

@@ -1,4 +1,4 @@
--- `evaluation::inputs::laying::lay_low` meets its contract. The loop's invariant: the columns of the last t inputs are laid. Assumes nothing.
+-- `evaluation::inputs::laying::lay_low` meets its contract. The loop's invariant: the columns of the last t inputs are filled. Assumes nothing.
 use Prim.Native.Nat.{_-_, _≤_}
 use mathlib.Core.Path.{_≡_}
 use native.Mathlib.Omega.{arith}

@@ -1,4 +1,4 @@
--- `evaluation::inputs::laying::repeat` meets its contract. The loop's invariant: the first p cells are put once more. Assumes nothing.
+-- `evaluation::inputs::laying::repeat` meets its contract. The loop's invariant: the first p cells are copied. Assumes nothing.
 use Prim.Native.Nat.{_+_, _-_, _≤_}
 use native.Mathlib.Omega.{arith}
 use lib.ListN.{getD}

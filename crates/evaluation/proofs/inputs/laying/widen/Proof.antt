@@ -1,4 +1,4 @@
--- `evaluation::inputs::laying::widen` meets its contract. The loop's invariant: with l levels of the new input the columns are laid, for `to` cells.
+-- `evaluation::inputs::laying::widen` meets its contract. Loop invariant: for l levels of the new input, the columns are filled up to `to` cells.
 -- Assumes nothing.
 use Prim.Native.Nat.{ℕ, _+_, _-_, _*_, _≤_, _<_}
 use mathlib.Core.Path.{_≡_, refl, sym, ap, _∙_}
@@ -49,7 +49,7 @@ loop-holds c =
     let laid = widen-first _ _ _ _ (start .pre) _ (fill .fill .ensures) in
     (omega arith, omega (arith, start .pre .some), sym (one-mul _), record { same = refl; levels = laid .levels })
 
--- what is laid, seen from the call's start
+-- what is filled, seen from the call's start
 module _ (c : tie.In-loop Inv-loop μ-loop) where
   abbrev start : tie.Start Inv-loop μ-loop
   start = at-start (c .before)

@@ -11,7 +11,7 @@ use Rattle.fields.specs.Header.FirstLines.{fromInputs, fromNames, rest-b
 use Rattle.fields.proofs.header.first_lines.from_inputs.Statement.{statement}
 use Rattle.fields.proofs.header.first_lines.from_inputs.Tie as tie
 
--- the start from the field's read, and that read from where the names begin
+-- gets the start from the field's read, and that read from where the names begin
 abbrev at-start : tie.After-inputs-field → tie.Start
 at-start c = c .before .before
 

@@ -10,7 +10,7 @@ use Rattle.fields.specs.Header.FirstLines.{fromLevels, fromInputs, rest-
 use Rattle.fields.proofs.header.first_lines.from_levels.Statement.{statement}
 use Rattle.fields.proofs.header.first_lines.from_levels.Tie as tie
 
--- the start from the field's read, and that read from where the next field begins
+-- gets the start from the field's read, and that read from where the next field begins
 abbrev at-start : tie.After-levels-field → tie.Start
 at-start c = c .before .before
 

@@ -15,7 +15,7 @@ Inv-loop s at levels inputs last layout header₀ place₀ i₀ header place i =
 abbrev μ-loop : tie.MeasureT-loop
 μ-loop s at levels inputs last layout header₀ place₀ i₀ header place i = inputs - i
 
--- the start from a turn's start, the turn's start from its read of a name, and that from the turn's end
+-- gets the start from a turn's start, the turn's start from its read of a name, and that from the turn's end
 abbrev at-start : tie.In-loop Inv-loop μ-loop → tie.Start Inv-loop μ-loop
 at-start c = c .before .before .before .before
 

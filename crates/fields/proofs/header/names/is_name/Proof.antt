@@ -9,7 +9,7 @@ use Rattle.fields.specs.Header.Names.{name-long, name-empty, name-first,
 use Rattle.fields.proofs.header.names.is_name.Statement.{statement}
 use Rattle.fields.proofs.header.names.is_name.Tie as tie
 
--- the tests of the length and the two calls, each from the call after it
+-- gets the test of the length and the two calls, each from the call after it
 abbrev at-length : tie.After-is-letter → tie.Else2
 at-length c = c .before .before
 

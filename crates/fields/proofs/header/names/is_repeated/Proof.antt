@@ -1,4 +1,4 @@
--- `fields::header::names::is_repeated` meets its contract. The loop's invariant: one of all has the name exactly when one from `i` on has.
+-- `fields::header::names::is_repeated` meets its contract. The loop's invariant: some input has the name exactly when one from `i` on has it.
 -- Assumes nothing.
 use Prim.Native.Nat.{_-_}
 use mathlib.Core.Path.{_≡_, sym, ap, _∙_}

@@ -6,7 +6,7 @@ use Rattle.fields.specs.Header.Same.{levels-differ, inputs-differ, by-na
 use Rattle.fields.proofs.header.same.same_header.Statement.{statement}
 use Rattle.fields.proofs.header.same.same_header.Tie as tie
 
--- the start from the first test, and that test from the second
+-- gets the start from the first test, and that test from the second
 abbrev at-start : tie.Else1 → tie.Start
 at-start c = c .before .before .before .before .before
 

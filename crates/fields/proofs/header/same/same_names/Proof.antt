@@ -19,7 +19,7 @@ Inv-loop s h t k n i₀ i = sameNames (map (nameIn s h) (range 0 n)) (map (nameI
 abbrev μ-loop : tie.MeasureT-loop
 μ-loop s h t k n i₀ i = n - i
 
--- the start from a turn's start, and a turn's start from its last call
+-- gets the start from a turn's start, and a turn's start from its last call
 abbrev at-start : tie.In-loop Inv-loop μ-loop → tie.Start Inv-loop μ-loop
 at-start c = c .before .before .before .before
 

@@ -1,4 +1,4 @@
--- `fields::header::values::inputs_of` meets its contract. The loop's invariant: the first from `n` on is the first of all.
+-- `fields::header::values::inputs_of` meets its contract. The loop's invariant: the first match from `n` on is the first of all.
 -- Assumes nothing.
 use Prim.Native.Nat.{_+_, _-_, _≤_}
 use mathlib.Core.Path.{_≡_, refl, sym, _∙_}

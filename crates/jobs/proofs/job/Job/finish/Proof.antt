@@ -1,4 +1,4 @@
--- `jobs::job::Job::finish` meets its contract: the finishing of its parts. Assumes nothing.
+-- `jobs::job::Job::finish` meets its contract: it finishes the job by its parts. Assumes nothing.
 use mathlib.Core.Path.{_≡_, refl, sym, _∙_}
 use native.Mathlib.Omega.{arith}
 use lib.ListN.{length, length-map}
@@ -14,7 +14,7 @@ at-start c = c .before .before .before .before .before .before .before .before .
 abbrev at-finished : tie.After-slice-known6 → tie.After-finish-in
 at-finished c = c .before .before .before .before .before .before
 
--- an array of the job has its length
+-- an array of the job has the fixed length
 cells-length : (c : tie.Start) → length (c .args .self .cells) ≡ mostCells
 cells-length c = sym (length-map (c .args .self .cells) (λ v. v)) ∙ c .good .0 .1 .1 .1 .0 .1 .0 .1
 

@@ -1,4 +1,4 @@
--- `jobs::job::Job::mark` meets its contract: the asking of its parts. Assumes nothing.
+-- `jobs::job::Job::mark` meets its contract: it returns the answer of `mark_in` for its parts. Assumes nothing.
 use mathlib.Core.Path.{_≡_, refl, sym, _∙_}
 use native.Mathlib.Omega.{arith}
 use lib.ListN.{length, length-map}
@@ -7,7 +7,7 @@ use borrow.Author.Needs.{needs}
 use Rattle.jobs.proofs.job.Job.mark.Statement.{statement}
 use Rattle.jobs.proofs.job.Job.mark.Tie as tie
 
--- an array of the job has its length
+-- an array of the job has the fixed length
 marks-length : (c : tie.Start) → length (c .args .self .marks) ≡ mostGroups
 marks-length c = sym (length-map (c .args .self .marks) (λ v. v)) ∙ c .good .0 .1 .1 .1 .1 .0 .1 .0 .1
 

@@ -1,4 +1,4 @@
--- `jobs::job::Job::step` meets its contract: the job as it is, or with the next group's mark. Assumes nothing.
+-- `jobs::job::Job::step` meets its contract: the job unchanged, or with the next group's mark. Assumes nothing.
 use mathlib.Core.Path.{_≡_, sym, _∙_, subst}
 use native.Mathlib.Omega.{arith}
 use lib.ListN.{length, length-map}
@@ -18,7 +18,7 @@ at-start c = c .before .before .before .before .before .before
 abbrev at-next : tie.After-known-told → tie.After-next-mark
 at-next c = c .before .before .before
 
--- an array of the job has its length
+-- an array of the job has the fixed length
 cells-length : (c : tie.Start) → length (c .args .self .cells) ≡ mostCells
 cells-length c = sym (length-map (c .args .self .cells) (λ v. v)) ∙ c .good .0 .1 .1 .1 .0 .1 .0 .1
 

@@ -1,4 +1,4 @@
--- `loose_sheets::fast::frame::lay` meets its contract. The loop's invariant: j places are laid, with i levels, and those beyond do not count.
+-- `loose_sheets::fast::frame::lay` meets its contract. The loop's invariant: j places are laid out, with i levels, and the others have no weight.
 -- Assumes nothing.
 use Prim.Native.Nat.{_+_, _-_, _^_, _≤_, _<_}
 use native.Mathlib.Nat.{pow-le-pow-right}
@@ -17,7 +17,7 @@ Inv-loop s at m n least₀ more₀ weights₀ i₀ j₀ least more weights i j =
 abbrev μ-loop : tie.MeasureT-loop
 μ-loop s at m n least₀ more₀ weights₀ i₀ j₀ least more weights i j = mostLaid - j
 
--- the entry from the loop's head, and a turn's start from where it lays a space and from where it lays a level
+-- gets the entry from the loop's head, and a turn's start from where it lays out a space or a level
 abbrev at-start : tie.At-loop Inv-loop μ-loop → tie.Start Inv-loop μ-loop
 at-start c = c .before .before
 
@@ -35,7 +35,7 @@ size c = sized (at-start c .args .m) (at-start c .args .n) (at-start c .pre .0)
 low : (c : tie.In-loop Inv-loop μ-loop) → c .before .loop .j + 1 < mostLaid
 low c = omega (arith, c .loop-test .taken)
 
--- where a level is laid there is one more to lay, and its weight is no more than there are cells
+-- when a level is laid out, one more is left, and its weight is at most the number of cells
 fewer : (c : tie.Else3 Inv-loop μ-loop) → at-level c .before .loop .i < at-start (at-level c .before) .args .n
 fewer c = omega (arith, at-level c .before .loop .inv .most, c .if3 .left)
 

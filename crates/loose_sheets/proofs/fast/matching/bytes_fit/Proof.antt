@@ -1,4 +1,4 @@
--- `loose_sheets::fast::matching::bytes_fit` meets its contract. The loop's invariant: k bytes are looked at, and lie within their bounds if none was over.
+-- `loose_sheets::fast::matching::bytes_fit` meets its contract. The loop's invariant: k bytes are compared, and are within bounds if `over` is 0.
 -- Assumes nothing.
 use Prim.Native.Nat.{_+_, _-_, _^_, _≤_, _<_}
 use mathlib.Core.Path.{_≡_, sym, _∙_}
@@ -18,14 +18,14 @@ Inv-loop s at least more from count over₀ k₀ over k = (k ≤ count) × (over
 abbrev μ-loop : tie.MeasureT-loop
 μ-loop s at least more from count over₀ k₀ over k = count - k
 
--- the entry from the loop's head, and a turn's start from its end
+-- gets the entry from the loop's head, and a turn's start from its end
 abbrev at-start : tie.At-loop Inv-loop μ-loop → tie.Start Inv-loop μ-loop
 at-start c = c .before .before .before .before
 
 abbrev at-turn : tie.Joined1 Inv-loop μ-loop → tie.In-loop Inv-loop μ-loop
 at-turn c = c .before .before .before .before .before
 
--- the byte that a turn looks at stands in all three
+-- the place that a turn compares is inside all three slices
 within : (c : tie.In-loop Inv-loop μ-loop)
     → (at-start (c .before) .args .at + at-start (c .before) .args .from + c .before .loop .k < length (at-start (c .before) .args .s .now))
     × (at-start (c .before) .args .from + c .before .loop .k < length (at-start (c .before) .args .least .now))

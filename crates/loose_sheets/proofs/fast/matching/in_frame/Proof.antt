@@ -1,4 +1,4 @@
--- `loose_sheets::fast::matching::in_frame` meets its contract: the bytes lie in the sheet, and are looked at.
+-- `loose_sheets::fast::matching::in_frame` meets its contract: the bytes are inside the sheet, and are compared.
 -- Assumes nothing.
 use Prim.Native.Nat.{_+_, _<_}
 use mathlib.Core.Bool.{false≢true}
@@ -10,11 +10,11 @@ use Rattle.loose_sheets.specs.Fast.Matching.{lookedAt, looked-bounds}
 use Rattle.loose_sheets.proofs.fast.matching.in_frame.Statement.{statement}
 use Rattle.loose_sheets.proofs.fast.matching.in_frame.Tie as tie
 
--- the entry, from the test of the room
+-- gets the entry from the test of the room
 abbrev at-start : tie.Else3 → tie.Start
 at-start c = c .before .before .before .before .before .before .before
 
--- all that is looked at stands in the sheet, and the ink's byte with it
+-- all bytes that are compared are inside the sheet, and so is the ink's byte
 room : (c : tie.Else3) → at-start c .args .at + lookedAt (at-start c .args .width) < length (at-start c .args .s .now)
 room c = omega (arith, c .if3 .left, c .before .looked-at .ensures, c .before .before .if2 .left)
 

@@ -1,4 +1,4 @@
--- `loose_sheets::fast::matching::row_fits` meets its contract: one stretch, or two.
+-- `loose_sheets::fast::matching::row_fits` meets its contract: one part, or two.
 -- Assumes nothing.
 use Prim.Native.Nat.{_+_, _-_}
 use mathlib.Core.Path.{_≡_}
@@ -9,7 +9,7 @@ use Rattle.loose_sheets.specs.Fast.Matching.{Stand, stand-both, lookedAt
 use Rattle.loose_sheets.proofs.fast.matching.row_fits.Statement.{statement}
 use Rattle.loose_sheets.proofs.fast.matching.row_fits.Tie as tie
 
--- the entry, from either branch; the first stretch that stands, from what is looked at after it
+-- gets the entry from either branch, and the first part that fits from the call of `looked_at` after it
 abbrev at-start : tie.Then1 → tie.Start
 at-start c = c .before .before .before .before
 
@@ -24,14 +24,14 @@ first-stands : (c : tie.Else2)
     (at-start (c .before .before) .args .more .now) 0 64
 first-stands c = c .before .bytes-fit .ensures (not-false _ (c .if2 .left))
 
--- the second stretch ends where the places that are looked at do, ..
+-- the second part ends where the compared places do, ..
 up-to : (c : tie.After-looked-at) → 64 + (c .looked-at .result - 64) ≡ lookedAt (at-start (at-first c .before .before) .args .width)
 up-to c =
     let wide = at-first c .before .before in
     let start = at-start wide in
     omega (arith, c .looked-at .ensures, looked-bounds (start .args .width) (start .pre .3) .0 (wide .if1 .taken))
 
--- .. and so does the only stretch of a narrow row
+-- .. and so does the only part of a narrow row
 narrow-to : (c : tie.After-looked-at2) → 0 + c .looked-at2 .result ≡ lookedAt (at-narrow (c .before) .args .width)
 narrow-to c = omega (arith, c .looked-at2 .ensures)
 

@@ -1,4 +1,4 @@
--- `loose_sheets::fast::plain::plain_digit` meets its contract: it says none, or has seen both bytes.
+-- `loose_sheets::fast::plain::plain_digit` meets its contract: it finds nothing, or has checked both bytes.
 -- Assumes nothing.
 use native.Mathlib.Omega.{arith}
 use Rattle.table_reader.specs.Fast.Plain.{two-plain}

@@ -1,4 +1,4 @@
--- `loose_sheets::fast::weighing::all_weighed` meets its contract: one stretch, or two.
+-- `loose_sheets::fast::weighing::all_weighed` meets its contract: one part, or two.
 -- Assumes nothing.
 use Prim.Native.Nat.{_+_, _-_}
 use mathlib.Core.Path.{_≡_, sym, ap, _∙_}
@@ -8,7 +8,7 @@ use Rattle.loose_sheets.specs.Fast.Weighing.{counted, counted-none, coun
 use Rattle.loose_sheets.proofs.fast.weighing.all_weighed.Statement.{statement}
 use Rattle.loose_sheets.proofs.fast.weighing.all_weighed.Tie as tie
 
--- the entry, from either branch; the first stretch, from what is looked at after it
+-- gets the entry from either branch, and the first part from the call of `looked_at` after it
 abbrev at-start : tie.Then1 → tie.Start
 at-start c = c .before .before .before
 
@@ -24,7 +24,7 @@ first-is c =
     let start = at-start (c .before) in
     omega (arith, c .weighed .ensures, counted-none (start .args .s .now) (start .args .at) (start .args .weights .now))
 
--- the second stretch ends where the places that are looked at do, ..
+-- the second part ends where the compared places do, ..
 up-to : (c : tie.After-looked-at) → 64 + (c .looked-at .result - 64) ≡ lookedAt (at-start (at-first c .before) .args .width)
 up-to c =
     let wide = at-first c .before in
@@ -38,7 +38,7 @@ sum-is : (c : tie.After-weighed2)
 sum-is c =
     ap (λ k. k + c .weighed2 .result) (first-is (at-first (c .before))) ∙ (c .weighed2 .ensures ∙ ap (counted _ _ _) (up-to (c .before)))
 
--- .. and so does the only stretch of a narrow row
+-- .. and so does the only part of a narrow row
 narrow-to : (c : tie.After-looked-at2) → 0 + c .looked-at2 .result ≡ lookedAt (at-narrow (c .before) .args .width)
 narrow-to c = omega (arith, c .looked-at2 .ensures)
 

@@ -1,4 +1,4 @@
--- `loose_sheets::fast::weighing::weighed` meets its contract. The loop's invariant: the sum is what k places count.
+-- `loose_sheets::fast::weighing::weighed` meets its contract. The loop's invariant: the sum is what k places add to the index.
 -- Assumes nothing.
 use Prim.Native.Nat.{ℕ, _+_, _-_, _*_, _%_, _^_, _≤_, _<_}
 use mathlib.Core.Path.{_≡_, refl}
@@ -15,11 +15,11 @@ Inv-loop s at weights from count sum₀ k₀ sum k = (k ≤ count) × (counted s
 abbrev μ-loop : tie.MeasureT-loop
 μ-loop s at weights from count sum₀ k₀ sum k = count - k
 
--- a turn's start from the last of its reads
+-- gets a turn's start from the last of its reads
 abbrev at-turn : tie.After-shared-slice-known2 Inv-loop μ-loop → tie.In-loop Inv-loop μ-loop
 at-turn c = c .before .before
 
--- the byte and the weight that a turn takes
+-- the byte and the weight that a turn reads
 within : (c : tie.In-loop Inv-loop μ-loop)
     → (c .before .before .args .at + c .before .before .args .from + c .before .loop .k < length (c .before .before .args .s .now))
     × (c .before .before .args .from + c .before .loop .k < length (c .before .before .args .weights .now))

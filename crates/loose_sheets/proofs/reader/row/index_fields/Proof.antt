@@ -1,4 +1,4 @@
--- `loose_sheets::reader::row::index_fields` meets its contract: the row stands in its frame, or its fields are judged.
+-- `loose_sheets::reader::row::index_fields` meets its contract: the row matches its frame, or its fields are judged.
 -- Assumes nothing.
 use native.Mathlib.Omega.{arith}
 use borrow.Author.Needs.{needs}
@@ -9,7 +9,7 @@ use Rattle.loose_sheets.specs.Fast.Framed.{framed-reads, framed-fits}
 use Rattle.loose_sheets.proofs.reader.row.index_fields.Statement.{statement}
 use Rattle.loose_sheets.proofs.reader.row.index_fields.Tie as tie
 
--- the entry, from the branch
+-- gets the entry from the branch
 abbrev at-start : tie.Else1 → tie.Start
 at-start c = c .before .before .before .before .before .before
 

@@ -15,7 +15,7 @@ Inv-loop s at m n place₀ index₀ i₀ place index i = InIndex s at m n place 
 abbrev μ-loop : tie.MeasureT-loop
 μ-loop s at m n place₀ index₀ i₀ place index i = n - i
 
--- the start from the loop's head, a turn's start from the field's read, and that read from the turn's end
+-- gets the start from the loop's head, a turn's start from the field's read, and that read from the turn's end
 abbrev at-start : tie.At-loop Inv-loop μ-loop → tie.Start Inv-loop μ-loop
 at-start c = c .before .before
 

@@ -7,7 +7,7 @@ use borrow.Author.Needs.{needs}
 use Rattle.loose_sheets.proofs.reader.row.row.Statement.{statement}
 use Rattle.loose_sheets.proofs.reader.row.row.Tie as tie
 
--- the start from the index's read, and that read from the mark's
+-- gets the start from the index's read, and that read from the mark's
 abbrev at-start : tie.After-index-fields → tie.Start
 at-start c = c .before .before .before .before .before .before
 

@@ -5,7 +5,7 @@ use borrow.Author.Needs.{needs}
 use Rattle.loose_sheets.proofs.reader.row.row_ink.Statement.{statement}
 use Rattle.loose_sheets.proofs.reader.row.row_ink.Tie as tie
 
--- the start from the field's read
+-- gets the start from the field's read
 abbrev at-start : tie.After-ink-field → tie.Start
 at-start c = c .before .before
 

@@ -19,7 +19,7 @@ Inv-loop s at m n cells₀ given₀ count least more weights width place₀ k₀
 abbrev μ-loop : tie.MeasureT-loop
 μ-loop s at m n cells₀ given₀ count least more weights width place₀ k₀ cells given place k = m ^ n - k
 
--- the start from the call of `power`, a turn's start from the row's read, and that read from the turn's end
+-- gets the start from the call of `power`, a turn's start from the row's read, and that read from the turn's end
 abbrev at-start : tie.After-power Inv-loop μ-loop → tie.Start Inv-loop μ-loop
 at-start c = c .before .before .before
 
@@ -29,7 +29,7 @@ at-turn c = c .before .before .before .before .before
 abbrev at-row : tie.After-known-told2 Inv-loop μ-loop → tie.After-row Inv-loop μ-loop
 at-row c = c .before .before .before
 
--- the function's entry, seen from the loop's head
+-- gets the function's entry from the loop's head
 abbrev start : tie.At-loop Inv-loop μ-loop → tie.Start Inv-loop μ-loop
 start c = at-start (c .before .before .before .before .before)
 
@@ -37,7 +37,7 @@ start c = at-start (c .before .before .before .before .before)
 size : (c : tie.Start Inv-loop μ-loop) → Size (c .args .m) (c .args .n)
 size c = sized (c .args .m) (c .args .n) (c .pre .0)
 
--- a turn's row is due, and there is room for the cells and for their marks
+-- in a turn a row is left to read, and there is room for the cells and for their marks
 more : (c : tie.In-loop Inv-loop μ-loop) → c .before .loop .k < start (c .before) .args .m ^ start (c .before) .args .n
 more c = omega (arith, c .loop-test .taken, c .before .before .before .before .before .before .power .ensures)
 
@@ -47,7 +47,7 @@ room c = omega (arith, c .loop .inv .0, start c .pre .1)
 marked : (c : tie.At-loop Inv-loop μ-loop) → start c .args .m ^ start c .args .n ≤ length (c .loop .given)
 marked c = omega (arith, c .loop .inv .1, size (start c) .cells-most)
 
--- the frame that the rows may stand in
+-- the frame that the rows may match
 abbrev at-frame : tie.At-loop Inv-loop μ-loop → tie.After-frame-of Inv-loop μ-loop
 at-frame c = c .before .before .before .before
 

@@ -1,5 +1,5 @@
--- `marks::fast::below::mark_below` meets its contract. The loop's invariant: the groups below `g` are marked and known, and the work arrays are as
--- long as they were.
+-- `marks::fast::below::mark_below` meets its contract. The loop's invariant: the groups below `g` are marked and known, and the work arrays keep
+-- their lengths.
 -- Assumes nothing.
 use Prim.Native.Nat.{ℕ, _-_, _^_, _≤_, _<_}
 use mathlib.Core.Path.{_≡_, refl, _∙_, subst}

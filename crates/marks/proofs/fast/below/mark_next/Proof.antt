@@ -1,5 +1,5 @@
--- `marks::fast::below::mark_next` meets its contract: a group with idle members has the mark of the rest; what is found of any other gives its mark, and it
--- is known. Assumes nothing.
+-- `marks::fast::below::mark_next` meets its contract: a group with idle members has the mark of the rest; any other has the mark given by its
+-- classes, and becomes known. Assumes nothing.
 use mathlib.Core.Path.{_∙_}
 use native.Mathlib.Omega.{arith}
 use lib.Pow.{pow-mono}

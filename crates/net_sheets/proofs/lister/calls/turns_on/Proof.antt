@@ -1,4 +1,4 @@
--- `turns_on` meets its contract. The loop's invariant: after k turns the lister stands where k turns bring it.
+-- `turns_on` meets its contract. The loop's invariant: after k iterations the place is the lister's place after k turns.
 -- Assumes nothing.
 use Prim.Native.Nat.{_-_, _≤_}
 use mathlib.Core.Path.{_≡_, ap, _∙_}

@@ -16,14 +16,14 @@ Inv-loop digits out₀ at i₀ p₀ out i p = (i ≤ length digits) × NetLeft o
 abbrev μ-loop : tie.MeasureT-loop
 μ-loop digits out₀ at i₀ p₀ out i p = length digits - i
 
--- the start from the loop's head, and that head from a turn's read
+-- gets the start from the loop's head, and that head from a turn's read
 abbrev at-start : tie.At-loop Inv-loop μ-loop → tie.Start Inv-loop μ-loop
 at-start c = c .before
 
 abbrev at-loop : tie.After-shared-slice-known Inv-loop μ-loop → tie.At-loop Inv-loop μ-loop
 at-loop c = c .before .before
 
--- what is left, by its length
+-- the room for the rest, by its length
 room : (digits : List ℕ) (i p n : ℕ) → p + length (drop i (map digitByte digits)) ≤ n → p + (length digits - i) ≤ n
 room digits i p n h = rw (length-drop, length-map) at h
 

@@ -15,7 +15,7 @@ use Rattle.net_sheets.specs.Text.Lines.{line-three}
 use Rattle.net_sheets.proofs.printer.net.print_gate.Statement.{statement}
 use Rattle.net_sheets.proofs.printer.net.print_gate.Tie as tie
 
--- the start and each call, from the next
+-- gets the start and each call from the next
 abbrev at-start : tie.After-right → tie.Start
 at-start c = c .before .before .before .before
 
@@ -28,7 +28,7 @@ at-second c = c .before .before .before
 abbrev at-table : tie.After-put-arg → tie.After-print-gate-table
 at-table c = c .before .before .before
 
--- the start from the two wires
+-- gets the start from the two wires
 abbrev first-start : tie.After-print-wire → tie.Start
 first-start c = at-start (c .before .before .before)
 

@@ -12,7 +12,7 @@ use Rattle.net_sheets.specs.Printer.Gates.{table-end, table-digit}
 use Rattle.net_sheets.proofs.printer.net.print_gate_table.Statement.{statement}
 use Rattle.net_sheets.proofs.printer.net.print_gate_table.Tie as tie
 
--- the start, from the sums and from the call of `print_digits`
+-- gets the start from the sums and from the call of `print_digits`
 abbrev at-start : tie.After-struct-known → tie.Start
 at-start c = c .before .before .before
 

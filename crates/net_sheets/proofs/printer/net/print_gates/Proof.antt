@@ -15,7 +15,7 @@ Inv-loop s h net out₀ at gates k₀ p₀ out k p = NetLeft out p (linesFrom s 
 abbrev μ-loop : tie.MeasureT-loop
 μ-loop s h net out₀ at gates k₀ p₀ out k p = gates - k
 
--- the start, from a turn's start
+-- gets the start from a turn's start
 abbrev at-start : tie.In-loop Inv-loop μ-loop → tie.Start Inv-loop μ-loop
 at-start c = c .before .before .before .before
 

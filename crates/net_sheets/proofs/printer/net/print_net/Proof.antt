@@ -12,7 +12,7 @@ use Rattle.net_sheets.specs.Printer.Gates.{printedGates, net-parts}
 use Rattle.net_sheets.proofs.printer.net.print_net.Statement.{statement}
 use Rattle.net_sheets.proofs.printer.net.print_net.Tie as tie
 
--- the start and each call, from the next
+-- gets the start and each call from the next
 abbrev at-start : tie.After-print-pair-arg2 → tie.Start
 at-start c = c .before .before .before .before
 
@@ -25,7 +25,7 @@ at-names c = c .before .before .before .before
 abbrev at-copy : tie.After-print-gates-arg → tie.After-copy
 at-copy c = c .before .before .before
 
--- the start from each call
+-- gets the start from each call
 abbrev pair-start : tie.After-print-pair → tie.Start
 pair-start c = at-start (c .before)
 

@@ -5,7 +5,7 @@ use Rattle.net_sheets.specs.Printer.Gates.{reference-name, reference-gat
 use Rattle.net_sheets.proofs.printer.net.print_reference.Statement.{statement}
 use Rattle.net_sheets.proofs.printer.net.print_reference.Tie as tie
 
--- the start, from the test
+-- gets the start from the test
 abbrev at-start : tie.After-slice-known → tie.Start
 at-start c = c .before .before
 

@@ -9,7 +9,7 @@ use Rattle.net_sheets.specs.Text.Put.{NetLeft, all-left, put-left, room-
 use Rattle.net_sheets.proofs.printer.net.print_wire.Statement.{statement}
 use Rattle.net_sheets.proofs.printer.net.print_wire.Tie as tie
 
--- the start and each call, from the next
+-- gets the start and each call from the next
 abbrev at-start : tie.After-print-reference-arg → tie.Start
 at-start c = c .before .before .before
 

@@ -5,7 +5,7 @@ use Rattle.net_sheets.specs.Printer.Output.{sheet-short, sheet-copied}
 use Rattle.net_sheets.proofs.printer.output.write_sheet.Statement.{statement}
 use Rattle.net_sheets.proofs.printer.output.write_sheet.Tie as tie
 
--- the start and the test of the length, from the calls after them
+-- gets the start and the test of the length from the calls after them
 abbrev at-start : tie.After-print-net → tie.Start
 at-start c = c .before .before .before .before
 

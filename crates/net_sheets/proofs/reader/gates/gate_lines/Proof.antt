@@ -15,7 +15,7 @@ Inv-loop s at header inputs net₀ place₀ k₀ net place k = Building s at hea
 abbrev μ-loop : tie.MeasureT-loop
 μ-loop s at header inputs net₀ place₀ k₀ net place k = inputs - k
 
--- the line's read, from where its step is known
+-- gets the line's read from where its step is known
 abbrev at-line : tie.After-known-told Inv-loop μ-loop → tie.After-gate-line Inv-loop μ-loop
 at-line c = c .before .before .before
 

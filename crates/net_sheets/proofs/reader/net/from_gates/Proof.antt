@@ -7,7 +7,7 @@ use Rattle.net_sheets.specs.Reader.NetReading.{gates-back, gates-over, g
 use Rattle.net_sheets.proofs.reader.net.from_gates.Statement.{statement}
 use Rattle.net_sheets.proofs.reader.net.from_gates.Tie as tie
 
--- the start from the gates' read, and that read from its end
+-- gets the start from the gates' read, and that read from its end
 abbrev at-start : tie.After-gate-lines → tie.Start
 at-start c = c .before .before
 

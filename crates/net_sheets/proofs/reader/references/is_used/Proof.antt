@@ -1,4 +1,4 @@
--- `net_sheets::reader::references::is_used` meets its contract. The loop's invariant: one of all gates uses r exactly when one from `k` on does.
+-- `net_sheets::reader::references::is_used` meets its contract. The loop's invariant: some gate uses r exactly when one from `k` on does.
 -- Assumes nothing.
 use borrow.Author.Needs.{needs}
 use Prim.Native.Nat.{_-_}

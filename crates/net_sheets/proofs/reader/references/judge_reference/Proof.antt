@@ -1,4 +1,4 @@
--- `net_sheets::reader::references::judge_reference` meets its contract: looked up (7), then held against those used (8).
+-- `net_sheets::reader::references::judge_reference` meets its contract: looked up (7), then compared with those used (8).
 -- Assumes nothing.
 use borrow.Author.Needs.{needs}
 use mathlib.Core.Path.{sym, _∙_}
@@ -6,7 +6,7 @@ use Rattle.net_sheets.specs.Reader.References.{judged-none, judged-taken
 use Rattle.net_sheets.proofs.reader.references.judge_reference.Statement.{statement}
 use Rattle.net_sheets.proofs.reader.references.judge_reference.Tie as tie
 
--- the reference looked up, from the test whether it is used
+-- gets the lookup of the reference from the test whether it is used
 abbrev at-reference : tie.Else1 → tie.After-r
 at-reference c = c .before .before
 

@@ -1,4 +1,4 @@
--- `net_sheets::reader::references::reference_of` meets its contract. The loop's invariant: the first from `r` on is the first of all.
+-- `net_sheets::reader::references::reference_of` meets its contract. The loop's invariant: the first match from `r` on is the first of all.
 -- Assumes nothing.
 use Prim.Native.Nat.{_-_}
 use mathlib.Core.Path.{_≡_, sym, _∙_}
@@ -18,7 +18,7 @@ Inv-loop s header earlier w end r₀ r = find (λ k. same w (referenceText (name
 abbrev μ-loop : tie.MeasureT-loop
 μ-loop s header earlier w end r₀ r = end - r
 
--- the start, from a turn's start
+-- gets the start from a turn's start
 abbrev at-start : tie.In-loop Inv-loop μ-loop → tie.Start Inv-loop μ-loop
 at-start c = c .before .before .before .before .before
 

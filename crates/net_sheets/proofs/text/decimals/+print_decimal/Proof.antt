@@ -33,7 +33,7 @@ print-decimal-below t =
     (falls 1 print-decimal-kinds.ps _<_ μ-print-decimal t)
     print-decimal.Pre
 
--- the start, from the call of itself
+-- gets the start from the recursive call
 abbrev at-start : (t : ℕ) → print-decimal-lts.After-print-decimal (
   put-digit-reads.Asked,
   put-digit-reads.Learnt,

@@ -5,7 +5,7 @@ use borrow.Author.Needs.{needs}
 use Rattle.net_sheets.proofs.text.header.print_name.Statement.{statement}
 use Rattle.net_sheets.proofs.text.header.print_name.Tie as tie
 
--- the function's entry, from the call of `name_of`
+-- gets the function's entry from the call of `name_of`
 abbrev start : tie.After-name-of → tie.Start
 start c = c .before .before .before
 

@@ -16,7 +16,7 @@ Inv-loop s h count out₀ at i₀ p₀ out i p = (i ≤ count) × NetLeft out p 
 abbrev μ-loop : tie.MeasureT-loop
 μ-loop s h count out₀ at i₀ p₀ out i p = count - i
 
--- the start from a turn's start, and the name's call from that of `put`
+-- gets the start from a turn's start, and the name's call from that of `put`
 abbrev at-start : tie.In-loop Inv-loop μ-loop → tie.Start Inv-loop μ-loop
 at-start c = c .before .before .before .before
 

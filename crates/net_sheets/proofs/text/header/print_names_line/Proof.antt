@@ -13,7 +13,7 @@ use Rattle.net_sheets.specs.Text.Names.{names-line}
 use Rattle.net_sheets.proofs.text.header.print_names_line.Statement.{statement}
 use Rattle.net_sheets.proofs.text.header.print_names_line.Tie as tie
 
--- the start and each call, from the next
+-- gets the start and each call from the next
 abbrev at-start : tie.After-print-names-arg → tie.Start
 at-start c = c .before .before .before .before
 

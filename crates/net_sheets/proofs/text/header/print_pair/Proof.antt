@@ -9,7 +9,7 @@ use Rattle.net_sheets.specs.Text.Put.{NetLeft, all-left, put-left, room-
 use Rattle.net_sheets.proofs.text.header.print_pair.Statement.{statement}
 use Rattle.net_sheets.proofs.text.header.print_pair.Tie as tie
 
--- the start and each call, from the next
+-- gets the start and each call from the next
 abbrev at-start : tie.After-copy-arg → tie.Start
 at-start c = c .before .before .before
 
@@ -25,7 +25,7 @@ at-space c = c .before .before .before
 abbrev at-second : tie.After-put-arg2 → tie.After-print-decimal2
 at-second c = c .before .before .before
 
--- the start from the first two calls
+-- gets the start from the first two calls
 abbrev copy-start : tie.After-copy → tie.Start
 copy-start c = at-start (c .before)
 

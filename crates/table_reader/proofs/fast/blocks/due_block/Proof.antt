@@ -1,4 +1,4 @@
--- `table_reader::fast::blocks::due_block` meets its contract. The loop's invariant: with the rows before the block read, l rows of it are.
+-- `table_reader::fast::blocks::due_block` meets its contract. The loop's invariant: the rows before the block and l rows of it are read.
 -- Assumes nothing.
 use Prim.Native.Nat.{ℕ, _+_, _-_, _*_, _≤_, _<_}
 use mathlib.Core.Path.{_≡_, refl, _∙_}
@@ -26,7 +26,7 @@ Inv-loop s at levels front m q cells₀ row words place₀ l₀ cells place l =
 abbrev μ-loop : tie.MeasureT-loop
 μ-loop s at levels front m q cells₀ row words place₀ l₀ cells place l = m - l
 
--- the start and the test of the sheet's length, from the loop's head; a turn's start from the row's ink, and that from the turn's end
+-- gets the start and the test of the sheet's length from the loop's head, a turn's start from the row's ink, and that from the turn's end
 abbrev at-start : tie.After-slice-known Inv-loop μ-loop → tie.Start Inv-loop μ-loop
 at-start c = c .before .before .before
 
@@ -58,7 +58,7 @@ words-of-requires c κs = let pre = at-start (c .before .before) .pre in (pre .s
 loop-holds : tie.Need-loop-holds Inv-loop μ-loop
 loop-holds c = (omega arith, omega (arith, zero-mul (rowBytes (at-start (c .before .before .before) .args .front))), refl, refl, λ from rows. rw (add-zero) rows)
 
--- the row of a turn lies in the sheet
+-- the row of a turn is inside the sheet
 within : (c : tie.In-loop Inv-loop μ-loop) → c .before .loop .place + rowBytes (start (c .before) .args .front) ≤ length (start (c .before) .args .s .now)
 within c =
     let row = rowBytes (start (c .before) .args .front) in
@@ -78,7 +78,7 @@ cast-cells c =
     let stands = at-ink c .due-ink .ensures _ (c .before .ink .given .1) in
     omega (arith, stands .within, start (at-turn (at-ink c) .before) .pre .few)
 
--- a turn's cell lies in the buffer
+-- a turn's cell is inside the buffer
 cell : (c : tie.In-loop Inv-loop μ-loop) → start (c .before) .args .q * start (c .before) .args .m + c .before .loop .l < length (c .before .loop .cells)
 cell c = omega (arith, c .loop-test .taken, c .before .loop .inv .2, start (c .before) .pre .room)
 

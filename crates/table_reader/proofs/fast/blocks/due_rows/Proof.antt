@@ -21,14 +21,14 @@ Inv-loop s at m n levels₀ cells₀ front blocks bytes place₀ q₀ levels cel
 abbrev μ-loop : tie.MeasureT-loop
 μ-loop s at m n levels₀ cells₀ front blocks bytes place₀ q₀ levels cells place q = m ^ (n - 1) - q
 
--- the start, from the call of `power` and from the loop's head
+-- gets the start from the call of `power` and from the loop's head
 abbrev at-start : tie.After-slice-known2 Inv-loop μ-loop → tie.Start Inv-loop μ-loop
 at-start c = c .before .before .before
 
 abbrev start : tie.At-loop Inv-loop μ-loop → tie.Start Inv-loop μ-loop
 start c = at-start (c .before .before)
 
--- a turn's start from its block, the block from its answer, and that from the levels' move
+-- gets a turn's start from its block, the block from its answer, and that from the update of the levels
 abbrev at-turn : tie.After-due-block Inv-loop μ-loop → tie.In-loop Inv-loop μ-loop
 at-turn c = c .before .before .before
 
@@ -45,7 +45,7 @@ size c = sized (c .args .m) (c .args .n) (c .pre .size)
 all-inputs : (c : tie.Start Inv-loop μ-loop) → c .args .n ≡ c .args .n - 1 + 1
 all-inputs c = omega (arith, size c .inputs-least)
 
--- a block's bytes are few
+-- a block has few bytes
 bytes : (c : tie.Start Inv-loop μ-loop) → c .args .m * rowBytes (c .args .n - 1) ≤ mostLevels * rowBytes mostInputs
 bytes c =
     let row : rowBytes (c .args .n - 1) ≤ rowBytes mostInputs = omega (arith, size c .inputs-most) in
@@ -74,7 +74,7 @@ due-block-requires c κs =
     block-starts _ _ (omega (arith, size .levels-least)) _ _ _ _ _ _ (turn .before .loop .inv .2) (size .levels-most) (omega (arith, size .inputs-most))
     (omega (arith, short (turn .before))) (more turn) (room (turn .before))
 
--- the rows of the blocks read are few
+-- the blocks read have few rows
 few : (c : tie.At-loop Inv-loop μ-loop) → c .loop .q * start c .args .m ≤ length (start c .args .cells .now)
 few c = omega (arith, c .loop .inv .2 .reached .most, room c, c .loop .inv .1)
 

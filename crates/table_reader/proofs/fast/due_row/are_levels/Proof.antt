@@ -17,7 +17,7 @@ Inv-loop s at levels n i₀ p₀ i p = (p ≡ at + 2 * i) × InRow s levels at n
 abbrev μ-loop : tie.MeasureT-loop
 μ-loop s at levels n i₀ p₀ i p = n - i
 
--- the start from the loop's head, a turn's start from the read of its level, and that read from the turn's end
+-- gets the start from the loop's head, a turn's start from the read of its level, and that read from the turn's end
 abbrev at-start : tie.At-loop Inv-loop μ-loop → tie.Start Inv-loop μ-loop
 at-start c = c .before .before .before
 
@@ -31,7 +31,7 @@ at-level c = c .before
 digit : (c : tie.In-loop Inv-loop μ-loop) → getD (at-start (c .before) .args .levels .now) (c .before .loop .i) 0 < 10
 digit c = at-start (c .before) .pre .1 (c .before .loop .i) (c .loop-test .taken)
 
--- and its two bytes lie in the sheet
+-- and its two bytes are inside the sheet
 within : (c : tie.In-loop Inv-loop μ-loop) → c .before .loop .p + 1 < length (at-start (c .before) .args .s .now)
 within c = omega (arith, c .before .loop .inv .0, c .loop-test .taken, at-start (c .before) .pre .2)
 
@@ -52,7 +52,7 @@ add-p c =
     let turn = at-turn (at-level c) in
     omega (arith, within turn, at-start (turn .before) .good)
 
--- so the level stands there
+-- so the level is there
 plain : (c : tie.Else1 Inv-loop μ-loop)
     → Plain (at-start (at-turn (at-level c) .before) .args .s .now) (at-turn (at-level c) .before .loop .p)
     (getD (at-start (at-turn (at-level c) .before) .args .levels .now) (at-turn (at-level c) .before .loop .i) 0) spaceByte

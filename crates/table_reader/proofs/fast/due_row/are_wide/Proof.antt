@@ -11,7 +11,7 @@ use Rattle.table_reader.specs.Fast.Stand.{wide-stand}
 use Rattle.table_reader.proofs.fast.due_row.are_wide.Statement.{statement}
 use Rattle.table_reader.proofs.fast.due_row.are_wide.Tie as tie
 
--- the entry, from the middle's place; that place from the first word; that word from the branch after it
+-- gets the entry from the middle's place, that place from the first word, and that word from the branch after it
 abbrev start : tie.After-middle-of → tie.Start
 start c = c .before .before .before
 
@@ -21,7 +21,7 @@ place-of c = c .before
 abbrev first-of : tie.Else1 → tie.After-eight-bytes
 first-of c = c .before .before
 
--- the middle lies before the last four
+-- the middle is before the last four
 before-end : (c : tie.After-middle-of) → c .middle-of .result ≤ start c .args .front - 4
 before-end c =
     let s = start c in

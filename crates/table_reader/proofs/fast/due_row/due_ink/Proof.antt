@@ -1,4 +1,4 @@
--- `table_reader::fast::due_row::due_ink` meets its contract: it says none, or has compared all bytes of the row.
+-- `table_reader::fast::due_row::due_ink` meets its contract: it finds nothing, or has compared all bytes of the row.
 -- Assumes nothing.
 use Prim.Native.Nat.{_+_, _*_, _<_}
 use mathlib.Core.Path.{_≡_, sym, _∙_}
@@ -13,7 +13,7 @@ use Rattle.table_reader.specs.Fast.Due.{LevelsStand, due-row, open-row}
 use Rattle.table_reader.proofs.fast.due_row.due_ink.Statement.{statement}
 use Rattle.table_reader.proofs.fast.due_row.due_ink.Tie as tie
 
--- the start, from where the levels are told; there from the last level, and that from the ink
+-- gets the start from the test of the levels, that test from the last level, and that from the ink
 abbrev at-start : tie.Else1 → tie.Start
 at-start c = c .before .before .before .before
 

@@ -7,7 +7,7 @@ use Rattle.table_reader.specs.Fast.Words.{dueWord, middle-near}
 use Rattle.table_reader.proofs.fast.words.words_of.Statement.{statement}
 use Rattle.table_reader.proofs.fast.words.words_of.Tie as tie
 
--- the entry, from the middle's place
+-- gets the entry from the middle's place
 abbrev start : tie.After-middle-of → tie.Start
 start c = c .before .before .before .before
 

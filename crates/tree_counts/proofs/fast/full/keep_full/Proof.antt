@@ -1,5 +1,5 @@
--- `tree_counts::fast::full::keep_full` meets its contract. The loop's invariant: what is kept is right, and the parts that are passed have mark 2, so
--- that the next one, if it has mark 2, is full. Assumes nothing.
+-- `tree_counts::fast::full::keep_full` meets its contract. The loop's invariant: the recorded counts are right, and the parts passed have mark 2, so
+-- the next one, if it has mark 2, is full. Assumes nothing.
 use Prim.Native.Nat.{ℕ, _-_, _^_, _≤_, _<_}
 use mathlib.Core.Path.{_≡_, refl, ap, _∙_}
 use mathlib.Core.List.{List}
@@ -67,14 +67,14 @@ module _ (c : After-next) where
 next-part-requires : tie.Need-next-part-requires Inv-loop μ-loop
 next-part-requires c κs = (omega (arith, group c .below), c .loop-test .taken, c .before .loop .inv .2 .is-part)
 
--- it has another mark
+-- it has a mark other than 2
 same-length : tie.Need-same-length Inv-loop μ-loop
 same-length c = c .before .before .before .before .loop .inv .0
 
 returns : tie.Need-returns Inv-loop μ-loop
 returns c = c .before .before .before .before .loop .inv .1
 
--- it is full, and its count is kept
+-- it is full, and its count is recorded
 members-of-requires : tie.Need-members-of-requires Inv-loop μ-loop
 members-of-requires c κs = tt
 

@@ -1,4 +1,4 @@
--- `tree_counts::fast::full::trees_on` meets its contract: each entry of the table is held against the rule. Assumes nothing.
+-- `tree_counts::fast::full::trees_on` meets its contract: each entry of the table is checked against the rule. Assumes nothing.
 use Prim.Native.Nat.{ℕ}
 use mathlib.Core.Path.{refl}
 use mathlib.Core.List.{List, [], _∷_}

@@ -1,4 +1,4 @@
--- `wirings::leaves::group::leaves` meets its contract: the inputs that matter, with as many others as make up two. Assumes nothing.
+-- `wirings::leaves::group::leaves` meets its contract: the inputs that matter, and others up to two. Assumes nothing.
 use borrow.Author.Needs.{needs}
 use native.Mathlib.Omega.{arith}
 use lib.Pow.{pow-mono}

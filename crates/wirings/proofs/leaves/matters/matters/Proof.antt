@@ -1,4 +1,4 @@
--- `wirings::leaves::matters::matters` meets its contract: the blocks are all cells, and tell whether the input matters. Assumes nothing.
+-- `wirings::leaves::matters::matters` meets its contract: the blocks are all cells, and show whether the input matters. Assumes nothing.
 use Prim.Native.Nat.{_<_}
 use native.Mathlib.Omega.{arith}
 use Rattle.laws.specs.Numbers.Sizes.{Size, sized}

@@ -1,4 +1,4 @@
--- `wirings::leaves::matters::same_blocks` meets its contract. The loop's invariant: the blocks passed are so. Assumes nothing.
+-- `wirings::leaves::matters::same_blocks` meets its contract. The loop's invariant: the blocks passed satisfy `SameBlock`. Assumes nothing.
 use Prim.Native.Nat.{ℕ, _+_, _-_, _*_, _≤_, _<_}
 use native.Mathlib.Omega.{arith}
 use lib.ListN.{length}

@@ -1,5 +1,5 @@
 -- `Lister::done` meets its contract: a walk of its MIR, by hand. The lister is taken apart, and `none_left` is called on the sheet and
--- the place. All that the proof knows of `none_left` is that it meets its contract.
+-- the place. The proof uses only the contract of `none_left`.
 -- Assumes nothing.
 use mathlib.Core.Path.{refl}
 use mathlib.Core.Bool.{Bool}
@@ -43,7 +43,7 @@ use Rattle.net_sheets.proofs.lister.walk.Lister.done as own
 use Rattle.net_sheets.proofs.lister.walk.Lister.done.Statement as stated
 use Rattle.net_sheets.proofs.lister.walk.Lister.done.Code as code
 
--- the result's type, and what the contract says of it
+-- the result's type, and what the contract ensures of it
 abbrev R : Lfts 1 → RattleType
 R κs = bool
 

@@ -1,5 +1,5 @@
 -- `Lister::line` meets its contract: a walk of its MIR, by hand. The lister is taken apart, `line_at` is called on the sheet and the
--- place, and the part of the sheet that it hands back goes on. All that the proof knows of `line_at` is that it meets its contract.
+-- place, and the part of the sheet that it returns is the result. The proof uses only the contract of `line_at`.
 -- Assumes nothing.
 use mathlib.Core.Path.{refl}
 use Prim.Native.Nat.{ℕ}
@@ -43,7 +43,7 @@ use Rattle.net_sheets.proofs.lister.walk.Lister.line as own
 use Rattle.net_sheets.proofs.lister.walk.Lister.line.Statement as stated
 use Rattle.net_sheets.proofs.lister.walk.Lister.line.Code as code
 
--- the result's type, and what the contract says of it
+-- the result's type, and what the contract ensures of it
 abbrev R : Lfts 1 → RattleType
 R κs = ShrSlice (named 0) (κs .0) u8
 

@@ -1,6 +1,6 @@
 -- `Lister::next` meets its contract: a walk of its MIR, by hand. The lister is taken apart, `line_after` is called on the sheet and the
--- place, and a lister is made of the sheet and the place that it answers. All that the proof knows of `line_after` is that it meets its
--- contract. The lister is Copy: the result is what the lister owns with the place's facts changed.
+-- place, and a lister is made of the sheet and the returned place. The proof uses only the contract of `line_after`.
+-- The lister is Copy: the result is what the lister owns with the place's facts changed.
 -- Assumes nothing.
 use mathlib.Core.Path.{_≡_, refl, ap}
 use Prim.Native.Nat.{ℕ, _<_, _^_}
@@ -48,11 +48,11 @@ use Rattle.net_sheets.proofs.lister.walk.Lister.next as own
 use Rattle.net_sheets.proofs.lister.walk.Lister.next.Statement as stated
 use Rattle.net_sheets.proofs.lister.walk.Lister.next.Code as code
 
--- what `line_after` says of the place
+-- what `line_after` ensures of the place
 abbrev Place : (κs : Lfts 1) → Lister → ℕ → Type 0
 Place κs d n = Onward (now (d .sheet)) (d .at) n
 
--- what the contract says of the lister a turn on
+-- what the contract ensures of the lister after one more turn
 abbrev Said : (κs : Lfts 1) → Lister → Lister → Type 0
 Said κs d r = (r .sheet ≡ d .sheet) × Place κs d (r .at)
 
@@ -70,7 +70,7 @@ module _ {M : Type 1} (𝓤 : URA M) (H : Heap 𝓤) (A : Atoms 𝓤) (W : Given
       suffices ! _ (ends-at 𝓤 H A (ofLister B) (stayed B) (clauses 𝓤 H A W B Said) W (((κ, tt), (q, tt), tt, (d, tt), (v ∷ [], tt)), tt) (T′.lowered (on n)) (on n) (tt, tt) (tt, tt)) $ says ! (refl, e) $
       frame ! $ use1 W (‵ (Own 𝓤 H A W κ q d) ⊛ ‵ (Own 𝓤 H A W κ q d)) (LL.copy (D (κ, tt)) (T′.the-copy (namedLft 1 0 tt (κ, tt))) 𝓤 H A W .twice d (v ∷ [])) $ split ! $
       nothing ! $ move ! (1 ∷ 0 ∷ []) $ fjoin ! $ frame ! $
-      -- [what the lister owns]: the number's facts take the place of at's
+      -- [what the lister owns]: the number's facts replace those of `at`
       owned ! usize (Is usize) (uint-makes 𝓤 H A W w64) n _ (refl, fits) $ move ! (1 ∷ 0 ∷ []) $ by ! (own-put 𝓤 H A W (D (κ, tt)) (L (κ, tt)) 1 (vd 𝓤 H A W κ q d) n v)
 
   module _ (C : Calls 𝓤 H) (Λ : Loops 𝓤 H) (fm : FmC 𝓤 H (W .laws) C) (known : Triple 𝓤 (C #callee) (Called 𝓤 H A (λ _. usize) Place)) where

@@ -1,6 +1,6 @@
 -- `Lister::start` meets its contract: a walk of its MIR, by hand. `first_place` is called on the sheet, and a lister is made of the sheet
--- and the place that it answers, in the result's local. All that the proof knows of `first_place` is that it meets its contract. A `&[u8]` is
--- Copy, so what it owns is had twice: once for the sheet at exit, and once inside the result, beside the facts of the place.
+-- and the returned place, in the result's local. The proof uses only the contract of `first_place`. A `&[u8]` is Copy, so what it owns is available
+-- twice: once for the sheet at exit, and once inside the result, together with the facts of the place.
 -- Assumes nothing.
 use mathlib.Core.Path.{_≡_, refl, ap}
 use Prim.Native.Nat.{ℕ, _<_, _^_}
@@ -70,7 +70,7 @@ module _ {M : Type 1} (𝓤 : URA M) (H : Heap 𝓤) (A : Atoms 𝓤) (W : Given
   abbrev made : ℕ → Lister
   made n = record { sheet = s; at = n }
 
-  -- what `first_place` says of the place
+  -- what `first_place` ensures of the place
   abbrev Place : ℕ → Type 0
   Place n = n ≡ standsAt (now s) 0
 
@@ -80,7 +80,7 @@ module _ {M : Type 1} (𝓤 : URA M) (H : Heap 𝓤) (A : Atoms 𝓤) (W : Given
   abbrev Own : Fml
   Own = ShrSlice (named 0) κ u8 .own s (v ∷ [])
 
-  -- the call: what it is passed, what it asks, and what is known of its result
+  -- the call: what is passed to it, what it requires, and what is known of its result
   abbrev to : Called 𝓤 H A mem run .Ghost
   to = (((κ, tt), (q, tt), tt, (s, tt), (v ∷ [], tt)), tt)
 
@@ -101,7 +101,7 @@ module _ {M : Type 1} (𝓤 : URA M) (H : Heap 𝓤) (A : Atoms 𝓤) (W : Given
       qed W ((‵ (flft κ q) ⊛ ‵ ftrue) ∷ ‵ Own ∷ []) ∵
       suffices ! _ (ends-at 𝓤 H A own.ended stayed (own.clauses 𝓤 H A mem run) W (((κ, tt), (q, tt), tt, (s, tt), (v ∷ [], tt)), tt) (T′.lowered (made n)) (made n) (tt, tt) (tt, tt)) $ says ! (refl, e) $
       frame ! $ use1 W (‵ Own ⊛ ‵ Own) (shr-slice-copy 𝓤 H A W (named 0) κ u8 .twice s (v ∷ [])) $ split ! $ nothing ! $ move ! (1 ∷ 0 ∷ []) $ fjoin ! $ frame ! $
-      -- [what the sheet owns]: what the fields own together, of it and of the place's facts, is what the lister owns
+      -- [what the sheet owns]: this and the place's facts are what the fields own together, which is what the lister owns
       nothing ! $ owned ! usize (Is usize) (uint-makes 𝓤 H A W w64) n _ (refl, fits) $ fjoin ! $ move ! (1 ∷ 0 ∷ []) $ fjoin ! $ by ! (own-shut 𝓤 H A W (D (κ, tt)) (L (κ, tt)) (s, (n, tt)))
 
   module _ (C : Calls 𝓤 H) (Λ : Loops 𝓤 H) (fm : FmC 𝓤 H (W .laws) C) (known : Triple 𝓤 (C #callee) (Called 𝓤 H A mem run)) where
