@@ -6,7 +6,7 @@ use Prim.Native.Nat.{ℕ, _+_}
 use Prim.Native.String.{String}
 use mathlib.Core.Path.{_≡_, refl}
 use mathlib.Core.List.{List, [], _∷_, _++_}
-use lib.ListN.{length}
+use lib.ListN.{drop, length}
 use lib.Ieee.{toBits}
 use Rattle.rules.specs.Text.{text}
 use Rattle.rules.specs.Limits.{mostRead, mostSettled, mostTime}
@@ -33,7 +33,7 @@ use Rattle.rules.specs.Cases.Cases.{gateCount}
 use Rattle.rules.specs.Cases.ArrivalCases.{bitsIn}
 use Rattle.rules.specs.Cases.GlyphCases.{signedFrom, signed}
 use Rattle.rules.specs.Cases.Refusals.{jobStepped}
-use Rattle.rules.specs.Cases.Written.{_also_, AllHold, paper, digits, nines, letterNames, writing}
+use Rattle.rules.specs.Cases.Written.{AllHold, paper, digits, nines, letterNames, writing}
 use Rattle.rules.specs.Evaluation.{computing}
 
 -- ---- what a case says
@@ -231,7 +231,10 @@ acceptedCases =
 pub accepted-hold : AllHold AnswersAs acceptedCases
 unfolding computing writing toBits lent held gateCount bitsIn signedFrom signed jobStepped
 accepted-hold =
-    refl also refl also refl also refl also refl also refl also refl also refl also refl also refl also refl also refl also refl also refl also refl
-    also refl also refl also refl also refl also refl also refl also refl also refl also refl also refl also refl also refl also refl also refl
-    also refl also refl also refl also refl also refl also refl also refl also refl also refl also refl also refl also refl also refl also refl
-    also refl also refl also refl also refl also refl also tt
+    (refl, (refl, (refl, (refl, (refl, (refl, (refl, (refl, (refl, (refl, (refl, (refl, (refl, (refl, (refl, (refl, (refl, second)))))))))))))))))
+  where
+    third : AllHold AnswersAs (drop 34 acceptedCases)
+    third = (refl, (refl, (refl, (refl, (refl, (refl, (refl, (refl, (refl, (refl, (refl, (refl, (refl, (refl, tt))))))))))))))
+
+    second : AllHold AnswersAs (drop 17 acceptedCases)
+    second = (refl, (refl, (refl, (refl, (refl, (refl, (refl, (refl, (refl, (refl, (refl, (refl, (refl, (refl, (refl, (refl, (refl, third)))))))))))))))))

@@ -6,11 +6,12 @@ use Prim.Native.String.{String}
 use mathlib.Core.Path.{_≡_, refl}
 use mathlib.Core.List.{List, [], _∷_}
 use lib.Ieee.{binary64, toBits}
+use lib.ListN.{drop}
 use Rattle.rules.specs.Calls.Answers.{Answer, accepted, onward}
 use Rattle.rules.specs.Sheets.Reading.{readNet}
 use Rattle.rules.specs.Sheets.ArrivalSheet.{readArrivals}
 use Rattle.rules.specs.Nets.Arrivals.{Timing, settles, netRefused, arrivalsRefused, quarter, earliestSettling, latestSettling, arrivalsCall}
-use Rattle.rules.specs.Cases.Written.{_also_, AllHold, paper, writing}
+use Rattle.rules.specs.Cases.Written.{AllHold, paper, writing}
 use Rattle.rules.specs.Evaluation.{computing}
 
 -- ---- what a case says
@@ -97,5 +98,7 @@ arrivalCases =
 pub arrival-cases-hold : AllHold ArrivalHolds arrivalCases
 unfolding computing writing toBits quartersIn bitsIn
 arrival-cases-hold =
-    refl also refl also refl also refl also refl also refl also refl also refl also refl also refl also refl also (λ _. refl) also (λ _. refl)
-    also (λ _. refl) also (λ _. refl) also (λ _. refl) also tt
+    (refl, (refl, (refl, (refl, (refl, (refl, (refl, (refl, (refl, (refl, (refl, (λ _. refl, (λ _. refl, (λ _. refl, (λ _. refl, second)))))))))))))))
+  where
+    second : AllHold ArrivalHolds (drop 15 arrivalCases)
+    second = (λ _. refl, tt)

@@ -6,7 +6,7 @@ use Prim.Native.String.{String}
 use mathlib.Core.Path.{_≡_, refl}
 use mathlib.Core.Bool.{cond, not, _&&_, _||_}
 use mathlib.Core.List.{List, [], _∷_, map}
-use lib.ListN.{length, getD}
+use lib.ListN.{drop, length, getD}
 use lib.Dec.{eqb, leb}
 use Rattle.rules.specs.Lists.{range, those}
 use Rattle.rules.specs.Text.{text}
@@ -18,7 +18,7 @@ use Rattle.rules.specs.Calls.Answers.{Answer, accepted, refused, onward,
 use Rattle.rules.specs.Sheets.Reading.{readNet, tableOfNet}
 use Rattle.rules.specs.Calls.Multiplicity.{multiplicityCall}
 use Rattle.rules.specs.Calls.Programs.{settleProgram, makeProgram}
-use Rattle.rules.specs.Cases.Written.{_also_, AllHold, paper, digits, byRule, abc, abcd, oneIf, writing}
+use Rattle.rules.specs.Cases.Written.{AllHold, paper, digits, byRule, abc, abcd, oneIf, writing}
 use Rattle.rules.specs.Evaluation.{computing}
 
 -- ---- the tables
@@ -124,8 +124,10 @@ starred =
 pub starred-hold : AllHold Holds starred
 unfolding computing writing zeroTable majority twoNotZero seven figureRows figure marksOfCase
 starred-hold =
-    refl also refl also refl also refl also (refl, refl) also refl also refl also refl also (refl, refl) also (refl, refl) also (refl, refl)
-    also (refl, refl) also refl also refl also refl also tt
+    (refl, (refl, (refl, (refl, ((refl, refl), (refl, (refl, (refl, ((refl, refl), ((refl, refl), ((refl, refl), ((refl, refl), second))))))))))))
+  where
+    second : AllHold Holds (drop 12 starred)
+    second = (refl, (refl, (refl, tt)))
 
 -- Cases 9 and 10, which the document leaves to tests. "2 with 12, 4 with 6, 5 with 5, 7 with 4 and 8 with 4 come in. Refusals 3 and 9 and case 10
 -- move with it; 2 with 13 is the new refused side." (document 02, K6)
@@ -165,9 +167,7 @@ unstarred =
 
 pub unstarred-hold : AllHold Holds unstarred
 unfolding computing writing gateCount
-unstarred-hold =
-    refl also refl also refl also refl also refl also refl also refl also refl also refl also refl also refl also refl also refl also refl also refl
-    also refl also tt
+unstarred-hold = (refl, (refl, (refl, (refl, (refl, (refl, (refl, (refl, (refl, (refl, (refl, (refl, (refl, (refl, (refl, (refl, tt))))))))))))))))
 
 -- For each number of levels below 13, the numbers of inputs up to 20 that a sheet may have.
 pub sizes-are : map (λ m. those (sizeFits m) (range 0 21)) (range 0 13)

@@ -12,7 +12,7 @@ use Rattle.rules.specs.Text.{text, isDigit}
 use Rattle.rules.specs.Calls.Answers.{Answer, accepted, onward}
 use Rattle.rules.specs.Sheets.Reading.{readNet}
 use Rattle.rules.specs.Calls.Glyphs.{glyph, glyphCall}
-use Rattle.rules.specs.Cases.Written.{_also_, AllHold, paper, digits, writing}
+use Rattle.rules.specs.Cases.Written.{AllHold, paper, digits, writing}
 use Rattle.rules.specs.Evaluation.{computing}
 
 -- ---- how a case is written down
@@ -76,5 +76,4 @@ glyphCases =
 
 pub glyph-cases-hold : AllHold GlyphHolds glyphCases
 unfolding computing writing signedFrom signed glyphIn
-glyph-cases-hold =
-    refl also refl also refl also refl also refl also refl also refl also refl also refl also refl also tt
+glyph-cases-hold = (refl, (refl, (refl, (refl, (refl, (refl, (refl, (refl, (refl, (refl, tt))))))))))

@@ -12,7 +12,7 @@ use Rattle.rules.specs.Calls.Keeping.{rewritten, turnedAway, keepCall}
 use Rattle.rules.specs.Nets.Arrivals.{settlingTime}
 use Rattle.rules.specs.Cases.Cases.{zeroTable, settles, makes, refuses, accepts, gateCount, Case, Holds}
 use Rattle.rules.specs.Cases.FamilyCases.{joining}
-use Rattle.rules.specs.Cases.Written.{_also_, AllHold, paper, abc, abcd, nines, writing}
+use Rattle.rules.specs.Cases.Written.{AllHold, paper, abc, abcd, nines, writing}
 use Rattle.rules.specs.Evaluation.{computing}
 
 -- ---- which inputs are leaves
@@ -58,9 +58,7 @@ leafCases =
 
 pub leaf-cases-hold : AllHold Holds leafCases
 unfolding computing writing gateCount
-leaf-cases-hold =
-    refl also refl also refl also refl also refl also refl also refl also refl also refl also refl also refl also refl also refl also refl also refl
-    also refl also tt
+leaf-cases-hold = (refl, (refl, (refl, (refl, (refl, (refl, (refl, (refl, (refl, (refl, (refl, (refl, (refl, (refl, (refl, (refl, tt))))))))))))))))
 
 -- ---- a wiring kept
 

@@ -5,12 +5,12 @@ use Prim.Native.Nat.{ℕ}
 use Prim.Native.String.{String}
 use mathlib.Core.Path.{_≡_, refl}
 use mathlib.Core.List.{List, [], _∷_}
-use lib.ListN.{length}
+use lib.ListN.{drop, length}
 use Rattle.rules.specs.Text.{text}
 use Rattle.rules.specs.Calls.Answers.{accepted, refused, written}
 use Rattle.rules.specs.Sheets.LooseSheet.{readLoose}
 use Rattle.rules.specs.Calls.Tidying.{tidyCall}
-use Rattle.rules.specs.Cases.Written.{_also_, AllHold, paper, digits, nines, writing}
+use Rattle.rules.specs.Cases.Written.{AllHold, paper, digits, nines, writing}
 use Rattle.rules.specs.Evaluation.{computing}
 
 -- what a case may say
@@ -74,5 +74,7 @@ looseCases =
 pub loose-cases-hold : AllHold LooseHolds looseCases
 unfolding computing writing
 loose-cases-hold =
-    refl also refl also refl also refl also refl also refl also refl also refl also refl also refl also refl also refl also refl also refl also refl
-    also refl also refl also refl also refl also refl also refl also refl also refl also refl also tt
+    (refl, (refl, (refl, (refl, (refl, (refl, (refl, (refl, (refl, (refl, (refl, (refl, (refl, (refl, (refl, (refl, (refl, second)))))))))))))))))
+  where
+    second : AllHold LooseHolds (drop 17 looseCases)
+    second = (refl, (refl, (refl, (refl, (refl, (refl, (refl, tt)))))))

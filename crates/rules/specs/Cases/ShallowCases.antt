@@ -14,7 +14,7 @@ use Rattle.rules.specs.Calls.Answers.{Answer, accepted, onward}
 use Rattle.rules.specs.Calls.Programs.{makeProgram, zeros}
 use Rattle.rules.specs.Calls.ShallowSettling.{LayeredMade, makeShallowCall, settleShallowCall}
 use Rattle.rules.specs.Calls.Shallower.{Which, firstSheet, secondSheet, noSheet, layersIn, whichOf}
-use Rattle.rules.specs.Cases.Written.{_also_, AllHold, paper, abcd, writing}
+use Rattle.rules.specs.Cases.Written.{AllHold, paper, abcd, writing}
 use Rattle.rules.specs.Evaluation.{computing}
 
 -- ---- the tables
@@ -89,5 +89,4 @@ shallowCases =
 
 pub shallow-cases-hold : AllHold ShallowHolds shallowCases
 unfolding computing writing odd wroteIn on
-shallow-cases-hold =
-    refl also refl also refl also refl also refl also refl also refl also refl also refl also refl also refl also refl also tt
+shallow-cases-hold = (refl, (refl, (refl, (refl, (refl, (refl, (refl, (refl, (refl, (refl, (refl, (refl, tt))))))))))))

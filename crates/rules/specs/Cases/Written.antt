@@ -16,11 +16,6 @@ abbrev pub AllHold : {C : Type 0} → (C → Type 0) → List C → Type 0
 AllHold Holds [] = Unit {0}
 AllHold Holds (c ∷ cases) = Holds c × AllHold Holds cases
 
--- one case holds, and the rest do
-infixr 5 _also_
-pub _also_ : {A B : Type 0} → A → B → A × B
-one also others = (one, others)
-
 unfoldable pub lineEnds : List ℕ → List ℕ
 lineEnds [] = []
 lineEnds (b ∷ s) = cond (eqb b 47) newline b ∷ lineEnds s
