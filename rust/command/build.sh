@@ -7,9 +7,9 @@ is_old() {
 }
 
 # Prints how many crates to prove at once, for a number of cores and of free megabytes. `rt` waits for each batch to end, so a batch has more crates
-# than there are cores. The largest check takes 2.7 GB.
+# than there are cores. The largest check takes 2.4 GB, and its files 0.6 GB.
 jobs_for() {
-    local by_cores=$(($1 < 4 ? 4 * $1 : 2 * $1)) by_memory=$(($2 / 2700))
+    local by_cores=$(($1 < 4 ? 4 * $1 : 2 * $1)) by_memory=$(($2 / 3000))
     local jobs=$((by_cores < by_memory ? by_cores : by_memory))
     echo $((jobs < 1 ? 1 : jobs))
 }
@@ -18,8 +18,33 @@ jobs_for() {
 parallel_checks() {
     local megabytes
     megabytes=$(awk '/^MemAvailable:/ { print int($2 / 1024) }' /proc/meminfo 2>/dev/null || true)
-    echo "${RT_JOBS:-$(jobs_for "$(nproc)" "${megabytes:-2700}")}"
+    echo "${RT_JOBS:-$(jobs_for "$(nproc)" "${megabytes:-3000}")}"
 }
+
+# Prints a new folder in memory, or nothing if there is none with room for the files of every check at once. Programs must be allowed to run there: `rt`
+# runs the proved ones from it, as another user.
+memory_folder() {
+    local folder room=$((600 * $(parallel_checks)))
+    folder=$(mktemp -d /dev/shm/sitgurp.XXXXXX 2>/dev/null) || return 0
+    if [ "$(df -Pm "$folder" | awk 'NR == 2 { print $4 }')" -ge "$room" ] && cp "$(command -v true)" "$folder" && "$folder/true"; then
+        rm "$folder/true"
+        chmod 711 "$folder"
+        echo "$folder"
+    else
+        rm -rf "$folder"
+    fi
+}
+
+# Runs a command with its temporary files in memory if possible, and else where they would be. Each check writes thousands of small files and removes
+# them; on a disk that can take a third of its time.
+in_memory() (
+    folder=
+    if [ -z "${TMPDIR:-}" ]; then
+        folder=$(memory_folder)
+        trap '[ -z "$folder" ] || rm -rf "$folder"' EXIT
+    fi
+    TMPDIR=${folder:-${TMPDIR:-/tmp}} "$@"
+)
 
 # Prints how many crates of crates.txt a crate uses, directly or not, itself included.
 crates_under() {
@@ -68,14 +93,14 @@ prove() {
     jobs=$(parallel_checks)
     mkdir -p "$here/target"
     echo "proving $2: once, some minutes, up to $jobs crates at once" >&2
-    (cd "$here" && RT_JOBS=$jobs rt check "$1" 2>&1) | tee "$here/target/run.log" | proving "$1" "$(crates_under "$1")" || failed check "$1"
+    (cd "$here" && RT_JOBS=$jobs in_memory rt check "$1" 2>&1) | tee "$here/target/run.log" | proving "$1" "$(crates_under "$1")" || failed check "$1"
 }
 
 # Builds the static library. `rt staticlib` proves one crate after the other, so everything is proved before.
 library() {
     if is_old "$here/target/staticlib/libcapi.a"; then
         prove capi 'the library'
-        (cd "$here" && rt staticlib capi) >"$here/target/run.log" 2>&1 || failed staticlib capi
+        (cd "$here" && in_memory rt staticlib capi) >"$here/target/run.log" 2>&1 || failed staticlib capi
     fi
 }
 

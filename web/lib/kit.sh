@@ -51,6 +51,6 @@ llvm_module() {
     prove capi 'the library'
     mkdir -p "$here/target/web"
     kit_that_saves "$kit" "$module"
-    (cd "$here" && RATTLE_HOME=$kit rt staticlib capi) > "$here/target/run.log" 2>&1 || failed staticlib capi
+    (cd "$here" && RATTLE_HOME=$kit in_memory rt staticlib capi) > "$here/target/run.log" 2>&1 || failed staticlib capi
     [ -f "$module" ] || { echo 'rt staticlib capi gave clang no LLVM module (*.bc)' >&2; exit 2; }
 }

@@ -3,7 +3,8 @@
 use crate::common::{repository, Folder};
 use std::fs;
 use std::os::unix::fs::PermissionsExt;
-use std::process::Command;
+use std::path::Path;
+use std::process::{Command, Output};
 
 const RT: &str = "#!/bin/sh\necho \"$* ${RT_JOBS:-}\" >> asked\necho 'rt: rules proved (3 s)'\necho 'fn x: proved'\necho 'rt: laws proved (2 s)' >&2\n\
                   mkdir -p target/staticlib && : > target/staticlib/libcapi.a\necho 'rt: target/staticlib/libcapi.a has the functions of capi'\n";
@@ -135,17 +136,22 @@ fn what_is_not_proved_is_told() {
     );
 }
 
+/// Runs a line of bash after build.sh, with TMPDIR set or not.
+fn after_build_script(line: &str, temporary: Option<&str>) -> Output {
+    let script = repository().join("rust/command/build.sh");
+    let mut bash = Command::new("bash");
+    bash.arg("-c")
+        .arg(format!(". {}; {line}", script.display()))
+        .env_remove("TMPDIR");
+    if let Some(folder) = temporary {
+        bash.env("TMPDIR", folder);
+    }
+    bash.output().expect("bash runs")
+}
+
 /// What `jobs_for` of build.sh prints for a number of cores and of free megabytes.
 fn jobs_for(cores: usize, megabytes: usize) -> usize {
-    let script = repository().join("rust/command/build.sh");
-    let ended = Command::new("bash")
-        .arg("-c")
-        .arg(format!(
-            ". {}; jobs_for {cores} {megabytes}",
-            script.display()
-        ))
-        .output()
-        .expect("bash runs");
+    let ended = after_build_script(&format!("jobs_for {cores} {megabytes}"), None);
     String::from_utf8_lossy(&ended.stdout)
         .trim()
         .parse()
@@ -156,8 +162,31 @@ fn jobs_for(cores: usize, megabytes: usize) -> usize {
 fn cores_and_memory_choose_how_many_crates_are_proved_at_once() {
     assert_eq!(jobs_for(2, 24_000), 8);
     assert_eq!(jobs_for(8, 64_000), 16);
-    // each check may take 2.7 GB
+    // each check may take 3 GB with its files
     assert_eq!(jobs_for(2, 8_000), 2);
     assert_eq!(jobs_for(8, 16_000), 5);
     assert_eq!(jobs_for(1, 500), 1);
+}
+
+#[test]
+fn the_prover_has_its_files_in_a_folder_that_is_gone_afterwards() {
+    let line = "in_memory sh -c 'echo \"$TMPDIR\"; touch \"$TMPDIR/sitgurp.test.$$\" && rm \"$TMPDIR/sitgurp.test.$$\" && exit 3'";
+    let ended = after_build_script(line, None);
+    let folder = String::from_utf8(ended.stdout).expect("a path");
+    let folder = Path::new(folder.trim_end());
+    assert_eq!(ended.status.code(), Some(3));
+    assert!(
+        folder == Path::new("/tmp") || folder.starts_with("/dev/shm") && !folder.exists(),
+        "{folder:?}"
+    );
+
+    // a folder that the caller chose is used as it is, and stays
+    let own = std::env::temp_dir();
+    let ended = after_build_script(line, own.to_str());
+    assert_eq!(ended.status.code(), Some(3));
+    assert_eq!(
+        String::from_utf8_lossy(&ended.stdout).trim_end(),
+        own.to_str().unwrap()
+    );
+    assert!(own.exists());
 }
