@@ -2,8 +2,21 @@
 
 use reference::generate::{Generator, TableKind};
 
-pub const SIZES: [(usize, usize); 7] = [(2, 12), (2, 11), (3, 7), (4, 6), (4, 5), (5, 4), (9, 3)];
-pub const KINDS: [(&str, TableKind); 9] = [
+/// The largest sizes of two to nine levels, and small ones.
+pub const SIZES: [(usize, usize); 11] = [
+    (2, 12),
+    (2, 11),
+    (2, 8),
+    (2, 4),
+    (3, 7),
+    (3, 3),
+    (4, 6),
+    (4, 5),
+    (5, 5),
+    (5, 4),
+    (9, 3),
+];
+pub const KINDS: [(&str, TableKind); 10] = [
     ("random", TableKind::Random),
     ("tree", TableKind::OfNet),
     ("sum", TableKind::Sum),
@@ -13,6 +26,7 @@ pub const KINDS: [(&str, TableKind); 9] = [
     ("few cells", TableKind::FewCells),
     ("one other", TableKind::OneInkChanged),
     ("three", TableKind::ThreeMatter),
+    ("some", TableKind::OfSomeInputs),
 ];
 /// This many tables of a kind are timed together.
 pub const TABLES: usize = 5;

@@ -1,6 +1,6 @@
 //! Times the proved library against plain Rust in the same run, on the same inputs: `cargo run --release -p bench`.
 //! A ratio is the proved library's time divided by the other's; below 1 the library is faster. `-- calls` times only every call against the second
-//! implementation. `--bin stack` measures the stack of its calls.
+//! implementation, `-- costs` prints only what each call costs. `--bin stack` measures the stack of its calls.
 //!
 //! | module         | idea                                                          |
 //! |----------------|---------------------------------------------------------------|
@@ -12,9 +12,11 @@
 //! | `steps`        | the longest step of a job                                     |
 //! | `glyphs`       | a glyph against plain Rust, gate by gate                      |
 //! | `calls`        | every call against the second implementation                  |
+//! | `costs`        | what each call costs, by size, and how it grows               |
 //! | `timing`       | times, and tables of ratios                                   |
 
 mod calls;
+mod costs;
 mod glyphs;
 mod growth;
 mod kinds;
@@ -38,9 +40,12 @@ fn by_size(title: &str, ratio: impl Fn(usize, usize, TableKind) -> f64) {
 }
 
 fn main() {
-    if std::env::args().nth(1).as_deref() == Some("calls") {
-        return calls::report();
+    match std::env::args().nth(1).as_deref() {
+        Some("calls") => return calls::report(),
+        Some("costs") => return costs::report(),
+        _ => {}
     }
+    costs::report();
     by_size("marking, proved / plain", ratios::marking);
     by_size("making, proved / plain", ratios::making);
     by_size(
